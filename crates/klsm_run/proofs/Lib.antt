@@ -1,0 +1,5 @@
+pub mod InsertLemmas
+pub mod MergeLemmas
+pub mod OrderLemmas
+pub mod RemoveLemmas
+pub mod SortedLemmas

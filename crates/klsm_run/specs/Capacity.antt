@@ -1,0 +1,15 @@
+-- How many items a fixed run can hold.
+use Rattle.std.specs.Prelude.{ℕ, ◌≤◌, List, length}
+use Rattle.klsm_run.specs.declared.item.Item.{Item}
+use Rattle.klsm_run.specs.Content.{IsAscending}
+
+-- a fixed store is of 1 to 128 items
+pub record IsCapacity (capacity : ℕ) : Type 0 where
+  pub some_room : 1 ≤ capacity
+  pub at_most : capacity ≤ 128
+
+-- a run in a fixed store
+pub record IsFixedRun (capacity : ℕ) (items : List Item) : Type 0 where
+  pub ascending : IsAscending items
+  pub in_room : length items ≤ capacity
+  pub capacity_in_range : IsCapacity capacity

@@ -1,0 +1,5 @@
+pub mod Block
+pub mod Capacity
+pub mod Content
+pub mod ItemOrder
+pub mod Merging

@@ -1,0 +1,11 @@
+//! Items, their order, and runs: ascending lists of items in one store.
+#![tactic(auto)]
+
+mod fixed_run;
+mod item;
+mod merging;
+mod run;
+
+pub use fixed_run::FixedRun;
+pub use item::{Item, Stamp};
+pub use run::{Run, RunError};
