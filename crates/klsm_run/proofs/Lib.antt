@@ -1,4 +1,5 @@
 pub mod InsertLemmas
+pub mod LeastLemmas
 pub mod MergeLemmas
 pub mod OrderLemmas
 pub mod RemoveLemmas

@@ -1,0 +1,9 @@
+pub mod AnswerText
+pub mod ExactAnswers
+pub mod Fits
+pub mod Number
+pub mod Output
+pub mod Progress
+pub mod Replay
+pub mod Rows
+pub mod Script

@@ -1,0 +1,100 @@
+//! The program on its words.
+
+use crate::output::{NO_MEMORY, write_text};
+use crate::replay::replay_over;
+use crate::settings::{End, Pick, Settings};
+use clap::error::ErrorKind;
+use clap::{Command, Error};
+use std::alloc::{AllocError, Global};
+use std::io::{Read, Write};
+
+const REFUSED: u8 = 1;
+const USAGE: u8 = 2;
+const EXHAUSTED: u8 = 3;
+const FAULT: u8 = 4;
+
+/// Runs the program on its words, of which the first is its own name, and answers its status:
+/// 0 where all is done, 1 where a row is refused, 2 for a fault of the command line,
+/// 3 where room or memory is wanted, and 4 where reading or writing failed.
+pub fn run_words<R: Read + Drop, W: Write>(
+    rt: &impl AllocGlobal,
+    words: &[String],
+    reader: R,
+    writer: &mut W,
+) -> u8 {
+    match parse(rt.alloc(), words) {
+        Ok(()) => {
+            let settings = Settings {
+                threads: 1,
+                k: 64,
+                pick: Pick::First,
+                seed: 1,
+            };
+            status_of(replay_over(rt, reader, writer, &settings).end)
+        }
+        Err(Fault::Said { text, status }) => put(writer, text.as_bytes(), status),
+        Err(Fault::NoMemory) => put(writer, NO_MEMORY, EXHAUSTED),
+    }
+}
+
+/// Why the words ask for no run.
+#[derive(Drop)]
+enum Fault {
+    /// This text answers them, and the program ends with this status.
+    Said { text: String, status: u8 },
+    /// A growth was refused.
+    NoMemory,
+}
+
+fn parse(alloc: Global, words: &[String]) -> Result<(), Fault> {
+    let command = match command(alloc) {
+        Ok(command) => command,
+        Err(_) => return Err(Fault::NoMemory),
+    };
+    match command.try_get_matches_from(words) {
+        Ok(_) => Ok(()),
+        Err(error) => Err(fault_of(alloc, &error)),
+    }
+}
+
+fn fault_of(alloc: Global, error: &Error) -> Fault {
+    let status = match error.kind() {
+        ErrorKind::OutOfMemory => return Fault::NoMemory,
+        ErrorKind::DisplayHelp => 0,
+        _ => USAGE,
+    };
+    match format!(in alloc; "{error}") {
+        Ok(text) => Fault::Said { text, status },
+        Err(_) => Fault::NoMemory,
+    }
+}
+
+fn command<'a>(alloc: Global) -> Result<Command<'a>, AllocError> {
+    let replay = Command::new(alloc, "replay")
+        .about("Answers a script of insertions and deletions, row by row")
+        .after_help(REPLAY_HELP);
+    Command::new(alloc, "klsm")
+        .about("The k-LSM relaxed priority queue, proved")
+        .subcommand_required(true)
+        .arg_required_else_help(true)
+        .subcommand(replay)
+}
+
+const REPLAY_HELP: &str = "help";
+
+fn put<W: Write>(writer: &mut W, text: &[u8], status: u8) -> u8 {
+    if write_text(writer, text) < text.len() {
+        FAULT
+    } else {
+        status
+    }
+}
+
+fn status_of(end: End) -> u8 {
+    match end {
+        End::Done => 0,
+        End::Refused => REFUSED,
+        End::Full | End::NoMemory => EXHAUSTED,
+        End::ReadFault | End::WriteFault => FAULT,
+    }
+}

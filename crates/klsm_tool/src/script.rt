@@ -1,0 +1,46 @@
+//! The rows of a script, read one at a time.
+ghost use Rattle.std.specs.Prelude.{ℕ, List, [], ◌∷◌, Option, MatchResult};
+ghost use Rattle.csv.specs.Records.{fields_of};
+ghost use Rattle.klsm_tool.specs.Script.{Row};
+ghost use Rattle.klsm_tool.specs.Progress.{HasRead, ReadStops};
+
+use crate::stop::Stop;
+use csv::{ByteRecord, ErrorKind, Reader, ReaderBuilder};
+use std::alloc::Global;
+use std::io::Read;
+
+/// A script that is read row by row, each into the same record.
+#[derive(Drop)]
+pub(crate) struct Script<R> {
+    rows: Reader<R>,
+    pub row: ByteRecord,
+}
+
+impl<R: Read + Drop> Script<R> {
+    pub(crate) fn new(alloc: Global, reader: R) -> Self
+        ensures { HasRead R.remaining (R.remaining reader) [] result.rows }
+    {
+        Script {
+            rows: ReaderBuilder::new()
+                .has_headers(false)
+                .flexible(true)
+                .from_reader(alloc, reader),
+            row: ByteRecord::new(alloc),
+        }
+    }
+
+    /// Reads the next row into `row`, and answers why not where there is none.
+    pub(crate) fn advance(&mut self) -> Result<(), Stop>
+        ensures { (input : Option (List ℕ)) (rows : List Row) → HasRead R.remaining input rows self.old.rows
+            → MatchResult result (λ _. HasRead R.remaining input (fields_of self.new.row ∷ rows) self.new.rows) (ReadStops input rows) }
+    {
+        match self.rows.read_byte_record(&mut self.row) {
+            Ok(true) => Ok(()),
+            Ok(false) => Err(Stop::AtEnd),
+            Err(error) => match error.kind() {
+                ErrorKind::OutOfMemory => Err(Stop::NoMemory),
+                _ => Err(Stop::ReadFault),
+            },
+        }
+    }
+}

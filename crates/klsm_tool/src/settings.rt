@@ -1,0 +1,51 @@
+//! How a script is run, and how the run ended.
+
+/// Which candidate of the shared part a deletion takes.
+#[derive(Clone, Copy, Debug, PartialEq, Eq)]
+pub enum Pick {
+    /// The least.
+    First,
+    /// The greatest.
+    Last,
+    /// One drawn at random.
+    Random,
+}
+
+/// How a script is run.
+#[derive(Clone, Copy, Debug, PartialEq, Eq)]
+pub struct Settings {
+    /// How many threads the rows may name, 1 to 16.
+    pub threads: usize,
+    /// How many items a thread keeps for itself, at most 64.
+    pub k: usize,
+    /// How deletions pick a candidate.
+    pub pick: Pick,
+    /// The seed of thread 0's random picks. Each further thread has a seed that is greater by one.
+    pub seed: u64,
+}
+
+/// Why a run ended.
+#[derive(Clone, Copy, Debug, PartialEq, Eq)]
+pub enum End {
+    /// Every row was answered.
+    Done,
+    /// A row was refused.
+    Refused,
+    /// There was no room for an insertion.
+    Full,
+    /// A growth was refused.
+    NoMemory,
+    /// The reader failed.
+    ReadFault,
+    /// The writer failed.
+    WriteFault,
+}
+
+/// What a run leaves.
+#[derive(Clone, Copy, Debug, PartialEq, Eq)]
+pub struct Report {
+    /// Why it ended.
+    pub end: End,
+    /// How many bytes of the text went out, which are its first ones: all of it unless `end` is `WriteFault`.
+    pub written: u64,
+}
