@@ -80,7 +80,30 @@ fn command<'a>(alloc: Global) -> Result<Command<'a>, AllocError> {
         .subcommand(replay)
 }
 
-const REPLAY_HELP: &str = "help";
+const REPLAY_HELP: &str = "\
+The script comes on standard input, one row a line. Each row is answered on standard output
+before the next one is looked at.
+
+Rows:
+  THREAD,i,KEY,LOAD  Insert an item. The least key is deleted first. KEY and LOAD are
+                     numbers from 0 to 18446744073709551615
+  THREAD,d,,         Delete the least item
+
+Threads are numbered from 0. There is one today, so THREAD is 0. At most 64 items live at a time.
+
+Answers:
+  THREAD i KEY STAMP                      The item was inserted
+  THREAD d KEY STAMP load LOAD skip SKIP  This item was deleted; SKIP smaller ones live
+  THREAD d none                           There was no item to delete
+  max skip SKIP bound BOUND               The end: the greatest SKIP, and its bound
+
+A STAMP is the inserting thread, a dot, and how many items that thread had inserted before.
+
+Status: 0 all answered, 1 a row was refused, 2 wrong words, 3 no room or no memory, 4 a fault of
+reading or writing.
+
+Example:
+  printf '0,i,5,50\\n0,i,3,30\\n0,d,,\\n' | klsm replay";
 
 fn put<W: Write>(writer: &mut W, text: &[u8], status: u8) -> u8 {
     if write_text(writer, text) < text.len() {

@@ -16,3 +16,6 @@ mod stop;
 pub use command_line::run_words;
 pub use replay::replay_over;
 pub use settings::{End, Pick, Report, Settings};
+
+#[cfg(test)]
+mod tests;
