@@ -11,12 +11,7 @@ fn main(rt: HostRuntime) -> ExitCode {
         let _ = rt.println("no memory");
         return ExitCode::from(3);
     };
-    ExitCode::from(run_words(
-        &rt,
-        words.as_slice(),
-        rt.reader(),
-        &mut io::writer(&rt),
-    ))
+    ExitCode::from(run_words(&rt, words.as_slice(), rt.reader(), &mut io::writer(&rt)))
 }
 
 fn words(rt: &(impl Env + AllocGlobal)) -> io::Result<Vec<String>> {

@@ -1,16 +1,15 @@
 -- Where a binary search ends in an ascending list, and what an insert at that place leaves.
-use Rattle.std.proofs.Common.{◌≡◌, ◌≢◌, ℕ, ◌+◌, ◌<◌, ◌≤◌, Bool, true, false, List, [], ◌∷◌, length, get_or, Result, Ok, Err, refl, sym, ap, ◌∙◌, subst, arith, zero, suc, MatchResult, add-one}
-use Rattle.std.specs.List.{insert, AllByRecursion, AllWithin, Contains}
-use Rattle.std.specs.List.Sorted.{IsBinarySearchResult, IsSearchInRange, IsPartitionPoint, IsNonDecreasingBy, IsSortedBy}
-use Rattle.std.specs.Ordering.{is_lt, ordering_index}
-use Rattle.std.specs.declared.cmp.Ordering.TheVariants.{Less, Equal, Greater}
-use Rattle.std.proofs.lemmas.List.Elements.{All-from_recursion}
+use Rattle.std.proofs.Common.{◌≡◌, ℕ, ◌≤◌, false, List, [], ◌∷◌, length, Result, Ok, Err, refl, sym, ap, ◌∙◌, subst, arith, zero, suc, MatchResult, add-one}
+use Rattle.std.specs.List.{insert, Contains}
+use Rattle.std.specs.List.Sorted.{IsBinarySearchResult, IsSearchInRange, IsPartitionPoint, IsSortedBy}
+use Rattle.std.specs.Ordering.{is_lt}
+use Rattle.std.specs.declared.cmp.Ordering.TheVariants.{Less, Greater}
 use Rattle.std.proofs.lemmas.List.Sorted.{searchable_from_sorted}
 use Rattle.klsm_run.specs.declared.item.Item.{Item}
-use Rattle.klsm_run.specs.ItemOrder.{item_cmp, is_smaller, IsSmaller}
+use Rattle.klsm_run.specs.ItemOrder.{item_cmp, IsSmaller}
 use Rattle.klsm_run.specs.Content.{placed, sorted, IsAscending}
 use Rattle.klsm_run.proofs.SortedLemmas.{sorted_ascending}
-use Rattle.klsm_run.proofs.OrderLemmas.{item_total, item_exact, not_smaller_than_itself, Ranked, Below, Same, Above, ranked}
+use Rattle.klsm_run.proofs.OrderLemmas.{item_total, item_exact, not_smaller_than_itself, Below, Same, Above, ranked}
 
 -- the item at k is smaller than x, and the one at i and each later one is greater
 abbrev pub IsPlaceOf : Item → List Item → ℕ → Type 0

@@ -1,14 +1,14 @@
 -- What the first item of a content's sorted list says of the content.
-use Rattle.std.proofs.Common.{◌≡◌, ◌≢◌, ℕ, ◌+◌, Bool, true, false, List, [], ◌∷◌, length, refl, sym, ap, ◌∙◌, subst, arith, cond, if◌then◌else◌, ◌⊎◌, inl, inr, Some, slice_get, remove}
-use Rattle.std.specs.List.{AllByRecursion, count_by}
+use Rattle.std.proofs.Common.{◌≡◌, ◌+◌, Bool, true, false, List, [], ◌∷◌, refl, sym, ap, ◌∙◌, subst, arith, cond, if◌then◌else◌, ◌⊎◌, inl, inr, Some, slice_get, remove}
+use Rattle.std.specs.List.{AllByRecursion}
 use Rattle.std.specs.Ordering.{is_lt, is_eq}
-use Rattle.std.specs.declared.cmp.Ordering.TheVariants.{Less, Equal, Greater}
+use Rattle.std.specs.declared.cmp.Ordering.TheVariants.{Less, Greater}
 use Rattle.std.proofs.lemmas.Cmp.{tied_itself}
 use Rattle.std.proofs.lemmas.List.Sums.{sum_by-cons}
 use Rattle.klsm_run.specs.declared.item.Item.{Item}
-use Rattle.klsm_run.specs.ItemOrder.{item_cmp, is_same, is_smaller, IsSmaller}
+use Rattle.klsm_run.specs.ItemOrder.{is_same, is_smaller, IsSmaller}
 use Rattle.klsm_run.specs.Content.{placed, sorted, without, skipped, IsAscending}
-use Rattle.klsm_run.proofs.OrderLemmas.{item_total, item_exact, not_smaller_than_itself, Ranked, Below, Same, Above, ranked}
+use Rattle.klsm_run.proofs.OrderLemmas.{item_total, not_smaller_than_itself, Below, Same, Above, ranked}
 use Rattle.klsm_run.proofs.SortedLemmas.{all_sorted, all_weaker, sorted_ascending}
 
 -- one of the list's items is x
@@ -84,6 +84,7 @@ sorted_least x (y ∷ ys) low h = elim (ranked y x) [
       let rest : without x (y ∷ ys) ≡ y ∷ without x ys = without_other x y ys less in
       ap (placed y) (sorted_least x ys low.1 later) ∙ (placed_second x y (sorted (without x ys)) less ∙ ap (λ zs. x ∷ sorted zs) (sym rest))
 ]
+
 not_below : (x y : Item) → IsSmaller x y → is_smaller y x ≡ false
 not_below x y less = elim (ranked x y) [
   | Below less' greater ↦ ap is_lt greater

@@ -1,15 +1,14 @@
 -- Two ascending lists that share no item merge to the sorted list of both.
-use Rattle.std.proofs.Common.{◌≡◌, ◌≢◌, ℕ, ◌+◌, ◌<◌, ◌≤◌, Bool, true, false, List, [], ◌∷◌, ◌++◌, length, refl, sym, ap, ◌∙◌, subst, arith, if◌then◌else◌, zero, suc}
+use Rattle.std.proofs.Common.{◌≡◌, ◌≢◌, ℕ, ◌+◌, ◌<◌, ◌≤◌, true, false, List, [], ◌∷◌, ◌++◌, length, refl, sym, ap, ◌∙◌, subst, arith, if◌then◌else◌, suc}
 use Rattle.std.specs.List.{AllByRecursion, Contains}
 use Rattle.std.proofs.lemmas.List.{append-nil, append_assoc, length-append}
-use Rattle.std.specs.Ordering.{is_lt}
-use Rattle.std.specs.declared.cmp.Ordering.TheVariants.{Less, Equal, Greater}
+use Rattle.std.specs.declared.cmp.Ordering.TheVariants.{Less, Greater}
 use Rattle.klsm_run.specs.declared.item.Item.{Item}
-use Rattle.klsm_run.specs.ItemOrder.{item_cmp, is_smaller, IsSmaller}
+use Rattle.klsm_run.specs.ItemOrder.{is_smaller, IsSmaller}
 use Rattle.klsm_run.specs.Content.{placed, sorted, IsAscending, ShareNone}
 use Rattle.klsm_run.specs.Merging.{ahead, merged}
-use Rattle.klsm_run.proofs.OrderLemmas.{smaller_trans, not_smaller_than_itself, Ranked, Below, Same, Above, ranked}
-use Rattle.klsm_run.proofs.SortedLemmas.{IsNew, all_weaker, all_append, placed_first, sorted_ascending, all_sorted, length_sorted, ascending_placed}
+use Rattle.klsm_run.proofs.OrderLemmas.{smaller_trans, not_smaller_than_itself, Below, Same, Above, ranked}
+use Rattle.klsm_run.proofs.SortedLemmas.{IsNew, all_weaker, all_append, placed_first, sorted_ascending, all_sorted, ascending_placed}
 
 -- no item of the first list is in the second
 abbrev pub AreApart : List Item → List Item → Type 0

@@ -1,14 +1,14 @@
 -- The item order is a total order in which no two items tie.
-use Rattle.std.proofs.Common.{◌≡◌, ◌≢◌, ℕ, Bool, true, false, refl, sym, ap, ◌∙◌, subst, rules}
+use Rattle.std.proofs.Common.{◌≡◌, ℕ, refl, sym, ap, ◌∙◌}
 use Rattle.std.specs.Cmp.{IsTotalOrder}
-use Rattle.std.specs.Ordering.{nat_cmp, ordering_then, ordering_reverse, is_lt}
+use Rattle.std.specs.Ordering.{nat_cmp, ordering_then, ordering_reverse}
 use Rattle.std.specs.declared.cmp.Ordering.{Ordering}
 use Rattle.std.specs.declared.cmp.Ordering.TheVariants.{Less, Equal, Greater}
 use Rattle.std.proofs.lemmas.Cmp.{nat_cmp_total, on_total, then_total, tied_itself}
 use Rattle.std.proofs.lemmas.Map.Lookups.{CmpEqualImpliesEq, exact_unsigned, exact_pairs}
 use Rattle.klsm_run.specs.declared.item.Item.{Item}
 use Rattle.klsm_run.specs.declared.item.Stamp.{Stamp}
-use Rattle.klsm_run.specs.ItemOrder.{stamp_cmp, item_cmp, is_smaller, IsSmaller}
+use Rattle.klsm_run.specs.ItemOrder.{stamp_cmp, item_cmp, IsSmaller}
 
 stamp_total : IsTotalOrder stamp_cmp
 stamp_total = then_total (on_total (λ s. s.owner) nat_cmp_total) (on_total (λ s. s.number) nat_cmp_total)

@@ -1,5 +1,5 @@
 -- What stays true of an ascending list when an item is removed.
-use Rattle.std.proofs.Common.{◌≡◌, ℕ, List, [], ◌∷◌, remove, zero, suc, refl}
+use Rattle.std.proofs.Common.{ℕ, List, [], ◌∷◌, remove, zero, suc}
 use Rattle.std.specs.List.{AllByRecursion}
 use Rattle.klsm_run.specs.declared.item.Item.{Item}
 use Rattle.klsm_run.specs.ItemOrder.{IsSmaller}

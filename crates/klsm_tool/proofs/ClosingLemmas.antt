@@ -1,13 +1,12 @@
 -- What the last line makes of a replay that has stopped.
-use Rattle.std.proofs.Common.{◌≡◌, ◌≢◌, ℕ, ◌+◌, ◌<◌, ◌≤◌, ◌⊎◌, inl, inr, List, [], ◌∷◌, ◌++◌, length, take, Option, Some, None, refl, sym, ap, ◌∙◌, subst, arith, codes, reverse}
-use Rattle.std.specs.Io.KnownBytes.{Appends, Keeps}
+use Rattle.std.proofs.Common.{◌≡◌, ◌≢◌, ℕ, ◌+◌, ◌<◌, ◌⊎◌, inl, inr, List, [], ◌∷◌, ◌++◌, length, take, Option, Some, None, refl, sym, ap, ◌∙◌, subst, arith, codes, reverse}
+use Rattle.std.specs.Io.KnownBytes.{Appends}
 use Rattle.std.proofs.lemmas.List.{append-nil, length-append, take_all, reverse-append}
 use Rattle.csv.specs.declared.parser.State.{State}
 use Rattle.csv.specs.declared.parser.State.TheVariants as state
 use Rattle.csv.specs.declared.parser.Config.{Config}
 use Rattle.csv.specs.Reading.{Reached, default_config, strip_bom}
 use Rattle.klsm_tool.specs.declared.answer.Line.{Line}
-use Rattle.klsm_tool.specs.declared.settings.End.{End}
 use Rattle.klsm_tool.specs.declared.settings.End.TheVariants as end
 use Rattle.klsm_tool.specs.declared.settings.Report.{Report}
 use Rattle.klsm_tool.specs.declared.stop.Closing.{Closing}
@@ -15,8 +14,8 @@ use Rattle.klsm_tool.specs.declared.stop.Stop.{Stop}
 use Rattle.klsm_tool.specs.declared.stop.Stop.TheVariants as stop
 use Rattle.klsm_tool.specs.Script.{Row}
 use Rattle.klsm_tool.specs.Rows.{AreFirstRows, AreAllRows}
-use Rattle.klsm_tool.specs.AnswerText.{closing_text, greatest_skip, lines_text, text_of}
-use Rattle.klsm_tool.specs.Output.{Closes, GoesOrFails, IsCut}
+use Rattle.klsm_tool.specs.AnswerText.{closing_text, greatest_skip, lines_text}
+use Rattle.klsm_tool.specs.Output.{Closes, GoesOrFails}
 use Rattle.klsm_tool.specs.Progress.{HasStopped, IsCutOff, IsTold, IsToldUntil}
 use Rattle.klsm_tool.specs.Replay.{Answered, GoesOut, Replays, Stopped, end_of}
 use Rattle.klsm_tool.proofs.OutputLemmas.{appends_more, appends_nothing}
@@ -105,9 +104,9 @@ replays_with threads bound number input before now after written why why' report
   answered = answered;
   stopped = stopped;
   goes_out =
-    let same : closing_text number 0 bound why' ≡ closing_text (length lines + 1) (greatest_skip lines) bound why' = ap (λ n. closing_text n 0 bound why') number_is ∙ ap (λ n. closing_text (length lines + 1) n bound why') (sym exact) in
-    whole_or_cut before now after (lines_text lines) _ why' written report other told.appended told.count
-    (subst (λ (last : List ℕ). GoesOrFails now after last written report.written (end_of why') report.end) same goes);
+      let same : closing_text number 0 bound why' ≡ closing_text (length lines + 1) (greatest_skip lines) bound why' = ap (λ n. closing_text n 0 bound why') number_is ∙ ap (λ n. closing_text (length lines + 1) n bound why') (sym exact) in
+      whole_or_cut before now after (lines_text lines) _ why' written report other told.appended told.count
+      (subst (λ (last : List ℕ). GoesOrFails now after last written report.written (end_of why') report.end) same goes);
 }
 
 -- a replay that was cut off, to which nothing is added
@@ -160,7 +159,7 @@ pub replays : (threads bound : ℕ) (input before now after : Option (List ℕ))
     → HasStopped threads input before now closing.row written closing.stop → closing.most ≡ 0 → closing.bound ≡ bound → Closes now after closing written report.written report.end → Replays threads bound input before after report
 replays threads bound input before now after written closing report stopped most bound_is closes =
     let text : closing_text closing.row closing.most closing.bound closes.0 ≡ closing_text closing.row 0 bound closes.0 =
-        ap (λ n. closing_text closing.row n closing.bound closes.0) most ∙ ap (λ n. closing_text closing.row 0 n closes.0) bound_is in
+    ap (λ n. closing_text closing.row n closing.bound closes.0) most ∙ ap (λ n. closing_text closing.row 0 n closes.0) bound_is in
     replays_for threads bound closing.row input before now after written closing.stop closes.0 report stopped closes.1
     (subst (λ (last : List ℕ). GoesOrFails now after last written report.written (end_of closes.0) report.end) text closes.2)
 

@@ -1,18 +1,16 @@
 -- No line is long.
-use Rattle.std.proofs.Common.{◌≡◌, ℕ, ◌+◌, ◌<◌, ◌≤◌, ◌^◌, List, [], ◌∷◌, ◌++◌, length, refl, codes, arith, lit<}
+use Rattle.std.proofs.Common.{ℕ, ◌<◌, ◌≤◌, ◌^◌, length, arith}
 use Rattle.std.specs.Fmt.{decimal}
 use Rattle.std.proofs.lemmas.Fmt.{length-decimal-le}
 use Rattle.std.proofs.lemmas.List.{length-append}
-use Rattle.klsm_run.specs.declared.item.Item.{Item}
-use Rattle.klsm_run.specs.declared.item.Stamp.{Stamp}
 use Rattle.klsm_tool.specs.declared.answer.Answer.{Answer}
 use Rattle.klsm_tool.specs.declared.answer.Answer.TheVariants.{Inserted, Deleted, Nothing}
 use Rattle.klsm_tool.specs.declared.request.Refusal.{Refusal}
 use Rattle.klsm_tool.specs.declared.request.Refusal.TheVariants as refusal
 use Rattle.klsm_tool.specs.declared.stop.Stop.{Stop}
 use Rattle.klsm_tool.specs.declared.stop.Stop.TheVariants as stop
-use Rattle.klsm_tool.specs.Fits.{FitsItem, FitsAnswer}
-use Rattle.klsm_tool.specs.AnswerText.{answer_text, closing_text, refusal_word, stamp_text}
+use Rattle.klsm_tool.specs.Fits.{FitsAnswer}
+use Rattle.klsm_tool.specs.AnswerText.{answer_text, closing_text, refusal_word}
 
 number_short : (n : ℕ) → n < 2 ^ 64 → length (decimal n) ≤ 20
 number_short n fits = length-decimal-le 20 n (omega arith) (omega arith) fits

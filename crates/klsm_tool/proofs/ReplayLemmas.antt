@@ -1,9 +1,9 @@
 -- What one row does to a replay.
-use Rattle.std.proofs.Common.{◌≡◌, ◌≢◌, ℕ, ◌+◌, ◌<◌, Bool, true, false, List, [], ◌∷◌, length, Option, Some, None, Result, Ok, Err, refl, sym, ap, ◌∙◌, subst, arith, zero, suc, eqb, if◌then◌else◌, max}
+use Rattle.std.proofs.Common.{◌≡◌, ◌≢◌, ℕ, ◌<◌, Bool, true, false, List, [], ◌∷◌, length, Option, Some, None, Ok, Err, refl, sym, ap, ◌∙◌, subst, arith, eqb, if◌then◌else◌}
 use Rattle.std.proofs.lemmas.Bool.Decides.{nat_tests}
 use Rattle.csv.specs.declared.reader.Reader.{Reader}
 use Rattle.klsm_run.specs.declared.item.Item.{Item}
-use Rattle.klsm_run.specs.Content.{placed, sorted, without, skipped, IsAscending}
+use Rattle.klsm_run.specs.Content.{placed, sorted, without, IsAscending}
 use Rattle.klsm_run.proofs.SortedLemmas.{sorted_ascending}
 use Rattle.klsm_run.proofs.LeastLemmas.{without_first, sorted_without_first, skipped_first}
 use Rattle.std.specs.Option.{option_map, IfSome, ok_or}
@@ -19,10 +19,9 @@ use Rattle.klsm_tool.specs.declared.request.Refusal.TheVariants as refusal
 use Rattle.klsm_tool.specs.declared.stop.Stop.{Stop}
 use Rattle.klsm_tool.specs.declared.stop.Stop.TheVariants as stop
 use Rattle.klsm_tool.specs.Script.{Row, request_of, request_after, row_limit}
-use Rattle.klsm_tool.specs.Rows.{AreFirstRows}
-use Rattle.klsm_tool.specs.AnswerText.{live, live_after, skip_of, greatest_skip}
-use Rattle.klsm_tool.specs.ExactAnswers.{answer_to, exact_answer, inserted, inserted_after, least_of}
-use Rattle.klsm_tool.specs.Replay.{Answered, Stopped}
+use Rattle.klsm_tool.specs.AnswerText.{live, live_after, skip_of}
+use Rattle.klsm_tool.specs.ExactAnswers.{answer_to, inserted, inserted_after}
+use Rattle.klsm_tool.specs.Replay.{Stopped}
 use Rattle.klsm_tool.specs.Progress.{HasRead, ReadStops, Stands}
 use Rattle.klsm_tool.proofs.RowLemmas.{first_rows}
 

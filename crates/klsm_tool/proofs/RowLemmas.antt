@@ -1,11 +1,10 @@
 -- What one read of a record does to the rows that were read.
-use Rattle.std.proofs.Common.{◌≡◌, ℕ, Bool, true, false, List, [], ◌∷◌, ◌++◌, Option, Some, None, refl, sym, ap, ◌∙◌, subst, inl, inr, reverse}
+use Rattle.std.proofs.Common.{◌≡◌, ℕ, true, false, List, [], ◌∷◌, Option, Some, None, refl, sym, ◌∙◌, subst, inl, reverse}
 use Rattle.std.specs.Option.{option_map}
 use Rattle.std.proofs.lemmas.List.{reverse-append}
 use Rattle.csv.specs.declared.reader.Reader.{Reader}
-use Rattle.csv.specs.declared.reader.Trim.TheVariants as trim
 use Rattle.csv.specs.declared.parser.State.TheVariants as state
-use Rattle.csv.specs.Reading.{ReadRecord, Reached, Ready, default_config, is_flexible, reader_config, reader_state, reader_trim, source_of, strip_bom, took_first}
+use Rattle.csv.specs.Reading.{ReadRecord, Reached, default_config, is_flexible, reader_config, reader_state, source_of, strip_bom, took_first}
 use Rattle.csv.proofs.ReadFacts.{rows-end, rows-more}
 use Rattle.klsm_tool.specs.Script.{Row}
 use Rattle.klsm_tool.specs.Rows.{AreFirstRows, AreAllRows}

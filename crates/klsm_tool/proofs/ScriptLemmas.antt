@@ -1,5 +1,5 @@
 -- What the fields of a record are, from a look at each.
-use Rattle.std.proofs.Common.{◌≡◌, ◌≢◌, ℕ, ◌<◌, ◌≤◌, List, [], ◌∷◌, length, Option, Some, None, Result, Ok, Err, Bor, refl, sym, ap, ◌∙◌, arith, zero, suc}
+use Rattle.std.proofs.Common.{◌≡◌, ◌≢◌, ℕ, ◌<◌, List, [], ◌∷◌, length, Option, Some, None, Err, Bor, refl, sym, ap, ◌∙◌, arith, zero, suc}
 use Rattle.std.specs.Option.{option_map}
 use Rattle.csv.specs.Records.{field_at}
 use Rattle.klsm_tool.specs.declared.request.Refusal.TheVariants as refusal

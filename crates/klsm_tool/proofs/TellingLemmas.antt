@@ -1,22 +1,20 @@
 -- What writing a line does to a replay, and where a replay stops.
-use Rattle.std.proofs.Common.{◌≡◌, ◌≢◌, ℕ, ◌+◌, ◌<◌, ◌≤◌, ◌^◌, List, [], ◌∷◌, ◌++◌, length, take, drop, Option, Some, None, Result, Ok, Err, refl, sym, ap, ◌∙◌, subst, arith, max}
+use Rattle.std.proofs.Common.{◌≡◌, ◌≢◌, ℕ, ◌+◌, ◌<◌, ◌≤◌, ◌^◌, List, [], ◌∷◌, ◌++◌, length, take, drop, Option, Some, None, Result, Ok, Err, refl, sym, ap, ◌∙◌, subst, arith}
 use Rattle.std.specs.Option.{IfSome, ok_or}
 use Rattle.std.specs.Result.{IfOk, MatchResult}
 use Rattle.std.specs.Io.KnownBytes.{Appends, Keeps}
 use Rattle.std.proofs.Math.Seq.{take-add, take-append_seam, drop-append_seam}
-use Rattle.std.proofs.lemmas.List.{append-nil, length-append, take_all, length-take-le}
+use Rattle.std.proofs.lemmas.List.{append-nil, length-append}
 use Rattle.csv.specs.declared.reader.Reader.{Reader}
 use Rattle.klsm_run.specs.declared.item.Item.{Item}
 use Rattle.klsm_tool.specs.declared.answer.Line.{Line}
-use Rattle.klsm_tool.specs.declared.settings.End.{End}
 use Rattle.klsm_tool.specs.declared.stop.Stop.{Stop}
 use Rattle.klsm_tool.specs.declared.stop.Stop.TheVariants as stop
-use Rattle.klsm_tool.specs.Script.{Row, row_limit}
-use Rattle.klsm_tool.specs.Rows.{AreFirstRows}
+use Rattle.klsm_tool.specs.Script.{Row}
 use Rattle.klsm_tool.specs.AnswerText.{answer_text, greatest_skip, lines_text, live, skip_of}
 use Rattle.klsm_tool.specs.Fits.{FitsAnswer}
-use Rattle.klsm_tool.specs.Output.{IsCut, Puts, Stops}
-use Rattle.klsm_tool.specs.Progress.{HasRead, HasStopped, IsCutOff, IsTold, IsToldUntil, Stands}
+use Rattle.klsm_tool.specs.Output.{IsCut, Puts}
+use Rattle.klsm_tool.specs.Progress.{HasStopped, IsCutOff, IsTold, IsToldUntil, Stands}
 use Rattle.klsm_tool.specs.Replay.{Answered, Stopped}
 use Rattle.klsm_tool.proofs.LengthLemmas.{answer_short}
 use Rattle.klsm_tool.proofs.OutputLemmas.{appends_more, appends_none}

@@ -1,6 +1,6 @@
 -- The answer text: what `klsm replay` writes for the answers to a script's rows. Answers are listed the latest first, so
 -- that `line ∷ earlier` is a line with the lines before it.
-use Rattle.std.specs.Prelude.{ℕ, ◌+◌, ◌*◌, List, [], ◌∷◌, ◌++◌, length, codes, max}
+use Rattle.std.specs.Prelude.{ℕ, ◌+◌, List, [], ◌∷◌, ◌++◌, length, codes, max}
 use Rattle.std.specs.List.{concat}
 use Rattle.std.specs.Fmt.{decimal}
 use Rattle.klsm_run.specs.declared.item.Item.{Item}

@@ -1,8 +1,10 @@
 pub mod AnswerText
+pub mod CommandLine
 pub mod ExactAnswers
 pub mod Fits
 pub mod Number
 pub mod Output
+pub mod Program
 pub mod Progress
 pub mod Replay
 pub mod Rows

@@ -1,5 +1,5 @@
 -- How far a replay has come. Rows and lines are listed the latest first.
-use Rattle.std.specs.Prelude.{ℕ, ⊤, Bool, true, ◌≡◌, ◌≢◌, ◌+◌, ◌<◌, List, [], ◌∷◌, length, take, reverse, Option, Some, None}
+use Rattle.std.specs.Prelude.{ℕ, ⊤, true, ◌≡◌, ◌≢◌, ◌+◌, ◌<◌, List, length, take, reverse, Option, Some, None}
 use Rattle.std.specs.Io.KnownBytes.{Appends}
 use Rattle.csv.specs.declared.reader.Reader.{Reader}
 use Rattle.csv.specs.declared.reader.Trim.TheVariants as trim

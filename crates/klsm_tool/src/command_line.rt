@@ -1,4 +1,9 @@
 //! The program on its words.
+ghost use Rattle.std.specs.Prelude.{◌≡◌, ◌≢◌, ◌⊎◌, ℕ, List, [], IfErr, IfOk, OnOk, map, string_bytes};
+ghost use Rattle.clap.specs.Faults.{fault_of as fault_of_words};
+ghost use Rattle.clap.specs.Words.{app_of, kind_of};
+ghost use Rattle.klsm_tool.specs.CommandLine.{klsm_command, replay_words};
+ghost use Rattle.klsm_tool.specs.Program.{AnswersWords, IsFault, Runs, RunsReplayOrLacksMemory, Says, status_of as status_of_end};
 
 use crate::output::{NO_MEMORY, write_text};
 use crate::replay::replay_over;
@@ -9,8 +14,11 @@ use std::alloc::{AllocError, Global};
 use std::io::{Read, Write};
 
 const REFUSED: u8 = 1;
+
 const USAGE: u8 = 2;
+
 const EXHAUSTED: u8 = 3;
+
 const FAULT: u8 = 4;
 
 /// Runs the program on its words, of which the first is its own name, and answers its status:
@@ -21,7 +29,12 @@ pub fn run_words<R: Read + Drop, W: Write>(
     words: &[String],
     reader: R,
     writer: &mut W,
-) -> u8 {
+) -> u8
+    ensures runs { Runs (R.remaining reader) (W.contents writer.old) (W.contents writer.new) result }
+    ensures replays { (name : List ℕ) → map string_bytes words.now ≡ replay_words name
+        → RunsReplayOrLacksMemory (R.remaining reader) (W.contents writer.old) (W.contents writer.new) result }
+    ensures answers { fault_of_words klsm_command (map string_bytes words.now) ≢ [] → AnswersWords (W.contents writer.old) (W.contents writer.new) result }
+{
     match parse(rt.alloc(), words) {
         Ok(()) => {
             let settings = Settings {
@@ -46,7 +59,11 @@ enum Fault {
     NoMemory,
 }
 
-fn parse(alloc: Global, words: &[String]) -> Result<(), Fault> {
+fn parse(alloc: Global, words: &[String]) -> Result<(), Fault>
+    ensures fault { IfErr result IsFault }
+    ensures replay { (name : List ℕ) → map string_bytes words.now ≡ replay_words name → IfErr result (λ fault. fault ≡ Fault.NoMemory) }
+    ensures asked { OnOk result (fault_of_words klsm_command (map string_bytes words.now) ≡ []) }
+{
     let command = match command(alloc) {
         Ok(command) => command,
         Err(_) => return Err(Fault::NoMemory),
@@ -57,7 +74,10 @@ fn parse(alloc: Global, words: &[String]) -> Result<(), Fault> {
     }
 }
 
-fn fault_of(alloc: Global, error: &Error) -> Fault {
+fn fault_of(alloc: Global, error: &Error) -> Fault
+    ensures fault { IsFault result }
+    ensures memory { kind_of error.now ≡ ErrorKind.OutOfMemory → result ≡ Fault.NoMemory }
+{
     let status = match error.kind() {
         ErrorKind::OutOfMemory => return Fault::NoMemory,
         ErrorKind::DisplayHelp => 0,
@@ -69,7 +89,9 @@ fn fault_of(alloc: Global, error: &Error) -> Fault {
     }
 }
 
-fn command<'a>(alloc: Global) -> Result<Command<'a>, AllocError> {
+fn command<'a>(alloc: Global) -> Result<Command<'a>, AllocError>
+    ensures { IfOk result (λ command. app_of command ≡ klsm_command) }
+{
     let replay = Command::new(alloc, "replay")
         .about("Answers a script of insertions and deletions, row by row")
         .after_help(REPLAY_HELP);
@@ -105,7 +127,9 @@ reading or writing.
 Example:
   printf '0,i,5,50\\n0,i,3,30\\n0,d,,\\n' | klsm replay";
 
-fn put<W: Write>(writer: &mut W, text: &[u8], status: u8) -> u8 {
+fn put<W: Write>(writer: &mut W, text: &[u8], status: u8) -> u8
+    ensures { Says (W.contents writer.old) (W.contents writer.new) text.now status result }
+{
     if write_text(writer, text) < text.len() {
         FAULT
     } else {
@@ -113,7 +137,9 @@ fn put<W: Write>(writer: &mut W, text: &[u8], status: u8) -> u8 {
     }
 }
 
-fn status_of(end: End) -> u8 {
+fn status_of(end: End) -> u8
+    ensures { result ≡ status_of_end end }
+{
     match end {
         End::Done => 0,
         End::Refused => REFUSED,

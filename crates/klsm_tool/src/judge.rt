@@ -8,6 +8,9 @@ use crate::number::number;
 use crate::request::{Operation, Refusal, Request};
 use csv::ByteRecord;
 
+/// How many fields a row has.
+const FIELDS: usize = 4;
+
 const INSERT: &[u8] = b"i";
 
 const DELETE: &[u8] = b"d";
@@ -17,12 +20,15 @@ pub(crate) fn request_of(row: &ByteRecord, threads: usize) -> Result<Request, Re
     requires { threads ≤ 2 ^ 32 }
     ensures { result ≡ request_of_row threads (fields_of row.now) }
 {
-    if row.len() != 4 {
+    if row.len() != FIELDS {
         return Err(Refusal::Fields);
     }
-    let (Some(thread), Some(operation), Some(key), Some(load)) =
-        (row.get(0), row.get(1), row.get(2), row.get(3))
-    else {
+    let (Some(thread), Some(operation), Some(key), Some(load)) = (
+        row.get(0),
+        row.get(1),
+        row.get(2),
+        row.get(3),
+    ) else {
         return Err(Refusal::Fields);
     };
     request(threads, thread, operation, key, load)

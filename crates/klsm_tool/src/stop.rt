@@ -60,7 +60,12 @@ impl fmt::Display for Closing {
     ghost output = { λ c. Some (closing_text c.row c.most c.bound c.stop) };
 
     fn fmt<W: fmt::Write>(&self, f: &mut fmt::Formatter<W>) -> fmt::Result {
-        let Closing { stop, row, most, bound } = *self;
+        let Closing {
+            stop,
+            row,
+            most,
+            bound,
+        } = *self;
         match stop {
             Stop::AtEnd => writeln!(f, "max skip {most} bound {bound}"),
             Stop::Refused(why) => writeln!(f, "refused row {row}: {why}"),

@@ -16,7 +16,10 @@ const SETTINGS: Settings = Settings {
 fn a_failed_read_follows_the_answers_before_it(rt: HostRuntime) -> Result<(), Fail> {
     let table = [
         (b"0,i,5,50\n0".as_slice(), "0 i 5 0.0\nread fault\n"),
-        (b"0,i,5,50\n0,d,,\n0,i".as_slice(), "0 i 5 0.0\n0 d 5 0.0 load 50 skip 0\nread fault\n"),
+        (
+            b"0,i,5,50\n0,d,,\n0,i".as_slice(),
+            "0 i 5 0.0\n0 d 5 0.0 load 50 skip 0\nread fault\n",
+        ),
         (b"".as_slice(), "read fault\n"),
     ];
     for (left, want) in table {

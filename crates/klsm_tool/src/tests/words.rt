@@ -17,7 +17,10 @@ fn a_fault_of_the_command_line_is_status_2(rt: HostRuntime) -> Result<(), Fail> 
         let words = words_of(rt.alloc(), words)?;
         let mut out = Vec::new(rt.alloc());
         // The script is not read.
-        assert_eq!(rt; run_words(&rt, words.as_slice(), b"0,d,,\n".as_slice(), &mut out), 2);
+        assert_eq!(rt;
+            run_words(&rt, words.as_slice(), b"0,d,,\n".as_slice(), &mut out),
+            2
+        );
         assert!(rt; !out.is_empty());
         assert!(rt; !out.as_slice().starts_with(b"0 d none"));
     }
@@ -35,7 +38,10 @@ fn a_request_for_help_is_status_0(rt: HostRuntime) -> Result<(), Fail> {
     for words in table {
         let words = words_of(rt.alloc(), words)?;
         let mut out = Vec::new(rt.alloc());
-        assert_eq!(rt; run_words(&rt, words.as_slice(), b"0,d,,\n".as_slice(), &mut out), 0);
+        assert_eq!(rt;
+            run_words(&rt, words.as_slice(), b"0,d,,\n".as_slice(), &mut out),
+            0
+        );
         assert!(rt; !out.is_empty());
         assert!(rt; !out.as_slice().starts_with(b"0 d none"));
     }

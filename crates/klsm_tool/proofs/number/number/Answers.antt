@@ -1,4 +1,4 @@
-use Rattle.std.proofs.Common.{◌≡◌, ℕ, List, get_or, ◌≢◌, refl, sym, ◌∙◌, subst}
+use Rattle.std.proofs.Common.{ℕ, List, get_or, ◌≢◌, refl, sym, ◌∙◌, subst}
 use Rattle.std.specs.Str.Parse.{ParsesUnsigned}
 use Rattle.klsm_tool.proofs.NumberLemmas.{no_plus, no_text_no_number, not_text, text_is, parsed}
 use Rattle.klsm_tool.proofs.number.number.Goals as goal

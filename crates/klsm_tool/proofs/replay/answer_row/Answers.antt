@@ -1,5 +1,5 @@
-use Rattle.std.proofs.Common.{◌≡◌, arith, rules, length}
-use Rattle.std.proofs.lemmas.Result.{err_from_is_err_and, MatchResult-at_err, MatchResult-at_ok}
+use Rattle.std.proofs.Common.{arith}
+use Rattle.std.proofs.lemmas.Result.{err_from_is_err_and}
 use Rattle.klsm_tool.proofs.TellingLemmas.{stops_told, puts_at_most, line_put}
 use Rattle.klsm_tool.proofs.replay.answer_row.Goals as goal
 

@@ -1,4 +1,4 @@
-use Rattle.std.proofs.Common.{◌≡◌, ℕ, ◌+◌, ◌*◌, ◌<◌, ◌≤◌, List, ◌∷◌, length, sym, ap, ◌∙◌, subst, arith, Option}
+use Rattle.std.proofs.Common.{◌≡◌, ℕ, ◌+◌, ◌<◌, ◌∷◌, length, subst, arith}
 use Rattle.csv.specs.Records.{fields_of}
 use Rattle.klsm_tool.specs.declared.stop.Stop.{Stop}
 use Rattle.klsm_tool.specs.Script.{row_limit}
@@ -20,9 +20,9 @@ loop-answered-preserved g c = record {
   few = omega (arith, c.in_default.ensures.inserted, c.loop-answered.invariant.few);
   short = omega (arith, c.in_default.ensures.written, c.loop-answered.invariant.short);
   stands = λ input before stands told.
-    let k = c.loop-answered.invariant.stands input before stands told in
-    let next = c.in_default.ensures.step input before k.0 k.1 k.3 (let few : length k.0 < row_limit = omega (arith, k.2) in few) k.4 in
-    (next.0 ∷ k.0, next.1 ∷ k.1, omega (arith, k.2), next.2, next.3);
+      let k = c.loop-answered.invariant.stands input before stands told in
+      let next = c.in_default.ensures.step input before k.0 k.1 k.3 (let few : length k.0 < row_limit = omega (arith, k.2) in few) k.4 in
+      (next.0 ∷ k.0, next.1 ∷ k.1, omega (arith, k.2), next.2, next.3);
 }
 
 pub returns-clause-stops : goal.returns-clause-stops
@@ -35,9 +35,9 @@ returns-clause-stops g c input before stands told =
     let number = λ (why : Stop) (h : HasStopped threads input before contents (length k.0 + 1) c.loop-answered.output.written why). subst (λ (n : ℕ). HasStopped threads input before contents (n + 1) c.loop-answered.output.written why) all h in
     elim c.match-advance.branch [
       | in-Ok w ↦ rw w.stop-is (
-        let h = too_many g.R.Read.remaining threads input k.0 k.1 c.advance.new.self.rows (fields_of c.advance.new.self.row) all (w.in-Ok.ensures input k.0 k.3.read) in
-        number _ (stops_told threads input before contents k.0 k.1 _ _ k.3.answered h.0 h.1 k.3.exact k.4))
+          let h = too_many g.R.Read.remaining threads input k.0 k.1 c.advance.new.self.rows (fields_of c.advance.new.self.row) all (w.in-Ok.ensures input k.0 k.3.read) in
+          number _ (stops_told threads input before contents k.0 k.1 _ _ k.3.answered h.0 h.1 k.3.exact k.4))
       | in-Err-advance w ↦ rw w.stop-is (
-        let h = read_stops threads input k.0 k.1 _ (w.in-Err-advance.ensures input k.0 k.3.read) in
-        number _ (stops_told threads input before contents k.0 k.1 _ _ k.3.answered h.0 h.1 k.3.exact k.4))
+          let h = read_stops threads input k.0 k.1 _ (w.in-Err-advance.ensures input k.0 k.3.read) in
+          number _ (stops_told threads input before contents k.0 k.1 _ _ k.3.answered h.0 h.1 k.3.exact k.4))
     ]

@@ -10,7 +10,7 @@ invariant-loop-answered g l = record {
   few : l.queue.inserted ≤ l.answered;
   short : l.output.written ≤ 160 * l.answered;
   stands : (input before : Option (List ℕ)) → Stands g.R.Read.remaining l.settings.threads input [] [] l.initial.script.rows l.initial.queue.live l.initial.queue.inserted
-    → IsTold before (g.W.Write.contents l.initial.writer) [] l.initial.output.written
-    → (rows : List Row) × (lines : List Line) × (length rows ≡ l.answered) × Stands g.R.Read.remaining l.settings.threads input rows lines l.script.rows l.queue.live l.queue.inserted
-    × IsTold before (g.W.Write.contents l.writer) lines l.output.written;
+      → IsTold before (g.W.Write.contents l.initial.writer) [] l.initial.output.written
+      → (rows : List Row) × (lines : List Line) × (length rows ≡ l.answered) × Stands g.R.Read.remaining l.settings.threads input rows lines l.script.rows l.queue.live l.queue.inserted
+      × IsTold before (g.W.Write.contents l.writer) lines l.output.written;
 }

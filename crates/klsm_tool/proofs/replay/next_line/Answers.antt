@@ -1,8 +1,5 @@
-use Rattle.std.proofs.Common.{◌≡◌, ℕ, List, Option, Result, Ok, Err, sym, ap, ◌∙◌, subst}
-use Rattle.std.specs.Result.{MatchResult}
+use Rattle.std.proofs.Common.{sym}
 use Rattle.csv.specs.Records.{fields_of}
-use Rattle.klsm_tool.specs.declared.stop.Stop.{Stop}
-use Rattle.klsm_tool.specs.declared.answer.Line.{Line}
 use Rattle.klsm_tool.proofs.ReplayLemmas.{answered_or_full, refused}
 use Rattle.klsm_tool.proofs.TellingLemmas.{short_line}
 use Rattle.klsm_tool.proofs.replay.next_line.Goals as goal

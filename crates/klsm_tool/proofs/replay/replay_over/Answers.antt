@@ -1,4 +1,4 @@
-use Rattle.std.proofs.Common.{◌≡◌, ℕ, ◌+◌, ◌*◌, ◌<◌, ◌≤◌, List, [], length, sym, ap, ◌∙◌, subst, arith, refl}
+use Rattle.std.proofs.Common.{◌*◌, [], arith, refl}
 use Rattle.klsm_tool.specs.Progress.{IsTold, Stands}
 use Rattle.klsm_tool.proofs.OutputLemmas.{appends_nothing}
 use Rattle.klsm_tool.proofs.ClosingLemmas.{replays, replays_nothing}
@@ -24,4 +24,5 @@ returns g c =
       exact = refl;
     } in
     let told : IsTold (g.W.Write.contents c.args.writer.now) (g.W.Write.contents c.args.writer.now) [] c.in-Ok.output.written = record { appended = appends_nothing _; count = c.in-Ok.ensures } in
-    replays _ _ (g.R.Read.remaining c.args.reader) (g.W.Write.contents c.args.writer.now) _ _ _ c.answer_rows-closing.result _ (e.stops (g.R.Read.remaining c.args.reader) (g.W.Write.contents c.args.writer.now) stands told) e.most e.bound c.close-end.ensures
+    let threads = c.args.settings.now.threads in
+    replays threads (threads * c.args.settings.now.k) (g.R.Read.remaining c.args.reader) (g.W.Write.contents c.args.writer.now) (g.W.Write.contents c.answer_rows-closing.new.writer) (g.W.Write.contents c.close-end.new.writer) c.answer_rows-closing.new.output.written c.answer_rows-closing.result _ (e.stops (g.R.Read.remaining c.args.reader) (g.W.Write.contents c.args.writer.now) stands told) e.most e.bound c.close-end.ensures

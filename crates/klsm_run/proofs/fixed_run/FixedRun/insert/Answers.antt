@@ -1,7 +1,7 @@
-use Rattle.std.proofs.Common.{◌≡◌, ℕ, ◌<◌, ◌≤◌, List, ◌∷◌, length, ap, ◌∙◌, subst, arith, suc}
+use Rattle.std.proofs.Common.{◌≡◌, ◌<◌, List, ◌∷◌, length, ap, ◌∙◌, arith}
 use Rattle.std.specs.List.{insert}
 use Rattle.klsm_run.specs.declared.item.Item.{Item}
-use Rattle.klsm_run.specs.Content.{sorted, IsAscending}
+use Rattle.klsm_run.specs.Content.{sorted}
 use Rattle.klsm_run.proofs.InsertLemmas.{inserted}
 use Rattle.klsm_run.proofs.MergeLemmas.{new_if_absent}
 use Rattle.klsm_run.proofs.SortedLemmas.{ascending_placed, sorted_ascending, length_sorted}

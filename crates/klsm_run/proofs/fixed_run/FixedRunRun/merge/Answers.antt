@@ -1,5 +1,4 @@
-use Rattle.std.proofs.Common.{◌≡◌, ℕ, ◌+◌, ◌<◌, ◌≤◌, List, [], ◌∷◌, ◌++◌, length, ap, sym, ◌∙◌, subst, refl, arith, rules}
-use Rattle.klsm_run.specs.declared.item.Item.{Item}
+use Rattle.std.proofs.Common.{◌≡◌, ◌++◌, subst, refl, rules}
 use Rattle.klsm_run.specs.Content.{sorted, IsAscending}
 use Rattle.klsm_run.proofs.MergeLemmas.{apart_if_sharing_none, ascending_sorted, room_for_next, done_more, done_all}
 use Rattle.klsm_run.proofs.SortedLemmas.{length_sorted}

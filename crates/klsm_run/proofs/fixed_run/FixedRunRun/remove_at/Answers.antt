@@ -1,4 +1,4 @@
-use Rattle.std.proofs.Common.{arith, rules, length, ◌<◌, ◌≤◌, refl}
+use Rattle.std.proofs.Common.{arith, length, ◌<◌, refl}
 use Rattle.std.proofs.lemmas.Option.{slice_get_read}
 use Rattle.std.proofs.lemmas.List.Edits.{length-remove}
 use Rattle.klsm_run.proofs.RemoveLemmas.{ascending_remove}

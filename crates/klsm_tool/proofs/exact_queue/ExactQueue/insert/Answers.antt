@@ -1,4 +1,4 @@
-use Rattle.std.proofs.Common.{ℕ, ◌+◌, ◌<◌, ◌∷◌, List, arith}
+use Rattle.std.proofs.Common.{◌+◌, ◌<◌, ◌∷◌, arith}
 use Rattle.std.proofs.lemmas.List.Elements.{All-from_recursion, recursion_from_All, All-weaker}
 use Rattle.klsm_run.specs.declared.item.Item.{Item}
 use Rattle.klsm_run.proofs.SortedLemmas.{all_sorted}

@@ -1,4 +1,3 @@
-use Rattle.std.proofs.Common.{true, false}
 use Rattle.csv.specs.Records.{fields_of}
 use Rattle.klsm_tool.proofs.RowLemmas.{read_more}
 use Rattle.klsm_tool.proofs.script.Script.advance.Goals as goal

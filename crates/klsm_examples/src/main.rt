@@ -1,0 +1,50 @@
+//! Runs each script of examples/ through the program and compares its answer with the text beside it.
+#![tactic(auto)]
+
+use klsm_tool::run_words;
+use std::alloc::AllocError;
+use std::fs::{Files, read, read_dir};
+use std::io;
+use std::process::ExitCode;
+
+fn main(rt: HostRuntime) -> io::Result<ExitCode> {
+    let mut agreeing = 0u32;
+    for entry in read_dir(&rt, ".")? {
+        let entry = entry?;
+        let Some(stem) = entry.file_name().strip_suffix(".csv") else {
+            continue;
+        };
+        if !agrees(&rt, stem)? {
+            println!(rt; "{stem} is answered otherwise")?;
+            return Ok(ExitCode::FAILURE);
+        }
+        agreeing = agreeing.saturating_add(1);
+    }
+    println!(rt; "{agreeing} examples agree")?;
+    Ok(ExitCode::SUCCESS)
+}
+
+/// Whether the program answers the script of this name as the text beside it says, and with its status.
+fn agrees<R: Files + AllocGlobal>(rt: &R, stem: &str) -> io::Result<bool> {
+    let script = read(rt, format!(in rt.alloc(); "{stem}.csv")?)?;
+    let wanted = read(rt, format!(in rt.alloc(); "{stem}.txt")?)?;
+    let words = ["klsm", "replay"];
+    let mut all = Vec::new(rt.alloc());
+    for word in words {
+        all.push(String::from_str(rt.alloc(), word)?)?;
+    }
+    let mut answer = Vec::new(rt.alloc());
+    let status = run_words(rt, all.as_slice(), script.as_slice(), &mut answer);
+    Ok(status == status_of(stem) && answer.as_slice() == wanted.as_slice())
+}
+
+/// An example's name says how its run ends.
+fn status_of(stem: &str) -> u8 {
+    if stem.starts_with("refused") {
+        1
+    } else if stem.starts_with("full") {
+        3
+    } else {
+        0
+    }
+}
