@@ -1,4 +1,5 @@
-//! Runs each script of examples/ through the program and compares its answer with the text beside it.
+//! Runs each script of the folder that it is started in, `data`, through the program, and compares its answer with the
+//! text beside it.
 #![tactic(auto)]
 
 use klsm_tool::run_words;

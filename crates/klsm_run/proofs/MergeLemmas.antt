@@ -1,7 +1,7 @@
 -- Two ascending lists that share no item merge to the sorted list of both.
 use Rattle.std.proofs.Common.{◌≡◌, ◌≢◌, ℕ, ◌+◌, ◌<◌, ◌≤◌, true, false, List, [], ◌∷◌, ◌++◌, length, refl, sym, ap, ◌∙◌, subst, arith, if◌then◌else◌, suc}
 use Rattle.std.specs.List.{AllByRecursion, Contains}
-use Rattle.std.proofs.lemmas.List.{append-nil, append_assoc, length-append}
+use Rattle.std.proofs.lemmas.List.{append_assoc, length-append}
 use Rattle.std.specs.declared.cmp.Ordering.TheVariants.{Less, Greater}
 use Rattle.klsm_run.specs.declared.item.Item.{Item}
 use Rattle.klsm_run.specs.ItemOrder.{is_smaller, IsSmaller}
@@ -81,7 +81,3 @@ room_for_next done left rest xs ys x room whole next fits = omega (arith, length
 -- one more item is done
 pub done_more : (done left rest whole : List Item) (x : Item) → done ++ left ≡ whole → left ≡ x ∷ rest → (done ++ x ∷ []) ++ rest ≡ whole
 done_more done left rest whole x all next = append_assoc done (x ∷ []) rest ∙ (ap (λ zs. done ++ zs) (sym next) ∙ all)
-
--- all items are done
-pub done_all : (done left xs ys : List Item) → done ++ left ≡ merged xs ys → left ≡ [] → IsAscending xs → IsAscending ys → ShareNone xs ys → done ≡ sorted (xs ++ ys)
-done_all done left xs ys all end up_xs up_ys none = sym (append-nil done) ∙ (ap (λ zs. done ++ zs) (sym end) ∙ (all ∙ merged_sorted xs ys up_xs up_ys (apart_if_sharing_none xs ys none)))

@@ -1,9 +1,10 @@
 //! A run in a fixed store, which never takes memory.
-ghost use Rattle.std.specs.Prelude.{◌≡◌, ℕ, ◌+◌, ◌<◌, ◌≤◌, ◌^◌, ◌∷◌, ◌++◌, [], List, length, remove, slice_get, Some, IsOk, IfOk, true};
+ghost use Rattle.std.specs.Prelude.{◌≡◌, ℕ, ◌+◌, ◌/◌, ◌<◌, ◌≤◌, ◌^◌, ◌∷◌, ◌++◌, [], List, length, remove, slice_get, take, drop, Some, IsOk, IfOk, true};
 ghost use Rattle.klsm_run.specs.declared.item.Item.{Item};
 ghost use Rattle.std.specs.List.{Contains};
 ghost use Rattle.klsm_run.specs.Content.{sorted, IsAscending, ShareNone};
 ghost use Rattle.klsm_run.specs.Block.{IsBlock};
+ghost use Rattle.klsm_run.specs.Merging.{merged};
 ghost use Rattle.klsm_run.specs.Capacity.{IsCapacity, IsFixedRun};
 
 use crate::merging::Merging;
@@ -47,17 +48,50 @@ impl<const CAP: usize> FixedRun<CAP> {
         FixedRun { items }
     }
 
-    /// Puts an item that the run does not hold in its place. It costs a binary search, and moves the greater items up.
-    pub fn insert(&mut self, item: Item)
-        requires new { ¬ Contains self.old item }
-        requires room { length self.old < CAP }
-        ensures { self.new ≡ sorted (item ∷ self.old) }
+    /// The greatest half of the items, rounded up.
+    pub fn upper_half(&self) -> Self
+        ensures { result ≡ drop (length self.now / 2) self.now }
     {
-        let Err(place) = self.items.as_slice().binary_search(&item) else {
-            unreachable!();
-        };
-        self.items.insert(place, item);
+        let items = self.items.as_slice();
+        FixedRun {
+            items: copied(&items[items.len() / 2..]),
+        }
     }
+
+    /// The other items: the least half, rounded down.
+    pub fn lower_half(&self) -> Self
+        ensures { result ≡ take (length self.now / 2) self.now }
+    {
+        let items = self.items.as_slice();
+        FixedRun {
+            items: copied(&items[..items.len() / 2]),
+        }
+    }
+}
+
+// The items in a store of their own.
+fn copied<const CAP: usize>(items: &[Item]) -> ArrayVec<Item, CAP>
+    requires { length items.now ≤ CAP }
+    ensures { result.items ≡ items.now }
+{
+    let mut copy = ArrayVec::new();
+    let Ok(()) = copy.try_extend_from_slice(items) else {
+        unreachable!();
+    };
+    copy
+}
+
+// What an iterator over the merged items gives, in a store of its own.
+fn collected<const CAP: usize>(merging: Merging) -> ArrayVec<Item, CAP>
+    requires { length (merging.left.now ++ merging.left_rest.now) + length merging.right.now ≤ CAP }
+    ensures { result.items ≡ merged (merging.entry.left.now ++ merging.entry.left_rest.now)
+        merging.entry.right.now }
+{
+    let mut items = ArrayVec::new();
+    for item in merging {
+        items.push(item);
+    }
+    items
 }
 
 impl<const CAP: usize> Run for FixedRun<CAP> {
@@ -88,10 +122,18 @@ impl<const CAP: usize> Run for FixedRun<CAP> {
     }
 
     fn merge(&self, other: &Self) -> Result<Self, RunError> {
-        let mut items = ArrayVec::new();
-        for item in Merging::new(self.items.as_slice(), other.items.as_slice()) {
-            items.push(item);
-        }
-        Ok(FixedRun { items })
+        Ok(FixedRun {
+            items: collected(Merging::new(self.items.as_slice(), other.items.as_slice())),
+        })
+    }
+
+    fn merge_without(&self, index: usize, other: &Self) -> Result<Self, RunError> {
+        Ok(FixedRun {
+            items: collected(Merging::without(
+                self.items.as_slice(),
+                index,
+                other.items.as_slice(),
+            )),
+        })
     }
 }

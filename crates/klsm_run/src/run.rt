@@ -58,6 +58,17 @@ pub trait Run: Drop {
         requires room { length (items self.now) + length (items other.now) ≤ ROOM }
         ensures union { IfOk result (λ both. items both ≡ sorted (items self.now ++ items other.now)) }
         ensures fixed { IsTrue is_fixed → IsOk result };
+
+    /// The items of both runs, in order, but for item `index` of this one. It costs one copy of each item.
+    fn merge_without(&self, index: usize, other: &Self) -> Result<Self, RunError>
+    where
+        Self: Sized,
+        requires index { index < length (items self.now) }
+        requires apart { ShareNone (items self.now) (items other.now) }
+        requires room { length (items self.now) + length (items other.now) ≤ ROOM }
+        ensures union { IfOk result (λ both.
+            items both ≡ sorted (remove (items self.now) index ++ items other.now)) }
+        ensures fixed { IsTrue is_fixed → IsOk result };
 }
 
 /// The level of a block of `len` items.

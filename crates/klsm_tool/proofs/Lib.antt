@@ -2,6 +2,7 @@ pub mod ClosingLemmas
 pub mod LengthLemmas
 pub mod NumberLemmas
 pub mod OutputLemmas
+pub mod QueueLemmas
 pub mod ReplayLemmas
 pub mod RowLemmas
 pub mod ScriptLemmas

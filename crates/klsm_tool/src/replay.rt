@@ -1,5 +1,7 @@
 //! `klsm replay`: a script, answered row by row.
 ghost use Rattle.std.specs.Prelude.{◌≡◌, ◌≢◌, ℕ, ◌+◌, ◌*◌, ◌<◌, ◌≤◌, ◌^◌, List, [], ◌∷◌, length, Option, IfOk, MatchResult, codes};
+ghost use Rattle.klsm_run.specs.Content.{sorted};
+ghost use Rattle.klsm_lsm.specs.Lsm.{content};
 ghost use Rattle.klsm_tool.specs.declared.settings.End.TheVariants as end;
 ghost use Rattle.klsm_tool.specs.Output.{GoesOrFails};
 ghost use Rattle.klsm_tool.specs.AnswerText.{answer_text};
@@ -79,7 +81,7 @@ fn answer_rows<R: Read + Drop, W: Write>(
     ensures most { result.most ≡ 0 }
     ensures bound { result.bound ≡ settings.now.threads * settings.now.k }
     ensures stops { (input before : Option (List ℕ)) →
-        Stands R.remaining settings.now.threads input [] [] script.old.rows queue.old.live queue.old.inserted
+        Stands R.remaining settings.now.threads input [] [] script.old.rows (sorted (content queue.old.live)) queue.old.inserted
         → IsTold before (W.contents writer.old) [] output.old.written
         → HasStopped settings.now.threads input before (W.contents writer.new) result.row output.new.written result.stop }
 {
@@ -120,10 +122,10 @@ fn answer_row<R: Read + Drop, W: Write>(
     ensures inserted { queue.new.inserted ≤ queue.old.inserted + 1 }
     ensures written { output.new.written ≤ output.old.written + 160 }
     ensures step { (input before : Option (List ℕ)) (rows : List Row) (lines : List Line) →
-        Stands R.remaining threads input rows lines script.old.rows queue.old.live queue.old.inserted
+        Stands R.remaining threads input rows lines script.old.rows (sorted (content queue.old.live)) queue.old.inserted
         → length rows < row_limit → IsTold before (W.contents writer.old) lines output.old.written
         → MatchResult result
-        (λ _. (row : Row) × (line : Line) × Stands R.remaining threads input (row ∷ rows) (line ∷ lines) script.new.rows queue.new.live queue.new.inserted
+        (λ _. (row : Row) × (line : Line) × Stands R.remaining threads input (row ∷ rows) (line ∷ lines) script.new.rows (sorted (content queue.new.live)) queue.new.inserted
         × IsTold before (W.contents writer.new) (line ∷ lines) output.new.written)
         (λ why. HasStopped threads input before (W.contents writer.new) (length rows + 1) output.new.written why) }
 {
@@ -141,10 +143,10 @@ fn next_line<R: Read + Drop>(
     requires inserted { queue.old.inserted < 2 ^ 63 }
     ensures inserted { queue.new.inserted ≤ queue.old.inserted + 1 }
     ensures step { (input : Option (List ℕ)) (rows : List Row) (lines : List Line) →
-        Stands R.remaining threads input rows lines script.old.rows queue.old.live queue.old.inserted
+        Stands R.remaining threads input rows lines script.old.rows (sorted (content queue.old.live)) queue.old.inserted
         → length rows < row_limit
         → MatchResult result
-        (λ line. (row : Row) × Stands R.remaining threads input (row ∷ rows) (line ∷ lines) script.new.rows queue.new.live queue.new.inserted)
+        (λ line. (row : Row) × Stands R.remaining threads input (row ∷ rows) (line ∷ lines) script.new.rows (sorted (content queue.new.live)) queue.new.inserted)
         (λ why. Stopped threads input rows lines why × (why ≢ stop.WriteFault)) }
     ensures short { IfOk result (λ line. length (answer_text line.thread line.answer 0) ≤ 160) }
 {

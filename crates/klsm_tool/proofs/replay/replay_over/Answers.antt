@@ -1,4 +1,6 @@
-use Rattle.std.proofs.Common.{◌*◌, [], arith, refl}
+use Rattle.std.proofs.Common.{◌*◌, [], arith, ap, refl}
+use Rattle.klsm_run.specs.Content.{sorted}
+use Rattle.klsm_lsm.specs.Lsm.{content}
 use Rattle.klsm_tool.specs.Progress.{IsTold, Stands}
 use Rattle.klsm_tool.proofs.OutputLemmas.{appends_nothing}
 use Rattle.klsm_tool.proofs.ClosingLemmas.{replays, replays_nothing}
@@ -16,10 +18,10 @@ close-end-requires-clause-short g c =
 pub returns : goal.returns
 returns g c =
     let e = c.answer_rows-closing.ensures in
-    let stands : Stands {R = g.row.R.Denot} g.R.Read.remaining c.args.settings.now.threads (g.R.Read.remaining c.args.reader) [] [] c.new-script.result.rows c.new-queue.result.live c.new-queue.result.inserted = record {
+    let stands : Stands {R = g.row.R.Denot} g.R.Read.remaining c.args.settings.now.threads (g.R.Read.remaining c.args.reader) [] [] c.new-script.result.rows (sorted (content c.new-queue.result.live)) c.new-queue.result.inserted = record {
       answered = tt;
       read = c.new-script.ensures;
-      items_are = c.new-queue.ensures.live;
+      items_are = ap sorted c.new-queue.ensures.live;
       count_is = c.new-queue.ensures.inserted;
       exact = refl;
     } in

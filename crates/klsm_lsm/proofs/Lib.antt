@@ -1,0 +1,13 @@
+pub mod AddLemmas
+pub mod CascadeLemmas
+pub mod ContentLemmas
+pub mod CutLemmas
+pub mod FallLemmas
+pub mod JoinLemmas
+pub mod KeyLemmas
+pub mod LeastLemmas
+pub mod LevelLemmas
+pub mod LimitLemmas
+pub mod PlaceLemmas
+pub mod SlotLemmas
+pub mod SpyLemmas

@@ -1,0 +1,7 @@
+pub mod Adding
+pub mod Laws
+pub mod Level
+pub mod Limit
+pub mod Lsm
+pub mod Slots
+pub mod Spying

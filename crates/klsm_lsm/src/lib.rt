@@ -1,0 +1,28 @@
+//! A log-structured merge tree (LSM) of sorted runs.
+//!
+//! An LSM is a list of blocks, and a block is a run that is not empty. A block of level `l` has more than `2^(l-1)` and at
+//! most `2^l` items, and no two blocks are of one level. So an LSM of `n` items has at most about `log n` blocks, its least
+//! item is the first of some block, and a block of `2^l` items is merged about once in `2^l` insertions.
+//!
+//! - **Lawful at all times.** The invariant of `Lsm` holds of every value: lawful blocks of descending levels, no item in
+//!   two of them, and no more items than the limit. `Lsm::len` tells it to its callers.
+//! - **Adding and removing.** `Lsm::absorb` and `Lsm::insert` leave `add` of the old blocks, and `Lsm::remove` leaves `cut`.
+//!   The functions of `laws` say what these two are for: both keep an LSM lawful, and its content is the old one with the
+//!   run's items, or without the item.
+//! - **A refusal changes nothing.** What can fail is done first, on borrowed blocks. The clauses `unchanged` say so, and
+//!   `handed_back` that a refused run comes back.
+//! - **No memory over fixed runs.** The clauses `fixed` say that a run in a fixed store is refused for want of room alone.
+#![tactic(auto)]
+
+mod adding;
+mod cutting;
+mod errors;
+mod fixed;
+pub mod laws;
+mod lsm;
+mod slots;
+#[cfg(test)]
+mod tests;
+
+pub use errors::{LsmError, Refused};
+pub use lsm::Lsm;

@@ -1,0 +1,12 @@
+use Rattle.std.proofs.Common.{arith}
+use Rattle.std.proofs.lemmas.List.{length-take}
+use Rattle.klsm_run.specs.declared.item.Item.{Item}
+use Rattle.klsm_run.proofs.HalfLemmas.{ascending_take}
+use Rattle.klsm_run.proofs.fixed_run.FixedRun.lower_half.Goals as goal
+
+pub invariant_of-result : goal.invariant_of-result
+invariant_of-result g c = rw (c.copied.ensures, c.as_slice-items.ensures.value) record {
+  ascending = ascending_take _ _ c.self.invariant.ascending;
+  in_room = omega (arith, length-take {A = Item}, c.self.invariant.in_room);
+  capacity_in_range = c.self.invariant.capacity_in_range;
+}
