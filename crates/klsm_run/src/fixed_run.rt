@@ -1,9 +1,6 @@
 //! A run in a fixed store, which never takes memory.
-ghost use Rattle.std.specs.Prelude.{◌≡◌, ℕ, ◌+◌, ◌/◌, ◌<◌, ◌≤◌, ◌^◌, ◌∷◌, ◌++◌, [], List, length, remove, slice_get, take, drop, Some, IsOk, IfOk, true};
+ghost use Rattle.std.specs.Prelude.{◌≡◌, ◌+◌, ◌/◌, ◌<◌, ◌≤◌, ◌∷◌, ◌++◌, [], List, length, remove, take, drop, true};
 ghost use Rattle.klsm_run.specs.declared.item.Item.{Item};
-ghost use Rattle.std.specs.List.{Contains};
-ghost use Rattle.klsm_run.specs.Content.{sorted, IsAscending, ShareNone};
-ghost use Rattle.klsm_run.specs.Block.{IsBlock};
 ghost use Rattle.klsm_run.specs.Merging.{merged};
 ghost use Rattle.klsm_run.specs.Capacity.{IsCapacity, IsFixedRun};
 

@@ -1,5 +1,5 @@
 //! The program on its words.
-ghost use Rattle.std.specs.Prelude.{◌≡◌, ◌≢◌, ◌⊎◌, ℕ, List, [], IfErr, IfOk, OnOk, map, string_bytes};
+ghost use Rattle.std.specs.Prelude.{◌≡◌, ◌≢◌, ℕ, List, [], IfErr, IfOk, OnOk, map, string_bytes};
 ghost use Rattle.clap.specs.Faults.{fault_of as fault_of_words};
 ghost use Rattle.clap.specs.Words.{app_of, kind_of};
 ghost use Rattle.klsm_tool.specs.CommandLine.{klsm_command, replay_words};

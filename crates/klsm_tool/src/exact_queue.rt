@@ -1,5 +1,5 @@
 //! The queue of one thread over one LSM, which never skips an item.
-ghost use Rattle.std.specs.Prelude.{◌≡◌, ℕ, ◌+◌, ◌<◌, ◌^◌, ◌==◌, ◌∷◌, [], length, slice_get, slice_index_or, Some, None, IfSome, IfNone, option_map, if◌then◌else◌};
+ghost use Rattle.std.specs.Prelude.{◌≡◌, ◌+◌, ◌<◌, ◌^◌, ◌==◌, ◌∷◌, [], length, slice_get, slice_index_or, Some, None, IfSome, IfNone, option_map, if◌then◌else◌};
 ghost use Rattle.std.specs.List.{All};
 ghost use Rattle.klsm_run.specs.Content.{sorted, IsAscending};
 ghost use Rattle.klsm_lsm.specs.Lsm.{content, IsLsm};

@@ -1,5 +1,5 @@
 //! The text that goes out, line by line.
-ghost use Rattle.std.specs.Prelude.{◌≡◌, ℕ, ◌+◌, ◌<◌, ◌≤◌, ◌^◌, List, [], length, take, Some, IfSome, IsSomeAnd, IfOk, codes};
+ghost use Rattle.std.specs.Prelude.{◌≡◌, ◌+◌, ◌<◌, ◌≤◌, ◌^◌, length, take, IfSome, IsSomeAnd, IfOk, codes};
 ghost use Rattle.std.specs.Io.KnownBytes.{Appends};
 ghost use Rattle.klsm_tool.specs.AnswerText.{closing_text};
 ghost use Rattle.klsm_tool.specs.Output.{Puts, Closes, GoesOrFails};
