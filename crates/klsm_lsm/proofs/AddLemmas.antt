@@ -6,14 +6,15 @@ use Rattle.std.proofs.lemmas.List.{append-nil, append_assoc, length-append}
 use Rattle.klsm_run.specs.declared.item.Item.{Item}
 use Rattle.klsm_run.specs.Block.{IsBlock}
 use Rattle.klsm_run.specs.Content.{sorted, ShareNone}
-use Rattle.klsm_run.proofs.SortedLemmas.{IsNew, all_append, length_sorted}
+use Rattle.klsm_run.proofs.AllLemmas.{all_weaker, all_append, all_front, all_back}
+use Rattle.klsm_run.proofs.SortedLemmas.{IsNew, length_sorted}
 use Rattle.klsm_run.proofs.MergeLemmas.{apart_if_sharing_none}
 use Rattle.klsm_run.proofs.ContentLemmas.{sorted_swap, sorted_same_behind, sharing_none_if_apart}
 use Rattle.klsm_lsm.specs.Level.{level}
 use Rattle.klsm_lsm.specs.Lsm.{content, IsLsm}
 use Rattle.klsm_lsm.specs.Adding.{joined, add}
 use Rattle.klsm_lsm.proofs.LevelLemmas.{level_least}
-use Rattle.klsm_lsm.proofs.JoinLemmas.{AllBelow, AllUpTo, blocks_weaker, sharing_none_flipped, none_in_front, none_in_back, all_front, all_back, all_joined, sorted_joined, levels_joined, lawful_joined}
+use Rattle.klsm_lsm.proofs.JoinLemmas.{AllBelow, AllUpTo, sharing_none_flipped, none_in_front, none_in_back, all_joined, sorted_joined, levels_joined, lawful_joined}
 
 -- what is true of each item of the blocks and of the run is true of each item of the result
 pub all_add : (P : Item → Type 0) (bs : List (List Item)) (run : List Item) → AllByRecursion P (content bs) → AllByRecursion P run → AllByRecursion P (content (add bs run))
@@ -43,8 +44,8 @@ added : (k : ℕ) (bs : List (List Item)) (run : List Item) → IsLsm bs → All
 added k [] run lsm below block at_most none = record { lawful = (block, tt, (λ x in_run in_none. absurd (omega (arith, in_none.1))), tt); levels = (at_most, tt) }
 added k (b ∷ bs) run lsm below block at_most none = elim (cases_lt (level b) (level run)) [
   | inl less ↦ rw (lt-ltb (level b) (level run) less) record {
-    lawful = (block, (less, blocks_weaker (λ c. level c < level b) (λ c. level c < level run) (λ c h. omega (arith, h, less)) bs lsm.1), sharing_none_flipped (b ++ content bs) run none, lsm);
-    levels = (at_most, blocks_weaker (λ c. level c < k) (λ c. level c ≤ k) (λ c h. omega (arith, h)) (b ∷ bs) below);
+    lawful = (block, (less, all_weaker (λ c. level c < level b) (λ c. level c < level run) (λ c h. omega (arith, h, less)) bs lsm.1), sharing_none_flipped (b ++ content bs) run none, lsm);
+    levels = (at_most, all_weaker (λ c. level c < k) (λ c. level c ≤ k) (λ c h. omega (arith, h)) (b ∷ bs) below);
   }
   | inr more ↦
       let none_flipped : ShareNone run (b ++ content bs) = sharing_none_flipped (b ++ content bs) run none in
@@ -54,20 +55,20 @@ added k (b ∷ bs) run lsm below block at_most none = elim (cases_lt (level b) (
       (apart_if_sharing_none run b (none_in_front run b (content bs) none_flipped))) in
       rw (le-ltb (level b) (level run) more) record {
         lawful = lawful_joined b (add bs run) lsm.0 rest.lawful rest.levels (sharing_none_flipped (content (add bs run)) b apart);
-        levels = levels_joined k b (add bs run) lsm.0 rest.lawful (omega (arith, below.0)) (blocks_weaker (λ c. level c ≤ level b) (λ c. level c < k) (λ c h. omega (arith, h, below.0)) (add bs run) rest.levels);
+        levels = levels_joined k b (add bs run) lsm.0 rest.lawful (omega (arith, below.0)) (all_weaker (λ c. level c ≤ level b) (λ c. level c < k) (λ c h. omega (arith, h, below.0)) (add bs run) rest.levels);
       }
 ]
 
 -- a number above all levels
 pub above_all : (bs : List (List Item)) → IsLsm bs → (k : ℕ) × AllBelow k bs
 above_all [] lsm = (0, tt)
-above_all (b ∷ bs) lsm = (suc (level b), (omega arith, blocks_weaker (λ c. level c < level b) (λ c. level c < suc (level b)) (λ c h. omega (arith, h)) bs lsm.1))
+above_all (b ∷ bs) lsm = (suc (level b), (omega arith, all_weaker (λ c. level c < level b) (λ c. level c < suc (level b)) (λ c h. omega (arith, h)) bs lsm.1))
 
 -- adding a run that shares no item keeps an LSM lawful
 pub lawful_add : (bs : List (List Item)) (run : List Item) → IsLsm bs → IsBlock (level run) run → ShareNone (content bs) run → IsLsm (add bs run)
 lawful_add bs run lsm block none =
     let bound = above_all bs lsm in
-    (added (bound.0 + level run) bs run lsm (blocks_weaker (λ c. level c < bound.0) (λ c. level c < bound.0 + level run) (λ c h. omega (arith, h)) bs bound.1) block (omega arith) none).lawful
+    (added (bound.0 + level run) bs run lsm (all_weaker (λ c. level c < bound.0) (λ c. level c < bound.0 + level run) (λ c h. omega (arith, h)) bs bound.1) block (omega arith) none).lawful
 
 -- blocks of levels below k are at most k
 length_below : (k : ℕ) (bs : List (List Item)) → IsLsm bs → AllBelow k bs → length bs ≤ k

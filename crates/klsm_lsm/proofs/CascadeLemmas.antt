@@ -1,18 +1,18 @@
 -- A run that is carried up the levels: it becomes one with each block of the level that it comes to have.
 use Rattle.std.proofs.Common.{◌≡◌, ℕ, ◌+◌, ◌-◌, ◌<◌, ◌≤◌, List, [], ◌∷◌, ◌++◌, length, get_or, take, drop, refl, sym, ap, ◌∙◌, subst, arith, suc}
-use Rattle.std.specs.List.{AllByRecursion}
 use Rattle.std.proofs.lemmas.Bool.{lt-ltb, le-ltb, eq-eqb, ne_eqb}
 use Rattle.std.proofs.lemmas.List.{append_assoc, length-append, take-append-drop, take_more}
 use Rattle.klsm_run.specs.declared.item.Item.{Item}
 use Rattle.klsm_run.specs.Block.{IsBlock}
 use Rattle.klsm_run.specs.Content.{sorted, ShareNone}
-use Rattle.klsm_run.proofs.SortedLemmas.{IsNew, all_append, all_sorted, length_sorted}
+use Rattle.klsm_run.proofs.AllLemmas.{all_weaker, all_append, all_front, all_back}
+use Rattle.klsm_run.proofs.SortedLemmas.{IsNew, all_sorted, length_sorted}
 use Rattle.klsm_run.proofs.MergeLemmas.{apart_if_sharing_none}
 use Rattle.klsm_run.proofs.ContentLemmas.{sharing_none_if_apart}
 use Rattle.klsm_lsm.specs.Level.{level}
 use Rattle.klsm_lsm.specs.Lsm.{content, IsLsm}
 use Rattle.klsm_lsm.specs.Adding.{joined, add}
-use Rattle.klsm_lsm.proofs.JoinLemmas.{AllBelow, blocks_weaker, sharing_none_flipped, none_in_front, none_in_back, level_together, some_in_block}
+use Rattle.klsm_lsm.proofs.JoinLemmas.{AllBelow, sharing_none_flipped, none_in_front, none_in_back, level_together, some_in_block}
 use Rattle.klsm_lsm.proofs.LeastLemmas.{content_append}
 use Rattle.klsm_lsm.proofs.PlaceLemmas.{AllFrom}
 
@@ -46,22 +46,14 @@ record IsLast (hs : List (List Item)) (b : List Item) : Type 0 where
   apart : ShareNone (content hs) b
   block : IsBlock (level b) b
 
-last_above : (k : ℕ) (hs : List (List Item)) (b : List Item) → AllBelow k (hs ++ b ∷ []) → level b < k
-last_above k [] b below = below.0
-last_above k (h ∷ hs) b below = last_above k hs b below.1
-
-front_below : (P : List Item → Type 0) (hs : List (List Item)) (b : List Item) → AllByRecursion P (hs ++ b ∷ []) → AllByRecursion P hs
-front_below P [] b h = tt
-front_below P (c ∷ hs) b h = (h.0, front_below P hs b h.1)
-
 is_last : (hs : List (List Item)) (b : List Item) → IsLsm (hs ++ b ∷ []) → IsLast hs b
 is_last [] b lsm = record { before = tt; above = tt; apart = λ x in_none in_b. absurd (omega (arith, in_none.1)); block = lsm.0 }
 is_last (h ∷ hs) b lsm =
     let rest : IsLast hs b = is_last hs b lsm.3 in
     let none : ShareNone h (content hs ++ (b ++ [])) = subst (ShareNone h) (content_append hs (b ∷ [])) lsm.2 in
     record {
-      before = (lsm.0, front_below (λ c. level c < level h) hs b lsm.1, none_in_front h (content hs) (b ++ []) none, rest.before);
-      above = (last_above (level h) hs b lsm.1, rest.above);
+      before = (lsm.0, all_front (λ c. level c < level h) hs (b ∷ []) lsm.1, none_in_front h (content hs) (b ++ []) none, rest.before);
+      above = ((all_back (λ c. level c < level h) hs (b ∷ []) lsm.1).0, rest.above);
       apart = sharing_none_if_apart (h ++ content hs) b (all_append (λ x. IsNew x b) h (content hs)
           (apart_if_sharing_none h b (none_in_front h b [] (none_in_back h (content hs) (b ++ []) none)))
           (apart_if_sharing_none (content hs) b rest.apart));
@@ -115,38 +107,26 @@ carried_more room hs b w lower result lsm carried same =
           (apart_if_sharing_none b (content hs) (sharing_none_flipped (content hs) b last.apart))
           (apart_if_sharing_none w (content hs) (none_in_front w (content hs) (b ++ []) none)))));
       fits = omega (arith, count, carried.fits, ap length (content_append hs (b ∷ [])), length-append (content hs) (b ++ []), length-append b []);
-      above = blocks_weaker (λ c. suc (level b) ≤ level c) (λ c. level (sorted (b ++ w)) ≤ level c) (λ c h. omega (arith, h, next, same)) hs last.above;
+      above = all_weaker (λ c. suc (level b) ≤ level c) (λ c. level (sorted (b ++ w)) ≤ level c) (λ c h. omega (arith, h, next, same)) hs last.above;
     }
-
-last_of : (P : List Item → Type 0) (hs : List (List Item)) (b : List Item) → AllByRecursion P (hs ++ b ∷ []) → P b
-last_of P [] b h = h.0
-last_of P (c ∷ hs) b h = last_of P hs b h.1
-
-all_with_last : (P : List Item → Type 0) (hs : List (List Item)) (b : List Item) → AllByRecursion P hs → P b → AllByRecursion P (hs ++ b ∷ [])
-all_with_last P [] b h k = (k, tt)
-all_with_last P (c ∷ hs) b h k = (h.0, all_with_last P hs b h.1 k)
 
 -- the last block is of another level
 pub carried_last : (room : ℕ) (hs : List (List Item)) (b w : List Item) (lower result : List (List Item)) → IsLsm (hs ++ b ∷ []) → IsCarried room (hs ++ b ∷ []) w lower result → (level b ≡ level w → ⊥) → (hs ++ b ∷ []) ++ w ∷ lower ≡ result
 carried_last room hs b w lower result lsm carried differ =
     let last : IsLast hs b = is_last hs b lsm in
-    let at_least : level w ≤ level b = last_of (λ c. level w ≤ level c) hs b carried.above in
+    let at_least : level w ≤ level b = (all_back (λ c. level w ≤ level c) hs (b ∷ []) carried.above).0 in
     let less : suc (level w) ≤ level b = omega (arith, at_least, differ) in
-    let above : AllFrom (suc (level w)) (hs ++ b ∷ []) = all_with_last (λ c. suc (level w) ≤ level c) hs b (blocks_weaker (λ c. suc (level b) ≤ level c) (λ c. suc (level w) ≤ level c) (λ c h. omega (arith, h, less)) hs last.above) less in
+    let above : AllFrom (suc (level w)) (hs ++ b ∷ []) = all_append (λ c. suc (level w) ≤ level c) hs (b ∷ []) (all_weaker (λ c. suc (level b) ≤ level c) (λ c. suc (level w) ≤ level c) (λ c h. omega (arith, h, less)) hs last.above) (less, tt) in
     sym (joined_all_apart (hs ++ b ∷ []) lower w lsm above) ∙ carried.leads
 
 lsm_front : (hs ls : List (List Item)) → IsLsm (hs ++ ls) → IsLsm hs
 lsm_front [] ls lsm = tt
 lsm_front (h ∷ hs) ls lsm = (
   lsm.0,
-  front_all (λ c. level c < level h) hs ls lsm.1,
+  all_front (λ c. level c < level h) hs ls lsm.1,
   none_in_front h (content hs) (content ls) (subst (ShareNone h) (content_append hs ls) lsm.2),
   lsm_front hs ls lsm.3,
 )
-  where
-    front_all : (P : List Item → Type 0) (xs ys : List (List Item)) → AllByRecursion P (xs ++ ys) → AllByRecursion P xs
-    front_all P [] ys h = tt
-    front_all P (x ∷ xs) ys h = (h.0, front_all P xs ys h.1)
 
 -- the blocks up to one, with that one last
 up_to_last : (bs : List (List Item)) (start : ℕ) → 0 < start → start ≤ length bs → take start bs ≡ take (start - 1) bs ++ get_or bs (start - 1) [] ∷ []
@@ -179,7 +159,7 @@ carried_none_at room bs start w lower result none carried =
 -- a run of a level that no block has is put between the others
 pub add_puts : (hs ls : List (List Item)) (run : List Item) → IsLsm hs → AllFrom (suc (level run)) hs → AllBelow (level run) ls → add (hs ++ ls) run ≡ hs ++ run ∷ ls
 add_puts hs ls run lsm above below =
-    add_splits hs ls run (blocks_weaker (λ c. suc (level run) ≤ level c) (λ c. level run ≤ level c) (λ c h. omega (arith, h)) hs above) below
+    add_splits hs ls run (all_weaker (λ c. suc (level run) ≤ level c) (λ c. level run ≤ level c) (λ c h. omega (arith, h)) hs above) below
     ∙ joined_all_apart hs ls run lsm above
 
 -- a run of a block's level becomes one with it
@@ -191,10 +171,10 @@ add_merges hs ls b run lsm some same =
     let next = level_together b run (some_in_block (level b) b last.block) some same in
     let lower : AllBelow (level b) ls = below_block hs b ls lsm in
     ap (λ bs. add bs run) (sym parts)
-    ∙ (add_splits (hs ++ b ∷ []) ls run (all_with_last (λ c. level run ≤ level c) hs b (blocks_weaker (λ c. suc (level b) ≤ level c) (λ c. level run ≤ level c) (λ c h. omega (arith, h, same)) hs last.above) (omega (arith, same))) (blocks_weaker (λ c. level c < level b) (λ c. level c < level run) (λ c h. omega (arith, h, same)) ls lower)
+    ∙ (add_splits (hs ++ b ∷ []) ls run (all_append (λ c. level run ≤ level c) hs (b ∷ []) (all_weaker (λ c. suc (level b) ≤ level c) (λ c. level run ≤ level c) (λ c h. omega (arith, h, same)) hs last.above) (omega (arith, same), tt)) (all_weaker (λ c. level c < level b) (λ c. level c < level run) (λ c h. omega (arith, h, same)) ls lower)
     ∙ (joined_all_append hs (b ∷ []) (run ∷ ls)
     ∙ (ap (joined_all hs) (rw (eq-eqb (level b) (level run) same) refl)
-    ∙ sym (add_splits hs ls (sorted (b ++ run)) (blocks_weaker (λ c. suc (level b) ≤ level c) (λ c. level (sorted (b ++ run)) ≤ level c) (λ c h. omega (arith, h, next, same)) hs last.above) (blocks_weaker (λ c. level c < level b) (λ c. level c < level (sorted (b ++ run))) (λ c h. omega (arith, h, next, same)) ls lower)))))
+    ∙ sym (add_splits hs ls (sorted (b ++ run)) (all_weaker (λ c. suc (level b) ≤ level c) (λ c. level (sorted (b ++ run)) ≤ level c) (λ c h. omega (arith, h, next, same)) hs last.above) (all_weaker (λ c. level c < level b) (λ c. level c < level (sorted (b ++ run))) (λ c h. omega (arith, h, next, same)) ls lower)))))
   where
     below_block : (gs : List (List Item)) (c : List Item) (ds : List (List Item)) → IsLsm (gs ++ c ∷ ds) → AllBelow (level c) ds
     below_block [] c ds lsm' = lsm'.1

@@ -5,7 +5,8 @@ use Rattle.std.proofs.lemmas.Option.{same_Some}
 use Rattle.klsm_run.specs.declared.item.Item.{Item}
 use Rattle.klsm_run.specs.ItemOrder.{is_smaller}
 use Rattle.klsm_run.specs.Content.{sorted, IsAscending}
-use Rattle.klsm_run.proofs.SortedLemmas.{IsNew, all_weaker, all_sorted, sorted_ascending}
+use Rattle.klsm_run.proofs.AllLemmas.{all_weaker}
+use Rattle.klsm_run.proofs.SortedLemmas.{IsNew, all_sorted, sorted_ascending}
 use Rattle.klsm_run.proofs.MergeLemmas.{apart_if_sharing_none, ascending_sorted}
 use Rattle.klsm_run.proofs.ContentLemmas.{not_smaller_itself, sorted_same_behind}
 use Rattle.klsm_run.proofs.LesserLemmas.{lesser, first_append}

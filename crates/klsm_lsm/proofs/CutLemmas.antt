@@ -8,7 +8,8 @@ use Rattle.std.proofs.lemmas.Option.{slice_get_within, none-some}
 use Rattle.klsm_run.specs.declared.item.Item.{Item}
 use Rattle.klsm_run.specs.Block.{IsBlock}
 use Rattle.klsm_run.specs.Content.{placed, sorted, ShareNone}
-use Rattle.klsm_run.proofs.SortedLemmas.{IsNew, all_append, length_sorted}
+use Rattle.klsm_run.proofs.AllLemmas.{all_weaker, all_append, all_front, all_back}
+use Rattle.klsm_run.proofs.SortedLemmas.{IsNew, length_sorted}
 use Rattle.klsm_run.proofs.RemoveLemmas.{all_remove, ascending_remove}
 use Rattle.klsm_run.proofs.MergeLemmas.{AreApart, apart_if_sharing_none}
 use Rattle.klsm_run.proofs.ContentLemmas.{sorted_remove, sorted_sorted, sorted_middle, sorted_same_behind, sharing_none_if_apart}
@@ -16,7 +17,7 @@ use Rattle.klsm_lsm.specs.Level.{level}
 use Rattle.klsm_lsm.specs.Lsm.{content, IsLsm}
 use Rattle.klsm_lsm.specs.Adding.{joined, cut}
 use Rattle.klsm_lsm.proofs.LevelLemmas.{level_one_less, level_mono}
-use Rattle.klsm_lsm.proofs.JoinLemmas.{AllBelow, AllUpTo, blocks_weaker, is_block, sharing_none_flipped, all_front, all_back, all_joined, sorted_joined, levels_joined, lawful_joined}
+use Rattle.klsm_lsm.proofs.JoinLemmas.{AllBelow, AllUpTo, is_block, sharing_none_flipped, all_joined, sorted_joined, levels_joined, lawful_joined}
 use Rattle.klsm_lsm.proofs.AddLemmas.{above_all}
 
 -- what is true of each item is true of each that is left
@@ -77,11 +78,11 @@ cut_below k (b ∷ bs) zero index lsm below within = elim (cases_eq (length b) 1
   | inl one ↦ rw (eq-eqb (length b) 1 one) record { lawful = lsm.3; levels = below.1 }
   | inr more ↦
       let rest = less_one b index lsm.0 within more in
-      let up_to : AllUpTo (level (remove b index)) bs = blocks_weaker (λ c. level c < level b) (λ c. level c ≤ level (remove b index)) (λ c h. omega (arith, h, rest.one_level)) bs lsm.1 in
+      let up_to : AllUpTo (level (remove b index)) bs = all_weaker (λ c. level c < level b) (λ c. level c ≤ level (remove b index)) (λ c h. omega (arith, h, rest.one_level)) bs lsm.1 in
       let none : ShareNone (remove b index) (content bs) = sharing_none_if_apart (remove b index) (content bs) (all_remove (λ x. IsNew x (content bs)) b index (apart_if_sharing_none b (content bs) lsm.2)) in
       rw (ne_eqb (length b) 1 more) record {
         lawful = lawful_joined (remove b index) bs rest.block lsm.3 up_to none;
-        levels = blocks_weaker (λ c. level c ≤ level b) (λ c. level c < k) (λ c h. omega (arith, h, below.0)) (joined (remove b index) bs) (levels_joined (level b) (remove b index) bs rest.block lsm.3 rest.no_greater lsm.1);
+        levels = all_weaker (λ c. level c ≤ level b) (λ c. level c < k) (λ c h. omega (arith, h, below.0)) (joined (remove b index) bs) (levels_joined (level b) (remove b index) bs rest.block lsm.3 rest.no_greater lsm.1);
       }
 ]
 cut_below k (b ∷ bs) (suc at) index lsm below within =
@@ -89,7 +90,7 @@ cut_below k (b ∷ bs) (suc at) index lsm below within =
     let apart : AreApart (content (cut bs at index)) b = all_cut (λ x. IsNew x b) bs at index (apart_if_sharing_none (content bs) b (sharing_none_flipped b (content bs) lsm.2)) in
     record {
       lawful = (lsm.0, rest.levels, sharing_none_flipped (content (cut bs at index)) b (sharing_none_if_apart (content (cut bs at index)) b apart), rest.lawful);
-      levels = (below.0, blocks_weaker (λ c. level c < level b) (λ c. level c < k) (λ c h. omega (arith, h, below.0)) (cut bs at index) rest.levels);
+      levels = (below.0, all_weaker (λ c. level c < level b) (λ c. level c < k) (λ c h. omega (arith, h, below.0)) (cut bs at index) rest.levels);
     }
 
 -- cutting an item keeps an LSM lawful

@@ -7,7 +7,8 @@ use Rattle.std.proofs.lemmas.List.{append_assoc, length-append}
 use Rattle.klsm_run.specs.declared.item.Item.{Item}
 use Rattle.klsm_run.specs.Block.{IsBlock}
 use Rattle.klsm_run.specs.Content.{sorted, ShareNone, IsAscending}
-use Rattle.klsm_run.proofs.SortedLemmas.{IsNew, all_append, all_sorted, length_sorted}
+use Rattle.klsm_run.proofs.AllLemmas.{all_weaker, all_append, all_front, all_back}
+use Rattle.klsm_run.proofs.SortedLemmas.{IsNew, all_sorted, length_sorted}
 use Rattle.klsm_run.proofs.MergeLemmas.{AreApart, apart_if_sharing_none, ascending_sorted}
 use Rattle.klsm_run.proofs.ContentLemmas.{sorted_sorted, sharing_none_if_apart}
 use Rattle.klsm_lsm.specs.Level.{least_level, level}
@@ -22,10 +23,6 @@ AllBelow k = AllByRecursion (λ c. level c < k)
 -- each block is of level k at most
 abbrev pub AllUpTo : ℕ → List (List Item) → Type 0
 AllUpTo k = AllByRecursion (λ c. level c ≤ k)
-
-pub blocks_weaker : (P Q : List Item → Type 0) → ((b : List Item) → P b → Q b) → (bs : List (List Item)) → AllByRecursion P bs → AllByRecursion Q bs
-blocks_weaker P Q f [] h = tt
-blocks_weaker P Q f (b ∷ bs) h = (f b h.0, blocks_weaker P Q f bs h.1)
 
 -- a block is not empty
 pub some_in_block : (l : ℕ) (b : List Item) → IsBlock l b → 0 < length b
@@ -46,14 +43,6 @@ none_in_front xs ys zs none x in_xs in_ys = none x in_xs (Contains-append_left y
 
 pub none_in_back : (xs ys zs : List Item) → ShareNone xs (ys ++ zs) → ShareNone xs zs
 none_in_back xs ys zs none x in_xs in_zs = none x in_xs (Contains-append_right ys zs x in_zs)
-
-pub all_front : (P : Item → Type 0) (xs ys : List Item) → AllByRecursion P (xs ++ ys) → AllByRecursion P xs
-all_front P [] ys h = tt
-all_front P (x ∷ xs) ys h = (h.0, all_front P xs ys h.1)
-
-pub all_back : (P : Item → Type 0) (xs ys : List Item) → AllByRecursion P (xs ++ ys) → AllByRecursion P ys
-all_back P [] ys h = h
-all_back P (x ∷ xs) ys h = all_back P xs ys h.1
 
 -- what is true of each item of the block and of the others is true of each item of the result
 pub all_joined : (P : Item → Type 0) (b : List Item) (bs : List (List Item)) → AllByRecursion P b → AllByRecursion P (content bs) → AllByRecursion P (content (joined b bs))
@@ -79,7 +68,7 @@ level_together b c some_b some_c same = ap least_level (length_sorted (b ++ c) �
 pub levels_joined : (k : ℕ) (b : List Item) (bs : List (List Item)) → IsBlock (level b) b → IsLsm bs → level b ≤ k → AllBelow k bs → AllUpTo k (joined b bs)
 levels_joined k b [] block lsm at_most below = (at_most, tt)
 levels_joined k b (c ∷ cs) block lsm at_most below =
-    let rest : AllUpTo k cs = blocks_weaker (λ d. level d < k) (λ d. level d ≤ k) (λ d less. omega (arith, less)) cs below.1 in
+    let rest : AllUpTo k cs = all_weaker (λ d. level d < k) (λ d. level d ≤ k) (λ d less. omega (arith, less)) cs below.1 in
     elim (cases_eq (level b) (level c)) [
       | inl same ↦ rw (eq-eqb (level b) (level c) same)
           (let next = level_together b c (some_in_block (level b) b block) (some_in_block (level c) c lsm.0) same in omega (arith, next, below.0), rest)
@@ -98,11 +87,11 @@ lawful_joined b (c ∷ cs) block lsm up_to none = elim (cases_eq (level b) (leve
       let some : 0 < length (sorted (b ++ c)) = omega (arith, length_sorted (b ++ c), length-append b c, some_b) in
       rw (eq-eqb (level b) (level c) same) (
         is_block (sorted (b ++ c)) (ascending_sorted b c block.0 lsm.0.0 (apart_if_sharing_none b c (none_in_front b c (content cs) none))) some,
-        blocks_weaker (λ d. level d < level c) (λ d. level d < level (sorted (b ++ c))) (λ d less. omega (arith, less, next)) cs lsm.1,
+        all_weaker (λ d. level d < level c) (λ d. level d < level (sorted (b ++ c))) (λ d less. omega (arith, less, next)) cs lsm.1,
         sharing_none_if_apart (sorted (b ++ c)) (content cs) (all_sorted (λ x. IsNew x (content cs)) (b ++ c) apart),
         lsm.3,
       )
   | inr differ ↦
       let less : level c < level b = omega (arith, up_to.0, differ) in
-      rw (ne_eqb (level b) (level c) differ) (block, (less, blocks_weaker (λ d. level d < level c) (λ d. level d < level b) (λ d k. omega (arith, k, less)) cs lsm.1), none, lsm)
+      rw (ne_eqb (level b) (level c) differ) (block, (less, all_weaker (λ d. level d < level c) (λ d. level d < level b) (λ d k. omega (arith, k, less)) cs lsm.1), none, lsm)
 ]

@@ -3,7 +3,8 @@ use Rattle.std.proofs.Common.{◌≡◌, ℕ, ◌+◌, ◌<◌, ◌≤◌, List,
 use Rattle.std.specs.List.{AllByRecursion}
 use Rattle.klsm_run.specs.declared.item.Item.{Item}
 use Rattle.klsm_run.specs.Content.{sorted}
-use Rattle.klsm_run.proofs.SortedLemmas.{all_weaker, all_sorted, length_sorted}
+use Rattle.klsm_run.proofs.AllLemmas.{all_weaker}
+use Rattle.klsm_run.proofs.SortedLemmas.{all_sorted, length_sorted}
 use Rattle.klsm_lsm.specs.Lsm.{content}
 use Rattle.klsm_lsm.specs.Adding.{add}
 use Rattle.klsm_lsm.proofs.AddLemmas.{all_add}

@@ -1,5 +1,5 @@
 -- What the first item of a content's sorted list says of the content.
-use Rattle.std.proofs.Common.{◌≡◌, ◌+◌, Bool, true, false, List, [], ◌∷◌, refl, sym, ap, ◌∙◌, subst, arith, cond, if◌then◌else◌, ◌⊎◌, inl, inr, Some, slice_get, remove}
+use Rattle.std.proofs.Common.{◌≡◌, ◌+◌, Bool, true, false, List, [], ◌∷◌, refl, sym, ap, ◌∙◌, subst, arith, cond, if◌then◌else◌, ◌⊎◌, inl, inr}
 use Rattle.std.specs.List.{AllByRecursion}
 use Rattle.std.specs.Ordering.{is_lt, is_eq}
 use Rattle.std.specs.declared.cmp.Ordering.TheVariants.{Less, Greater}
@@ -8,8 +8,9 @@ use Rattle.std.proofs.lemmas.List.Sums.{sum_by-cons}
 use Rattle.klsm_run.specs.declared.item.Item.{Item}
 use Rattle.klsm_run.specs.ItemOrder.{is_same, is_smaller, IsSmaller}
 use Rattle.klsm_run.specs.Content.{placed, sorted, without, skipped, IsAscending}
+use Rattle.klsm_run.proofs.AllLemmas.{all_weaker}
 use Rattle.klsm_run.proofs.OrderLemmas.{item_total, not_smaller_than_itself, Below, Same, Above, ranked}
-use Rattle.klsm_run.proofs.SortedLemmas.{all_sorted, all_weaker, sorted_ascending}
+use Rattle.klsm_run.proofs.SortedLemmas.{all_sorted}
 
 -- one of the list's items is x
 abbrev pub Has : Item → List Item → Type 0
@@ -114,10 +115,3 @@ skipped_none x (y ∷ ys) h =
 -- a deletion of that item skips none
 pub skipped_first : (x : Item) (rest c : List Item) → sorted c ≡ x ∷ rest → IsAscending (x ∷ rest) → skipped c x ≡ 0
 skipped_first x rest c first up = skipped_none x c (none_below_first x rest c first up)
-
--- removing the first item of an ascending list takes it from the content
-pub removed_first : (x : Item) (xs : List Item) → IsAscending xs → slice_get xs 0 ≡ Some x → remove xs 0 ≡ sorted (without x xs)
-removed_first x [] up first = cc
-removed_first x (y ∷ ys) up first =
-    let same : y ≡ x = cc in
-    sym (sorted_ascending ys up.1) ∙ ap sorted (sym (subst (λ z. without z (y ∷ ys) ≡ ys) same (without_first y ys)))

@@ -1,3 +1,4 @@
+pub mod AllLemmas
 pub mod ContentLemmas
 pub mod HalfLemmas
 pub mod LeastLemmas

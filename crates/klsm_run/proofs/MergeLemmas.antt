@@ -7,8 +7,9 @@ use Rattle.klsm_run.specs.declared.item.Item.{Item}
 use Rattle.klsm_run.specs.ItemOrder.{is_smaller, IsSmaller}
 use Rattle.klsm_run.specs.Content.{placed, sorted, IsAscending, ShareNone}
 use Rattle.klsm_run.specs.Merging.{ahead, merged}
+use Rattle.klsm_run.proofs.AllLemmas.{all_weaker, all_append}
 use Rattle.klsm_run.proofs.OrderLemmas.{smaller_trans, not_smaller_than_itself, Below, Same, Above, ranked}
-use Rattle.klsm_run.proofs.SortedLemmas.{IsNew, all_weaker, all_append, placed_first, sorted_ascending, all_sorted, ascending_placed}
+use Rattle.klsm_run.proofs.SortedLemmas.{IsNew, placed_first, sorted_ascending, all_sorted, ascending_placed}
 
 -- no item of the first list is in the second
 abbrev pub AreApart : List Item → List Item → Type 0

@@ -1,13 +1,13 @@
 -- What one read of a record does to the rows that were read.
-use Rattle.std.proofs.Common.{◌≡◌, ℕ, true, false, List, [], ◌∷◌, Option, Some, None, refl, sym, ◌∙◌, subst, inl, reverse}
+use Rattle.std.proofs.Common.{◌≡◌, ℕ, true, List, [], ◌∷◌, Option, Some, None, refl, sym, ◌∙◌, subst, inl, reverse}
 use Rattle.std.specs.Option.{option_map}
 use Rattle.std.proofs.lemmas.List.{reverse-append}
 use Rattle.csv.specs.declared.reader.Reader.{Reader}
 use Rattle.csv.specs.declared.parser.State.TheVariants as state
 use Rattle.csv.specs.Reading.{ReadRecord, Reached, default_config, is_flexible, reader_config, reader_state, source_of, strip_bom, took_first}
-use Rattle.csv.proofs.ReadFacts.{rows-end, rows-more}
+use Rattle.csv.proofs.ReadFacts.{rows-more}
 use Rattle.klsm_tool.specs.Script.{Row}
-use Rattle.klsm_tool.specs.Rows.{AreFirstRows, AreAllRows}
+use Rattle.klsm_tool.specs.Rows.{AreFirstRows}
 use Rattle.klsm_tool.specs.Progress.{HasLeft, HasRead}
 
 -- a reader of all the bytes has read no row
@@ -31,12 +31,6 @@ read_more rem input rows a b row before reads flexible first = record {
   ready = inl first;
   left = left_more rem input rows a b row before.config before.left reads;
 }
-
--- where no record was read, the rows are all
-pub read_all : {R : Type 0} (rem : R → Option (List ℕ)) (input : Option (List ℕ)) (rows : List Row) (a b : Reader R) (row : Row) → HasRead rem input rows a → ReadRecord rem a b false row → AreAllRows input rows
-read_all rem None rows a b row before reads = tt
-read_all rem (Some text) rows a b row before reads =
-    (reader_state a, before.left.0, before.left.2, rows-end rem a b row default_config before.left.0 before.config before.left.1 reads)
 
 -- the rows that were read are the first ones
 pub first_rows : {R : Type 0} (rem : R → Option (List ℕ)) (input : Option (List ℕ)) (rows : List Row) (a : Reader R) → HasRead rem input rows a → AreFirstRows input rows

@@ -1,18 +1,8 @@
 -- What the fields of a record are, from a look at each.
-use Rattle.std.proofs.Common.{◌≡◌, ◌≢◌, ℕ, ◌<◌, List, [], ◌∷◌, length, Option, Some, None, Err, Bor, refl, sym, ap, ◌∙◌, arith, zero, suc}
+use Rattle.std.proofs.Common.{◌≡◌, ℕ, ◌<◌, List, [], ◌∷◌, length, Option, Some, None, Bor, sym, ap, ◌∙◌, arith, zero, suc}
 use Rattle.std.specs.Option.{option_map}
 use Rattle.csv.specs.Records.{field_at}
-use Rattle.klsm_tool.specs.declared.request.Refusal.TheVariants as refusal
-use Rattle.klsm_tool.specs.Script.{Row, request_of}
-
--- a row that has not four fields is refused for that
-pub not_four : (threads : ℕ) (row : Row) → length row ≢ 4 → request_of threads row ≡ Err refusal.Fields
-not_four threads [] other = refl
-not_four threads (a ∷ []) other = refl
-not_four threads (a ∷ b ∷ []) other = refl
-not_four threads (a ∷ b ∷ c ∷ []) other = refl
-not_four threads (a ∷ b ∷ c ∷ d ∷ []) other = absurd (other refl)
-not_four threads (a ∷ b ∷ c ∷ d ∷ e ∷ rest) other = refl
+use Rattle.klsm_tool.specs.Script.{Row}
 
 -- a field below the number of fields is there
 pub present : (row : Row) (i : ℕ) (found : Option (Bor (List ℕ))) → i < length row → option_map (λ s. s.now) found ≡ field_at row i → found ≡ None → ⊥

@@ -69,7 +69,7 @@ impl ExactQueue {
             number: self.inserted,
         };
         let item = Item { key, stamp, load };
-        let Ok(()) = self.live.absorb(FixedRun::single(item)) else {
+        let Ok(()) = self.live.insert(item) else {
             unreachable!();
         };
         self.inserted += 1;
