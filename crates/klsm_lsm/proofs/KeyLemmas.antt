@@ -3,22 +3,15 @@ use Rattle.std.proofs.Common.{◌≡◌, ℕ, ◌+◌, ◌<◌, ◌≤◌, List,
 use Rattle.std.specs.List.{AllByRecursion}
 use Rattle.klsm_run.specs.declared.item.Item.{Item}
 use Rattle.klsm_run.specs.Content.{sorted}
-use Rattle.klsm_run.proofs.AllLemmas.{all_weaker}
+pub use Rattle.klsm_run.proofs.KeyLemmas.{KeysBelow, below_weaker}
 use Rattle.klsm_run.proofs.SortedLemmas.{all_sorted, length_sorted}
 use Rattle.klsm_lsm.specs.Lsm.{content}
 use Rattle.klsm_lsm.specs.Adding.{add}
 use Rattle.klsm_lsm.proofs.AddLemmas.{all_add}
 
--- each key is below k
-abbrev pub KeysBelow : ℕ → List Item → Type 0
-KeysBelow k = AllByRecursion (λ x. x.key < k)
-
 -- each key is k at least
 abbrev pub KeysFrom : ℕ → List Item → Type 0
 KeysFrom k = AllByRecursion (λ x. k ≤ x.key)
-
-pub below_weaker : (k l : ℕ) (xs : List Item) → k ≤ l → KeysBelow k xs → KeysBelow l xs
-below_weaker k l xs less = all_weaker (λ x. x.key < k) (λ x. x.key < l) (λ x h. omega (arith, h, less)) xs
 
 -- after an insertion of a key above all others
 pub below_added : {T E : Type 0} (r : Result T E) (k l : ℕ) (old new : List (List Item)) (run : List Item) → OnOk r (new ≡ add old run) → k ≤ l → KeysBelow k (content old) → KeysBelow l run → OnOk r (KeysBelow l (content new))

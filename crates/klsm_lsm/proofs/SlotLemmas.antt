@@ -37,7 +37,7 @@ blocks_in_with {R} items slots start end run =
     ∙ rw (take-map (block_in items) start slots, drop-map (block_in items) end slots) refl
 
 -- a list that is filled up from one of its own length is as it was
-refill_same : {X : Type 0} (xs ws : List X) → length ws ≡ length xs → refill (length xs) xs ws ≡ ws
+pub refill_same : {X : Type 0} (xs ws : List X) → length ws ≡ length xs → refill (length xs) xs ws ≡ ws
 refill_same xs ws same = take_at ws (drop (length ws) xs) (length xs) same
 
 -- the blocks after an item was taken out of one, where it stands

@@ -26,6 +26,8 @@ pub(crate) fn add_run<R: Run, const LEVELS: usize>(
     ensures added { OnOk result (blocks_in R.items slots.new.items
         ≡ add (blocks_in R.items slots.old.items) (R.items run)) }
     ensures memory { IfErr result (λ refused. refused.why ≡ LsmError.NoMemory) }
+    ensures merging { OnErr result (length (add (blocks_in R.items slots.old.items) (R.items run))
+        ≤ length (blocks_in R.items slots.old.items)) }
     ensures fixed { IsTrue R.is_fixed → IsOk result }
     ensures handed_back { IfErr result (λ refused. refused.run ≡ run) }
     ensures unchanged { OnErr result (slots.new ≡ slots.old) }
@@ -67,6 +69,8 @@ fn cascade<R: Run>(slots: &[Option<R>], end: usize, run: &R) -> Result<Carried<R
         with_block (blocks_in R.items slots.now) carried.start end
         (R.items (unwrap_or carried.whole run.now))
         ≡ add (blocks_in R.items slots.now) (R.items run.now)) }
+    ensures merging { OnErr result (length (add (blocks_in R.items slots.now) (R.items run.now))
+        ≤ length (blocks_in R.items slots.now)) }
     ensures fixed { IsTrue R.is_fixed → IsOk result }
 {
     let mut start = end;

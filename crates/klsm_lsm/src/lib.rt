@@ -12,6 +12,7 @@
 //! - **A refusal changes nothing.** What can fail is done first, on borrowed blocks. The clauses `unchanged` say so, and
 //!   `handed_back` that a refused run comes back.
 //! - **No memory over fixed runs.** The clauses `fixed` say that a run in a fixed store is refused for want of room alone.
+//!   Over other runs the clauses `merging` say that memory is wanted only where blocks become one.
 #![tactic(auto)]
 
 mod adding;

@@ -97,4 +97,8 @@ pub(crate) fn take_out<R: Run, const LEVELS: usize>(
         unreachable!();
     };
     let _item = run.remove_at(index);
+    // At a power of two the block fell to a lower level. So a store has room for at most twice its items.
+    if run.len().is_power_of_two() {
+        run.shrink();
+    }
 }

@@ -1,11 +1,42 @@
-//! Worked examples. The helpers' clauses are what the tested calls require: no key comes twice.
-ghost use Rattle.std.specs.Prelude.{◌≡◌, ◌+◌, ◌<◌, ◌≤◌, length, OnOk};
+//! Worked examples, and refused growths. The helpers' clauses are what the tested calls require: no key comes twice.
+ghost use Rattle.std.specs.Prelude.{◌≡◌, ◌+◌, ◌<◌, ◌≤◌, [], length, IfOk, OnOk};
 ghost use Rattle.std.specs.List.{AllByRecursion};
 ghost use Rattle.klsm_lsm.specs.Lsm.{content};
 
+mod refused;
+
 use crate::{Lsm, LsmError, Refused};
-use klsm_run::{FixedRun, Item, Run, Stamp};
+use klsm_run::{FixedRun, HeapRun, Item, Run, RunError, Stamp};
+use std::alloc::{Allocator, Global};
+use std::process::Abort;
 use std::test::Fail;
+
+// The runs that the LSMs of these tests hold.
+trait Stored: Run {
+    type Alloc;
+
+    // A run of the same items.
+    fn stored(alloc: Self::Alloc, run: FixedRun<64>) -> Result<Self, RunError>
+    where
+        Self: Sized,
+        ensures { IfOk result (λ stored. Self.items stored ≡ run) };
+}
+
+impl Stored for FixedRun<64> {
+    type Alloc = Global;
+
+    fn stored(_alloc: Global, run: FixedRun<64>) -> Result<Self, RunError> {
+        Ok(run)
+    }
+}
+
+impl<A: Allocator + Copy> Stored for HeapRun<A> {
+    type Alloc = A;
+
+    fn stored(alloc: A, run: FixedRun<64>) -> Result<Self, RunError> {
+        HeapRun::copy_of(alloc, &run)
+    }
+}
 
 // The item of a key.
 fn item(key: u64) -> Item
@@ -48,17 +79,20 @@ fn insert_key(lsm: &mut Lsm<FixedRun<64>, 8>, key: u64) -> Result<(), LsmError>
 }
 
 // Absorbs keys above all others.
-fn absorb_keys<const LEVELS: usize>(
-    lsm: &mut Lsm<FixedRun<64>, LEVELS>,
+fn absorb_keys<R: Stored, const LEVELS: usize>(
+    rt: &impl Abort,
+    alloc: R::Alloc,
+    lsm: &mut Lsm<R, LEVELS>,
     first: u64,
     past: u64,
-) -> Result<(), Refused<FixedRun<64>>>
+) -> Result<(), Refused<R>>
     requires some { first < past }
     requires few { past ≤ first + 64 }
     requires below { AllByRecursion (λ x. x.key < first) (content lsm.old) }
     ensures { OnOk result (AllByRecursion (λ x. x.key < past) (content lsm.new)) }
 {
-    lsm.absorb(run_of(first, past))
+    let run = R::stored(alloc, run_of(first, past)).expect(rt, "there is memory");
+    lsm.absorb(run)
 }
 
 #[test]
@@ -79,11 +113,16 @@ fn keys_in_turn(rt: HostRuntime) -> Result<(), Fail> {
     Ok(())
 }
 
-#[test]
-fn removal_merges(rt: HostRuntime) -> Result<(), Fail> {
-    let mut lsm: Lsm<FixedRun<64>, 8> = Lsm::new();
-    assert!(rt; absorb_keys(&mut lsm, 1, 4).is_ok());
-    assert!(rt; absorb_keys(&mut lsm, 4, 6).is_ok());
+// A block of 3 items loses one, and becomes one with a block of 2.
+fn removal_merges<R: Stored<Alloc = Global>>(
+    rt: &impl Abort,
+    alloc: Global,
+    lsm: &mut Lsm<R, 8>,
+) -> Result<(), Fail>
+    requires { lsm.old ≡ [] }
+{
+    assert!(rt; absorb_keys(rt, alloc, lsm, 1, 4).is_ok());
+    assert!(rt; absorb_keys(rt, alloc, lsm, 4, 6).is_ok());
     assert_eq!(rt; lsm.blocks(), 2);
     assert_eq!(rt; lsm.block(0).level(), 2);
     assert_eq!(rt; lsm.block(1).level(), 1);
@@ -99,10 +138,25 @@ fn removal_merges(rt: HostRuntime) -> Result<(), Fail> {
 }
 
 #[test]
-fn beyond_the_limit(rt: HostRuntime) -> Result<(), Fail> {
-    let mut lsm: Lsm<FixedRun<64>, 3> = Lsm::new();
-    assert!(rt; absorb_keys(&mut lsm, 1, 4).is_ok());
-    let Err(refused) = absorb_keys(&mut lsm, 4, 6) else {
+fn removal_merges_fixed_runs(rt: HostRuntime) -> Result<(), Fail> {
+    removal_merges(&rt, rt.alloc(), &mut Lsm::<FixedRun<64>, 8>::new())
+}
+
+#[test]
+fn removal_merges_heap_runs(rt: HostRuntime) -> Result<(), Fail> {
+    removal_merges(&rt, rt.alloc(), &mut Lsm::<HeapRun, 8>::new())
+}
+
+// Of at most 4 items, 3 are there, and 2 more are refused.
+fn beyond_the_limit<R: Stored<Alloc = Global>>(
+    rt: &impl Abort,
+    alloc: Global,
+    lsm: &mut Lsm<R, 3>,
+) -> Result<(), Fail>
+    requires { lsm.old ≡ [] }
+{
+    assert!(rt; absorb_keys(rt, alloc, lsm, 1, 4).is_ok());
+    let Err(refused) = absorb_keys(rt, alloc, lsm, 4, 6) else {
         return Err("absorbed beyond the limit".into());
     };
     assert_eq!(rt; refused.why, LsmError::Full);
@@ -112,10 +166,20 @@ fn beyond_the_limit(rt: HostRuntime) -> Result<(), Fail> {
 }
 
 #[test]
+fn fixed_runs_beyond_the_limit(rt: HostRuntime) -> Result<(), Fail> {
+    beyond_the_limit(&rt, rt.alloc(), &mut Lsm::<FixedRun<64>, 3>::new())
+}
+
+#[test]
+fn heap_runs_beyond_the_limit(rt: HostRuntime) -> Result<(), Fail> {
+    beyond_the_limit(&rt, rt.alloc(), &mut Lsm::<HeapRun, 3>::new())
+}
+
+#[test]
 fn largest_goes(rt: HostRuntime) -> Result<(), Fail> {
     let mut lsm: Lsm<FixedRun<64>, 8> = Lsm::new();
-    assert!(rt; absorb_keys(&mut lsm, 1, 6).is_ok());
-    assert!(rt; absorb_keys(&mut lsm, 6, 8).is_ok());
+    assert!(rt; absorb_keys(&rt, rt.alloc(), &mut lsm, 1, 6).is_ok());
+    assert!(rt; absorb_keys(&rt, rt.alloc(), &mut lsm, 6, 8).is_ok());
     let largest = lsm.split_for_spy().ok_or("there are two blocks")?;
     assert_eq!(rt; largest.len(), 5);
     assert_eq!(rt; lsm.len(), 2);

@@ -86,7 +86,7 @@ sorted_least x (y ∷ ys) low h = elim (ranked y x) [
       ap (placed y) (sorted_least x ys low.1 later) ∙ (placed_second x y (sorted (without x ys)) less ∙ ap (λ zs. x ∷ sorted zs) (sym rest))
 ]
 
-not_below : (x y : Item) → IsSmaller x y → is_smaller y x ≡ false
+pub not_below : (x y : Item) → IsSmaller x y → is_smaller y x ≡ false
 not_below x y less = elim (ranked x y) [
   | Below less' greater ↦ ap is_lt greater
   | Same same ↦ absurd (not_smaller_than_itself x (subst (IsSmaller x) (sym same) less))
@@ -105,7 +105,7 @@ sorted_without_first x rest c first up =
     let own = sorted_least x c (none_below_first x rest c first up) (has_unsorted x c (subst (Has x) (sym first) (inl refl))) in
     let both : x ∷ rest ≡ x ∷ sorted (without x c) = sym first ∙ own in cc
 
-skipped_none : (x : Item) (c : List Item) → IsNoneBelow x c → skipped c x ≡ 0
+pub skipped_none : (x : Item) (c : List Item) → IsNoneBelow x c → skipped c x ≡ 0
 skipped_none x [] h = refl
 skipped_none x (y ∷ ys) h =
     let none : skipped ys x ≡ 0 = skipped_none x ys h.1 in

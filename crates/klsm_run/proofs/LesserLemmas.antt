@@ -23,7 +23,7 @@ lesser_second x y smaller = rw smaller refl
 pub lesser_first : (x y : Item) → is_smaller y x ≡ false → lesser_item x y ≡ x
 lesser_first x y not_smaller = rw not_smaller refl
 
-less_if_smaller : (x y : Item) → is_smaller x y ≡ true → IsSmaller x y
+pub less_if_smaller : (x y : Item) → is_smaller x y ≡ true → IsSmaller x y
 less_if_smaller x y smaller = elim (ranked x y) [
   | Below less greater ↦ less
   | Same same ↦ let bad : false ≡ true = sym (not_smaller_itself y x same) ∙ smaller in cc
@@ -31,7 +31,7 @@ less_if_smaller x y smaller = elim (ranked x y) [
 ]
 
 -- an item that is not smaller than the second, which is not smaller than the first, is not smaller than the first
-not_smaller_trans : (x y z : Item) → is_smaller y x ≡ false → is_smaller z y ≡ false → is_smaller z x ≡ false
+pub not_smaller_trans : (x y z : Item) → is_smaller y x ≡ false → is_smaller z y ≡ false → is_smaller z x ≡ false
 not_smaller_trans x y z xy yz = elim (ranked z x) [
   | Below less greater ↦ elim (ranked z y) [
     | Below less' greater' ↦ let bad : true ≡ false = rw less' at yz in cc
@@ -58,7 +58,7 @@ lesser_assoc x None p = refl
 lesser_assoc x (Some y) None = refl
 lesser_assoc x (Some y) (Some z) = ap Some (lesser_assoc_by x y z (is_smaller y x) (is_smaller z y) refl refl)
 
-first_placed : (x : Item) (ys : List Item) → slice_get (placed x ys) 0 ≡ lesser (Some x) (slice_get ys 0)
+pub first_placed : (x : Item) (ys : List Item) → slice_get (placed x ys) 0 ≡ lesser (Some x) (slice_get ys 0)
 first_placed x [] = refl
 first_placed x (y ∷ ys) = elim (is_smaller y x) as (λ b. slice_get (if b then y ∷ placed x ys else x ∷ y ∷ ys) 0 ≡ Some (if b then y else x)) [ true ↦ refl | false ↦ refl ]
 

@@ -1,9 +1,15 @@
 pub mod AllLemmas
+pub mod ContainsLemmas
 pub mod ContentLemmas
 pub mod HalfLemmas
+pub mod IndexLemmas
+pub mod KeyLemmas
 pub mod LeastLemmas
 pub mod LesserLemmas
 pub mod MergeLemmas
 pub mod OrderLemmas
+pub mod RankLemmas
 pub mod RemoveLemmas
+pub mod ShiftLemmas
 pub mod SortedLemmas
+pub mod WithoutLemmas

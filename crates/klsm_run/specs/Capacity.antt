@@ -1,5 +1,5 @@
--- How many items a fixed run can hold.
-use Rattle.std.specs.Prelude.{ℕ, ◌≤◌, List, length}
+-- How many items a run can hold.
+use Rattle.std.specs.Prelude.{ℕ, ◌≤◌, ◌^◌, List, length, drop}
 use Rattle.klsm_run.specs.declared.item.Item.{Item}
 use Rattle.klsm_run.specs.Content.{IsAscending}
 
@@ -13,3 +13,13 @@ pub record IsFixedRun (capacity : ℕ) (items : List Item) : Type 0 where
   pub ascending : IsAscending items
   pub in_room : length items ≤ capacity
   pub capacity_in_range : IsCapacity capacity
+
+-- a run on the heap is of at most 1,048,576 items
+abbrev pub heap_room : ℕ
+heap_room = 2 ^ 20
+
+-- a run in a store of the heap: the stored items from `start` on
+pub record IsHeapRun (start : ℕ) (stored : List Item) : Type 0 where
+  pub ascending : IsAscending (drop start stored)
+  pub in_room : length stored ≤ heap_room
+  pub start_within : start ≤ length stored

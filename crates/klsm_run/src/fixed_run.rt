@@ -118,6 +118,9 @@ impl<const CAP: usize> Run for FixedRun<CAP> {
         self.items.remove(index)
     }
 
+    // The store is a part of the value itself.
+    fn shrink(&mut self) {}
+
     fn merge(&self, other: &Self) -> Result<Self, RunError> {
         Ok(FixedRun {
             items: collected(Merging::new(self.items.as_slice(), other.items.as_slice())),

@@ -1,6 +1,7 @@
 //! The iterator behind `merge` and `merge_without`, for every store.
-ghost use Rattle.std.specs.Prelude.{◌≡◌, ◌++◌, ◌<◌, length, remove};
+ghost use Rattle.std.specs.Prelude.{◌≡◌, ◌+◌, ◌++◌, ◌<◌, ◌≤◌, length, remove};
 ghost use Rattle.std.specs.Iterator.{YieldsFirst, item_count};
+ghost use Rattle.klsm_run.specs.Capacity.{heap_room};
 ghost use Rattle.klsm_run.specs.Merging.{merged};
 
 use crate::item;
@@ -37,6 +38,16 @@ impl<'a> Merging<'a> {
             left_rest: &left[index + 1..],
             right,
         }
+    }
+
+    /// The number of items to come.
+    pub(crate) fn len(&self) -> usize
+        requires { length (self.now.left.now ++ self.now.left_rest.now) + length self.now.right.now
+            ≤ heap_room }
+        ensures { result
+            ≡ length (self.now.left.now ++ self.now.left_rest.now) + length self.now.right.now }
+    {
+        self.left.len() + self.left_rest.len() + self.right.len()
     }
 }
 

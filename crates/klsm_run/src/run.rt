@@ -50,6 +50,10 @@ pub trait Run: Drop {
         ensures item { slice_get (items self.old) index ≡ Some result }
         ensures rest { items self.new ≡ remove (items self.old) index };
 
+    /// Gives back the store that removed items left, where there is such. It moves each item at most twice.
+    fn shrink(&mut self)
+        ensures { items self.new ≡ items self.old };
+
     /// The items of both runs, in order. It costs one copy of each item.
     fn merge(&self, other: &Self) -> Result<Self, RunError>
     where

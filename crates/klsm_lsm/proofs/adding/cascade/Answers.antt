@@ -3,8 +3,8 @@ use Rattle.std.proofs.lemmas.List.{length-map}
 use Rattle.klsm_lsm.specs.Level.{level}
 use Rattle.klsm_lsm.specs.Slots.{blocks_in}
 use Rattle.klsm_lsm.proofs.LevelLemmas.{level_is}
-use Rattle.klsm_lsm.proofs.SlotLemmas.{now_unwrap_or}
-use Rattle.klsm_lsm.proofs.CascadeLemmas.{carried_first, can_merge_at, carried_more_at, carried_last_at, carried_none_at}
+use Rattle.klsm_lsm.proofs.SlotLemmas.{now_unwrap_or, on_err_always}
+use Rattle.klsm_lsm.proofs.CascadeLemmas.{carried_first, can_merge_at, carried_more_at, carried_last_at, carried_none_at, carried_adds_none_at}
 use Rattle.klsm_lsm.proofs.adding.cascade.Goals as goal
 use Rattle.klsm_lsm.proofs.adding.cascade.Goals.{else-loop-start-test, then-loop-start-test+then-level}
 
@@ -47,3 +47,11 @@ returns-clause-added g c = elim c.loop-start-test.branch [
       carried_last_at _ (blocks_in g.R.Run.items c.args.slots.now) c.loop-start.start _ _ _ _ c.requires.lawful (omega (arith, w.loop-start-test.true)) (rw length-map (omega (arith, c.loop-start.invariant.order, c.requires.end))) w.held-block.ensures.block
       (λ same. w.if-level.true (block_level ∙ (same ∙ sym (run_level ∙ ap (λ r. level (g.R.Run.items r)) joining)))) c.loop-start.invariant.carried
 ]
+
+pub returns-in_err-next-clause-merging : goal.returns-in_err-next-clause-merging
+returns-in_err-next-clause-merging g c =
+    let joining = now_unwrap_or _ _ _ _ c.as_ref.ensures.value c.unwrap_or-joining.ensures in
+    let block_level = level_is _ c.level.result c.level.ensures.enough c.level.ensures.least in
+    let run_level = level_is _ c.level-in-loop-start.result c.level-in-loop-start.ensures.enough c.level-in-loop-start.ensures.least in
+    on_err_always _ (carried_adds_none_at _ (blocks_in g.R.Run.items c.args.slots.now) c.loop-start.start c.args.end _ _ _ c.requires.lawful (omega arith) (rw length-map (omega (arith, c.loop-start.invariant.order, c.requires.end))) c.loop-start.invariant.order c.held-block.ensures.block
+    (sym block_level ∙ (c.if-level.false ∙ (run_level ∙ ap (λ r. level (g.R.Run.items r)) joining))) c.loop-start.invariant.carried)
