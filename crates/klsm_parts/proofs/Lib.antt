@@ -1,0 +1,9 @@
+pub mod EventLemmas
+pub mod FlushLemmas
+pub mod FoundLemmas
+pub mod ListingLemmas
+pub mod OwnLemmas
+pub mod PairLemmas
+pub mod PivotLemmas
+pub mod SpyLemmas
+pub mod TakeLemmas

@@ -1,0 +1,63 @@
+-- An own part after an item was put in or taken out.
+use Rattle.std.proofs.Common.{◌≡◌, ℕ, ◌<◌, ◌≤◌, List, [], ◌∷◌, length, get_or, drop, Option, Some, None, refl, sym, ap, ◌∙◌, arith}
+use Rattle.std.specs.List.{Contains, slice_get}
+use Rattle.std.specs.Option.{option_map}
+use Rattle.std.proofs.lemmas.List.{length-append}
+use Rattle.std.proofs.lemmas.List.Elements.{Contains-append_right}
+use Rattle.klsm_run.specs.declared.item.Item.{Item}
+use Rattle.klsm_run.specs.Content.{placed, sorted}
+use Rattle.klsm_run.proofs.ContentLemmas.{sorted_swap, sorted_itself}
+use Rattle.klsm_lsm.specs.Level.{level}
+use Rattle.klsm_lsm.specs.Lsm.{content, IsLsm}
+use Rattle.klsm_lsm.specs.Limit.{limit_of}
+use Rattle.klsm_lsm.specs.Adding.{add, cut}
+use Rattle.klsm_lsm.proofs.JoinLemmas.{some_in_block}
+use Rattle.klsm_lsm.proofs.AddLemmas.{length_add, sorted_add}
+use Rattle.klsm_lsm.proofs.CutLemmas.{length_cut}
+use Rattle.klsm_parts.specs.Flushing.{kept}
+use Rattle.klsm_parts.specs.Parts.{IsOwn}
+
+-- one run holds all items of an own part, and so has its LSM room for them
+pub has_room : (capacity count : ℕ) → count < capacity → capacity ≤ 128 → count < limit_of 8 capacity
+has_room capacity count less few = omega arith
+
+pub own_added : (capacity k : ℕ) (old bs : List (List Item)) (x : Item) → IsOwn capacity (record { k = k; blocks = old }) → length (content bs) < k → IsOwn capacity (record { k = k; blocks = add bs (x ∷ []) })
+own_added capacity k old bs x own room = record {
+  few = omega (arith, length_add bs (x ∷ []), room);
+  k_in_range = own.k_in_range;
+  capacity_in_range = own.capacity_in_range;
+}
+
+pub own_cut : (capacity k : ℕ) (bs : List (List Item)) (at index : ℕ) (x : Item) → IsOwn capacity (record { k = k; blocks = bs }) → slice_get (get_or bs at []) index ≡ Some x → IsOwn capacity (record { k = k; blocks = cut bs at index })
+own_cut capacity k bs at index x own found = record {
+  few = omega (arith, length_cut bs at index x found, own.few);
+  k_in_range = own.k_in_range;
+  capacity_in_range = own.capacity_in_range;
+}
+
+-- an item that was put in is among the others
+pub put_is : (bs : List (List Item)) (x : Item) → sorted (content (add bs (x ∷ []))) ≡ placed x (sorted (sorted (content bs)))
+put_is bs x = sorted_add bs (x ∷ []) ∙ (sorted_swap (content bs) (x ∷ []) ∙ ap (placed x) (sym (sorted_itself (content bs))))
+
+-- without the largest block there are fewer items
+pub fewer_without_largest : (bs : List (List Item)) → IsLsm bs → 0 < length (content bs) → length (content (drop 1 bs)) < length (content bs)
+fewer_without_largest [] lsm some = absurd (omega (arith, some))
+fewer_without_largest (b ∷ bs) lsm some = omega (arith, length-append b (content bs), some_in_block (level b) b lsm.0)
+
+pub absent_without_largest : (bs : List (List Item)) (x : Item) → (Contains (content bs) x → ⊥) → Contains (content (drop 1 bs)) x → ⊥
+absent_without_largest [] x new within = new within
+absent_without_largest (b ∷ bs) x new within = new (Contains-append_right b (content bs) x within)
+
+-- whether there was a largest block to take
+pub some_taken : {R : Type 0} (items : R → List Item) (r : Option R) (largest : R) (bs : List (List Item)) → option_map items r ≡ slice_get bs 0 → r ≡ Some largest → IsLsm bs → 0 < length (content bs)
+some_taken items r largest [] taken is lsm = let bad : None ≡ Some (items largest) = sym taken ∙ ap (option_map items) is in cc
+some_taken items r largest (b ∷ bs) taken is lsm = omega (arith, length-append b (content bs), some_in_block (level b) b lsm.0)
+
+pub none_taken : {R : Type 0} (items : R → List Item) (r : Option R) (bs : List (List Item)) → option_map items r ≡ slice_get bs 0 → r ≡ None → bs ≡ []
+none_taken items r [] taken is = refl
+none_taken items r (b ∷ bs) taken is = let bad : Some b ≡ None = sym taken ∙ ap (option_map items) is in cc
+
+-- an item in the place of the largest block
+pub kept_for_largest : (bs : List (List Item)) (x : Item) → 0 < length (content bs) → kept bs x ≡ add (drop 1 bs) (x ∷ [])
+kept_for_largest [] x some = absurd (omega (arith, some))
+kept_for_largest (b ∷ bs) x some = refl

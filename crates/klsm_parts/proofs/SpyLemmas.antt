@@ -1,0 +1,80 @@
+-- A victim's part before and after a spy.
+use Rattle.std.proofs.Common.{◌≡◌, ℕ, ◌<◌, ◌≤◌, ◌/◌, List, [], ◌∷◌, ◌++◌, length, take, drop, Some, cond, sym, ap, ◌∙◌, subst, arith, inl, inr}
+use Rattle.std.specs.List.{count_by}
+use Rattle.std.proofs.lemmas.Bool.{cases_eq, eq-eqb, ne_eqb}
+use Rattle.std.proofs.lemmas.List.{append-nil, length-append, length-drop, take-append-drop}
+use Rattle.std.proofs.lemmas.List.Sums.{sum_by-append}
+use Rattle.std.proofs.lemmas.Option.{none-some, same_Some}
+use Rattle.klsm_run.specs.declared.item.Item.{Item}
+use Rattle.klsm_run.specs.ItemOrder.{is_same}
+use Rattle.klsm_run.specs.Content.{sorted, IsAscending}
+use Rattle.klsm_run.proofs.SortedLemmas.{sorted_ascending, length_sorted}
+use Rattle.klsm_run.proofs.HalfLemmas.{ascending_drop}
+use Rattle.klsm_run.proofs.ContentLemmas.{sorted_swap}
+use Rattle.klsm_run.proofs.RankLemmas.{count_sorted}
+use Rattle.klsm_lsm.specs.Level.{level}
+use Rattle.klsm_lsm.specs.Lsm.{content, IsLsm}
+use Rattle.klsm_lsm.specs.Spying.{spied, left_by_spy}
+use Rattle.klsm_lsm.proofs.JoinLemmas.{some_in_block}
+use Rattle.klsm_parts.specs.Events.{MaySpy, own_after_spy, victim_after_spy}
+use Rattle.klsm_parts.proofs.EventLemmas.{minus_moved, no_items}
+
+-- a part of no items has no block
+pub no_items_in : (bs : List (List Item)) → IsLsm bs → sorted (content bs) ≡ [] → bs ≡ []
+no_items_in bs lsm none = no_items bs lsm (sym (length_sorted (content bs)) ∙ ap length none)
+
+-- the greatest half of the only block and what is left of it
+halves : (b : List Item) → sorted (content (b ∷ [])) ≡ sorted (drop (length b / 2) b ++ content (left_by_spy (b ∷ [])))
+halves b = elim (cases_eq (length b) 1) [
+  | inl one ↦
+      let none : 0 ≡ length b / 2 = omega (arith, one) in
+      rw (eq-eqb (length b) 1 one) (ap (λ n. sorted (drop n b ++ [])) none)
+  | inr more ↦
+      let lower = take (length b / 2) b in let upper = drop (length b / 2) b in
+      rw (ne_eqb (length b) 1 more) (ap sorted (append-nil b ∙ sym (take-append-drop (length b / 2) b)) ∙ (sorted_swap lower upper ∙ ap (λ xs. sorted (upper ++ xs)) (sym (append-nil lower))))
+]
+
+-- what moves and what is left are the items of the part
+moved_and_left : (bs : List (List Item)) (moved : List Item) → spied bs ≡ Some moved → sorted (content bs) ≡ sorted (moved ++ content (left_by_spy bs))
+moved_and_left [] moved is = absurd (none-some moved is)
+moved_and_left (b ∷ []) moved is = subst (λ m. sorted (content (b ∷ [])) ≡ sorted (m ++ content (left_by_spy (b ∷ [])))) (same_Some (drop (length b / 2) b) moved is) (halves b)
+moved_and_left (b ∷ c ∷ cs) moved is = ap (λ m. sorted (m ++ content (c ∷ cs))) (same_Some b moved is)
+
+pub some_moved : (bs : List (List Item)) (moved : List Item) → IsLsm bs → spied bs ≡ Some moved → 0 < length moved
+some_moved [] moved lsm is = absurd (none-some moved is)
+some_moved (b ∷ []) moved lsm is =
+    omega (arith, ap length (same_Some (drop (length b / 2) b) moved is), length-drop (length b / 2) b, some_in_block (level b) b lsm.0)
+some_moved (b ∷ c ∷ cs) moved lsm is = omega (arith, ap length (same_Some b moved is), some_in_block (level b) b lsm.0)
+
+pub few_moved : (bs : List (List Item)) (moved : List Item) → spied bs ≡ Some moved → length moved ≤ length (content bs)
+few_moved bs moved is =
+    let left = content (left_by_spy bs) in
+    omega (arith, ap length (moved_and_left bs moved is), length_sorted (content bs), length_sorted (moved ++ left), length-append moved left)
+
+ascending_moved : (bs : List (List Item)) (moved : List Item) → IsLsm bs → spied bs ≡ Some moved → IsAscending moved
+ascending_moved [] moved lsm is = absurd (none-some moved is)
+ascending_moved (b ∷ []) moved lsm is = subst IsAscending (same_Some (drop (length b / 2) b) moved is) (ascending_drop (length b / 2) b lsm.0.0)
+ascending_moved (b ∷ c ∷ cs) moved lsm is = subst IsAscending (same_Some b moved is) lsm.0.0
+
+-- a spy may move these items to an empty part
+pub may_spy : (own : List Item) (bs : List (List Item)) (moved : List Item) → own ≡ [] → IsLsm bs → spied bs ≡ Some moved → MaySpy own (sorted (content bs)) moved
+may_spy own bs moved empty lsm is =
+    let left = content (left_by_spy bs) in
+    record {
+      own_empty = empty;
+      some = λ none. omega (arith, some_moved bs moved lsm is, ap length none);
+      ascending = ascending_moved bs moved lsm is;
+      within = λ y. omega (
+        arith,
+        ap (count_by (is_same y)) (moved_and_left bs moved is),
+        count_sorted (is_same y) (moved ++ left),
+        sum_by-append (λ z. cond (is_same y z) 1 0) moved left,
+      );
+    }
+
+-- what a spy leaves in the own part and in the victim's
+pub own_spied : (bs : List (List Item)) (moved : List Item) → IsLsm bs → spied bs ≡ Some moved → sorted (content (moved ∷ [])) ≡ own_after_spy moved
+own_spied bs moved lsm is = ap sorted (append-nil moved) ∙ sorted_ascending moved (ascending_moved bs moved lsm is)
+
+pub victim_spied : (bs : List (List Item)) (moved : List Item) → spied bs ≡ Some moved → sorted (content (left_by_spy bs)) ≡ victim_after_spy (sorted (content bs)) moved
+victim_spied bs moved is = sym (minus_moved moved (content (left_by_spy bs)) (content bs) (moved_and_left bs moved is))

@@ -1,0 +1,11 @@
+use Rattle.std.proofs.Common.{◌≡◌, ◌<◌, [], length, get_or, Some, subst, sym, rules}
+use Rattle.std.specs.List.{slice_get}
+use Rattle.std.proofs.lemmas.Option.{slice_get_within}
+use Rattle.klsm_parts.specs.Parts.{PartState}
+use Rattle.klsm_parts.proofs.shared.Shared.remove.Goals as goal
+
+pub remove-requires : goal.remove-requires
+remove-requires g c =
+    let block = subst (λ (p : PartState). c.args.place.block < length p.blocks) (sym c.self.view_is) c.requires.block in
+    let index = subst (λ (p : PartState). slice_get (get_or p.blocks c.args.place.block []) c.args.place.index ≡ Some c.args.place.item) (sym c.self.view_is) c.requires.index in
+    (search rules, (block, slice_get_within (get_or c.self.inside.lsm c.args.place.block []) c.args.place.index c.args.place.item index))

@@ -1,0 +1,48 @@
+use Rattle.std.proofs.Common.{◌≡◌, true, false, sym, ◌∙◌, subst}
+use Rattle.klsm_lsm.specs.Lsm.{content}
+use Rattle.klsm_parts.proofs.TakeLemmas.{IsTested, not_asked, is_asked, own_goes, candidate_goes, some_candidate}
+use Rattle.klsm_parts.proofs.taking.choose.Goals as goal
+
+pub returns-then-is_smaller_own-clause-asked : goal.returns-then-is_smaller_own-clause-asked
+returns-then-is_smaller_own-clause-asked g c asked =
+    let tested = subst (λ o. IsTested o c.in_ok-least_shared.least_shared c.is_smaller_own.result) c.least-least_own.ensures c.is_smaller_own.ensures in
+    let unasked = not_asked _ _ c.in_ok-least_shared.least_shared c.is_smaller_own.result (sym c.least.ensures ∙ c.in_ok-least_shared.was) tested c.if-is_smaller_own.true in
+    let bad : false ≡ true = sym unasked ∙ asked in
+    cc
+
+pub pick-index-requires : goal.pick-index-requires
+pick-index-requires g c = record {
+  some = rw c.candidates.ensures (some_candidate c.args.shared.now.k (content c.args.shared.now.blocks) c.in_ok-least_shared.least_shared (sym c.least.ensures ∙ c.in_ok-least_shared.was));
+}
+
+pub returns-then-is_smaller_own-2-clause-unasked : goal.returns-then-is_smaller_own-2-clause-unasked
+returns-then-is_smaller_own-2-clause-unasked g c unasked =
+    let tested = subst (λ o. IsTested o c.in_ok-least_shared.least_shared c.is_smaller_own.result) c.least-least_own.ensures c.is_smaller_own.ensures in
+    let asked = is_asked _ _ c.in_ok-least_shared.least_shared c.is_smaller_own.result (sym c.least.ensures ∙ c.in_ok-least_shared.was) tested c.if-is_smaller_own.false in
+    let bad : true ≡ false = sym asked ∙ unasked in
+    cc
+
+pub returns-then-is_smaller_own-2-clause-asked : goal.returns-then-is_smaller_own-2-clause-asked
+returns-then-is_smaller_own-2-clause-asked g c asked = record {
+  index = c.pick-index.result;
+  picked = rw (← c.candidates.ensures) c.pick-index.ensures.picked;
+  candidate = c.place_of_candidate-candidate.result.item;
+  found = c.place_of_candidate-candidate.ensures.candidate;
+  follows = own_goes _ c.place_of_candidate-candidate.result.item c.is_smaller_own-2.result (subst (λ o. IsTested o c.place_of_candidate-candidate.result.item c.is_smaller_own-2.result) c.least-least_own.ensures c.is_smaller_own-2.ensures) c.if-is_smaller_own-2.true;
+}
+
+pub returns-clause-unasked : goal.returns-clause-unasked
+returns-clause-unasked g c unasked =
+    let tested = subst (λ o. IsTested o c.in_ok-least_shared.least_shared c.is_smaller_own.result) c.least-least_own.ensures c.is_smaller_own.ensures in
+    let asked = is_asked _ _ c.in_ok-least_shared.least_shared c.is_smaller_own.result (sym c.least.ensures ∙ c.in_ok-least_shared.was) tested c.if-is_smaller_own.false in
+    let bad : true ≡ false = sym asked ∙ unasked in
+    cc
+
+pub returns-clause-asked : goal.returns-clause-asked
+returns-clause-asked g c asked = record {
+  index = c.pick-index.result;
+  picked = rw (← c.candidates.ensures) c.pick-index.ensures.picked;
+  candidate = c.place_of_candidate-candidate.result.item;
+  found = c.place_of_candidate-candidate.ensures.candidate;
+  follows = candidate_goes _ c.place_of_candidate-candidate.result.item c.is_smaller_own-2.result (subst (λ o. IsTested o c.place_of_candidate-candidate.result.item c.is_smaller_own-2.result) c.least-least_own.ensures c.is_smaller_own-2.ensures) c.if-is_smaller_own-2.false;
+}

@@ -1,0 +1,38 @@
+-- Parts, as contracts see them.
+use Rattle.std.specs.Prelude.{ℕ, ◌+◌, ◌≤◌, List, length, slice_get, Option}
+use Rattle.klsm_run.specs.declared.item.Item.{Item}
+use Rattle.klsm_run.specs.Content.{sorted}
+use Rattle.klsm_lsm.specs.Lsm.{content, IsLsm}
+use Rattle.klsm_lsm.specs.Limit.{IsLevelCount}
+use Rattle.klsm_parts.specs.Least.{least}
+use Rattle.klsm_parts.specs.Pivots.{ArePivots}
+
+-- an own part or a shared one: its k, and the blocks of its LSM
+pub record PartState : Type 0 where
+  pub k : ℕ
+  pub blocks : List (List Item)
+
+-- the items of a part, in ascending order
+abbrev pub items_in : PartState → List Item
+items_in part = sorted (content part.blocks)
+
+-- the least item of a part, where it has one
+abbrev pub least_in : PartState → Option Item
+least_in part = slice_get (items_in part) 0
+
+-- the candidates of a shared part, in ascending order: its least k+1 items
+abbrev pub candidates_of : PartState → List Item
+candidates_of shared = least (shared.k + 1) (content shared.blocks)
+
+-- an own part has at most k items, and one run can hold these
+pub record IsOwn (capacity : ℕ) (part : PartState) : Type 0 where
+  pub few : length (content part.blocks) ≤ part.k
+  pub k_in_range : part.k ≤ capacity
+  pub capacity_in_range : capacity ≤ 128
+
+-- a shared part is a lawful LSM with exact pivots of its least k+1 items
+pub record IsShared (levels : ℕ) (part : PartState) (pivots : List ℕ) : Type 0 where
+  pub lawful : IsLsm part.blocks
+  pub pivots_exact : ArePivots (part.k + 1) part.blocks pivots
+  pub k_in_range : part.k ≤ 128
+  pub levels_in_range : IsLevelCount levels

@@ -1,0 +1,74 @@
+//! The insertion into a full own part.
+ghost use Rattle.std.specs.Prelude.{◌≡◌, ◌+◌, ◌<◌, ◌↔◌, length, OnOk, OnErr, IsErrAnd};
+ghost use Rattle.std.specs.List.{Contains};
+ghost use Rattle.klsm_run.specs.Capacity.{IsCapacity, heap_room};
+ghost use Rattle.klsm_run.specs.Content.{ShareNone};
+ghost use Rattle.klsm_lsm.specs.Lsm.{content, IsLsm};
+ghost use Rattle.klsm_lsm.specs.Limit.{limit_of};
+ghost use Rattle.klsm_lsm.specs.Adding.{add};
+ghost use Rattle.klsm_parts.specs.Parts.{items_in};
+ghost use Rattle.klsm_parts.specs.Events.{MayFlush, own_after_flush, shared_after_flush};
+ghost use Rattle.klsm_parts.specs.Flushing.{moved, kept};
+
+use crate::{Local, Shared};
+use klsm_lsm::LsmError;
+use klsm_run::{FixedRun, Item};
+use std::alloc::Allocator;
+
+/// Puts an item into an own part that holds k items: its largest block moves to the shared part. With k = 0 the item itself
+/// goes there.
+///
+/// It costs one copy of what moves and the merges of the shared part, whose blocks are as they were after a refusal.
+pub fn flush<const CAP: usize, const LEVELS: usize, A: Allocator + Copy>(
+    own: &mut Local<CAP>,
+    shared: &mut Shared<LEVELS, A>,
+    item: Item,
+) -> Result<(), LsmError>
+    requires capacity { IsCapacity CAP }
+    requires full { length (content own.old.blocks) ≡ own.old.k }
+    requires apart { ShareNone (content own.old.blocks) (content shared.old.blocks) }
+    requires new_to_own { ¬ Contains (content own.old.blocks) item }
+    requires new_to_shared { ¬ Contains (content shared.old.blocks) item }
+    ensures own { OnOk result (own.new ≡ record { k = own.old.k; blocks = kept own.old.blocks item }) }
+    ensures shared { OnOk result (shared.new
+        ≡ record { k = shared.old.k; blocks = add shared.old.blocks (moved own.old.blocks item) }) }
+    ensures event { OnOk result (MayFlush own.old.k (items_in own.old) item (moved own.old.blocks item)
+        × (items_in own.new ≡ own_after_flush (items_in own.old) item (moved own.old.blocks item))
+        × (items_in shared.new ≡ shared_after_flush (items_in shared.old) (moved own.old.blocks item))) }
+
+    // A refusal changes nothing. It is for want of room exactly where there is none, and else for want of memory.
+    ensures full { IsErrAnd result (λ why. why ≡ LsmError.Full)
+        ↔ (limit_of LEVELS heap_room < length (content shared.old.blocks) + length (moved own.old.blocks item)) }
+    ensures unchanged { OnErr result ((own.new ≡ own.old) × (shared.new ≡ shared.old)) }
+{
+    match absorb_moved(own, shared, item) {
+        Ok(()) => {
+            own.replace_largest(item);
+            Ok(())
+        }
+        Err(why) => Err(why),
+    }
+}
+
+// Puts what moves into the shared part: a copy of the own part's largest block, or the item where there is none.
+fn absorb_moved<const CAP: usize, const LEVELS: usize, A: Allocator + Copy>(
+    own: &Local<CAP>,
+    shared: &mut Shared<LEVELS, A>,
+    item: Item,
+) -> Result<(), LsmError>
+    requires capacity { IsCapacity CAP }
+    requires apart { ShareNone (content own.now.blocks) (content shared.old.blocks) }
+    requires new { ¬ Contains (content shared.old.blocks) item }
+    ensures lawful { IsLsm own.now.blocks }
+    ensures added { OnOk result (shared.new
+        ≡ record { k = shared.old.k; blocks = add shared.old.blocks (moved own.now.blocks item) }) }
+    ensures full { IsErrAnd result (λ why. why ≡ LsmError.Full)
+        ↔ (limit_of LEVELS heap_room < length (content shared.old.blocks) + length (moved own.now.blocks item)) }
+    ensures unchanged { OnErr result (shared.new ≡ shared.old) }
+{
+    if own.len() == 0 {
+        shared.absorb_copy(&FixedRun::<CAP>::single(item))
+    } else {
+        shared.absorb_copy(own.lsm().block(0))
+    }
+}

@@ -1,0 +1,7 @@
+//! Laws of the definitions that the contracts cite. The functions do nothing: what they ensure is a theorem.
+ghost use Rattle.klsm_parts.specs.Laws.{TakesSkipFew};
+
+/// Whatever the parts hold and whichever candidate is picked, a deletion skips at most k items of the two.
+pub fn takes_skip_few()
+    ensures { TakesSkipFew }
+{}

@@ -1,0 +1,48 @@
+//! The parts of a k-LSM: one for each member, and one that all share.
+//!
+//! A member of the queue inserts into its own part, of at most k items, which nobody else needs. Only where that is full does
+//! it touch the shared part. A deletion looks at both, and may give any of the k+1 least items of the shared part, its
+//! candidates, so that several members need not meet at one item. The parts know nothing of members, locks and threads: who
+//! calls has both in hand, and each call is one event of the queue.
+//!
+//! The caller of a deletion, as a solver with its own part and the shared one:
+//!
+//! ```text
+//! let mut own: Local<64> = Local::new(16);
+//! let mut shared: Shared<21> = Shared::new(alloc, 16);
+//! put(&mut own, item);                                  // the own part has room
+//! flush(&mut own, &mut shared, item)?;                  // it has not: its largest block moves
+//! let next = take(&mut own, &mut shared, &mut random_of(1))?;
+//! let count = spy(&mut own, &mut victim);               // the own part is empty: items move from another member's
+//! ```
+//!
+//! - **Lawful at all times.** The invariants of `Local` and `Shared` hold of every value: a lawful LSM of at most k items, and
+//!   one within its limit with exact pivots. `Local::len`, `Shared::len` and `Shared::pivot` tell it to their callers.
+//! - **Each call is its event.** The clauses `event` of `put`, `flush`, `take` and `spy` say that the event may happen, and what
+//!   it leaves of the contents; the other clauses say which blocks move, and which item goes.
+//! - **A deletion skips at most k items** of the two parts: clause `skips` of `take`. `laws::takes_skip_few` says the same of
+//!   the event, however the candidate was picked.
+//! - **A refusal changes nothing.** `flush` tests for room first, then makes all its growths on borrowed blocks, and changes both
+//!   parts last: clauses `unchanged`.
+#![tactic(auto)]
+
+mod flushing;
+pub mod laws;
+mod listing;
+mod local;
+mod part;
+mod picker;
+mod ranks;
+mod shared;
+mod spying;
+mod taking;
+#[cfg(test)]
+mod tests;
+
+pub use flushing::flush;
+pub use local::{Local, put};
+pub use part::Part;
+pub use picker::{First, Last, Picker, Random, random_of};
+pub use shared::Shared;
+pub use spying::spy;
+pub use taking::take;

@@ -1,0 +1,146 @@
+//! The part of one member.
+ghost use Rattle.std.specs.Prelude.{◌≡◌, ◌<◌, ◌≤◌, ◌∷◌, [], length, slice_get, Some};
+ghost use Rattle.std.specs.List.{Contains};
+ghost use Rattle.klsm_run.specs.Capacity.{IsCapacity};
+ghost use Rattle.klsm_run.specs.Content.{sorted, without};
+ghost use Rattle.klsm_lsm.specs.Lsm.{content, IsLsm};
+ghost use Rattle.klsm_lsm.specs.Adding.{add};
+ghost use Rattle.klsm_lsm.specs.Spying.{spied, left_by_spy};
+ghost use Rattle.klsm_parts.specs.Least.{IsLeast};
+ghost use Rattle.klsm_parts.specs.Parts.{PartState, IsOwn, items_in, least_in};
+ghost use Rattle.klsm_parts.specs.Events.{MayPut, own_after_put};
+ghost use Rattle.klsm_parts.specs.Flushing.{kept};
+ghost use Rattle.klsm_parts.specs.Taking.{IsCutFrom};
+
+use crate::ranks::place_of;
+use klsm_lsm::Lsm;
+use klsm_run::{FixedRun, Item};
+use std::marker::Model;
+
+/// The part of one member: an LSM of at most k items, which never takes memory.
+#[derive(Drop)]
+pub struct Local<const CAP: usize> {
+    lsm: Lsm<FixedRun<CAP>, 8>,
+    k: usize,
+}
+
+impl<const CAP: usize> Model for Local<CAP> {
+    ghost Value = { PartState };
+
+    ghost view = { λ own. record { k = own.k; blocks = own.lsm } };
+
+    ghost invariant = { λ own. IsOwn CAP (record { k = own.k; blocks = own.lsm }) };
+}
+
+impl<const CAP: usize> Local<CAP> {
+    /// The part with no item, which is to hold at most `k`.
+    pub fn new(k: usize) -> Self
+        requires capacity { IsCapacity CAP }
+        requires k { k ≤ CAP }
+        ensures { result ≡ record { k = k; blocks = [] } }
+    {
+        Local { lsm: Lsm::new(), k }
+    }
+
+    /// The greatest number of items. It is within what one run can hold.
+    #[inline]
+    pub fn k(&self) -> usize
+        ensures k { result ≡ self.now.k }
+        ensures within { self.now.k ≤ CAP }
+    {
+        self.k
+    }
+
+    /// The number of items. Every own part is a lawful LSM of at most k items.
+    #[inline]
+    pub fn len(&self) -> usize
+        ensures len { result ≡ length (content self.now.blocks) }
+        ensures few { length (content self.now.blocks) ≤ self.now.k }
+        ensures lawful { IsLsm self.now.blocks }
+    {
+        self.lsm.len()
+    }
+
+    /// The least item, if there is one. It costs one comparison a block.
+    pub fn least(&self) -> Option<Item>
+        ensures { result ≡ least_in self.now }
+    {
+        self.lsm.least()
+    }
+
+    /// The items, as an LSM.
+    #[inline]
+    pub fn lsm(&self) -> &Lsm<FixedRun<CAP>, 8>
+        ensures { result.now ≡ self.now.blocks }
+    {
+        &self.lsm
+    }
+
+    // Puts an item in the place of the largest block, which has gone to the shared part. Where there is none, as k is 0, the
+    // item has gone there.
+    pub(crate) fn replace_largest(&mut self, item: Item)
+        requires capacity { IsCapacity CAP }
+        requires lawful { IsLsm self.old.blocks }
+        requires new { ¬ Contains (content self.old.blocks) item }
+        ensures { self.new ≡ record { k = self.old.k; blocks = kept self.old.blocks item } }
+    {
+        let Some(_largest) = self.lsm.take_largest() else {
+            return;
+        };
+        let Ok(()) = self.lsm.insert(item) else {
+            unreachable!();
+        };
+    }
+
+    // Takes the least item out.
+    pub(crate) fn take_least(&mut self) -> Item
+        requires lawful { IsLsm self.old.blocks }
+        requires some { 0 < length (content self.old.blocks) }
+        ensures least { IsLeast result (content self.old.blocks) }
+        ensures cut { IsCutFrom result self.old.blocks self.new.blocks }
+        ensures k { self.new.k ≡ self.old.k }
+    {
+        let place = place_of(&self.lsm, 0);
+        let Ok(item) = self.lsm.remove(place.block, place.index) else {
+            unreachable!();
+        };
+        item
+    }
+
+    // Takes out what goes to a member that spies.
+    pub(crate) fn split_for_spy(&mut self) -> FixedRun<CAP>
+        requires some { 0 < length (content self.old.blocks) }
+        ensures given { spied self.old.blocks ≡ Some result }
+        ensures rest { self.new ≡ record { k = self.old.k; blocks = left_by_spy self.old.blocks } }
+    {
+        let Some(run) = self.lsm.split_for_spy() else {
+            unreachable!();
+        };
+        run
+    }
+
+    // Puts a run into the part, which is empty.
+    pub(crate) fn receive(&mut self, run: FixedRun<CAP>)
+        requires empty { self.old.blocks ≡ [] }
+        requires some { 0 < length run }
+        requires room { length run ≤ self.old.k }
+        ensures { self.new ≡ record { k = self.old.k; blocks = run.entry ∷ [] } }
+    {
+        let Ok(()) = self.lsm.absorb(run) else {
+            unreachable!();
+        };
+    }
+}
+
+/// Puts an item into an own part that has room. It takes no memory.
+pub fn put<const CAP: usize>(own: &mut Local<CAP>, item: Item)
+    requires capacity { IsCapacity CAP }
+    requires room { MayPut own.old.k (items_in own.old) }
+    requires new { ¬ Contains (content own.old.blocks) item }
+    ensures blocks { own.new ≡ record { k = own.old.k; blocks = add own.old.blocks (item ∷ []) } }
+    ensures event { items_in own.new ≡ own_after_put (items_in own.old) item }
+{
+    let Ok(()) = own.lsm.insert(item) else {
+        unreachable!();
+    };
+}

@@ -1,0 +1,98 @@
+//! The items of an LSM by rank: item i is the i-th least, counted from 0.
+ghost use Rattle.std.specs.Prelude.{◌≡◌, ◌<◌, ◌≤◌, [], length, replicate, Some, slice_get, slice_index, slice_index_or, IsTrue, MatchOption};
+ghost use Rattle.klsm_run.specs.Content.{sorted};
+ghost use Rattle.klsm_run.specs.ItemOrder.{is_smaller};
+ghost use Rattle.klsm_lsm.specs.Lsm.{content, IsLsm};
+ghost use Rattle.klsm_lsm.specs.Limit.{IsLevelCount};
+ghost use Rattle.klsm_parts.specs.Pivots.{ArePivots, AreWithin, marked, unmarked};
+
+use arrayvec::ArrayVec;
+use klsm_lsm::Lsm;
+use klsm_run::{Item, Run};
+
+/// An item with the block that it is in, and its index there.
+#[derive(Clone, Copy)]
+pub(crate) struct Place {
+    pub(crate) block: usize,
+    pub(crate) index: usize,
+    pub(crate) item: Item,
+}
+
+/// How many of each block's first items are among the least `count`. It costs `count` comparisons a block.
+pub(crate) fn pivots_of<R: Run, const LEVELS: usize>(
+    lsm: &Lsm<R, LEVELS>,
+    count: usize,
+) -> ArrayVec<usize, LEVELS>
+    requires levels { IsLevelCount LEVELS }
+    requires lawful { IsLsm lsm.now }
+    requires count { count ≤ length (content lsm.now) }
+    ensures { ArePivots count lsm.now result.items }
+{
+    let mut pivots = none_of(lsm);
+    for _ in 0..count {
+        let block = least_unmarked(lsm, pivots.as_slice());
+        pivots.as_mut_slice()[block] += 1;
+    }
+    pivots
+}
+
+// A pivot of 0 for each block.
+fn none_of<R: Run, const LEVELS: usize>(lsm: &Lsm<R, LEVELS>) -> ArrayVec<usize, LEVELS>
+    requires { IsLevelCount LEVELS }
+    ensures { result.items ≡ replicate (length lsm.now) 0 }
+{
+    let mut pivots = ArrayVec::new();
+    for _ in 0..lsm.blocks() {
+        pivots.push(0);
+    }
+    pivots
+}
+
+/// The item of a rank, and where it stands. It costs `rank + 1` comparisons a block.
+pub(crate) fn place_of<R: Run, const LEVELS: usize>(lsm: &Lsm<R, LEVELS>, rank: usize) -> Place
+    requires levels { IsLevelCount LEVELS }
+    requires lawful { IsLsm lsm.now }
+    requires rank { rank < length (content lsm.now) }
+    ensures block { result.block < length lsm.now }
+    ensures index { slice_get (slice_index_or lsm.now result.block []) result.index ≡ Some result.item }
+    ensures rank { slice_get (sorted (content lsm.now)) rank ≡ Some result.item }
+{
+    let pivots = pivots_of(lsm, rank);
+    let block = least_unmarked(lsm, pivots.as_slice());
+    let index = pivots.as_slice()[block];
+    let item = lsm.block(block).item_at(index);
+    Place { block, index, item }
+}
+
+// The block whose items behind its pivot begin with the least of all such items.
+fn least_unmarked<R: Run, const LEVELS: usize>(lsm: &Lsm<R, LEVELS>, pivots: &[usize]) -> usize
+    requires within { AreWithin lsm.now pivots.now }
+    requires some { length (marked lsm.now pivots.now) < length (content lsm.now) }
+    ensures block { result < length lsm.now }
+    ensures least { slice_get (slice_index_or lsm.now result []) (slice_index pivots.now result)
+        ≡ slice_get (sorted (content (unmarked lsm.now pivots.now))) 0 }
+{
+    let mut found: Option<(usize, Item)> = None;
+    for block in 0..lsm.blocks() {
+        let run = lsm.block(block);
+        let index = pivots[block];
+        if index < run.len() {
+            let item = run.item_at(index);
+            if comes_before(item, found) {
+                found = Some((block, item));
+            }
+        }
+    }
+    let Some((block, _)) = found else {
+        unreachable!();
+    };
+    block
+}
+
+// Whether an item is smaller than the least found, where one is found.
+#[inline]
+fn comes_before(item: Item, found: Option<(usize, Item)>) -> bool
+    ensures { MatchOption found (IsTrue result) (λ f. result ≡ is_smaller item f.1) }
+{
+    found.is_none_or(|(_, least)| item < least)
+}

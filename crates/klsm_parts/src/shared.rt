@@ -1,0 +1,178 @@
+//! The part that all members share.
+ghost use Rattle.std.specs.Prelude.{◌≡◌, ◌≢◌, ◌+◌, ◌<◌, ◌≤◌, ◌↔◌, [], length, min, slice_get, slice_index_or, Some, IsOk, IfOk, IfErr, OnOk, OnErr, IsErrAnd};
+ghost use Rattle.klsm_run.specs.Capacity.{IsCapacity, heap_room};
+ghost use Rattle.klsm_run.specs.Content.{sorted, ShareNone};
+ghost use Rattle.klsm_lsm.specs.Lsm.{content, IsLsm};
+ghost use Rattle.klsm_lsm.specs.Limit.{IsLevelCount, limit_of};
+ghost use Rattle.klsm_lsm.specs.Adding.{add, cut};
+ghost use Rattle.klsm_parts.specs.Pivots.{ArePivots, IsPivotAt, count_in_least};
+ghost use Rattle.klsm_parts.specs.Parts.{PartState, IsShared, least_in, candidates_of};
+ghost use Rattle.klsm_parts.specs.Taking.{IsMergingCut};
+
+use crate::ranks::{Place, pivots_of, place_of};
+use arrayvec::ArrayVec;
+use klsm_lsm::{Lsm, LsmError};
+use klsm_run::{HeapRun, Item, Run};
+use std::alloc::{Allocator, Global};
+use std::marker::Model;
+
+/// The part that all members share: an LSM whose blocks take memory, with a pivot for each block. The least k+1 of its
+/// items, or all where there are fewer, are the candidates of a deletion, and a block's pivot is how many of them it has.
+#[derive(Drop)]
+pub struct Shared<const LEVELS: usize, A: Allocator + Copy = Global> {
+    lsm: Lsm<HeapRun<A>, LEVELS>,
+    k: usize,
+    // How many of each block's first items are candidates.
+    pivots: ArrayVec<usize, LEVELS>,
+    alloc: A,
+}
+
+impl<const LEVELS: usize, A: Allocator + Copy> Model for Shared<LEVELS, A> {
+    ghost Value = { PartState };
+
+    ghost view = { λ shared. record { k = shared.k; blocks = shared.lsm } };
+
+    ghost invariant = { λ shared. IsShared LEVELS (record { k = shared.k; blocks = shared.lsm }) shared.pivots.items };
+}
+
+impl<const LEVELS: usize, A: Allocator + Copy> Shared<LEVELS, A> {
+    /// The part with no item, of which `k` items may be skipped. `alloc` is what its blocks will take memory from.
+    pub fn new(alloc: A, k: usize) -> Self
+        requires levels { IsLevelCount LEVELS }
+        requires k { k ≤ 128 }
+        ensures { result ≡ record { k = k; blocks = [] } }
+    {
+        Shared {
+            lsm: Lsm::new(),
+            k,
+            pivots: ArrayVec::new(),
+            alloc,
+        }
+    }
+
+    /// How many items a deletion may skip.
+    #[inline]
+    pub fn k(&self) -> usize
+        ensures k { result ≡ self.now.k }
+        ensures within { self.now.k ≤ 128 }
+    {
+        self.k
+    }
+
+    /// The number of items. Every shared part is a lawful LSM within its limit.
+    #[inline]
+    pub fn len(&self) -> usize
+        ensures len { result ≡ length (content self.now.blocks) }
+        ensures limit { length (content self.now.blocks) ≤ limit_of LEVELS heap_room }
+        ensures lawful { IsLsm self.now.blocks }
+    {
+        self.lsm.len()
+    }
+
+    /// The least item, if there is one. It costs one comparison a block.
+    pub fn least(&self) -> Option<Item>
+        ensures { result ≡ least_in self.now }
+    {
+        self.lsm.least()
+    }
+
+    /// The items, as an LSM.
+    #[inline]
+    pub fn lsm(&self) -> &Lsm<HeapRun<A>, LEVELS>
+        ensures { result.now ≡ self.now.blocks }
+    {
+        &self.lsm
+    }
+
+    /// How many candidates block `block` has. They are its first items.
+    pub fn pivot(&self, block: usize) -> usize
+        requires { block < length self.now.blocks }
+        ensures exact { IsPivotAt (self.now.k + 1) self.now.blocks block result }
+        ensures counts { result ≡ count_in_least (self.now.k + 1) (content self.now.blocks)
+            (slice_index_or self.now.blocks block []) }
+    {
+        self.pivots.as_slice()[block]
+    }
+
+    /// The number of candidates.
+    pub fn candidates(&self) -> usize
+        ensures { result ≡ length (candidates_of self.now) }
+    {
+        (self.k + 1).min(self.lsm.len())
+    }
+
+    /// Candidate `index`, counted from the least. It costs `index + 1` comparisons a block.
+    pub fn candidate(&self, index: usize) -> Item
+        requires { index < length (candidates_of self.now) }
+        ensures { slice_get (candidates_of self.now) index ≡ Some result }
+    {
+        self.place_of_candidate(index).item
+    }
+
+    // A candidate, and where it stands.
+    pub(crate) fn place_of_candidate(&self, index: usize) -> Place
+        requires { index < length (candidates_of self.now) }
+        ensures block { result.block < length self.now.blocks }
+        ensures index { slice_get (slice_index_or self.now.blocks result.block []) result.index ≡ Some result.item }
+        ensures candidate { slice_get (candidates_of self.now) index ≡ Some result.item }
+    {
+        place_of(&self.lsm, index)
+    }
+
+    // Puts a copy of a run in. What can be refused comes first, and Full before a growth.
+    pub(crate) fn absorb_copy<R: Run>(&mut self, run: &R) -> Result<(), LsmError>
+        requires some { 0 < length (R.items run.now) }
+        requires apart { ShareNone (content self.old.blocks) (R.items run.now) }
+        ensures added { OnOk result (self.new
+            ≡ record { k = self.old.k; blocks = add self.old.blocks (R.items run.now) }) }
+        ensures full { IsErrAnd result (λ why. why ≡ LsmError.Full)
+            ↔ (limit_of LEVELS heap_room < length (content self.old.blocks) + length (R.items run.now)) }
+        ensures unchanged { OnErr result (self.new ≡ self.old) }
+    {
+        if run.len() > self.lsm.limit() - self.lsm.len() {
+            return Err(LsmError::Full);
+        }
+        let Ok(copy) = HeapRun::copy_of(self.alloc, run) else {
+            return Err(LsmError::NoMemory);
+        };
+        match self.lsm.absorb(copy) {
+            Ok(()) => {
+                self.pivots = candidate_pivots(&self.lsm, self.k);
+                Ok(())
+            }
+            Err(refused) => Err(refused.why),
+        }
+    }
+
+    // Takes an item out of its place.
+    pub(crate) fn remove(&mut self, place: Place) -> Result<(), LsmError>
+        requires block { place.block < length self.old.blocks }
+        requires index { slice_get (slice_index_or self.old.blocks place.block []) place.index ≡ Some place.item }
+        ensures rest { OnOk result (self.new
+            ≡ record { k = self.old.k; blocks = cut self.old.blocks place.block place.index }) }
+        ensures memory { IfErr result (λ why. why ≡ LsmError.NoMemory) }
+        ensures merging { OnErr result (IsMergingCut place.item self.old.blocks) }
+        ensures unchanged { OnErr result (self.new ≡ self.old) }
+    {
+        match self.lsm.remove(place.block, place.index) {
+            Ok(_item) => {
+                self.pivots = candidate_pivots(&self.lsm, self.k);
+                Ok(())
+            }
+            Err(why) => Err(why),
+        }
+    }
+}
+
+// The pivots of an LSM's least k+1 items.
+fn candidate_pivots<R: Run, const LEVELS: usize>(
+    lsm: &Lsm<R, LEVELS>,
+    k: usize,
+) -> ArrayVec<usize, LEVELS>
+    requires levels { IsLevelCount LEVELS }
+    requires k { k ≤ 128 }
+    ensures lawful { IsLsm lsm.now }
+    ensures pivots { ArePivots (k + 1) lsm.now result.items }
+{
+    pivots_of(lsm, lsm.len().min(k + 1))
+}

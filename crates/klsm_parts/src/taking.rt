@@ -1,0 +1,98 @@
+//! The deletion from an own part and the shared one.
+ghost use Rattle.std.specs.Prelude.{◌≡◌, ◌+◌, ◌<◌, ◌≤◌, ◌↔◌, ◌++◌, [], false, length, slice_get, slice_index_or, option_map, Some, None, Ok, IsTrue, IfOk, IfErr, OnErr, MatchResult, MatchOption, IfSome};
+ghost use Rattle.klsm_run.specs.Content.{ShareNone, skipped};
+ghost use Rattle.klsm_run.specs.ItemOrder.{is_smaller};
+ghost use Rattle.klsm_lsm.specs.Lsm.{content};
+ghost use Rattle.klsm_parts.specs.Parts.{items_in, least_in, candidates_of};
+ghost use Rattle.klsm_parts.specs.Events.{MayTake, MayFindNothing, own_after_take, shared_after_take};
+ghost use Rattle.klsm_parts.specs.Taking.{picks, lesser_of, unless_smaller, IsPicked, IsMergingCut, Leaves};
+
+use crate::ranks::Place;
+use crate::{Local, Picker, Shared};
+use klsm_lsm::LsmError;
+use klsm_run::Item;
+use std::alloc::Allocator;
+
+/// Takes an item out of the two parts: the least own one where it is the least of both parts, else the lesser of the least
+/// own one and the candidate that the picker answers. `None` where both parts are empty.
+///
+/// What it takes skips at most k items of the two parts. It costs `index + 1` comparisons a block of the shared part, and
+/// the count of the pivots anew where a shared item goes.
+pub fn take<const CAP: usize, const LEVELS: usize, A: Allocator + Copy, P: Picker>(
+    own: &mut Local<CAP>,
+    shared: &mut Shared<LEVELS, A>,
+    picker: &mut P,
+) -> Result<Option<Item>, LsmError>
+    requires same_k { own.old.k ≡ shared.old.k }
+    requires apart { ShareNone (content own.old.blocks) (content shared.old.blocks) }
+
+    // The picker is asked, once, exactly where the least of both parts is a shared item.
+    ensures unasked { picks (least_in own.old) (least_in shared.old) ≡ false
+        → (picker.new ≡ picker.old) × (result ≡ Ok (least_in own.old)) }
+    ensures asked { IsTrue (picks (least_in own.old) (least_in shared.old))
+        → IsPicked P.may_pick picker.old picker.new (candidates_of shared.old)
+        (λ candidate. MatchResult result
+        (λ answer. answer ≡ Some (lesser_of candidate (least_in own.old)))
+        (λ why. IsMergingCut candidate shared.old.blocks)) }
+
+    // The item leaves its part. A refusal changes nothing. It is for want of memory, and only where the candidate was to
+    // be cut out of its block and two blocks were to become one.
+    ensures left { IfOk result (λ answer. MatchOption answer
+        ((own.new ≡ own.old) × (shared.new ≡ shared.old))
+        (λ item. Leaves item own.old own.new shared.old shared.new)) }
+    ensures memory { IfErr result (λ why. why ≡ LsmError.NoMemory) }
+    ensures unchanged { OnErr result ((own.new ≡ own.old) × (shared.new ≡ shared.old)) }
+
+    // What takes effect on the contents.
+    ensures nothing { (result ≡ Ok None) ↔ MayFindNothing (items_in own.old) (items_in shared.old) }
+    ensures event { IfOk result (λ answer. IfSome answer (λ item.
+        MayTake own.old.k (items_in own.old) (items_in shared.old) item
+        × (items_in own.new ≡ own_after_take (items_in own.old) item)
+        × (items_in shared.new ≡ shared_after_take (items_in own.old) (items_in shared.old) item))) }
+    ensures skips { IfOk result (λ answer. IfSome answer (λ item.
+        skipped (items_in own.old ++ items_in shared.old) item ≤ own.old.k)) }
+{
+    match choose(own, shared, picker) {
+        Some(place) => match shared.remove(place) {
+            Ok(()) => Ok(Some(place.item)),
+            Err(why) => Err(why),
+        },
+        None if own.len() == 0 => Ok(None),
+        None => Ok(Some(own.take_least())),
+    }
+}
+
+// The candidate to take. `None` where the least own item is to be taken, if there is one.
+fn choose<const CAP: usize, const LEVELS: usize, A: Allocator + Copy, P: Picker>(
+    own: &Local<CAP>,
+    shared: &Shared<LEVELS, A>,
+    picker: &mut P,
+) -> Option<Place>
+    ensures unasked { picks (least_in own.now) (least_in shared.now) ≡ false
+        → (picker.new ≡ picker.old) × (result ≡ None) }
+    ensures asked { IsTrue (picks (least_in own.now) (least_in shared.now))
+        → IsPicked P.may_pick picker.old picker.new (candidates_of shared.now)
+        (λ candidate. option_map (λ place. place.item) result
+        ≡ unless_smaller candidate (least_in own.now)) }
+    ensures place { IfSome result (λ place. (place.block < length shared.now.blocks)
+        × (slice_get (slice_index_or shared.now.blocks place.block []) place.index ≡ Some place.item)) }
+{
+    let least_own = own.least();
+    let least_shared = shared.least()?;
+    if is_smaller_own(least_own, least_shared) {
+        return None;
+    }
+    let index = picker.pick(shared.candidates());
+    let candidate = shared.place_of_candidate(index);
+    if is_smaller_own(least_own, candidate.item) {
+        return None;
+    }
+    Some(candidate)
+}
+
+// Whether the least own item, if there is one, is smaller than another item.
+fn is_smaller_own(least_own: Option<Item>, item: Item) -> bool
+    ensures { MatchOption least_own (result ≡ false) (λ x. result ≡ is_smaller x item) }
+{
+    least_own.is_some_and(|own| own < item)
+}

@@ -1,0 +1,166 @@
+//! A worked run at k = 2, and each public call once.
+
+use super::pair::{Pair, View, item};
+use crate::{First, Last, Local, Part, Shared, flush};
+use klsm_lsm::LsmError;
+use klsm_run::Item;
+use klsm_testing::Rationed;
+use std::alloc::{AllocError, Global};
+use std::process::Abort;
+use std::test::Fail;
+
+// The keys of some items.
+fn keys(alloc: Global, items: &[Item]) -> Result<Vec<u64>, AllocError> {
+    items.iter().map(|item| item.key).collect(alloc)
+}
+
+// Asserts that the blocks have these keys.
+fn assert_blocks(
+    rt: &impl Abort,
+    alloc: Global,
+    blocks: &[Vec<Item>],
+    want: &[&[u64]],
+) -> Result<(), Fail> {
+    assert_eq!(rt; blocks.len(), want.len());
+    for (block, want) in blocks.iter().zip(want) {
+        assert_eq!(rt; keys(alloc, block.as_slice())?.as_slice(), *want);
+    }
+    Ok(())
+}
+
+// Asserts what two parts show.
+fn assert_view(
+    rt: &impl Abort,
+    alloc: Global,
+    view: &View,
+    own: &[&[u64]],
+    shared: &[&[u64]],
+    pivots: &[usize],
+    candidates: &[u64],
+) -> Result<(), Fail> {
+    assert_blocks(rt, alloc, view.own.as_slice(), own)?;
+    assert_blocks(rt, alloc, view.shared.as_slice(), shared)?;
+    assert_eq!(rt; view.pivots.as_slice(), pivots);
+    assert_eq!(rt;
+        keys(alloc, view.candidates.as_slice())?.as_slice(),
+        candidates
+    );
+    Ok(())
+}
+
+// Seven insertions at k = 2, and the deletion of the greatest candidate.
+#[test]
+fn blocks_pivots_and_candidates(rt: HostRuntime) -> Result<(), Fail> {
+    let heap = Rationed::new(rt.alloc());
+    let mut pair: Pair<21> = Pair::new(&heap, 2);
+    for key in [5, 1, 4, 2, 3, 9, 8] {
+        pair.insert(&rt, key)?;
+    }
+    let whole = [1, 2, 4, 5].as_slice();
+    assert_view(
+        &rt,
+        rt.alloc(),
+        &pair.view(rt.alloc())?,
+        &[&[8]],
+        &[whole, &[3, 9]],
+        &[2, 1],
+        &[1, 2, 3],
+    )?;
+    assert_eq!(rt; pair.own.k(), 2);
+    assert_eq!(rt; pair.own.len(), 1);
+    assert_eq!(rt; pair.own.least(), Some(item(8, 6)));
+    assert_eq!(rt; pair.shared.k(), 2);
+    assert_eq!(rt; pair.shared.len(), 6);
+    assert_eq!(rt; pair.shared.least(), Some(item(1, 1)));
+    assert_eq!(rt; pair.delete(&mut Last)?, Some(item(3, 4)));
+    assert_view(
+        &rt,
+        rt.alloc(),
+        &pair.view(rt.alloc())?,
+        &[&[8]],
+        &[whole, &[9]],
+        &[3, 0],
+        &[1, 2, 4],
+    )
+}
+
+// An item of the own part goes where it is the least, and where it is less than the candidate.
+#[test]
+fn own_items_go(rt: HostRuntime) -> Result<(), Fail> {
+    let heap = Rationed::new(rt.alloc());
+    let mut pair: Pair<21> = Pair::new(&heap, 1);
+    assert_eq!(rt; pair.delete(&mut Last)?, None);
+    for key in [7, 2, 5] {
+        pair.insert(&rt, key)?;
+    }
+    assert_eq!(rt; pair.own.least(), Some(item(5, 2)));
+    assert_eq!(rt; pair.delete(&mut Last)?, Some(item(5, 2)));
+    assert_eq!(rt; pair.delete(&mut Last)?, Some(item(7, 0)));
+    pair.insert(&rt, 1)?;
+    assert_eq!(rt; pair.delete(&mut Last)?, Some(item(1, 3)));
+    assert_eq!(rt; pair.delete(&mut First)?, Some(item(2, 1)));
+    assert_eq!(rt; pair.delete(&mut First)?, None);
+    Ok(())
+}
+
+// A shared part of three levels holds at most 4 items.
+#[test]
+fn full_shared_part(rt: HostRuntime) -> Result<(), Fail> {
+    let heap = Rationed::new(rt.alloc());
+    let mut pair: Pair<3> = Pair::new(&heap, 1);
+    for key in 1..6 {
+        pair.insert(&rt, key)?;
+    }
+    let before = pair.view(rt.alloc())?;
+    assert_eq!(rt; pair.insert(&rt, 6), Err(LsmError::Full));
+    assert!(rt; pair.view(rt.alloc())? == before);
+    assert_view(
+        &rt,
+        rt.alloc(),
+        &before,
+        &[&[5]],
+        &[&[1, 2, 3, 4]],
+        &[2],
+        &[1, 2],
+    )
+}
+
+// With k = 0 each item goes to the shared part, and the least one is the only candidate.
+#[test]
+fn no_own_items(rt: HostRuntime) -> Result<(), Fail> {
+    let heap = Rationed::new(rt.alloc());
+    let mut pair: Pair<21> = Pair::new(&heap, 0);
+    for key in [3, 1, 2] {
+        pair.insert(&rt, key)?;
+    }
+    let view = pair.view(rt.alloc())?;
+    assert_view(&rt, rt.alloc(), &view, &[], &[&[1, 3], &[2]], &[1, 0], &[1])?;
+    assert_eq!(rt; pair.delete(&mut Last)?, Some(item(1, 1)));
+    Ok(())
+}
+
+// Asserts what a part of either kind tells of its items.
+fn assert_part(rt: &impl Abort, part: &Part<64, 21>, items: &[Item]) {
+    assert_eq!(rt; part.len(), items.len());
+    assert_eq!(rt; part.least(), items.iter().min().copied());
+    for (index, item) in items.iter().enumerate() {
+        assert_eq!(rt; part.item_at(index), *item, "at {index}");
+    }
+}
+
+#[test]
+fn parts_of_either_kind(rt: HostRuntime) -> Result<(), Fail> {
+    let heap = Rationed::new(rt.alloc());
+    let mut few: Pair<21> = Pair::new(&heap, 3);
+    for key in [4, 6, 5] {
+        few.insert(&rt, key)?;
+    }
+    let Pair { own, .. } = few;
+    assert_part(&rt, &Part::Own(own), &[item(4, 0), item(6, 1), item(5, 2)]);
+    let mut none: Local<64> = Local::new(0);
+    let mut shared: Shared<21> = Shared::new(rt.alloc(), 0);
+    flush(&mut none, &mut shared, item(7, 0))?;
+    assert_part(&rt, &Part::Own(none), &[]);
+    assert_part(&rt, &Part::Common(shared), &[item(7, 0)]);
+    Ok(())
+}
