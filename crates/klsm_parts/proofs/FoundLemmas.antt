@@ -1,20 +1,22 @@
 -- The block that begins with the least item behind the pivots.
-use Rattle.std.proofs.Common.{◌≡◌, ℕ, zero, suc, ◌+◌, ◌<◌, ◌≤◌, true, false, List, [], ◌∷◌, length, get_or, set, take, drop, Option, Some, None, MatchOption, IsTrue, take_all, refl, sym, ap, ◌∙◌, subst, arith}
+use Rattle.std.proofs.Common.{◌≡◌, ℕ, zero, suc, ◌+◌, ◌<◌, ◌≤◌, true, false, List, [], ◌∷◌, length, ◌++◌, get_or, set, take, drop, Option, Some, None, MatchOption, IsTrue, take_all, refl, sym, ap, ◌∙◌, subst, arith}
 use Rattle.std.specs.List.{slice_get, refill}
 use Rattle.std.specs.Option.{option_map}
-use Rattle.std.proofs.lemmas.List.{length-append, length-take, length-drop, length-set}
+use Rattle.std.proofs.lemmas.List.{length-append, length-take, length-set}
 use Rattle.std.proofs.lemmas.Option.{slice_get_past, same_Some}
 use Rattle.klsm_run.specs.declared.item.Item.{Item}
 use Rattle.klsm_run.specs.ItemOrder.{is_smaller}
 use Rattle.klsm_run.specs.Content.{sorted, IsAscending}
 use Rattle.klsm_run.proofs.SortedLemmas.{sorted_ascending, length_sorted}
 use Rattle.klsm_run.proofs.HalfLemmas.{ascending_drop}
+use Rattle.klsm_run.proofs.IndexLemmas.{first_behind, at_index}
+use Rattle.klsm_run.proofs.RankLemmas.{empty_if_no_least}
 use Rattle.klsm_run.proofs.LesserLemmas.{lesser, lesser_first, lesser_second, first_append}
 use Rattle.klsm_lsm.specs.Lsm.{content, IsLsm}
 use Rattle.klsm_lsm.proofs.SlotLemmas.{refill_same}
 use Rattle.klsm_lsm.proofs.LeastLemmas.{content_more}
 use Rattle.klsm_parts.specs.Pivots.{marked, unmarked, AreWithin, ArePivots}
-use Rattle.klsm_parts.proofs.PivotLemmas.{length_marked, pivot_more, unmarked_is_rest}
+use Rattle.klsm_parts.proofs.PivotLemmas.{length_marked, marked_and_unmarked, first_unmarked, pivot_more}
 
 pub one_each : (bs : List (List Item)) (ps : List ℕ) → AreWithin bs ps → length ps ≡ length bs
 one_each [] [] within = refl
@@ -39,11 +41,6 @@ unmarked_at (b ∷ bs) (p ∷ ps) (suc i) within = unmarked_at bs ps i within.1
 pub record IsFound (bs : List (List Item)) (ps : List ℕ) (i : ℕ) (found : Option (ℕ × Item)) : Type 0 where
   pub first : option_map (λ f. f.1) found ≡ slice_get (sorted (content (take i (unmarked bs ps)))) 0
   pub at : (b : ℕ) (x : Item) → found ≡ Some (b, x) → (b < i) × (slice_get (get_or bs b []) (get_or ps b 0) ≡ Some x)
-
-first_behind : (n : ℕ) (xs : List Item) → slice_get (drop n xs) 0 ≡ slice_get xs n
-first_behind zero xs = refl
-first_behind (suc n) [] = refl
-first_behind (suc n) (x ∷ xs) = first_behind n xs
 
 lesser_none : (o : Option Item) → lesser o None ≡ o
 lesser_none None = refl
@@ -92,23 +89,14 @@ found_before bs ps i found item within here up is not_smaller so_far = record {
     lesser_is None less = let bad : false ≡ true = less in cc
     lesser_is (Some (b, x)) less = ap Some (lesser_first x item (sym less))
 
--- the items before the pivots and those behind are all
-items_together : (bs : List (List Item)) (ps : List ℕ) → AreWithin bs ps → length (marked bs ps) + length (content (unmarked bs ps)) ≡ length (content bs)
-items_together [] ps within = refl
-items_together (b ∷ bs) [] within = absurd within
-items_together (b ∷ bs) (p ∷ ps) within =
-    omega (arith, items_together bs ps within.1, within.0, length-append (take p b) (marked bs ps), length-append (drop p b) (content (unmarked bs ps)), length-append b (content bs), length-take p b, length-drop p b)
-
-some_first : (xs : List Item) → 0 < length xs → None ≡ slice_get xs 0 → ⊥
-some_first [] some is = absurd (omega (arith, some))
-some_first (x ∷ xs) some is = cc
-
 -- where items are left one of them is the least
-pub found_some : (bs : List (List Item)) (ps : List ℕ) (i : ℕ) → AreWithin bs ps → length bs ≤ i → length (marked bs ps) < length (content bs) → IsFound bs ps i None → ⊥
-found_some bs ps i within all left found =
+pub found_some : (bs : List (List Item)) (ps : List ℕ) (i : ℕ) → length bs ≤ i → length (marked bs ps) < length (content bs) → IsFound bs ps i None → ⊥
+found_some bs ps i all left found =
     let rest = content (unmarked bs ps) in
-    let some : 0 < length (sorted rest) = omega (arith, items_together bs ps within, left, length_sorted rest) in
-    some_first (sorted rest) some (found.first ∙ ap (λ cs. slice_get (sorted (content cs)) 0) (take_all i (unmarked bs ps) (rw (as_many bs ps) all)))
+    let none : slice_get (sorted rest) 0 ≡ None = sym (found.first ∙ ap (λ cs. slice_get (sorted (content cs)) 0) (take_all i (unmarked bs ps) (rw (as_many bs ps) all))) in
+    let both : length (sorted (content bs)) ≡ length (sorted (marked bs ps ++ rest)) = ap length (marked_and_unmarked bs ps) in
+    let no_rest : length rest ≡ 0 = ap length (empty_if_no_least rest none) in
+    absurd (omega (arith, left, both, no_rest, length_sorted (content bs), length_sorted (marked bs ps ++ rest), length-append (marked bs ps) rest))
 
 -- the block that was found in the end
 pub found_least : (bs : List (List Item)) (ps : List ℕ) (i b : ℕ) (x : Item) → AreWithin bs ps → length bs ≤ i → IsFound bs ps i (Some (b, x)) → slice_get (get_or bs b []) (get_or ps b 0) ≡ slice_get (sorted (content (unmarked bs ps))) 0
@@ -143,14 +131,8 @@ pub ranked : (n : ℕ) (bs : List (List Item)) (ps lent read : List ℕ) (j : �
     → slice_get (get_or bs j []) (get_or read j 0) ≡ slice_get (sorted (content bs)) n
 ranked n bs ps lent read j lent_is read_is lsm pivots first =
     ap (λ (qs : List ℕ). slice_get (get_or bs j []) (get_or qs j 0)) (read_is ∙ sym lent_is)
-    ∙ (first ∙ (ap (λ (qs : List ℕ). slice_get (sorted (content (unmarked bs qs))) 0) lent_is
-    ∙ (ap (λ xs. slice_get xs 0) (unmarked_is_rest n bs ps lsm pivots) ∙ first_behind n (sorted (content bs)))))
+    ∙ (first ∙ (ap (λ (qs : List ℕ). slice_get (sorted (content (unmarked bs qs))) 0) lent_is ∙ first_unmarked n bs ps lsm pivots))
 
 -- there is an item of each rank below the number of items
 pub some_ranked : (n : ℕ) (bs : List (List Item)) → n < length (content bs) → (x : Item) × (slice_get (sorted (content bs)) n ≡ Some x)
-some_ranked n bs more = at n (sorted (content bs)) (rw (length_sorted (content bs)) more)
-  where
-    at : (n : ℕ) (xs : List Item) → n < length xs → (x : Item) × (slice_get xs n ≡ Some x)
-    at n [] within = absurd (omega (arith, within))
-    at zero (x ∷ xs) within = (x, refl)
-    at (suc n) (x ∷ xs) within = at n xs (omega (arith, within))
+some_ranked n bs more = at_index (sorted (content bs)) n (rw (length_sorted (content bs)) more)

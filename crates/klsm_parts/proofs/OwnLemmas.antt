@@ -1,5 +1,5 @@
 -- An own part after an item was put in or taken out.
-use Rattle.std.proofs.Common.{◌≡◌, ℕ, ◌<◌, ◌≤◌, List, [], ◌∷◌, length, get_or, drop, Option, Some, None, refl, sym, ap, ◌∙◌, arith}
+use Rattle.std.proofs.Common.{◌≡◌, ℕ, ◌<◌, ◌≤◌, List, [], ◌∷◌, length, get_or, drop, Option, Some, None, sym, ap, ◌∙◌, arith}
 use Rattle.std.specs.List.{Contains, slice_get}
 use Rattle.std.specs.Option.{option_map}
 use Rattle.std.proofs.lemmas.List.{length-append}
@@ -14,7 +14,6 @@ use Rattle.klsm_lsm.specs.Adding.{add, cut}
 use Rattle.klsm_lsm.proofs.JoinLemmas.{some_in_block}
 use Rattle.klsm_lsm.proofs.AddLemmas.{length_add, sorted_add}
 use Rattle.klsm_lsm.proofs.CutLemmas.{length_cut}
-use Rattle.klsm_parts.specs.Flushing.{kept}
 use Rattle.klsm_parts.specs.Parts.{IsOwn}
 
 -- one run holds all items of an own part, and so has its LSM room for them
@@ -52,12 +51,3 @@ absent_without_largest (b ∷ bs) x new within = new (Contains-append_right b (c
 pub some_taken : {R : Type 0} (items : R → List Item) (r : Option R) (largest : R) (bs : List (List Item)) → option_map items r ≡ slice_get bs 0 → r ≡ Some largest → IsLsm bs → 0 < length (content bs)
 some_taken items r largest [] taken is lsm = let bad : None ≡ Some (items largest) = sym taken ∙ ap (option_map items) is in cc
 some_taken items r largest (b ∷ bs) taken is lsm = omega (arith, length-append b (content bs), some_in_block (level b) b lsm.0)
-
-pub none_taken : {R : Type 0} (items : R → List Item) (r : Option R) (bs : List (List Item)) → option_map items r ≡ slice_get bs 0 → r ≡ None → bs ≡ []
-none_taken items r [] taken is = refl
-none_taken items r (b ∷ bs) taken is = let bad : Some b ≡ None = sym taken ∙ ap (option_map items) is in cc
-
--- an item in the place of the largest block
-pub kept_for_largest : (bs : List (List Item)) (x : Item) → 0 < length (content bs) → kept bs x ≡ add (drop 1 bs) (x ∷ [])
-kept_for_largest [] x some = absurd (omega (arith, some))
-kept_for_largest (b ∷ bs) x some = refl

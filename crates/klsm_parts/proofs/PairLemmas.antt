@@ -1,5 +1,5 @@
 -- Two parts that share no item, and whose items' numbers are below a count, for the tests.
-use Rattle.std.proofs.Common.{◌≡◌, ◌≢◌, ℕ, ◌+◌, ◌<◌, List, [], ◌∷◌, ◌++◌, refl, sym, ap, ◌∙◌, arith, inl, inr, Result, Ok, Err, Option, Some, None, IfOk, OnErr, MatchOption, subst}
+use Rattle.std.proofs.Common.{◌≡◌, ◌≢◌, ℕ, ◌+◌, ◌<◌, List, [], ◌∷◌, sym, ap, ◌∙◌, arith, inl, inr, Result, Ok, Err, Option, Some, None, IfOk, OnErr, MatchOption}
 use Rattle.std.specs.List.{All, AllByRecursion, Contains}
 use Rattle.std.proofs.lemmas.List.Elements.{All-from_recursion, recursion_from_All}
 use Rattle.klsm_run.specs.declared.item.Item.{Item}
@@ -9,7 +9,7 @@ use Rattle.klsm_run.proofs.SortedLemmas.{IsNew}
 use Rattle.klsm_run.proofs.MergeLemmas.{AreApart, apart_if_sharing_none}
 use Rattle.klsm_run.proofs.ContentLemmas.{absent_if_new, sharing_none_if_apart}
 use Rattle.klsm_lsm.specs.Lsm.{content, IsLsm}
-use Rattle.klsm_lsm.specs.Adding.{add, cut}
+use Rattle.klsm_lsm.specs.Adding.{add}
 use Rattle.klsm_lsm.proofs.JoinLemmas.{sharing_none_flipped}
 use Rattle.klsm_lsm.proofs.AddLemmas.{all_add}
 use Rattle.klsm_lsm.proofs.CutLemmas.{all_cut}

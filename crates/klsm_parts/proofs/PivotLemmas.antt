@@ -12,7 +12,7 @@ use Rattle.klsm_run.proofs.SortedLemmas.{sorted_ascending, length_sorted}
 use Rattle.klsm_run.proofs.HalfLemmas.{ascending_take, ascending_drop}
 use Rattle.klsm_run.proofs.ContentLemmas.{sorted_middle, sorted_swap, sorted_same_behind, sorted_sorted, sorted_itself}
 use Rattle.klsm_run.proofs.LeastLemmas.{all_unsorted}
-use Rattle.klsm_run.proofs.IndexLemmas.{slice_get-drop, at_index}
+use Rattle.klsm_run.proofs.IndexLemmas.{first_behind, at_index}
 use Rattle.klsm_run.proofs.RankLemmas.{count_all, count_none, least_skip_few, rest_skip_many}
 use Rattle.klsm_run.proofs.WithoutLemmas.{sorted_cancel}
 use Rattle.klsm_lsm.specs.Lsm.{content, IsLsm}
@@ -53,6 +53,10 @@ unmarked_is_rest n bs ps lsm pivots =
     ∙ (sym (sorted_sorted (marked bs ps) u) ∙ ap (λ xs. sorted (xs ++ u)) pivots.exact))) in
     sym (sorted_cancel first rest u whole) ∙ sorted_ascending rest (ascending_drop n all (ascending_content bs lsm))
 
+-- the least of the other items is the one of rank n
+pub first_unmarked : (n : ℕ) (bs : List (List Item)) (ps : List ℕ) → IsLsm bs → ArePivots n bs ps → slice_get (sorted (content (unmarked bs ps))) 0 ≡ slice_get (sorted (content bs)) n
+first_unmarked n bs ps lsm pivots = ap (λ xs. slice_get xs 0) (unmarked_is_rest n bs ps lsm pivots) ∙ first_behind n (sorted (content bs))
+
 -- one more marked item of block j
 marked_more : (bs : List (List Item)) (ps : List ℕ) (j : ℕ) (x : Item) → AreWithin bs ps → slice_get (get_or bs j []) (get_or ps j 0) ≡ Some x → sorted (marked bs (set ps j (get_or ps j 0 + 1))) ≡ sorted (x ∷ marked bs ps)
 marked_more [] ps j x within found = absurd (none-some x found)
@@ -80,9 +84,7 @@ pivot_more n bs ps j lsm pivots more first =
     let all = sorted (content bs) in
     let up = ascending_content bs lsm in
     let next = at_index all n (omega (arith, more, length_sorted (content bs))) in
-    let here : n + 0 ≡ n = omega arith in
-    let there : slice_get (get_or bs j []) (get_or ps j 0) ≡ Some next.0 =
-    first ∙ (ap (λ xs. slice_get xs 0) (unmarked_is_rest n bs ps lsm pivots) ∙ (slice_get-drop n all 0 ∙ (ap (slice_get all) here ∙ next.1))) in
+    let there : slice_get (get_or bs j []) (get_or ps j 0) ≡ Some next.0 = first ∙ (first_unmarked n bs ps lsm pivots ∙ next.1) in
     let one_more : take (n + 1) all ≡ take n all ++ next.0 ∷ [] =
     take_more all n next.0 (slice_get_within all n next.0 next.1) ∙ ap (λ y. take n all ++ y ∷ []) (get_or_from_slice_get all n next.0 next.0 next.1) in
     record {

@@ -3,7 +3,6 @@ use Rattle.std.proofs.Common.{◌≢◌, List, [], ◌∷◌, arith, suc, inl, i
 use Rattle.std.specs.List.{Contains}
 use Rattle.klsm_run.specs.declared.item.Item.{Item}
 use Rattle.klsm_run.specs.Content.{sorted}
-use Rattle.klsm_run.proofs.SortedLemmas.{IsNew}
 use Rattle.klsm_run.proofs.ContentLemmas.{absent_if_new}
 use Rattle.klsm_run.proofs.LeastLemmas.{Has, all_unsorted, has_unsorted}
 use Rattle.klsm_run.proofs.WithoutLemmas.{has_or_new}
@@ -16,10 +15,6 @@ contains_if_has x (y ∷ ys) (inr there) = let rest = contains_if_has x ys there
 
 pub has_if_contains : (x : Item) (c : List Item) → Contains c x → Has x c
 has_if_contains x c within = elim (has_or_new x c) [ inl has ↦ has | inr new ↦ absurd (absent_if_new x c new within) ]
-
--- an item that is new to a list is not in it
-new_has_not : (x : Item) (c : List Item) → IsNew x c → Has x c → ⊥
-new_has_not x c new has = absent_if_new x c new (contains_if_has x c has)
 
 -- the sorted list of a content contains what the content does
 pub contains_sorted : (x : Item) (c : List Item) → Contains c x → Contains (sorted c) x

@@ -22,6 +22,10 @@ slice_get-drop zero xs i = let same : i ≡ 0 + i = omega arith in ap (slice_get
 slice_get-drop (suc n) [] i = refl
 slice_get-drop (suc n) (x ∷ xs) i = let same : suc (n + i) ≡ suc n + i = omega arith in slice_get-drop n xs i ∙ ap (slice_get (x ∷ xs)) same
 
+-- the first of the others
+pub first_behind : {X : Type 0} → (n : ℕ) (xs : List X) → slice_get (drop n xs) 0 ≡ slice_get xs n
+first_behind n xs = let same : n + 0 ≡ n = omega arith in slice_get-drop n xs 0 ∙ ap (slice_get xs) same
+
 -- each index within a list has an element
 pub at_index : {X : Type 0} → (xs : List X) (i : ℕ) → i < length xs → (x : X) × (slice_get xs i ≡ Some x)
 at_index [] i within = absurd (omega (arith, within))

@@ -103,9 +103,6 @@ skipped_not_above x y [] not_smaller = omega arith
 skipped_not_above x y (z ∷ c) not_smaller =
     omega (arith, skipped_more z c x, skipped_more z c y, skipped_not_above x y c not_smaller, at_most_one (is_smaller z x) (is_smaller z y) (λ no. not_smaller_trans x y z not_smaller no))
 
-pub skipped_mono : (x y : Item) (c : List Item) → IsSmaller x y → skipped c x ≤ skipped c y
-skipped_mono x y c less = skipped_not_above x y c (not_below x y less)
-
 -- each of the least n items skips fewer than n
 pub least_skip_few : (n : ℕ) (c : List Item) → IsAscending (sorted c) → AllByRecursion (λ x. skipped c x < n) (take n (sorted c))
 least_skip_few n c up = all_by_index (λ x. skipped c x < n) (take n (sorted c)) (λ i x found.

@@ -14,6 +14,7 @@ use Rattle.klsm_run.specs.Content.{placed, sorted, without, IsAscending}
 use Rattle.klsm_run.proofs.OrderLemmas.{item_total}
 use Rattle.klsm_run.proofs.SortedLemmas.{sorted_ascending, length_sorted}
 use Rattle.klsm_run.proofs.ContentLemmas.{sorted_swap}
+use Rattle.klsm_run.proofs.RankLemmas.{empty_if_no_least}
 use Rattle.klsm_run.proofs.LeastLemmas.{without_first, sorted_without_first}
 use Rattle.klsm_lsm.specs.Lsm.{content, IsLsm}
 use Rattle.klsm_lsm.specs.Adding.{add, cut}
@@ -45,13 +46,9 @@ pub all_left : {T E : Type 0} (P : Item → Type 0) (r : Result T E) (old new : 
 all_left P (Ok x) old new at index rest same all = rw rest (All-from_recursion P (content (cut old at index)) (all_cut P old at index (recursion_from_All P (content old) all)))
 all_left P (Err e) old new at index rest same all = rw same all
 
-some_first : (xs : List Item) → 0 < length xs → slice_get xs 0 ≢ None
-some_first [] some is = absurd (omega (arith, some))
-some_first (x ∷ xs) some is = cc
-
 -- where nothing is least there is nothing
 pub some_least : (bs : List (List Item)) → 0 < length (content bs) → slice_get (sorted (content bs)) 0 ≢ None
-some_least bs some = some_first (sorted (content bs)) (omega (arith, length_sorted (content bs), some))
+some_least bs some none = let empty : length (content bs) ≡ 0 = ap length (empty_if_no_least (content bs) none) in absurd (omega (arith, some, empty))
 
 -- a block that begins with the least item is not empty
 pub some_block : (b : List Item) (bs : List (List Item)) → 0 < length (content bs) → slice_get b 0 ≡ slice_get (sorted (content bs)) 0 → 0 < length b

@@ -14,7 +14,8 @@ use std::process::Abort;
 
 /// The item of a key, inserted after `number` others.
 pub(super) fn item(key: u64, number: u64) -> Item
-    ensures { result.stamp.number ≡ number }
+    ensures key { result.key ≡ key }
+    ensures number { result.stamp.number ≡ number }
 {
     Item {
         key,

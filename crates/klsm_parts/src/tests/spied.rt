@@ -1,8 +1,9 @@
 //! What a spy moves and what it leaves. The helpers' clauses are what the tested calls require: no key comes twice.
 ghost use Rattle.std.specs.Prelude.{◌≡◌, ◌+◌, ◌≤◌};
 
+use super::pair;
 use crate::{First, Local, Shared, put, spy, take};
-use klsm_run::{Item, Run, Stamp};
+use klsm_run::{Item, Run};
 use std::process::Abort;
 use std::test::Fail;
 
@@ -10,14 +11,7 @@ use std::test::Fail;
 fn item(key: u64) -> Item
     ensures { result.key ≡ key }
 {
-    Item {
-        key,
-        stamp: Stamp {
-            owner: 0,
-            number: key,
-        },
-        load: 0,
-    }
+    pair::item(key, key)
 }
 
 // The part of the keys from `first` up to `past`, which are put in turn.

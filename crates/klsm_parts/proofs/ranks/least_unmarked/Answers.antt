@@ -30,7 +30,7 @@ loop-block-preserved g c =
 
 pub unreachable-requires : goal.unreachable-requires
 unreachable-requires g c =
-    found_some c.args.lsm.now c.args.pivots.now c.loop-block.block c.requires.within (omega (arith, c.loop-block-test.false, c.blocks-block-end.ensures)) c.requires.some (subst (IsFound c.args.lsm.now c.args.pivots.now c.loop-block.block) c.in_default.is c.loop-block.invariant)
+    found_some c.args.lsm.now c.args.pivots.now c.loop-block.block (omega (arith, c.loop-block-test.false, c.blocks-block-end.ensures)) c.requires.some (subst (IsFound c.args.lsm.now c.args.pivots.now c.loop-block.block) c.in_default.is c.loop-block.invariant)
 
 pub returns-clause-block : goal.returns-clause-block
 returns-clause-block g c =

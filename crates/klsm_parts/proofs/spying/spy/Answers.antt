@@ -1,7 +1,7 @@
 use Rattle.std.proofs.Common.{◌≡◌, [], length, sym, ap, ◌∙◌, arith, rules}
 use Rattle.klsm_run.proofs.SortedLemmas.{length_sorted}
 use Rattle.klsm_lsm.specs.Lsm.{content}
-use Rattle.klsm_parts.specs.Parts.{PartState, items_in}
+use Rattle.klsm_parts.specs.Parts.{items_in}
 use Rattle.klsm_parts.proofs.EventLemmas.{no_items}
 use Rattle.klsm_parts.proofs.SpyLemmas.{no_items_in, some_moved, few_moved, may_spy, own_spied, victim_spied}
 use Rattle.klsm_parts.proofs.spying.spy.Goals as goal
