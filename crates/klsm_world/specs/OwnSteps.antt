@@ -1,0 +1,91 @@
+-- A thread's own steps, and the hand that they leave: the parts that the thread holds, each with its content.
+-- A content is given by its ascending list. Part 0 is the shared one, and part t + 1 is thread t's own.
+use Rattle.std.specs.Prelude.{ℕ, ◌≡◌, ◌+◌, ◌==◌, if◌then◌else◌, List, [], ◌∷◌, Option, Some, None}
+use Rattle.std.specs.List.{fold, flat_map}
+use Rattle.klsm_run.specs.declared.item.Item.{Item}
+use Rattle.klsm_parts.specs.Events.{own_after_put, own_after_flush, shared_after_flush, own_after_take, shared_after_take, own_after_spy, victim_after_spy}
+use Rattle.klsm_world.specs.declared.step.Event.{Event}
+use Rattle.klsm_world.specs.declared.step.Event.TheVariants.{Put, Flush, Take, Nothing, Spy}
+use Rattle.klsm_world.specs.declared.step.Entry.{Entry}
+use Rattle.klsm_world.specs.declared.step.Entry.TheVariants.{Acquired, Committed, Released, Missed}
+
+-- a hand: the parts held with their contents, the last taken first
+abbrev pub Hand : Type 0
+Hand = List (ℕ × List Item)
+
+abbrev pub shared_part : ℕ
+shared_part = 0
+
+abbrev pub own_part : ℕ → ℕ
+own_part t = t + 1
+
+-- the content of a part in a hand, where it is there
+abbrev pub found_in : Hand → ℕ → Option (List Item)
+found_in [] p = None
+found_in (held ∷ hand) p = if held.0 == p then Some held.1 else found_in hand p
+
+-- a hand holds a part with this content
+abbrev pub Holds : Hand → ℕ → List Item → Type 0
+Holds hand p c = found_in hand p ≡ Some c
+
+abbrev pub content_or_none : Option (List Item) → List Item
+content_or_none None = []
+content_or_none (Some c) = c
+
+-- the content of a part in a hand, and none where it is not there
+abbrev pub content_in : Hand → ℕ → List Item
+content_in hand p = content_or_none (found_in hand p)
+
+-- a hand in which a part that it holds has another content
+abbrev pub changed : Hand → ℕ → List Item → Hand
+changed [] p c = []
+changed (held ∷ hand) p c = if held.0 == p then (p, c) ∷ hand else held ∷ changed hand p c
+
+-- a hand without a part
+abbrev pub given_back : Hand → ℕ → Hand
+given_back [] p = []
+given_back (held ∷ hand) p = if held.0 == p then given_back hand p else held ∷ given_back hand p
+
+-- thread t's hand after an event
+abbrev pub after_event : ℕ → Hand → Event → Hand
+after_event t hand (Put x) = changed hand (own_part t) (own_after_put (content_in hand (own_part t)) x)
+after_event t hand (Flush x moved) =
+    changed
+    (changed hand (own_part t) (own_after_flush (content_in hand (own_part t)) x moved))
+    shared_part (shared_after_flush (content_in hand shared_part) moved)
+after_event t hand (Take x) =
+    changed
+    (changed hand (own_part t) (own_after_take (content_in hand (own_part t)) x))
+    shared_part (shared_after_take (content_in hand (own_part t)) (content_in hand shared_part) x)
+after_event t hand Nothing = hand
+after_event t hand (Spy victim moved) =
+    changed
+    (changed hand (own_part t) (own_after_spy moved))
+    (own_part victim) (victim_after_spy (content_in hand (own_part victim)) moved)
+
+-- thread t's hand after one more of its own steps
+abbrev pub after_entry : ℕ → Hand → Entry → Hand
+after_entry t hand (Acquired p found) = (p, found) ∷ hand
+after_entry t hand (Committed event) = after_event t hand event
+after_entry t hand (Released p) = given_back hand p
+after_entry t hand (Missed p by) = hand
+
+-- thread t's hand, which is empty at first, after all its own steps
+abbrev pub hand_of : ℕ → List Entry → Hand
+hand_of t own = fold (after_entry t) [] own
+
+-- the items that a thread inserted, and those that it deleted, in order
+abbrev pub inserted_at : Entry → List Item
+inserted_at (Committed (Put x)) = x ∷ []
+inserted_at (Committed (Flush x moved)) = x ∷ []
+inserted_at _ = []
+
+abbrev pub deleted_at : Entry → List Item
+deleted_at (Committed (Take x)) = x ∷ []
+deleted_at _ = []
+
+abbrev pub inserted : List Entry → List Item
+inserted own = flat_map inserted_at own
+
+abbrev pub deleted : List Entry → List Item
+deleted own = flat_map deleted_at own

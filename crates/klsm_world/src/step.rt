@@ -1,0 +1,85 @@
+//! What a schedule consists of, and what a thread's own steps do.
+
+use crate::items::Items;
+use klsm_run::Item;
+
+/// What takes effect at one step.
+#[derive(Drop)]
+pub enum Event {
+    /// The item goes into the thread's own part, which has room.
+    Put(Item),
+    /// The item goes into the own part, and some items move from there to the shared part.
+    Flush {
+        /// The item inserted.
+        item: Item,
+        /// The items that move, ascending without repeats.
+        moved: Items,
+    },
+    /// The item leaves the own part or the shared one.
+    Take(Item),
+    /// Both parts are empty.
+    Nothing,
+    /// Items move from another thread's part to the own one, which is empty.
+    Spy {
+        /// The thread whose part they leave.
+        victim: u32,
+        /// The items that move, ascending without repeats.
+        moved: Items,
+    },
+}
+
+/// A step of one thread. Part 0 is the shared one, and part t + 1 is thread t's own.
+#[derive(Drop)]
+pub enum Step {
+    /// The thread takes a part that is free.
+    Acquire {
+        /// The thread that steps.
+        thread: u32,
+        /// The part that it takes.
+        part: u32,
+    },
+    /// An event takes effect on parts that the thread holds.
+    Commit {
+        /// The thread that steps.
+        thread: u32,
+        /// What takes effect.
+        event: Event,
+    },
+    /// The thread gives a part back.
+    Release {
+        /// The thread that steps.
+        thread: u32,
+        /// The part that it gives back.
+        part: u32,
+    },
+    /// The thread tries a part that another holds.
+    Miss {
+        /// The thread that steps.
+        thread: u32,
+        /// The part that it tries.
+        part: u32,
+    },
+}
+
+/// One of a thread's own steps, as its list has it.
+#[derive(Drop)]
+pub enum Entry {
+    /// The part was taken.
+    Acquired {
+        /// The part taken.
+        part: u32,
+        /// Its content, ascending.
+        found: Items,
+    },
+    /// The event took effect.
+    Committed(Event),
+    /// The part was given back.
+    Released(u32),
+    /// The part was tried in vain.
+    Missed {
+        /// The part tried.
+        part: u32,
+        /// The thread that held it.
+        by: u32,
+    },
+}
