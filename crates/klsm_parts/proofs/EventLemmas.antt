@@ -146,7 +146,7 @@ pub is_in : (x : Item) (c : List Item) → IsLeast x c → Contains c x
 is_in x c first = contains_unsorted x c (contains_at (sorted c) 0 x first)
 
 -- of a candidate and a content, the candidate is the least item where no item is smaller than it, else the content's least item is
-first_of_both : (candidate : Item) (own : List Item) (o : Option Item) → slice_get (sorted own) 0 ≡ o → slice_get (sorted (candidate ∷ own)) 0 ≡ lesser (Some candidate) o
+pub first_of_both : (candidate : Item) (own : List Item) (o : Option Item) → slice_get (sorted own) 0 ≡ o → slice_get (sorted (candidate ∷ own)) 0 ≡ lesser (Some candidate) o
 first_of_both candidate own o first = first_placed candidate (sorted own) ∙ ap (lesser (Some candidate)) first
 
 pub least_alone : (candidate : Item) (own : List Item) → slice_get (sorted own) 0 ≡ None → IsLeast candidate (candidate ∷ own)

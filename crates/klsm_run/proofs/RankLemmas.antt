@@ -56,7 +56,7 @@ pub skipped_at : (c : List Item) (i : ℕ) (x : Item) → IsAscending (sorted c)
 skipped_at c i x up found = sym (count_sorted (λ y. is_smaller y x) c) ∙ skipped_in_order (sorted c) i x up found
 
 -- each item is smaller than none before it: a sorted list, which may have an item twice
-abbrev IsRising : List Item → Type 0
+abbrev pub IsRising : List Item → Type 0
 IsRising [] = Unit {0}
 IsRising (x ∷ xs) = IsNoneBelow x xs × IsRising xs
 
@@ -68,7 +68,8 @@ rising_placed x (y ∷ ys) up = by_test (is_smaller y x) refl (rising_placed x y
     by_test true smaller later = (all_placed (λ z. is_smaller z y ≡ false) x ys (not_below y x (less_if_smaller y x smaller)) up.0, later)
     by_test false not_smaller later = ((not_smaller, all_weaker (λ z. is_smaller z y ≡ false) (λ z. is_smaller z x ≡ false) (λ z no. not_smaller_trans x y z not_smaller no) ys up.0), up)
 
-rising_sorted : (c : List Item) → IsRising (sorted c)
+-- a sorted list rises
+pub rising_sorted : (c : List Item) → IsRising (sorted c)
 rising_sorted [] = tt
 rising_sorted (x ∷ c) = rising_placed x (sorted c) (rising_sorted c)
 

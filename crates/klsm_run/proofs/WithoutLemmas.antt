@@ -29,7 +29,7 @@ sorted_cancel [] ys zs same = same
 sorted_cancel (x ∷ xs) ys zs same = sorted_cancel xs ys zs (placed_cancel x (sorted (xs ++ ys)) (sorted (xs ++ zs)) same)
 
 -- an item is another, or the same
-same_or_other : (x y : Item) → (y ≡ x) ⊎ (y ≢ x)
+pub same_or_other : (x y : Item) → (y ≡ x) ⊎ (y ≢ x)
 same_or_other x y = elim (ranked y x) [
   | Below less greater ↦ inr (λ same. not_smaller_than_itself x (subst (λ z. IsSmaller z x) same less))
   | Same same ↦ inl same
@@ -44,7 +44,7 @@ same_not x y other = elim (ranked x y) [
 ]
 
 -- the first item is another than the one that is taken away
-without_later : (x y : Item) (ys : List Item) → y ≢ x → without x (y ∷ ys) ≡ y ∷ without x ys
+pub without_later : (x y : Item) (ys : List Item) → y ≢ x → without x (y ∷ ys) ≡ y ∷ without x ys
 without_later x y ys other = ap (λ b. if b then ys else y ∷ without x ys) (same_not x y other)
 
 -- from a list to which an item is new nothing is taken away

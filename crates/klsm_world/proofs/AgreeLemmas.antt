@@ -44,46 +44,46 @@ module _ (T : ℕ) where
         (words : (q : ℕ) → q ≢ p → word' q ≡ word q) (homes : (q : ℕ) → q ≢ p → home' q ≡ home q)
         (looks : (u q : ℕ) → q ≢ p → look' u q ≡ look u q) (others : (u : ℕ) → u ≢ t → look' u p ≡ look u p)
       where
-      -- thread t took it
-      take_fit : word p ≡ 0 → word' p ≡ t + 1 → home' p ≡ None → (c : List Item) → look' t p ≡ Some c → Fit word' home' look'
-      take_fit was now away c mine = record {
-        free = λ q within zeros. elim (cases_eq q p) [
-          | inl same ↦ let bad : t + 1 ≡ 0 = sym now ∙ (ap word' (sym same) ∙ zeros) in absurd (omega (arith, bad))
-          | inr other ↦ let o = old.free q within (sym (words q other) ∙ zeros) in (o.0, homes q other ∙ o.1)
-        ];
-        held = λ q within taken. elim (cases_eq q p) [
-          | inl same ↦ (t, less, ap word' same ∙ now, ap home' same ∙ away, (c, ap (look' t) same ∙ mine))
-          | inr other ↦
-              let o = old.held q within (λ zeros. taken (words q other ∙ zeros)) in
-              (o.0, o.1, words q other ∙ o.2, homes q other ∙ o.3, (o.4.0, looks o.0 q other ∙ o.4.1))
-        ];
-        named = λ u q d within found. elim (cases_eq q p) [
-          | inl same ↦ elim (cases_eq u t) [
+        -- thread t took it
+        take_fit : word p ≡ 0 → word' p ≡ t + 1 → home' p ≡ None → (c : List Item) → look' t p ≡ Some c → Fit word' home' look'
+        take_fit was now away c mine = record {
+          free = λ q within zeros. elim (cases_eq q p) [
+            | inl same ↦ let bad : t + 1 ≡ 0 = sym now ∙ (ap word' (sym same) ∙ zeros) in absurd (omega (arith, bad))
+            | inr other ↦ let o = old.free q within (sym (words q other) ∙ zeros) in (o.0, homes q other ∙ o.1)
+          ];
+          held = λ q within taken. elim (cases_eq q p) [
+            | inl same ↦ (t, less, ap word' same ∙ now, ap home' same ∙ away, (c, ap (look' t) same ∙ mine))
+            | inr other ↦
+                let o = old.held q within (λ zeros. taken (words q other ∙ zeros)) in
+                (o.0, o.1, words q other ∙ o.2, homes q other ∙ o.3, (o.4.0, looks o.0 q other ∙ o.4.1))
+          ];
+          named = λ u q d within found. elim (cases_eq q p) [
+            | inl same ↦ elim (cases_eq u t) [
               | inl this ↦ (subst (λ z. z ≤ T) (sym same) at_most, ap word' same ∙ (now ∙ ap (λ z. z + 1) (sym this)))
               | inr that ↦
                   let o = old.named u p d within (sym (others u that) ∙ (ap (look' u) (sym same) ∙ found)) in
                   let bad : 0 ≡ u + 1 = sym was ∙ o.1 in
                   absurd (omega (arith, bad))
             ]
-          | inr other ↦ let o = old.named u q d within (sym (looks u q other) ∙ found) in (o.0, words q other ∙ o.1)
-        ];
-      }
+            | inr other ↦ let o = old.named u q d within (sym (looks u q other) ∙ found) in (o.0, words q other ∙ o.1)
+          ];
+        }
 
-      -- thread t gave it back
-      give_fit : (c d : List Item) → look t p ≡ Some c → word' p ≡ 0 → home' p ≡ Some d → look' t p ≡ None → Fit word' home' look'
-      give_fit c d had now back gone = record {
-        free = λ q within zeros. elim (cases_eq q p) [
-          | inl same ↦ (d, ap home' same ∙ back)
-          | inr other ↦ let o = old.free q within (sym (words q other) ∙ zeros) in (o.0, homes q other ∙ o.1)
-        ];
-        held = λ q within taken. elim (cases_eq q p) [
-          | inl same ↦ absurd (taken (ap word' same ∙ now))
-          | inr other ↦
-              let o = old.held q within (λ zeros. taken (words q other ∙ zeros)) in
-              (o.0, o.1, words q other ∙ o.2, homes q other ∙ o.3, (o.4.0, looks o.0 q other ∙ o.4.1))
-        ];
-        named = λ u q x within found. elim (cases_eq q p) [
-          | inl same ↦ elim (cases_eq u t) [
+        -- thread t gave it back
+        give_fit : (c d : List Item) → look t p ≡ Some c → word' p ≡ 0 → home' p ≡ Some d → look' t p ≡ None → Fit word' home' look'
+        give_fit c d had now back gone = record {
+          free = λ q within zeros. elim (cases_eq q p) [
+            | inl same ↦ (d, ap home' same ∙ back)
+            | inr other ↦ let o = old.free q within (sym (words q other) ∙ zeros) in (o.0, homes q other ∙ o.1)
+          ];
+          held = λ q within taken. elim (cases_eq q p) [
+            | inl same ↦ absurd (taken (ap word' same ∙ now))
+            | inr other ↦
+                let o = old.held q within (λ zeros. taken (words q other ∙ zeros)) in
+                (o.0, o.1, words q other ∙ o.2, homes q other ∙ o.3, (o.4.0, looks o.0 q other ∙ o.4.1))
+          ];
+          named = λ u q x within found. elim (cases_eq q p) [
+            | inl same ↦ elim (cases_eq u t) [
               | inl this ↦ absurd (none-some x (sym gone ∙ (ap (look' t) (sym same) ∙ (ap (λ z. look' z q) (sym this) ∙ found))))
               | inr that ↦
                   let o = old.named u p x within (sym (others u that) ∙ (ap (look' u) (sym same) ∙ found)) in
@@ -92,9 +92,9 @@ module _ (T : ℕ) where
                   let one : u ≡ t = omega (arith, both) in
                   absurd (that one)
             ]
-          | inr other ↦ let o = old.named u q x within (sym (looks u q other) ∙ found) in (o.0, words q other ∙ o.1)
-        ];
-      }
+            | inr other ↦ let o = old.named u q x within (sym (looks u q other) ∙ found) in (o.0, words q other ∙ o.1)
+          ];
+        }
 
 -- what thread u's hand has of a part
 abbrev look_in : World → ℕ → ℕ → Option (List Item)
@@ -215,13 +215,3 @@ agreed_first limits = record {
 -- the content of a part at home
 pub content_at_home : (w : World) (p : ℕ) (c : List Item) → home_of w p ≡ Some c → content_of w p ≡ c
 content_at_home w p c here = ap (λ o. home_or o (content_in (hand_in w (word_of w p - 1)) p)) here
-
--- the content of a part in a thread's hand
-pub content_in_hand : (limits : Limits) (w : World) (t p : ℕ) (c : List Item) → AreAgreed limits w → t < limits.threads → Holds (hand_in w t) p c → content_of w p ≡ c
-content_in_hand limits w t p c agreed less found =
-    let mine = agreed.named t p c less found in
-    let taken : word_of w p ≢ 0 = λ zeros. (let bad : 0 ≡ t + 1 = sym zeros ∙ mine.1 in omega (arith, bad)) in
-    let away = agreed.held p mine.0 taken in
-    let holder : word_of w p - 1 ≡ t = (let word : word_of w p ≡ t + 1 = mine.1 in omega (arith, word)) in
-    ap (λ o. home_or o (content_in (hand_in w (word_of w p - 1)) p)) away.3
-    ∙ (ap (λ u. content_in (hand_in w u) p) holder ∙ ap content_or_none found)

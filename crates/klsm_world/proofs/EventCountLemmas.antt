@@ -1,33 +1,22 @@
 -- How often each item is in what an event leaves, and how many items that has.
-use Rattle.std.proofs.Common.{◌≡◌, ◌≢◌, ℕ, ◌+◌, ◌<◌, ◌≤◌, Bool, false, cond, List, [], ◌∷◌, ◌++◌, length, refl, ap, ◌∙◌, subst, arith, suc, ◌⊎◌, inl, inr, if◌then◌else◌}
+use Rattle.std.proofs.Common.{◌≡◌, ◌≢◌, ℕ, ◌+◌, ◌<◌, ◌≤◌, Bool, false, cond, List, [], ◌∷◌, ◌++◌, length, refl, ap, ◌∙◌, subst, arith, suc, inl, inr, if◌then◌else◌}
 use Rattle.std.specs.List.{Contains}
 use Rattle.std.proofs.lemmas.Bool.{cases_eq, eq-eqb, ne_eqb}
 use Rattle.std.proofs.lemmas.List.{length-append}
 use Rattle.std.proofs.lemmas.List.Sums.{sum_by-cons, sum_by-append}
 use Rattle.klsm_run.specs.declared.item.Item.{Item}
-use Rattle.klsm_run.specs.ItemOrder.{is_same, IsSmaller}
+use Rattle.klsm_run.specs.ItemOrder.{is_same}
 use Rattle.klsm_run.specs.Content.{sorted, without}
 use Rattle.klsm_run.proofs.AllLemmas.{all_weaker}
-use Rattle.klsm_run.proofs.OrderLemmas.{not_smaller_than_itself, Below, Same, Above, ranked}
 use Rattle.klsm_run.proofs.SortedLemmas.{IsNew, length_sorted}
 use Rattle.klsm_run.proofs.ContainsLemmas.{contains_if_has, has_if_contains, contains_unsorted}
 use Rattle.klsm_run.proofs.IndexLemmas.{taken_at, contains_at, index_of}
 use Rattle.klsm_run.proofs.LeastLemmas.{Has, same_as_itself, without_first}
 use Rattle.klsm_run.proofs.RankLemmas.{count_none, count_sorted}
-use Rattle.klsm_run.proofs.WithoutLemmas.{same_not, without_new, has_or_new}
+use Rattle.klsm_run.proofs.WithoutLemmas.{same_not, same_or_other, without_later, without_new, has_or_new}
 use Rattle.klsm_parts.specs.Least.{least}
 use Rattle.klsm_parts.specs.Events.{times, IsWithin, plus, minus, MayFlush, MayTake, MaySpy, own_after_put, own_after_flush, shared_after_flush, own_after_take, shared_after_take, own_after_spy, victim_after_spy}
 use Rattle.klsm_parts.proofs.EventLemmas.{is_in}
-
-same_or_other : (x y : Item) → (y ≡ x) ⊎ (y ≢ x)
-same_or_other x y = elim (ranked y x) [
-  | Below less greater ↦ inr (λ same. not_smaller_than_itself x (subst (λ z. IsSmaller z x) same less))
-  | Same same ↦ inl same
-  | Above greater less ↦ inr (λ same. not_smaller_than_itself x (subst (IsSmaller x) same less))
-]
-
-without_later : (x y : Item) (ys : List Item) → y ≢ x → without x (y ∷ ys) ≡ y ∷ without x ys
-without_later x y ys other = ap (λ b. if b then ys else y ∷ without x ys) (same_not x y other)
 
 -- one more item counts where it is the item sought
 pub times_more : (x y : Item) (c : List Item) → times x (y ∷ c) ≡ times x (y ∷ []) + times x c

@@ -36,10 +36,10 @@ module _ (v : World) (t p : ℕ) (found : List Item) (inside : t < length v.list
       let home_is : content_of v p ≡ c = content_at_home v p c home in
       let parts : length (set v.homes p None) ≡ length v.homes = length-set v.homes p None in
       same_if_counted found c (λ x.
-          let differs = live_changed v acquired x (length v.homes) p (omega (arith, part, lawful.agreed.homes_are)) (λ q less. content_else q) in
-          let whole : times x (live acquired) ≡ times x (live_below acquired (length v.homes)) = ap (λ n. times x (live_below acquired n)) parts in
-          let gains : times x (live acquired) + 0 ≡ times x (live v) + 0 = live_gains limits v acquired t (Acquired p found) lawful after within refl x in
-          omega (arith, differs, whole, gains, ap (times x) found_is, ap (times x) home_is))
+      let differs = live_changed v acquired x (length v.homes) p (omega (arith, part, lawful.agreed.homes_are)) (λ q less. content_else q) in
+      let whole : times x (live acquired) ≡ times x (live_below acquired (length v.homes)) = ap (λ n. times x (live_below acquired n)) parts in
+      let gains : times x (live acquired) + 0 ≡ times x (live v) + 0 = live_gains limits v acquired t (Acquired p found) lawful after within refl x in
+      omega (arith, differs, whole, gains, ap (times x) found_is, ap (times x) home_is))
 
 -- the content recorded is the one that was at home
 pub found_is_content : AcquiresFindContents

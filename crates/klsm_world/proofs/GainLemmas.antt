@@ -23,7 +23,7 @@ pub live_gains : (limits : Limits) (v w : World) (t : ℕ) (entry : Entry) → I
 live_gains limits v w t entry lawful after within lists x =
     let inside : t < length v.lists = omega (arith, within, lawful.agreed.lists_are) in
     let came : times x (flat_map inserted w.lists) ≡ times x (flat_map inserted v.lists) + times x (inserted_at entry) =
-        ap (λ ls. times x (flat_map inserted ls)) lists ∙ inserted_noted x v.lists t entry inside in
+    ap (λ ls. times x (flat_map inserted ls)) lists ∙ inserted_noted x v.lists t entry inside in
     let went : times x (flat_map deleted w.lists) ≡ times x (flat_map deleted v.lists) + times x (deleted_at entry) =
-        ap (λ ls. times x (flat_map deleted ls)) lists ∙ deleted_noted x v.lists t entry inside in
+    ap (λ ls. times x (flat_map deleted ls)) lists ∙ deleted_noted x v.lists t entry inside in
     omega (arith, came, went, lawful.each_once x, after.each_once x)

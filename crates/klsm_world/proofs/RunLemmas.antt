@@ -72,8 +72,8 @@ pub taken_is_live : (limits : Limits) (w : World) (t : ℕ) (x : Item) → IsLaw
 taken_is_live limits w t x lawful may =
     let both = may.1 in
     let part : (p : ℕ) (c : List Item) → p ≤ limits.threads → Holds (hand_in w t) p c → Contains c x → Contains (live w) x = λ p c inside holds within.
-        live_part w (length w.homes) p x (omega (arith, inside, lawful.agreed.homes_are))
-        (subst (λ d. Contains d x) (sym (content_held limits w t p c lawful.agreed may.0 holds)) within) in
+    live_part w (length w.homes) p x (omega (arith, inside, lawful.agreed.homes_are))
+    (subst (λ d. Contains d x) (sym (content_held limits w t p c lawful.agreed may.0 holds)) within) in
     elim (taken_from limits.k both.0 both.1 x both.4) [
       | inl own ↦ part (own_part t) both.0 (omega (arith, may.0)) both.2 own
       | inr shared ↦ part shared_part both.1 (omega arith) both.3 shared
@@ -105,18 +105,18 @@ module _ (limits : Limits) (v w : World) (t : ℕ) (lawful : IsLawful limits v) 
   inserts entry y lists one_in none_out =
       ap (placed y) (sorted_itself (live v))
       ∙ same_if_counted (y ∷ live v) (live w) (λ x.
-          let gains = live_gains limits v w t entry lawful after within lists x in
-          let came : times x (inserted_at entry) ≡ times x (y ∷ []) = ap (times x) one_in in
-          let went : times x (deleted_at entry) ≡ 0 = ap (times x) none_out in
-          omega (arith, gains, came, went, times_append x (y ∷ []) (live v)))
+      let gains = live_gains limits v w t entry lawful after within lists x in
+      let came : times x (inserted_at entry) ≡ times x (y ∷ []) = ap (times x) one_in in
+      let went : times x (deleted_at entry) ≡ 0 = ap (times x) none_out in
+      omega (arith, gains, came, went, times_append x (y ∷ []) (live v)))
 
   deletes : (entry : Entry) (y : Item) → w.lists ≡ noted v t entry → inserted_at entry ≡ [] → deleted_at entry ≡ y ∷ [] → without y (sorted (live v)) ≡ sorted (live w)
   deletes entry y lists none_in one_out =
       let back : sorted (live v) ≡ sorted (y ∷ live w) = same_if_counted (live v) (y ∷ live w) (λ x.
-          let gains = live_gains limits v w t entry lawful after within lists x in
-          let came : times x (inserted_at entry) ≡ 0 = ap (times x) none_in in
-          let went : times x (deleted_at entry) ≡ times x (y ∷ []) = ap (times x) one_out in
-          omega (arith, gains, came, went, times_append x (y ∷ []) (live w))) in
+      let gains = live_gains limits v w t entry lawful after within lists x in
+      let came : times x (inserted_at entry) ≡ 0 = ap (times x) none_in in
+      let went : times x (deleted_at entry) ≡ times x (y ∷ []) = ap (times x) one_out in
+      omega (arith, gains, came, went, times_append x (y ∷ []) (live w))) in
       ap (without y) back ∙ without_placed y (sorted (live w))
 
   -- a committed event

@@ -18,7 +18,7 @@ same_if_counted (y ∷ ys) d same =
     let has : Has y d = has_if_contains y d (contained_if_counted y d (omega (arith, same y, times_more y y ys, times_itself y))) in
     let back : sorted (y ∷ without y d) ≡ sorted d = sorted_back y d has in
     let rest : (x : Item) → times x ys ≡ times x (without y d) = λ x.
-        let whole : times x (y ∷ without y d) ≡ times x d =
-            sym (count_sorted (is_same x) (y ∷ without y d)) ∙ (ap (times x) back ∙ count_sorted (is_same x) d) in
-        omega (arith, whole, same x, times_more x y ys, times_more x y (without y d)) in
+    let whole : times x (y ∷ without y d) ≡ times x d =
+    sym (count_sorted (is_same x) (y ∷ without y d)) ∙ (ap (times x) back ∙ count_sorted (is_same x) d) in
+    omega (arith, whole, same x, times_more x y ys, times_more x y (without y d)) in
     ap (placed y) (same_if_counted ys (without y d) rest) ∙ back

@@ -60,8 +60,8 @@ both_parts f none adds most limits w t own shared lawful within holds_own holds_
     let own_is : content_of w (suc t) ≡ own = ap (content_of w) (sym next) ∙ content_held limits w t (own_part t) own lawful.agreed within holds_own in
     let shared_is : content_of w 0 ≡ shared = content_held limits w t shared_part shared lawful.agreed within holds_shared in
     let each : (u : ℕ) → u < limits.threads → f (content_of w (suc u)) ≤ limits.k = λ u less.
-        let one : u + 1 ≡ suc u = omega arith in
-        subst (λ p. f (content_of w p) ≤ limits.k) one (omega (arith, most (content_of w (own_part u)), lawful.few u less)) in
+    let one : u + 1 ≡ suc u = omega arith in
+    subst (λ p. f (content_of w p) ≤ limits.k) one (omega (arith, most (content_of w (own_part u)), lawful.few u less)) in
     let bound = others_few f none adds w limits.k limits.threads t within each in
     let parts : length w.homes ≡ suc limits.threads = omega (arith, lawful.agreed.homes_are) in
     let all : f (live w) ≡ f (live_below w (suc limits.threads)) = ap (λ n. f (live_below w n)) parts in
@@ -76,7 +76,7 @@ live_takes_skip_few limits w t x lawful may =
     let both = may.1 in
     let taken : skipped (both.0 ++ both.1) x ≤ limits.k = take_skips_few limits.k both.0 both.1 x both.4 in
     let bound = both_parts (λ c. skipped c x) refl (λ c d. skipped_append c d x) (λ c. count_by-le-length (λ y. is_smaller y x) c)
-        limits w t both.0 both.1 lawful may.0 both.2 both.3 in
+    limits w t both.0 both.1 lawful may.0 both.2 both.3 in
     let some : ℕ = limits.threads * limits.k in
     let bound' : skipped (live w) x + limits.k ≤ (skipped both.0 x + skipped both.1 x) + some = bound in
     let few : skipped (live w) x ≤ some = omega (arith, bound', taken, skipped_append both.0 both.1 x) in

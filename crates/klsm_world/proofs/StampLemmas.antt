@@ -49,7 +49,7 @@ stamps_below k t own legal (suc n) some x within =
     let inside : n < length own = omega (arith, some) in
     let longer : inserted (take (suc n) own) ≡ inserted (take n own) ++ inserted_at entry = ap inserted (take-suc own n (Released 0) inside) ∙ items_grow inserted_at (take n own) entry in
     let count : length (inserted (take (suc n) own)) ≡ length (inserted (take n own)) + length (inserted_at entry) =
-        ap length longer ∙ length-append (inserted (take n own)) (inserted_at entry) in
+    ap length longer ∙ length-append (inserted (take n own)) (inserted_at entry) in
     elim (Contains-append_cases (inserted (take n own)) (inserted_at entry) x (subst (λ c. Contains c x) longer within)) [
       | inl earlier ↦
           let old = stamps_below k t own legal n (omega (arith, some)) x earlier in

@@ -1,5 +1,5 @@
 -- What follows from the definitions alone, for every number of threads and every k.
-use Rattle.std.specs.Prelude.{ℕ, ◌≡◌, ◌*◌, ◌-◌, ◌+◌, ◌<◌, ◌≤◌, List, [], ◌∷◌, length, slice_set, Some, None}
+use Rattle.std.specs.Prelude.{ℕ, ◌≡◌, ◌*◌, ◌-◌, ◌+◌, ◌<◌, ◌≤◌, List, length, slice_set, Some, None}
 use Rattle.klsm_run.specs.declared.item.Item.{Item}
 use Rattle.klsm_run.specs.Content.{sorted, skipped}
 use Rattle.klsm_world.specs.declared.step.Event.{Event}

@@ -1,8 +1,12 @@
 pub mod Account
+pub mod Kept
 pub mod LawfulWorlds
 pub mod Laws
 pub mod LegalSteps
 pub mod OwnSteps
+pub mod Refusals
 pub mod RelaxedQueue
+pub mod Running
 pub mod Schedules
+pub mod Traces
 pub mod Worlds

@@ -1,6 +1,6 @@
 -- The relaxed queue of one thread, M(T, k): a multiset that knows no part, block, lock or thread. A content is given by its
 -- ascending list. The lists of events and steps have the latest first, as schedules have.
-use Rattle.std.specs.Prelude.{ℕ, ◌*◌, ◌-◌, ◌<◌, ◌≤◌, ◌≡◌, List, [], ◌∷◌, length, max}
+use Rattle.std.specs.Prelude.{ℕ, ◌*◌, ◌-◌, ◌≤◌, List, [], ◌∷◌, length, max}
 use Rattle.std.specs.List.{Contains, flat_map}
 use Rattle.klsm_run.specs.declared.item.Item.{Item}
 use Rattle.klsm_run.specs.Content.{skipped, without}

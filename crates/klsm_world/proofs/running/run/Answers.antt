@@ -1,0 +1,52 @@
+use Rattle.std.proofs.Common.{◌≡◌, ◌∙◌, ap, sym, subst, List, max, ◌+◌, ◌++◌}
+use Rattle.klsm_run.specs.declared.item.Item.{Item}
+use Rattle.klsm_world.specs.Refusals.{Refuses}
+use Rattle.klsm_world.specs.Running.{Running}
+use Rattle.klsm_world.specs.Schedules.{MayStep, next}
+use Rattle.klsm_world.specs.Traces.{IsTrace, listed}
+use Rattle.klsm_world.specs.Worlds.{Limits}
+use Rattle.klsm_world.proofs.TraceLemmas.{HasRun, has_run_more}
+use Rattle.klsm_world.proofs.TraceEndLemmas.{trace_of_run, refused_by_step, greater_of}
+use Rattle.klsm_world.proofs.running.run.Goals as goal
+
+pub returns-in-Err : goal.returns-in-Err
+returns-in-Err g c =
+    let limits : Limits = record { threads = c.args.threads; k = c.args.k } in
+    let step = c.index-steps-index.result in
+    let refuses : Refuses limits c.loop-index.world.world step c.in-Err.why =
+    subst (λ (l : Limits). Refuses l c.loop-index.world.world step c.in-Err.why) c.loop-index.invariant.limits c.in-Err.ensures.refused in
+    record {
+      trace = tt;
+      refused = refused_by_step limits c.args.steps.now c.loop-index.index c.loop-index.world.world step c.in-Err.why c.refused_at.result
+          c.loop-index.invariant.limits_are c.loop-index.invariant.run.leads c.loop-index-test.true c.index-steps-index.is refuses c.refused_at.ensures.no_memory c.refused_at.ensures.at_step;
+    }
+
+pub loop-index-preserved : goal.loop-index-preserved
+loop-index-preserved g c =
+    let limits : Limits = record { threads = c.args.threads; k = c.args.k } in
+    let steps = c.args.steps.now in
+    let count = c.loop-index.index in
+    let before = c.loop-index.world in
+    let after = c.step.new.self in
+    let step = c.index-steps-index.result in
+    let taken = c.in_default.ensures.taken in
+    let may : MayStep limits before.world step = subst (λ (l : Limits). MayStep l before.world step) c.loop-index.invariant.limits taken.0 in
+    let led : after.world ≡ next before.world step = ap (λ (r : Running). r.world) taken.1 in
+    let skips = c.max-most.ensures ∙ (greater_of c.loop-index.most c.skip_of-skip.result ∙ ap (max c.loop-index.most) c.skip_of-skip.ensures) in
+    let run = has_run_more limits steps count before.world after.world step c.loop-index.inserted.items c.loop-index.deleted.items _ _ c.loop-index.most c.max-most.result
+    c.loop-index.invariant.run c.loop-index-test.true c.index-steps-index.is may led c.inserted_item.ensures c.deleted_item.ensures skips in
+    let inserted = c.push_some.new.items.items in
+    record {
+      limits = ap (λ (r : Running). r.limits) taken.1 ∙ c.loop-index.invariant.limits;
+      limits_are = c.loop-index.invariant.limits_are;
+      run = subst (λ (d : List Item). HasRun limits steps (count + 1) after.world inserted d c.max-most.result) (sym c.in_ok-push_some-2.ensures.pushed)
+          (subst (λ (i : List Item). HasRun limits steps (count + 1) after.world i (c.loop-index.deleted.items ++ listed c.deleted_item.result) c.max-most.result) (sym c.in_ok-push_some.ensures.pushed) run);
+    }
+
+pub returns-clause-trace : goal.returns-clause-trace
+returns-clause-trace g c =
+    let limits : Limits = record { threads = c.args.threads; k = c.args.k } in
+    let trace : IsTrace limits c.args.steps.now c.loop-index.inserted.items c.loop-index.deleted.items c.loop-index.most c.in_ok-live.live =
+    trace_of_run limits c.args.steps.now c.loop-index.index c.loop-index.world.world _ _ _ _ c.loop-index.invariant.limits_are c.loop-index.invariant.run c.loop-index-test.false c.in_ok-live.ensures.live in
+    subst (λ (d : List Item). IsTrace limits c.args.steps.now c.new-2.result d c.loop-index.most c.in_ok-live.live) (sym c.new-3.ensures)
+    (subst (λ (i : List Item). IsTrace limits c.args.steps.now i c.loop-index.deleted.items c.loop-index.most c.in_ok-live.live) (sym c.new-2.ensures) trace)

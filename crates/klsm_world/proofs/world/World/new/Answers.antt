@@ -1,0 +1,19 @@
+use Rattle.std.proofs.Common.{◌≡◌, ◌+◌, replicate, ap, arith, rules}
+use Rattle.klsm_world.specs.Running.{AreLimits}
+use Rattle.klsm_world.specs.Worlds.{Limits, World}
+use Rattle.klsm_world.proofs.NewLemmas.{first_is_new, first_is_kept}
+use Rattle.klsm_world.proofs.world.World.new.Goals as goal
+
+pub invariant_of-result : goal.invariant_of-result
+invariant_of-result g c =
+    let limits : Limits = record { threads = c.args.threads; k = c.args.k } in
+    let are : AreLimits limits = record { some_threads = omega arith; at_most = omega arith; k_in_range = omega arith } in
+    let words : c.in-Ok.words.items ≡ replicate (c.args.threads + 1) 0 = c.in-Ok.ensures.items_if_clones_equal (λ y same. search rules) in
+    first_is_kept limits c.in-Ok.words.items c.in_ok-contents.contents.items c.in_ok-lists.lists.items are words c.in_ok-contents.ensures.empty c.in_ok-lists.ensures.empty
+
+pub returns-clause-made : goal.returns-clause-made
+returns-clause-made g c =
+    let limits : Limits = record { threads = c.args.threads; k = c.args.k } in
+    let words : c.in-Ok.words.items ≡ replicate (c.args.threads + 1) 0 = c.in-Ok.ensures.items_if_clones_equal (λ y same. search rules) in
+    let first = first_is_new limits c.in-Ok.words.items c.in_ok-contents.contents.items c.in_ok-lists.lists.items words c.in_ok-contents.ensures.empty c.in_ok-lists.ensures.empty in
+    ap (λ (w : World). record { limits = limits; world = w }) first

@@ -1,0 +1,25 @@
+use Rattle.std.proofs.Common.{◌≡◌, ◌⊎◌, true, false, inl, inr, ◌∙◌}
+use Rattle.klsm_world.proofs.world.World.take.Goals.{then-is_own, else-is_own}
+use Rattle.klsm_world.specs.Worlds.{Limits}
+use Rattle.klsm_world.proofs.CommitTakenLemmas.{take_taken}
+use Rattle.klsm_world.proofs.world.World.take.Goals as goal
+
+pub invariant_of-self-2 : goal.invariant_of-self-2
+invariant_of-self-2 g c =
+    let limits : Limits = record { threads = c.self.inside.threads; k = c.self.inside.k } in
+    let place : ((c.if-is_own.part ≡ c.own_part-own.result) × (c.has-is_own.result ≡ true)) ⊎ ((c.if-is_own.part ≡ 0) × (c.has-is_own.result ≡ false)) =
+    elim c.if-is_own.branch [ then-is_own w ↦ inl (w.part-is, w.if-is_own.true) | else-is_own w ↦ inr (w.part-is, w.if-is_own.false) ] in
+    (take_taken c.args.self.now limits c.self.inside.words.items c.self.inside.contents.items c.self.inside.lists.items c.note.new.lists.items c.args.thread c.self.view_is c.self.invariant
+    c.args.item c.own_part-own.result c.if-is_own.part c.has-is_own.result c.index.result.now c.as_slice.result.now c.index-2.result.now c.as_slice-2.result.now c.new-2.result
+    c.requires c.in_ok-note.ensures.noted c.own_part-own.ensures c.index.ensures c.as_slice.ensures c.has-is_own.ensures.0 c.has-is_own.ensures.1 place
+    c.index-2.ensures c.as_slice-2.ensures (c.new-2.ensures ∙ c.in_ok-after.ensures.without_all)).0
+
+pub returns : goal.returns
+returns g c =
+    let limits : Limits = record { threads = c.self.inside.threads; k = c.self.inside.k } in
+    let place : ((c.if-is_own.part ≡ c.own_part-own.result) × (c.has-is_own.result ≡ true)) ⊎ ((c.if-is_own.part ≡ 0) × (c.has-is_own.result ≡ false)) =
+    elim c.if-is_own.branch [ then-is_own w ↦ inl (w.part-is, w.if-is_own.true) | else-is_own w ↦ inr (w.part-is, w.if-is_own.false) ] in
+    (take_taken c.args.self.now limits c.self.inside.words.items c.self.inside.contents.items c.self.inside.lists.items c.note.new.lists.items c.args.thread c.self.view_is c.self.invariant
+    c.args.item c.own_part-own.result c.if-is_own.part c.has-is_own.result c.index.result.now c.as_slice.result.now c.index-2.result.now c.as_slice-2.result.now c.new-2.result
+    c.requires c.in_ok-note.ensures.noted c.own_part-own.ensures c.index.ensures c.as_slice.ensures c.has-is_own.ensures.0 c.has-is_own.ensures.1 place
+    c.index-2.ensures c.as_slice-2.ensures (c.new-2.ensures ∙ c.in_ok-after.ensures.without_all)).1

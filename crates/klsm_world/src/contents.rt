@@ -1,0 +1,181 @@
+//! Contents of parts: ascending lists of items, changed as events say.
+ghost use Rattle.std.specs.Prelude.{◌≡◌, ◌+◌, ◌≤◌, ◌<◌, ◌∷◌, [], length, IfErr, IfOk, position};
+ghost use Rattle.std.specs.List.{flat_map};
+ghost use Rattle.std.specs.Vec.{vec_capacity, vec_len};
+ghost use Rattle.klsm_run.specs.ItemOrder.{is_same};
+ghost use Rattle.klsm_run.specs.Content.{placed, sorted, without, skipped};
+ghost use Rattle.klsm_parts.specs.Events.{plus, minus};
+
+use crate::errors::{StepError, WorldError};
+use crate::items::Items;
+use klsm_run::Item;
+use std::alloc::Allocator;
+
+/// A copy of items.
+pub(crate) fn copied<A: Allocator>(alloc: A, items: &[Item]) -> Result<Vec<Item, A>, StepError>
+    ensures copy { IfOk result (λ copy. copy.items ≡ items.now) }
+    ensures refused { IfErr result (λ why. why ≡ StepError.NoMemory) }
+{
+    with_room(alloc, items, 0)
+}
+
+/// A copy of ascending items with others, which are ascending too.
+pub(crate) fn with_all<A: Allocator>(
+    alloc: A,
+    items: &[Item],
+    joining: &[Item],
+) -> Result<Vec<Item, A>, StepError>
+    requires { sorted items.now ≡ items.now }
+    ensures with_all { IfOk result (λ all. all.items ≡ plus items.now joining.now) }
+    ensures refused { IfErr result (λ why. why ≡ StepError.NoMemory) }
+{
+    let mut all = with_room(alloc, items, joining.len())?;
+    place_all(&mut all, joining);
+    Ok(all)
+}
+
+/// A copy of items without some of them.
+pub(crate) fn without_all<A: Allocator>(
+    alloc: A,
+    items: &[Item],
+    leaving: &[Item],
+) -> Result<Vec<Item, A>, StepError>
+    ensures without_all { IfOk result (λ rest. rest.items ≡ minus items.now leaving.now) }
+    ensures refused { IfErr result (λ why. why ≡ StepError.NoMemory) }
+{
+    let mut rest = with_room(alloc, items, 0)?;
+    take_all_out(&mut rest, leaving);
+    Ok(rest)
+}
+
+// A copy of items with room for so many more.
+fn with_room<A: Allocator>(alloc: A, items: &[Item], more: usize) -> Result<Vec<Item, A>, StepError>
+    ensures copy { IfOk result (λ copy. (copy.items ≡ items.now) × (length items.now + more ≤ vec_capacity copy)) }
+    ensures refused { IfErr result (λ why. why ≡ StepError.NoMemory) }
+{
+    let Ok(mut copy) = Vec::with_capacity(alloc, items.len().saturating_add(more)) else {
+        return Err(StepError::NoMemory);
+    };
+    let Ok(()) = copy.extend_from_slice(items) else {
+        return Err(StepError::NoMemory);
+    };
+    Ok(copy)
+}
+
+/// Puts an item in its place. It costs a look at each item, and moves those behind it.
+pub(crate) fn place<A: Allocator>(items: &mut Vec<Item, A>, item: Item)
+    requires room { vec_len items.old < vec_capacity items.old }
+    ensures placed { items.new.items ≡ placed item items.old.items }
+    ensures capacity { vec_capacity items.old ≤ vec_capacity items.new }
+{
+    let mut at = 0;
+    while at < items.len() && items[at] < item {
+        at += 1;
+    }
+    let Ok(()) = items.insert(at, item) else {
+        unreachable!();
+    };
+}
+
+/// Puts ascending items in their places.
+pub(crate) fn place_all<A: Allocator>(items: &mut Vec<Item, A>, joining: &[Item])
+    requires room { vec_len items.old + length joining.now ≤ vec_capacity items.old }
+    requires sorted { sorted items.old.items ≡ items.old.items }
+    ensures placed { items.new.items ≡ plus items.old.items joining.now }
+{
+    let mut left = joining.len();
+    while left > 0 {
+        left -= 1;
+        place(items, joining[left]);
+    }
+}
+
+/// Takes an item out, where it is there.
+pub(crate) fn take_out<A: Allocator>(items: &mut Vec<Item, A>, item: Item)
+    ensures { items.new.items ≡ without item items.old.items }
+{
+    if let Some(at) = place_of(items, item) {
+        items.remove(at);
+    }
+}
+
+// Where an item is first among others.
+fn place_of(items: &[Item], item: Item) -> Option<usize>
+    ensures { result ≡ position (is_same item) items.now }
+{
+    items.iter().position(|other| *other == item)
+}
+
+/// Takes items out.
+pub(crate) fn take_all_out<A: Allocator>(items: &mut Vec<Item, A>, leaving: &[Item])
+    ensures { items.new.items ≡ minus items.old.items leaving.now }
+{
+    for item in leaving {
+        take_out(items, *item);
+    }
+}
+
+/// How many items are smaller than one.
+pub(crate) fn count_smaller(items: &[Item], item: Item) -> usize
+    ensures { result ≡ skipped items.now item }
+{
+    items.iter().filter(|other| **other < item).count()
+}
+
+/// How many items of contents are smaller than one.
+pub(crate) fn count_all_smaller<A: Allocator>(contents: &[Items<A>], item: Item) -> usize
+    requires { length contents.now ≤ 17 }
+    ensures { result ≡ skipped (flat_map (λ c. c) contents.now) item }
+{
+    let mut count = 0;
+    for content in contents {
+        count += count_smaller(content.as_slice(), item);
+    }
+    count
+}
+
+// How many items contents have.
+fn count_all<A: Allocator>(contents: &[Items<A>]) -> usize
+    requires { length contents.now ≤ 17 }
+    ensures { result ≡ length (flat_map (λ c. c) contents.now) }
+{
+    let mut count = 0;
+    for content in contents {
+        count += content.as_slice().len();
+    }
+    count
+}
+
+// The items of contents, one content after another.
+fn joined<A: Allocator, B: Allocator>(
+    alloc: B,
+    contents: &[Items<A>],
+) -> Result<Vec<Item, B>, WorldError>
+    requires { length contents.now ≤ 17 }
+    ensures joined { IfOk result (λ all. all.items ≡ flat_map (λ c. c) contents.now) }
+    ensures refused { IfErr result (λ why. why ≡ WorldError.NoMemory) }
+{
+    let Ok(mut all) = Vec::with_capacity(alloc, count_all(contents)) else {
+        return Err(WorldError::NoMemory);
+    };
+    for content in contents {
+        let Ok(()) = all.extend_from_slice(content.as_slice()) else {
+            return Err(WorldError::NoMemory);
+        };
+    }
+    Ok(all)
+}
+
+/// The items of contents, ascending.
+pub(crate) fn all_ascending<A: Allocator, B: Allocator>(
+    alloc: B,
+    contents: &[Items<A>],
+) -> Result<Vec<Item, B>, WorldError>
+    requires { length contents.now ≤ 17 }
+    ensures ascending { IfOk result (λ all. all.items ≡ sorted (flat_map (λ c. c) contents.now)) }
+    ensures refused { IfErr result (λ why. why ≡ WorldError.NoMemory) }
+{
+    let mut all = joined(alloc, contents)?;
+    all.sort_unstable();
+    Ok(all)
+}

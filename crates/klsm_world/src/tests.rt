@@ -1,0 +1,7 @@
+//! What `run` and `World` answer.
+
+mod compared;
+mod refused;
+mod steps;
+mod worked;
+mod wrong;
