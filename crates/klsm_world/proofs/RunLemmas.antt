@@ -26,7 +26,7 @@ use Rattle.klsm_world.specs.Worlds.{Limits, World, word_of, home_of, hand_in, co
 use Rattle.klsm_world.specs.LawfulWorlds.{IsLawful}
 use Rattle.klsm_world.specs.Schedules.{MayStep, noted, next, Leads}
 use Rattle.klsm_world.specs.RelaxedQueue.{queue_after, MayMove, queue_of, IsRun, event_of, events_of, inserted_by, deleted_by}
-use Rattle.klsm_world.specs.Laws.{MayCommitIn, SchedulesAreRuns}
+use Rattle.klsm_world.specs.Laws.{SchedulesAreRuns}
 use Rattle.klsm_world.proofs.EventCountLemmas.{times_append, times_contained, times_plus, times_without}
 use Rattle.klsm_world.proofs.SameLemmas.{same_if_counted}
 use Rattle.klsm_world.proofs.GainLemmas.{live_gains}
@@ -68,7 +68,7 @@ taken_from k own shared x (inr taken) = by_place (is_in x (taken.0 ∷ own) take
     by_place (suc i, less, same) = inl (i, omega (arith, less), same)
 
 -- in a lawful world a taken item is live
-pub taken_is_live : (limits : Limits) (w : World) (t : ℕ) (x : Item) → IsLawful limits w → MayCommitIn limits w t (Take x) → Contains (live w) x
+pub taken_is_live : (limits : Limits) (w : World) (t : ℕ) (x : Item) → IsLawful limits w → MayStep limits w (Commit t (Take x)) → Contains (live w) x
 taken_is_live limits w t x lawful may =
     let both = may.1 in
     let part : (p : ℕ) (c : List Item) → p ≤ limits.threads → Holds (hand_in w t) p c → Contains c x → Contains (live w) x = λ p c inside holds within.
@@ -80,7 +80,7 @@ taken_is_live limits w t x lawful may =
     ]
 
 -- in a lawful world the queue of live items may move by an event that a thread may commit
-pub live_may_move : (limits : Limits) (w : World) (t : ℕ) (event : Event) → IsLawful limits w → MayCommitIn limits w t event → MayMove limits (sorted (live w)) event
+pub live_may_move : (limits : Limits) (w : World) (t : ℕ) (event : Event) → IsLawful limits w → MayStep limits w (Commit t event) → MayMove limits (sorted (live w)) event
 live_may_move limits w t (Put x) lawful may = λ within. next_is_not_live limits w t x lawful may.1.1 (contains_unsorted x (live w) within)
 live_may_move limits w t (Flush x moved) lawful may = λ within. next_is_not_live limits w t x lawful may.1.1 (contains_unsorted x (live w) within)
 live_may_move limits w t (Take x) lawful may = (

@@ -2,13 +2,11 @@
 use Rattle.std.specs.Prelude.{ℕ, ◌≡◌, ◌*◌, ◌-◌, ◌+◌, ◌<◌, ◌≤◌, List, length, slice_set, Some, None}
 use Rattle.klsm_run.specs.declared.item.Item.{Item}
 use Rattle.klsm_run.specs.Content.{sorted, skipped}
-use Rattle.klsm_world.specs.declared.step.Event.{Event}
 use Rattle.klsm_world.specs.declared.step.Event.TheVariants.{Take, Nothing}
 use Rattle.klsm_world.specs.declared.step.Step.{Step}
+use Rattle.klsm_world.specs.declared.step.Step.TheVariants.{Commit}
 use Rattle.klsm_world.specs.declared.step.Entry.TheVariants.{Acquired}
-use Rattle.klsm_world.specs.OwnSteps.{inserted}
-use Rattle.klsm_world.specs.LegalSteps.{MayCommit}
-use Rattle.klsm_world.specs.Worlds.{Limits, World, word_of, home_of, steps_of, hand_in, live, first_world}
+use Rattle.klsm_world.specs.Worlds.{Limits, World, word_of, home_of, live, first_world}
 use Rattle.klsm_world.specs.LawfulWorlds.{IsLawful}
 use Rattle.klsm_world.specs.Schedules.{MayStep, noted, next, Leads}
 use Rattle.klsm_world.specs.RelaxedQueue.{IsRun, events_of}
@@ -22,18 +20,14 @@ FirstWorldIsLawful = (limits : Limits) → IsLawful limits (first_world limits)
 abbrev pub StepsKeepLawful : Type 0
 StepsKeepLawful = (limits : Limits) (w : World) (step : Step) → IsLawful limits w → MayStep limits w step → IsLawful limits (next w step)
 
--- thread t may commit an event in a world
-abbrev pub MayCommitIn : Limits → World → ℕ → Event → Type 0
-MayCommitIn limits w t event = (t < limits.threads) × MayCommit limits.k t (hand_in w t) (length (inserted (steps_of w t))) event
-
--- in a lawful world a deletion skips at most T·k live items
+-- in a lawful world a deletion that thread t may commit skips at most T·k live items
 abbrev pub TakesSkipFew : Type 0
-TakesSkipFew = (limits : Limits) (w : World) (t : ℕ) (x : Item) → IsLawful limits w → MayCommitIn limits w t (Take x)
+TakesSkipFew = (limits : Limits) (w : World) (t : ℕ) (x : Item) → IsLawful limits w → MayStep limits w (Commit t (Take x))
     → skipped (live w) x ≤ limits.threads * limits.k
 
--- in a lawful world at most (T-1)·k items live where nothing is answered
+-- in a lawful world at most (T-1)·k items live where thread t may answer nothing
 abbrev pub NothingLeavesFew : Type 0
-NothingLeavesFew = (limits : Limits) (w : World) (t : ℕ) → IsLawful limits w → MayCommitIn limits w t Nothing
+NothingLeavesFew = (limits : Limits) (w : World) (t : ℕ) → IsLawful limits w → MayStep limits w (Commit t Nothing)
     → length (live w) ≤ (limits.threads - 1) * limits.k
 
 -- the events of a schedule are a run of the relaxed queue

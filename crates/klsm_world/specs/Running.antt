@@ -1,4 +1,4 @@
--- A world as the running one shows itself, and what it keeps. `Running` is what contracts see.
+-- A world as the running one shows itself to contracts, and what a step of it answers.
 use Rattle.std.specs.Prelude.{◌≡◌, ◌≤◌, Result, OnOk, OnErr, IfErr}
 use Rattle.klsm_world.specs.declared.step.Step.{Step}
 use Rattle.klsm_world.specs.declared.errors.StepError.{StepError}

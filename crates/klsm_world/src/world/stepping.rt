@@ -10,7 +10,7 @@ ghost use Rattle.klsm_world.specs.Schedules.{MayStep};
 use super::World;
 use super::checking::{SHARED, own_part};
 use crate::conditions::has;
-use crate::contents::{copied, with_all, without_all};
+use crate::contents::{copied, take_all_out, with_all, without_all};
 use crate::errors::StepError;
 use crate::items::Items;
 use crate::own_steps::{KeptStep, OwnSteps};
@@ -96,8 +96,8 @@ impl<A: Allocator + Copy> World<A> {
         ensures { IsStepped self.old (Commit thread (Flush item moved.now)) result self.new }
     {
         let own = own_part(thread);
-        let joined = with_all(self.alloc, self.contents[own].as_slice(), &[item])?;
-        let own_after = without_all(self.alloc, joined.as_slice(), moved)?;
+        let mut own_after = with_all(self.alloc, self.contents[own].as_slice(), &[item])?;
+        take_all_out(&mut own_after, moved);
         let shared_after = with_all(self.alloc, self.contents[SHARED].as_slice(), moved)?;
         let listed = Items::new(copied(self.alloc, moved)?);
         note(&mut self.lists, thread, KeptStep::Flush(item), listed)?;
