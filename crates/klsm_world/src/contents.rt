@@ -1,9 +1,9 @@
 //! Contents of parts: ascending lists of items, changed as events say.
-ghost use Rattle.std.specs.Prelude.{◌≡◌, ◌+◌, ◌≤◌, ◌<◌, ◌∷◌, [], length, IfErr, IfOk, position};
-ghost use Rattle.std.specs.List.{flat_map};
+ghost use Rattle.std.specs.Prelude.{◌≡◌, ◌+◌, ◌++◌, ◌≤◌, ◌<◌, ◌∷◌, [], length, drop, IfErr, IfOk, position};
+ghost use Rattle.std.specs.List.{flat_map, prefix_len, take_while};
 ghost use Rattle.std.specs.Vec.{vec_capacity, vec_len};
-ghost use Rattle.klsm_run.specs.ItemOrder.{is_same};
-ghost use Rattle.klsm_run.specs.Content.{placed, sorted, without, skipped};
+ghost use Rattle.klsm_run.specs.ItemOrder.{is_same, is_smaller};
+ghost use Rattle.klsm_run.specs.Content.{sorted, without, skipped};
 ghost use Rattle.klsm_parts.specs.Events.{plus, minus};
 
 use crate::errors::{StepError, WorldError};
@@ -16,22 +16,60 @@ pub(crate) fn copied<A: Allocator>(alloc: A, items: &[Item]) -> Result<Vec<Item,
     ensures copy { IfOk result (λ copy. copy.items ≡ items.now) }
     ensures refused { IfErr result (λ why. why ≡ StepError.NoMemory) }
 {
-    with_room(alloc, items, 0)
+    let Ok(mut copy) = Vec::with_capacity(alloc, items.len()) else {
+        return Err(StepError::NoMemory);
+    };
+    let Ok(()) = copy.extend_from_slice(items) else {
+        return Err(StepError::NoMemory);
+    };
+    Ok(copy)
 }
 
-/// A copy of ascending items with others, which are ascending too.
+/// A copy of ascending items with others, which are ascending too, each in its place. It is one pass over both.
 pub(crate) fn with_all<A: Allocator>(
     alloc: A,
     items: &[Item],
     joining: &[Item],
 ) -> Result<Vec<Item, A>, StepError>
-    requires { sorted items.now ≡ items.now }
+    requires sorted { sorted items.now ≡ items.now }
+    requires joining_sorted { sorted joining.now ≡ joining.now }
     ensures with_all { IfOk result (λ all. all.items ≡ plus items.now joining.now) }
     ensures refused { IfErr result (λ why. why ≡ StepError.NoMemory) }
 {
-    let mut all = with_room(alloc, items, joining.len())?;
-    place_all(&mut all, joining);
+    let Ok(mut all) = Vec::with_capacity(alloc, items.len().saturating_add(joining.len())) else {
+        return Err(StepError::NoMemory);
+    };
+    let mut at = 0;
+    for item in joining {
+        at = push_smaller(&mut all, items, at, *item);
+        all.push_reserved(*item);
+    }
+    let Ok(()) = all.extend_from_slice(&items[at..]) else {
+        return Err(StepError::NoMemory);
+    };
     Ok(all)
+}
+
+// Adds the items from `start` on as long as they are smaller than one, and answers where the others begin.
+fn push_smaller<A: Allocator>(
+    all: &mut Vec<Item, A>,
+    items: &[Item],
+    start: usize,
+    item: Item,
+) -> usize
+    requires start_within { start ≤ length items.now }
+    requires room { vec_len all.old + length items.now ≤ vec_capacity all.old + start }
+    ensures pushed { all.new.items ≡ all.old.items ++ take_while (λ one. is_smaller one item) (drop start items.now) }
+    ensures stopped { result ≡ start + prefix_len (λ one. is_smaller one item) (drop start items.now) }
+    ensures within { result ≤ length items.now }
+    ensures capacity { vec_capacity all.old ≤ vec_capacity all.new }
+{
+    let mut at = start;
+    while at < items.len() && items[at] < item {
+        all.push_reserved(items[at]);
+        at += 1;
+    }
+    at
 }
 
 /// A copy of items without some of them.
@@ -43,51 +81,9 @@ pub(crate) fn without_all<A: Allocator>(
     ensures without_all { IfOk result (λ rest. rest.items ≡ minus items.now leaving.now) }
     ensures refused { IfErr result (λ why. why ≡ StepError.NoMemory) }
 {
-    let mut rest = with_room(alloc, items, 0)?;
+    let mut rest = copied(alloc, items)?;
     take_all_out(&mut rest, leaving);
     Ok(rest)
-}
-
-// A copy of items with room for so many more.
-fn with_room<A: Allocator>(alloc: A, items: &[Item], more: usize) -> Result<Vec<Item, A>, StepError>
-    ensures copy { IfOk result (λ copy. (copy.items ≡ items.now) × (length items.now + more ≤ vec_capacity copy)) }
-    ensures refused { IfErr result (λ why. why ≡ StepError.NoMemory) }
-{
-    let Ok(mut copy) = Vec::with_capacity(alloc, items.len().saturating_add(more)) else {
-        return Err(StepError::NoMemory);
-    };
-    let Ok(()) = copy.extend_from_slice(items) else {
-        return Err(StepError::NoMemory);
-    };
-    Ok(copy)
-}
-
-/// Puts an item in its place. It costs a look at each item, and moves those behind it.
-pub(crate) fn place<A: Allocator>(items: &mut Vec<Item, A>, item: Item)
-    requires room { vec_len items.old < vec_capacity items.old }
-    ensures placed { items.new.items ≡ placed item items.old.items }
-    ensures capacity { vec_capacity items.old ≤ vec_capacity items.new }
-{
-    let mut at = 0;
-    while at < items.len() && items[at] < item {
-        at += 1;
-    }
-    let Ok(()) = items.insert(at, item) else {
-        unreachable!();
-    };
-}
-
-/// Puts ascending items in their places.
-pub(crate) fn place_all<A: Allocator>(items: &mut Vec<Item, A>, joining: &[Item])
-    requires room { vec_len items.old + length joining.now ≤ vec_capacity items.old }
-    requires sorted { sorted items.old.items ≡ items.old.items }
-    ensures placed { items.new.items ≡ plus items.old.items joining.now }
-{
-    let mut left = joining.len();
-    while left > 0 {
-        left -= 1;
-        place(items, joining[left]);
-    }
 }
 
 /// Takes an item out, where it is there.

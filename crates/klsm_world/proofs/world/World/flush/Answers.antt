@@ -1,8 +1,13 @@
 use Rattle.std.proofs.Common.{ap, ◌∙◌}
+use Rattle.klsm_run.proofs.SortedLemmas.{sorted_ascending}
 use Rattle.klsm_parts.specs.Events.{minus}
 use Rattle.klsm_world.specs.Worlds.{Limits}
 use Rattle.klsm_world.proofs.CommitTakenLemmas.{flush_taken}
 use Rattle.klsm_world.proofs.world.World.flush.Goals as goal
+
+-- what moves at a legal flush ascends
+pub with_all-requires-2-clause-joining_sorted : goal.with_all-requires-2-clause-joining_sorted
+with_all-requires-2-clause-joining_sorted g c = sorted_ascending c.args.moved.now c.requires.1.0.4.ascending
 
 pub invariant_of-self-2 : goal.invariant_of-self-2
 invariant_of-self-2 g c =
