@@ -2,6 +2,7 @@
 use Rattle.std.proofs.Common.{◌≡◌, ◌&&◌, ◌≢◌, ℕ, ◌+◌, ◌<◌, ◌≤◌, ◌==◌, Bool, true, false, not, ◌||◌, List, [], ◌∷◌, length, refl, sym, ap, ◌∙◌, subst, arith, inl, inr}
 use Rattle.std.specs.List.{AllByRecursion, list_any}
 use Rattle.std.proofs.lemmas.Bool.{eqb-true, eq-eqb}
+use Rattle.std.specs.Cmp.Lexicographic.{pointwise, pointwise_decides}
 use lib.Dec.{eqb}
 use Rattle.klsm_run.specs.declared.item.Stamp.{Stamp}
 use Rattle.klsm_run.specs.declared.item.Item.{Item}
@@ -40,6 +41,12 @@ same_if_equal x y is =
     let stamp : x.stamp ≡ y.stamp = ap (λ (o : ℕ). record { owner = o; number = x.stamp.number }) owner ∙ ap (λ (n : ℕ). record { owner = y.stamp.owner; number = n }) number in
     ap (λ (k : ℕ). record { key = k; stamp = x.stamp; load = x.load }) key
     ∙ (ap (λ (s : Stamp). record { key = y.key; stamp = s; load = x.load }) stamp ∙ ap (λ (l : ℕ). record { key = y.key; stamp = y.stamp; load = l }) load)
+
+-- lists that are equal item by item are one
+pub one_list_if_equal : (xs ys : List Item) (result : Bool) → result ≡ pointwise are_equal xs ys → (result ≡ true → xs ≡ ys) × (xs ≡ ys → result ≡ true)
+one_list_if_equal xs ys result is =
+    let decides = pointwise_decides (λ x y. (same_if_equal x y, λ one. ap (are_equal x) (sym one) ∙ equal_itself x)) xs ys in
+    (λ so. decides.0 (sym is ∙ so), λ one. is ∙ decides.1 one)
 
 -- items with other fields are not
 pub other_if_not_equal : (x y : Item) → are_equal x y ≡ false → x ≢ y

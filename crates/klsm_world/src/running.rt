@@ -14,6 +14,7 @@ use std::alloc::{Allocator, Global};
 
 /// What a run did, and what it left.
 #[derive(Drop)]
+#[derive_where(Debug, PartialEq, Eq)]
 pub struct Trace<A: Allocator = Global> {
     /// The items inserted, in the order of their steps.
     pub inserted: Items<A>,

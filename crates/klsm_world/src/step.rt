@@ -4,7 +4,7 @@ use crate::items::Items;
 use klsm_run::Item;
 
 /// What takes effect at one step.
-#[derive(Drop)]
+#[derive(Debug, PartialEq, Eq, Drop)]
 pub enum Event {
     /// The item goes into the thread's own part, which has room.
     Put(Item),
@@ -29,7 +29,7 @@ pub enum Event {
 }
 
 /// A step of one thread. Part 0 is the shared one, and part t + 1 is thread t's own.
-#[derive(Drop)]
+#[derive(Debug, PartialEq, Eq, Drop)]
 pub enum Step {
     /// The thread takes a part that is free.
     Acquire {
@@ -62,7 +62,7 @@ pub enum Step {
 }
 
 /// One of a thread's own steps, as its list has it.
-#[derive(Drop)]
+#[derive(Debug, PartialEq, Eq, Drop)]
 pub enum Entry {
     /// The part was taken.
     Acquired {

@@ -2,6 +2,7 @@
 
 mod compared;
 mod refused;
+mod shown;
 mod steps;
 mod worked;
 mod wrong;
