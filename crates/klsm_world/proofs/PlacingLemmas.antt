@@ -2,9 +2,8 @@
 use Rattle.std.proofs.Common.{◌≡◌, ℕ, ◌+◌, ◌-◌, ◌<◌, ◌≤◌, Bool, true, false, not, nat_lt, List, [], ◌∷◌, ◌++◌, length, take, drop, get_or, remove, Some, None, cond, refl, sym, ap, ◌∙◌, subst, arith, zero, suc, if◌then◌else◌, inl, inr}
 use Rattle.std.specs.List.{position, position_or_len, prefix_len, take_while}
 use Rattle.std.proofs.lemmas.Bool.{cond_below, cases_lt}
-use Rattle.std.proofs.lemmas.List.{append_assoc, length-append, length-drop, take_all, drop_all, drop_more, at_drop_more, drop-drop}
+use Rattle.std.proofs.lemmas.List.{append_assoc, length-append, length-drop, take_all, drop_all, drop_more, drop-drop}
 use Rattle.std.proofs.lemmas.List.Folds.{length-prefix_len}
-use Rattle.std.proofs.lemmas.List.Sums.{take_while-cons}
 use Rattle.std.proofs.lemmas.Option.{cond_some}
 use Rattle.klsm_run.specs.declared.item.Item.{Item}
 use Rattle.klsm_run.specs.ItemOrder.{is_same, is_smaller}
@@ -47,16 +46,6 @@ smaller_first x = take_while (λ y. is_smaller y x)
 
 abbrev pub count_first : Item → List Item → ℕ
 count_first x = prefix_len (λ y. is_smaller y x)
-
--- the smaller items are added one by one
-pub smaller_more : (x : Item) (c : List Item) (i : ℕ) (d : Item) (done more : List Item) → i < length c → is_smaller (get_or c i d) x ≡ true → more ≡ done ++ get_or c i d ∷ []
-    → more ++ smaller_first x (drop (i + 1) c) ≡ done ++ smaller_first x (drop i c)
-smaller_more x c i d done more within smaller added =
-    let y = get_or c i d in
-    let rest = smaller_first x (drop (i + 1) c) in
-    let first : smaller_first x (drop i c) ≡ y ∷ rest =
-    at_drop_more (smaller_first x) c i d within ∙ (take_while-cons (λ z. is_smaller z x) y (drop (i + 1) c) ∙ ap (λ b. cond b (y ∷ rest) []) smaller) in
-    ap (λ zs. zs ++ rest) added ∙ (append_assoc done (y ∷ []) rest ∙ ap (λ zs. done ++ zs) (sym first))
 
 pub length_smaller : (x : Item) (c done pushed : List Item) → pushed ≡ done ++ smaller_first x c → length pushed ≡ length done + count_first x c
 length_smaller x c done pushed pushed_is = ap length pushed_is ∙ omega (arith, length-append done (smaller_first x c), length-prefix_len (λ y. is_smaller y x) c)

@@ -64,12 +64,19 @@ fn push_smaller<A: Allocator>(
     ensures within { result ≤ length items.now }
     ensures capacity { vec_capacity all.old ≤ vec_capacity all.new }
 {
-    let mut at = start;
-    while at < items.len() && items[at] < item {
-        all.push_reserved(items[at]);
-        at += 1;
-    }
-    at
+    let smaller = first_smaller(&items[start..], item);
+    let Ok(()) = all.extend_from_slice(&items[start..start + smaller]) else {
+        unreachable!();
+    };
+    start + smaller
+}
+
+// How many items come before the first that is not smaller than one.
+fn first_smaller(items: &[Item], item: Item) -> usize
+    ensures counted { result ≡ prefix_len (λ one. is_smaller one item) items.now }
+    ensures within { result ≤ length items.now }
+{
+    items.iter().take_while(|other| **other < item).count()
 }
 
 /// A copy of items without some of them.
