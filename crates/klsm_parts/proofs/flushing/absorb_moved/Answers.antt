@@ -43,3 +43,21 @@ returns-else-len-eq0-clause-full g c =
     let block = get_or_from_slice_get c.lsm.result.now 0 _ [] c.block.ensures.block in
     let run : get_or c.lsm.result.now 0 [] ≡ moved c.args.own.now.blocks c.args.item = rw c.lsm.ensures (sym (moved_some c.args.own.now.blocks c.args.item some)) in
     rw (← run, block) c.absorb_copy-else-len-eq0.ensures.full
+
+pub len-requires : goal.len-requires
+len-requires g c = search rules
+
+pub single-requires : goal.single-requires
+single-requires g c = search rules
+
+pub absorb_copy-requires-room-R-Run : goal.absorb_copy-requires-room-R-Run
+absorb_copy-requires-room-R-Run g c = search rules
+
+pub lsm-requires : goal.lsm-requires
+lsm-requires g c = search rules
+
+pub block-requires-room-R-Run : goal.block-requires-room-R-Run
+block-requires-room-R-Run g c = search rules
+
+pub absorb_copy-requires-else-len-eq0-room-R-Run : goal.absorb_copy-requires-else-len-eq0-room-R-Run
+absorb_copy-requires-else-len-eq0-room-R-Run g c = search rules

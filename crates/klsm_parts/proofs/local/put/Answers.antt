@@ -1,4 +1,4 @@
-use Rattle.std.proofs.Common.{◌<◌, length, subst, sym, arith}
+use Rattle.std.proofs.Common.{◌<◌, length, subst, sym, arith, rules}
 use Rattle.klsm_run.proofs.SortedLemmas.{length_sorted}
 use Rattle.klsm_lsm.specs.Lsm.{content}
 use Rattle.klsm_parts.specs.Parts.{PartState, items_in}
@@ -20,3 +20,6 @@ invariant_of-own g c =
 
 pub returns-clause-event : goal.returns-clause-event
 returns-clause-event g c = rw (c.in-Ok.ensures.added, ← c.own.view_is) (put_is c.own.inside.lsm c.args.item)
+
+pub insert-requires : goal.insert-requires
+insert-requires g c = search rules

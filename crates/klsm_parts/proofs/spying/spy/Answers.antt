@@ -45,3 +45,15 @@ returns-clause-event g c =
       ap items_in c.receive.ensures ∙ own_spied blocks moved c.len-2.ensures.lawful given,
       ap items_in c.split_for_spy-moved.ensures.rest ∙ victim_spied blocks moved given,
     )
+
+pub len-requires : goal.len-requires
+len-requires g c = search rules
+
+pub len-requires-2 : goal.len-requires-2
+len-requires-2 g c = search rules
+
+pub split_for_spy-moved-requires : goal.split_for_spy-moved-requires
+split_for_spy-moved-requires g c = search rules
+
+pub len-count-requires : goal.len-count-requires
+len-count-requires g c = search rules

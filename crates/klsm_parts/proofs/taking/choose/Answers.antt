@@ -1,4 +1,4 @@
-use Rattle.std.proofs.Common.{◌≡◌, true, false, sym, ◌∙◌, subst}
+use Rattle.std.proofs.Common.{◌≡◌, true, false, sym, ◌∙◌, subst, rules}
 use Rattle.klsm_lsm.specs.Lsm.{content}
 use Rattle.klsm_parts.proofs.TakeLemmas.{IsTested, not_asked, is_asked, own_goes, candidate_goes, some_candidate}
 use Rattle.klsm_parts.proofs.taking.choose.Goals as goal
@@ -46,3 +46,27 @@ returns-clause-asked g c asked = record {
   found = c.place_of_candidate-candidate.ensures.candidate;
   follows = candidate_goes _ c.place_of_candidate-candidate.result.item c.is_smaller_own-2.result (subst (λ o. IsTested o c.place_of_candidate-candidate.result.item c.is_smaller_own-2.result) c.least-least_own.ensures c.is_smaller_own-2.ensures) c.if-is_smaller_own-2.false;
 }
+
+pub least-least_own-requires : goal.least-least_own-requires
+least-least_own-requires g c = search rules
+
+pub least-requires : goal.least-requires
+least-requires g c = search rules
+
+pub branch-least_shared-requires : goal.branch-least_shared-requires
+branch-least_shared-requires g c = search rules
+
+pub from_residual-requires : goal.from_residual-requires
+from_residual-requires g c = search rules
+
+pub is_smaller_own-requires : goal.is_smaller_own-requires
+is_smaller_own-requires g c = search rules
+
+pub candidates-requires : goal.candidates-requires
+candidates-requires g c = search rules
+
+pub place_of_candidate-candidate-requires : goal.place_of_candidate-candidate-requires
+place_of_candidate-candidate-requires g c = search rules
+
+pub is_smaller_own-requires-2 : goal.is_smaller_own-requires-2
+is_smaller_own-requires-2 g c = search rules

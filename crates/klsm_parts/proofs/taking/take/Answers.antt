@@ -1,4 +1,4 @@
-use Rattle.std.proofs.Common.{◌≡◌, true, None, Ok, refl, sym, ap, ◌∙◌, subst, inl, inr}
+use Rattle.std.proofs.Common.{◌≡◌, true, None, Ok, refl, sym, ap, ◌∙◌, subst, inl, inr, rules}
 use Rattle.std.specs.List.{Contains, slice_get}
 use Rattle.klsm_run.specs.Content.{sorted}
 use Rattle.klsm_lsm.specs.Lsm.{content}
@@ -95,3 +95,15 @@ returns-in-None-2-clause-skips g c =
 
 pub returns-in-None-2-clause-left : goal.returns-in-None-2-clause-left
 returns-in-None-2-clause-left g c = (c.take_least.ensures.k, refl, inl (c.take_least.ensures.cut, refl))
+
+pub choose-requires : goal.choose-requires
+choose-requires g c = search rules
+
+pub remove-requires : goal.remove-requires
+remove-requires g c = search rules
+
+pub len-requires : goal.len-requires
+len-requires g c = search rules
+
+pub take_least-requires : goal.take_least-requires
+take_least-requires g c = search rules

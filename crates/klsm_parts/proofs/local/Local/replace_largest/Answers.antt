@@ -28,3 +28,9 @@ invariant_of-self-2 g c =
     omega (arith, fewer_without_largest c.self.inside.lsm lawful some, c.self.invariant.few) in
     rw (c.in-Ok.ensures.added, c.take_largest.ensures.rest)
     (own_added g.row.CAP c.self.inside.k c.self.inside.lsm (drop 1 c.self.inside.lsm) c.args.item c.self.invariant room)
+
+pub take_largest-requires-room-R-Run : goal.take_largest-requires-room-R-Run
+take_largest-requires-room-R-Run g c = search rules
+
+pub take_largest-requires : goal.take_largest-requires
+take_largest-requires g c = search rules

@@ -11,3 +11,21 @@ absorb-requires g c =
 
 pub returns-in-Err-clause-full : goal.returns-in-Err-clause-full
 returns-in-Err-clause-full g c = rw (← c.self.view_is, ← c.in-Ok.ensures) c.in-Err.ensures.full
+
+pub len-requires : goal.len-requires
+len-requires g c = search rules
+
+pub limit-requires : goal.limit-requires
+limit-requires g c = search rules
+
+pub len-requires-2 : goal.len-requires-2
+len-requires-2 g c = search rules
+
+pub copy_of-requires : goal.copy_of-requires
+copy_of-requires g c = search rules
+
+pub candidate_pivots-self-inside-requires : goal.candidate_pivots-self-inside-requires
+candidate_pivots-self-inside-requires g c = search rules
+
+pub drop-refused-requires : goal.drop-refused-requires
+drop-refused-requires g c = search rules

@@ -1,4 +1,4 @@
-use Rattle.std.proofs.Common.{◌≡◌, ◌+◌, length, min, subst, ◌∙◌, arith}
+use Rattle.std.proofs.Common.{◌≡◌, ◌+◌, length, min, subst, ◌∙◌, arith, rules}
 use Rattle.klsm_lsm.specs.Lsm.{content}
 use Rattle.klsm_parts.specs.Least.{least}
 use Rattle.klsm_parts.specs.Parts.{PartState}
@@ -9,3 +9,9 @@ pub returns : goal.returns
 returns g c =
     let count : c.min.result ≡ min (length (content c.self.inside.lsm)) (c.self.inside.k + 1) = omega (arith, c.min.ensures, c.len.ensures.len) in
     subst (λ (p : PartState). c.min.result ≡ length (least (p.k + 1) (content p.blocks))) c.self.view_is (count ∙ count_of_least c.self.inside.k c.self.inside.lsm)
+
+pub len-requires : goal.len-requires
+len-requires g c = search rules
+
+pub min-requires : goal.min-requires
+min-requires g c = search rules

@@ -9,3 +9,6 @@ remove-requires g c =
     let block = subst (λ (p : PartState). c.args.place.block < length p.blocks) (sym c.self.view_is) c.requires.block in
     let index = subst (λ (p : PartState). slice_get (get_or p.blocks c.args.place.block []) c.args.place.index ≡ Some c.args.place.item) (sym c.self.view_is) c.requires.index in
     (search rules, (block, slice_get_within (get_or c.self.inside.lsm c.args.place.block []) c.args.place.index c.args.place.item index))
+
+pub candidate_pivots-self-inside-requires : goal.candidate_pivots-self-inside-requires
+candidate_pivots-self-inside-requires g c = search rules

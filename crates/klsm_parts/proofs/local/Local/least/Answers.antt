@@ -1,0 +1,8 @@
+use Rattle.std.proofs.Common.{rules}
+use Rattle.klsm_parts.proofs.local.Local.least.Goals as goal
+
+pub least-requires-room-R-Run : goal.least-requires-room-R-Run
+least-requires-room-R-Run g c = search rules
+
+pub least-requires : goal.least-requires
+least-requires g c = search rules

@@ -1,0 +1,8 @@
+use Rattle.std.proofs.Common.{rules}
+use Rattle.klsm_parts.proofs.local.Local.new.Goals as goal
+
+pub new-requires-room-R-Run : goal.new-requires-room-R-Run
+new-requires-room-R-Run g c = search rules
+
+pub new-requires : goal.new-requires
+new-requires g c = search rules

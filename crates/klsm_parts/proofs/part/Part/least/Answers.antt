@@ -1,0 +1,8 @@
+use Rattle.std.proofs.Common.{rules}
+use Rattle.klsm_parts.proofs.part.Part.least.Goals as goal
+
+pub least-requires : goal.least-requires
+least-requires g c = search rules
+
+pub least-requires-in-Common : goal.least-requires-in-Common
+least-requires-in-Common g c = search rules

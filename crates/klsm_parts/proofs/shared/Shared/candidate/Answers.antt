@@ -1,0 +1,5 @@
+use Rattle.std.proofs.Common.{rules}
+use Rattle.klsm_parts.proofs.shared.Shared.candidate.Goals as goal
+
+pub place_of_candidate-requires : goal.place_of_candidate-requires
+place_of_candidate-requires g c = search rules
