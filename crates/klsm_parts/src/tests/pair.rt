@@ -63,6 +63,14 @@ impl<'a, const LEVELS: usize> Pair<'a, LEVELS> {
         Ok(())
     }
 
+    /// Inserts the items of these keys in turn.
+    pub fn insert_all(&mut self, rt: &impl Abort, keys: &[u64]) -> Result<(), LsmError> {
+        for key in keys {
+            self.insert(rt, *key)?;
+        }
+        Ok(())
+    }
+
     /// Deletes an item.
     pub fn delete<P: Picker>(&mut self, picker: &mut P) -> Result<Option<Item>, LsmError> {
         take(&mut self.own, &mut self.shared, picker)

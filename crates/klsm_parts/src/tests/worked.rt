@@ -1,7 +1,7 @@
 //! A worked run at k = 2, and each public call once.
 
-use super::pair::{Pair, View, item};
-use crate::{First, Last, Local, Part, Shared, flush};
+use super::pair::{Pair, item};
+use crate::{First, Last, Local, Part, Picker, Shared, flush};
 use klsm_lsm::LsmError;
 use klsm_run::Item;
 use klsm_testing::Rationed;
@@ -28,16 +28,30 @@ fn assert_blocks(
     Ok(())
 }
 
+// Asserts what deletions answer in turn.
+fn assert_deleted<P: Picker>(
+    rt: &impl Abort,
+    pair: &mut Pair<21>,
+    picker: &mut P,
+    want: &[Option<Item>],
+) -> Result<(), LsmError> {
+    for want in want {
+        assert_eq!(rt; pair.delete(picker)?, *want);
+    }
+    Ok(())
+}
+
 // Asserts what two parts show.
-fn assert_view(
+fn assert_shows<const LEVELS: usize>(
     rt: &impl Abort,
     alloc: Global,
-    view: &View,
+    pair: &Pair<LEVELS>,
     own: &[&[u64]],
     shared: &[&[u64]],
     pivots: &[usize],
     candidates: &[u64],
 ) -> Result<(), Fail> {
+    let view = pair.view(alloc)?;
     assert_blocks(rt, alloc, view.own.as_slice(), own)?;
     assert_blocks(rt, alloc, view.shared.as_slice(), shared)?;
     assert_eq!(rt; view.pivots.as_slice(), pivots);
@@ -48,35 +62,43 @@ fn assert_view(
     Ok(())
 }
 
+// Asserts an own part's k, its number of items and the least of them.
+fn assert_own(rt: &impl Abort, own: &Local<64>, k: usize, len: usize, least: Item) {
+    assert_eq!(rt; own.k(), k);
+    assert_eq!(rt; own.len(), len);
+    assert_eq!(rt; own.least(), Some(least));
+}
+
+// Asserts a shared part's k, its number of items and the least of them.
+fn assert_shared(rt: &impl Abort, pair: &Pair<21>, k: usize, len: usize, least: Item) {
+    assert_eq!(rt; pair.shared.k(), k);
+    assert_eq!(rt; pair.shared.len(), len);
+    assert_eq!(rt; pair.shared.least(), Some(least));
+}
+
 // Seven insertions at k = 2, and the deletion of the greatest candidate.
 #[test]
 fn blocks_pivots_and_candidates(rt: HostRuntime) -> Result<(), Fail> {
     let heap = Rationed::new(rt.alloc());
     let mut pair: Pair<21> = Pair::new(&heap, 2);
-    for key in [5, 1, 4, 2, 3, 9, 8] {
-        pair.insert(&rt, key)?;
-    }
+    pair.insert_all(&rt, &[5, 1, 4, 2, 3, 9, 8])?;
     let whole = [1, 2, 4, 5].as_slice();
-    assert_view(
+    assert_shows(
         &rt,
         rt.alloc(),
-        &pair.view(rt.alloc())?,
+        &pair,
         &[&[8]],
         &[whole, &[3, 9]],
         &[2, 1],
         &[1, 2, 3],
     )?;
-    assert_eq!(rt; pair.own.k(), 2);
-    assert_eq!(rt; pair.own.len(), 1);
-    assert_eq!(rt; pair.own.least(), Some(item(8, 6)));
-    assert_eq!(rt; pair.shared.k(), 2);
-    assert_eq!(rt; pair.shared.len(), 6);
-    assert_eq!(rt; pair.shared.least(), Some(item(1, 1)));
-    assert_eq!(rt; pair.delete(&mut Last)?, Some(item(3, 4)));
-    assert_view(
+    assert_own(&rt, &pair.own, 2, 1, item(8, 6));
+    assert_shared(&rt, &pair, 2, 6, item(1, 1));
+    assert_deleted(&rt, &mut pair, &mut Last, &[Some(item(3, 4))])?;
+    assert_shows(
         &rt,
         rt.alloc(),
-        &pair.view(rt.alloc())?,
+        &pair,
         &[&[8]],
         &[whole, &[9]],
         &[3, 0],
@@ -89,17 +111,18 @@ fn blocks_pivots_and_candidates(rt: HostRuntime) -> Result<(), Fail> {
 fn own_items_go(rt: HostRuntime) -> Result<(), Fail> {
     let heap = Rationed::new(rt.alloc());
     let mut pair: Pair<21> = Pair::new(&heap, 1);
-    assert_eq!(rt; pair.delete(&mut Last)?, None);
-    for key in [7, 2, 5] {
-        pair.insert(&rt, key)?;
-    }
+    assert_deleted(&rt, &mut pair, &mut Last, &[None])?;
+    pair.insert_all(&rt, &[7, 2, 5])?;
     assert_eq!(rt; pair.own.least(), Some(item(5, 2)));
-    assert_eq!(rt; pair.delete(&mut Last)?, Some(item(5, 2)));
-    assert_eq!(rt; pair.delete(&mut Last)?, Some(item(7, 0)));
+    assert_deleted(
+        &rt,
+        &mut pair,
+        &mut Last,
+        &[Some(item(5, 2)), Some(item(7, 0))],
+    )?;
     pair.insert(&rt, 1)?;
-    assert_eq!(rt; pair.delete(&mut Last)?, Some(item(1, 3)));
-    assert_eq!(rt; pair.delete(&mut First)?, Some(item(2, 1)));
-    assert_eq!(rt; pair.delete(&mut First)?, None);
+    assert_deleted(&rt, &mut pair, &mut Last, &[Some(item(1, 3))])?;
+    assert_deleted(&rt, &mut pair, &mut First, &[Some(item(2, 1)), None])?;
     Ok(())
 }
 
@@ -108,16 +131,14 @@ fn own_items_go(rt: HostRuntime) -> Result<(), Fail> {
 fn full_shared_part(rt: HostRuntime) -> Result<(), Fail> {
     let heap = Rationed::new(rt.alloc());
     let mut pair: Pair<3> = Pair::new(&heap, 1);
-    for key in 1..6 {
-        pair.insert(&rt, key)?;
-    }
+    pair.insert_all(&rt, &[1, 2, 3, 4, 5])?;
     let before = pair.view(rt.alloc())?;
     assert_eq!(rt; pair.insert(&rt, 6), Err(LsmError::Full));
     assert!(rt; pair.view(rt.alloc())? == before);
-    assert_view(
+    assert_shows(
         &rt,
         rt.alloc(),
-        &before,
+        &pair,
         &[&[5]],
         &[&[1, 2, 3, 4]],
         &[2],
@@ -130,12 +151,9 @@ fn full_shared_part(rt: HostRuntime) -> Result<(), Fail> {
 fn no_own_items(rt: HostRuntime) -> Result<(), Fail> {
     let heap = Rationed::new(rt.alloc());
     let mut pair: Pair<21> = Pair::new(&heap, 0);
-    for key in [3, 1, 2] {
-        pair.insert(&rt, key)?;
-    }
-    let view = pair.view(rt.alloc())?;
-    assert_view(&rt, rt.alloc(), &view, &[], &[&[1, 3], &[2]], &[1, 0], &[1])?;
-    assert_eq!(rt; pair.delete(&mut Last)?, Some(item(1, 1)));
+    pair.insert_all(&rt, &[3, 1, 2])?;
+    assert_shows(&rt, rt.alloc(), &pair, &[], &[&[1, 3], &[2]], &[1, 0], &[1])?;
+    assert_deleted(&rt, &mut pair, &mut Last, &[Some(item(1, 1))])?;
     Ok(())
 }
 
@@ -152,9 +170,7 @@ fn assert_part(rt: &impl Abort, part: &Part<64, 21>, items: &[Item]) {
 fn parts_of_either_kind(rt: HostRuntime) -> Result<(), Fail> {
     let heap = Rationed::new(rt.alloc());
     let mut few: Pair<21> = Pair::new(&heap, 3);
-    for key in [4, 6, 5] {
-        few.insert(&rt, key)?;
-    }
+    few.insert_all(&rt, &[4, 6, 5])?;
     let Pair { own, .. } = few;
     assert_part(&rt, &Part::Own(own), &[item(4, 0), item(6, 1), item(5, 2)]);
     let mut none: Local<64> = Local::new(0);
