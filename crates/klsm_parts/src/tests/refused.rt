@@ -67,6 +67,25 @@ fn view_flushed(rt: &impl Abort, alloc: Global, heap: &Rationed<Global>) -> Resu
     Ok(pair.view(alloc)?)
 }
 
+// Asserts that a flush with all growths granted leaves what it leaves where none was refused before.
+fn assert_flush(
+    rt: &impl Abort,
+    alloc: Global,
+    heap: &Rationed<Global>,
+    pair: &mut Pair<21>,
+    flushed: &View,
+    growths: u64,
+) -> Result<(), Fail> {
+    heap.allow(u64::MAX);
+    pair.insert(rt, 7)?;
+    assert_shows(rt, alloc, pair, flushed, growths)
+}
+
+// Asserts what a flush answers.
+fn assert_outcome(rt: &impl Abort, outcome: Result<(), LsmError>, want: Result<(), LsmError>) {
+    assert_eq!(rt; outcome, want);
+}
+
 // Flushes with so many growths granted. Where that is too few, asserts that nothing changed, and flushes with all granted.
 // The answer is whether nothing was refused.
 fn flush_within(
@@ -84,11 +103,9 @@ fn flush_within(
         outcome?;
         return Ok(true);
     }
-    assert_eq!(rt; outcome, Err(LsmError::NoMemory));
+    assert_outcome(rt, outcome, Err(LsmError::NoMemory));
     assert_shows(rt, alloc, &pair, &before, growths)?;
-    heap.allow(u64::MAX);
-    pair.insert(rt, 7)?;
-    assert_shows(rt, alloc, &pair, flushed, growths)?;
+    assert_flush(rt, alloc, heap, &mut pair, flushed, growths)?;
     Ok(false)
 }
 
@@ -140,7 +157,7 @@ fn assert_answer(
     assert_eq!(rt; answer, want);
 }
 
-// Asserts that a take with all growths granted is as it is where none was refused before.
+// Asserts that a take with all growths granted answers and leaves what it does where none was refused before.
 fn assert_take(
     rt: &impl Abort,
     alloc: Global,
@@ -192,28 +209,27 @@ fn take_refused(rt: HostRuntime) -> Result<(), Fail> {
     Err("each take was refused".into())
 }
 
-// The next deletion of the least candidate leaves half of a block's items, which asks for a smaller store.
-fn pair_to_shrink<'a>(
+// What the parts show after the least candidate is deleted with so many growths granted. It leaves half of a block's items,
+// which asks for a smaller store.
+fn view_shrunk(
     rt: &impl Abort,
-    heap: &'a Rationed<Global>,
-) -> Result<Pair<'a, 21>, LsmError> {
-    pair_without_least(rt, heap, &[5, 1, 4, 2, 3])
-}
-
-// Asserts that the least candidate is deleted.
-fn assert_least_deleted(rt: &impl Abort, pair: &mut Pair<21>) {
+    alloc: Global,
+    heap: &Rationed<Global>,
+    growths: u64,
+) -> Result<View, Fail> {
+    let mut pair = pair_without_least(rt, heap, &[5, 1, 4, 2, 3])?;
+    heap.allow(growths);
     assert_answer(rt, pair.delete(&mut First), Ok(Some(item(2, 3))));
+    Ok(pair.view(alloc)?)
 }
 
 // A block whose items are half gone asks for a smaller store. The take goes through without it.
 #[test]
 fn smaller_store_refused(rt: HostRuntime) -> Result<(), Fail> {
     let heap = Rationed::new(rt.alloc());
-    let mut usual = pair_to_shrink(&rt, &heap)?;
-    assert_least_deleted(&rt, &mut usual);
-    let mut pair = pair_to_shrink(&rt, &heap)?;
-    heap.allow(0);
-    assert_least_deleted(&rt, &mut pair);
+    let usual = view_shrunk(&rt, rt.alloc(), &heap, u64::MAX)?;
+    let shrunk = view_shrunk(&rt, rt.alloc(), &heap, 0)?;
     assert!(rt; heap.has_refused());
-    assert_shows(&rt, rt.alloc(), &pair, &usual.view(rt.alloc())?, 0)
+    assert!(rt; shrunk == usual);
+    Ok(())
 }

@@ -1,6 +1,6 @@
 //! A worked run at k = 2, and each public call once.
 
-use super::pair::{Pair, item};
+use super::pair::{Pair, View, item};
 use crate::{First, Last, Local, Part, Picker, Shared, flush};
 use klsm_lsm::LsmError;
 use klsm_run::Item;
@@ -14,6 +14,12 @@ fn keys(alloc: Global, items: &[Item]) -> Result<Vec<u64>, AllocError> {
     items.iter().map(|item| item.key).collect(alloc)
 }
 
+// Asserts that the items have these keys.
+fn assert_keys(rt: &impl Abort, alloc: Global, items: &[Item], want: &[u64]) -> Result<(), Fail> {
+    assert_eq!(rt; keys(alloc, items)?.as_slice(), want);
+    Ok(())
+}
+
 // Asserts that the blocks have these keys.
 fn assert_blocks(
     rt: &impl Abort,
@@ -23,9 +29,25 @@ fn assert_blocks(
 ) -> Result<(), Fail> {
     assert_eq!(rt; blocks.len(), want.len());
     for (block, want) in blocks.iter().zip(want) {
-        assert_eq!(rt; keys(alloc, block.as_slice())?.as_slice(), *want);
+        assert_keys(rt, alloc, block.as_slice(), want)?;
     }
     Ok(())
+}
+
+// Asserts what two parts show.
+fn assert_view(
+    rt: &impl Abort,
+    alloc: Global,
+    view: &View,
+    own: &[&[u64]],
+    shared: &[&[u64]],
+    pivots: &[usize],
+    candidates: &[u64],
+) -> Result<(), Fail> {
+    assert_blocks(rt, alloc, view.own.as_slice(), own)?;
+    assert_blocks(rt, alloc, view.shared.as_slice(), shared)?;
+    assert_eq!(rt; view.pivots.as_slice(), pivots);
+    assert_keys(rt, alloc, view.candidates.as_slice(), candidates)
 }
 
 // Asserts what deletions answer in turn.
@@ -38,27 +60,6 @@ fn assert_deleted<P: Picker>(
     for want in want {
         assert_eq!(rt; pair.delete(picker)?, *want);
     }
-    Ok(())
-}
-
-// Asserts what two parts show.
-fn assert_shows<const LEVELS: usize>(
-    rt: &impl Abort,
-    alloc: Global,
-    pair: &Pair<LEVELS>,
-    own: &[&[u64]],
-    shared: &[&[u64]],
-    pivots: &[usize],
-    candidates: &[u64],
-) -> Result<(), Fail> {
-    let view = pair.view(alloc)?;
-    assert_blocks(rt, alloc, view.own.as_slice(), own)?;
-    assert_blocks(rt, alloc, view.shared.as_slice(), shared)?;
-    assert_eq!(rt; view.pivots.as_slice(), pivots);
-    assert_eq!(rt;
-        keys(alloc, view.candidates.as_slice())?.as_slice(),
-        candidates
-    );
     Ok(())
 }
 
@@ -76,29 +77,27 @@ fn assert_shared(rt: &impl Abort, pair: &Pair<21>, k: usize, len: usize, least: 
     assert_eq!(rt; pair.shared.least(), Some(least));
 }
 
-// Seven insertions at k = 2, and the deletion of the greatest candidate.
-#[test]
-fn blocks_pivots_and_candidates(rt: HostRuntime) -> Result<(), Fail> {
-    let heap = Rationed::new(rt.alloc());
-    let mut pair: Pair<21> = Pair::new(&heap, 2);
-    pair.insert_all(&rt, &[5, 1, 4, 2, 3, 9, 8])?;
+// After seven insertions at k = 2.
+fn assert_seven_inserted(rt: &impl Abort, alloc: Global, view: &View) -> Result<(), Fail> {
     let whole = [1, 2, 4, 5].as_slice();
-    assert_shows(
-        &rt,
-        rt.alloc(),
-        &pair,
+    assert_view(
+        rt,
+        alloc,
+        view,
         &[&[8]],
         &[whole, &[3, 9]],
         &[2, 1],
         &[1, 2, 3],
-    )?;
-    assert_own(&rt, &pair.own, 2, 1, item(8, 6));
-    assert_shared(&rt, &pair, 2, 6, item(1, 1));
-    assert_deleted(&rt, &mut pair, &mut Last, &[Some(item(3, 4))])?;
-    assert_shows(
-        &rt,
-        rt.alloc(),
-        &pair,
+    )
+}
+
+// After the deletion of the greatest candidate.
+fn assert_one_deleted(rt: &impl Abort, alloc: Global, view: &View) -> Result<(), Fail> {
+    let whole = [1, 2, 4, 5].as_slice();
+    assert_view(
+        rt,
+        alloc,
+        view,
         &[&[8]],
         &[whole, &[9]],
         &[3, 0],
@@ -106,24 +105,42 @@ fn blocks_pivots_and_candidates(rt: HostRuntime) -> Result<(), Fail> {
     )
 }
 
+// Seven insertions at k = 2, and the deletion of the greatest candidate.
+#[test]
+fn blocks_pivots_and_candidates(rt: HostRuntime) -> Result<(), Fail> {
+    let heap = Rationed::new(rt.alloc());
+    let mut pair: Pair<21> = Pair::new(&heap, 2);
+    pair.insert_all(&rt, &[5, 1, 4, 2, 3, 9, 8])?;
+    assert_seven_inserted(&rt, rt.alloc(), &pair.view(rt.alloc())?)?;
+    assert_own(&rt, &pair.own, 2, 1, item(8, 6));
+    assert_shared(&rt, &pair, 2, 6, item(1, 1));
+    assert_deleted(&rt, &mut pair, &mut Last, &[Some(item(3, 4))])?;
+    assert_one_deleted(&rt, rt.alloc(), &pair.view(rt.alloc())?)
+}
+
+// Own items that are the least of both parts, or less than the candidate.
+fn assert_own_go(rt: &impl Abort, pair: &mut Pair<21>) -> Result<(), LsmError> {
+    assert_deleted(rt, pair, &mut Last, &[None])?;
+    pair.insert_all(rt, &[7, 2, 5])?;
+    assert_eq!(rt; pair.own.least(), Some(item(5, 2)));
+    assert_deleted(rt, pair, &mut Last, &[Some(item(5, 2)), Some(item(7, 0))])?;
+    pair.insert(rt, 1)?;
+    assert_deleted(rt, pair, &mut Last, &[Some(item(1, 3))])
+}
+
 // An item of the own part goes where it is the least, and where it is less than the candidate.
 #[test]
 fn own_items_go(rt: HostRuntime) -> Result<(), Fail> {
     let heap = Rationed::new(rt.alloc());
     let mut pair: Pair<21> = Pair::new(&heap, 1);
-    assert_deleted(&rt, &mut pair, &mut Last, &[None])?;
-    pair.insert_all(&rt, &[7, 2, 5])?;
-    assert_eq!(rt; pair.own.least(), Some(item(5, 2)));
-    assert_deleted(
-        &rt,
-        &mut pair,
-        &mut Last,
-        &[Some(item(5, 2)), Some(item(7, 0))],
-    )?;
-    pair.insert(&rt, 1)?;
-    assert_deleted(&rt, &mut pair, &mut Last, &[Some(item(1, 3))])?;
+    assert_own_go(&rt, &mut pair)?;
     assert_deleted(&rt, &mut pair, &mut First, &[Some(item(2, 1)), None])?;
     Ok(())
+}
+
+// One own item, and one block of four.
+fn assert_full(rt: &impl Abort, alloc: Global, view: &View) -> Result<(), Fail> {
+    assert_view(rt, alloc, view, &[&[5]], &[&[1, 2, 3, 4]], &[2], &[1, 2])
 }
 
 // A shared part of three levels holds at most 4 items.
@@ -135,15 +152,12 @@ fn full_shared_part(rt: HostRuntime) -> Result<(), Fail> {
     let before = pair.view(rt.alloc())?;
     assert_eq!(rt; pair.insert(&rt, 6), Err(LsmError::Full));
     assert!(rt; pair.view(rt.alloc())? == before);
-    assert_shows(
-        &rt,
-        rt.alloc(),
-        &pair,
-        &[&[5]],
-        &[&[1, 2, 3, 4]],
-        &[2],
-        &[1, 2],
-    )
+    assert_full(&rt, rt.alloc(), &before)
+}
+
+// No own item, a block of two and one of one.
+fn assert_none_own(rt: &impl Abort, alloc: Global, view: &View) -> Result<(), Fail> {
+    assert_view(rt, alloc, view, &[], &[&[1, 3], &[2]], &[1, 0], &[1])
 }
 
 // With k = 0 each item goes to the shared part, and the least one is the only candidate.
@@ -152,7 +166,7 @@ fn no_own_items(rt: HostRuntime) -> Result<(), Fail> {
     let heap = Rationed::new(rt.alloc());
     let mut pair: Pair<21> = Pair::new(&heap, 0);
     pair.insert_all(&rt, &[3, 1, 2])?;
-    assert_shows(&rt, rt.alloc(), &pair, &[], &[&[1, 3], &[2]], &[1, 0], &[1])?;
+    assert_none_own(&rt, rt.alloc(), &pair.view(rt.alloc())?)?;
     assert_deleted(&rt, &mut pair, &mut Last, &[Some(item(1, 1))])?;
     Ok(())
 }
