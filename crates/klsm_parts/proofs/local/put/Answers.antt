@@ -23,3 +23,6 @@ returns-clause-event g c = rw (c.in-Ok.ensures.added, ← c.own.view_is) (put_is
 
 pub insert-requires : goal.insert-requires
 insert-requires g c = search rules
+
+pub returns-clause-blocks : goal.returns-clause-blocks
+returns-clause-blocks g c = search rules

@@ -6,3 +6,6 @@ least-requires-room-R-Run g c = search rules
 
 pub least-requires : goal.least-requires
 least-requires g c = search rules
+
+pub returns : goal.returns
+returns g c = search rules

@@ -6,3 +6,9 @@ new-requires-room-R-Run g c = search rules
 
 pub new-requires : goal.new-requires
 new-requires g c = search rules
+
+pub invariant_of-result : goal.invariant_of-result
+invariant_of-result g c = search rules
+
+pub returns : goal.returns
+returns g c = search rules

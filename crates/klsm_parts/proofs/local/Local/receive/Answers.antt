@@ -9,3 +9,9 @@ absorb-requires g c = search rules
 
 pub unreachable-requires : goal.unreachable-requires
 unreachable-requires g c = search rules
+
+pub invariant_of-self : goal.invariant_of-self
+invariant_of-self g c = search rules
+
+pub returns : goal.returns
+returns g c = search rules

@@ -34,3 +34,12 @@ take_largest-requires-room-R-Run g c = search rules
 
 pub take_largest-requires : goal.take_largest-requires
 take_largest-requires g c = search rules
+
+pub invariant_of-self : goal.invariant_of-self
+invariant_of-self g c = search rules
+
+pub returns-in_default : goal.returns-in_default
+returns-in_default g c = search rules
+
+pub returns : goal.returns
+returns g c = search rules

@@ -22,3 +22,12 @@ remove-requires g c =
 
 pub unreachable-requires : goal.unreachable-requires
 unreachable-requires g c = search rules
+
+pub returns-clause-least : goal.returns-clause-least
+returns-clause-least g c = search rules
+
+pub returns-clause-cut : goal.returns-clause-cut
+returns-clause-cut g c = search rules
+
+pub returns-clause-k : goal.returns-clause-k
+returns-clause-k g c = search rules

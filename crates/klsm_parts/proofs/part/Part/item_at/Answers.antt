@@ -15,3 +15,9 @@ lsm-requires-in-Common g c = search rules
 
 pub item_listed-requires-in-Common : goal.item_listed-requires-in-Common
 item_listed-requires-in-Common g c = search rules
+
+pub returns-in-Own : goal.returns-in-Own
+returns-in-Own g c = search rules
+
+pub returns-in-Common : goal.returns-in-Common
+returns-in-Common g c = search rules

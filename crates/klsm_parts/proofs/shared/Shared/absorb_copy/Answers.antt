@@ -29,3 +29,45 @@ candidate_pivots-self-inside-requires g c = search rules
 
 pub drop-refused-requires : goal.drop-refused-requires
 drop-refused-requires g c = search rules
+
+pub overflow_sub-limit : goal.overflow_sub-limit
+overflow_sub-limit g c = search rules
+
+pub returns-then-len-limit-clause-added : goal.returns-then-len-limit-clause-added
+returns-then-len-limit-clause-added g c = search rules
+
+pub returns-then-len-limit-clause-full : goal.returns-then-len-limit-clause-full
+returns-then-len-limit-clause-full g c = search rules
+
+pub returns-then-len-limit-clause-unchanged : goal.returns-then-len-limit-clause-unchanged
+returns-then-len-limit-clause-unchanged g c = search rules
+
+pub returns-in_default-clause-added : goal.returns-in_default-clause-added
+returns-in_default-clause-added g c = search rules
+
+pub returns-in_default-clause-full : goal.returns-in_default-clause-full
+returns-in_default-clause-full g c = search rules
+
+pub returns-in_default-clause-unchanged : goal.returns-in_default-clause-unchanged
+returns-in_default-clause-unchanged g c = search rules
+
+pub invariant_of-self : goal.invariant_of-self
+invariant_of-self g c = search rules
+
+pub invariant_of-self-in-Err : goal.invariant_of-self-in-Err
+invariant_of-self-in-Err g c = search rules
+
+pub returns-in-Ok-absorb-clause-added : goal.returns-in-Ok-absorb-clause-added
+returns-in-Ok-absorb-clause-added g c = search rules
+
+pub returns-in-Ok-absorb-clause-full : goal.returns-in-Ok-absorb-clause-full
+returns-in-Ok-absorb-clause-full g c = search rules
+
+pub returns-in-Ok-absorb-clause-unchanged : goal.returns-in-Ok-absorb-clause-unchanged
+returns-in-Ok-absorb-clause-unchanged g c = search rules
+
+pub returns-in-Err-clause-added : goal.returns-in-Err-clause-added
+returns-in-Err-clause-added g c = search rules
+
+pub returns-in-Err-clause-unchanged : goal.returns-in-Err-clause-unchanged
+returns-in-Err-clause-unchanged g c = search rules

@@ -3,3 +3,6 @@ use Rattle.klsm_parts.proofs.shared.Shared.candidate.Goals as goal
 
 pub place_of_candidate-requires : goal.place_of_candidate-requires
 place_of_candidate-requires g c = search rules
+
+pub returns : goal.returns
+returns g c = search rules

@@ -15,3 +15,6 @@ len-requires g c = search rules
 
 pub min-requires : goal.min-requires
 min-requires g c = search rules
+
+pub overflow_add-self-inside : goal.overflow_add-self-inside
+overflow_add-self-inside g c = search rules

@@ -6,3 +6,6 @@ new-requires g c = search rules
 
 pub new-requires-2 : goal.new-requires-2
 new-requires-2 g c = search rules
+
+pub returns : goal.returns
+returns g c = search rules

@@ -21,3 +21,9 @@ returns-clause-candidate g c =
     let among : c.args.index < c.args.self.now.k + 1 = omega (arith, c.requires, length-take (c.args.self.now.k + 1) (sorted (content c.args.self.now.blocks))) in
     slice_get-take (c.args.self.now.k + 1) (sorted (content c.args.self.now.blocks)) c.args.index among
     ∙ subst (λ (p : PartState). slice_get (sorted (content p.blocks)) c.args.index ≡ Some c.place_of.result.item) c.self.view_is c.place_of.ensures.rank
+
+pub returns-clause-block : goal.returns-clause-block
+returns-clause-block g c = search rules
+
+pub returns-clause-index : goal.returns-clause-index
+returns-clause-index g c = search rules

@@ -12,3 +12,33 @@ remove-requires g c =
 
 pub candidate_pivots-self-inside-requires : goal.candidate_pivots-self-inside-requires
 candidate_pivots-self-inside-requires g c = search rules
+
+pub invariant_of-self : goal.invariant_of-self
+invariant_of-self g c = search rules
+
+pub invariant_of-self-in-Err : goal.invariant_of-self-in-Err
+invariant_of-self-in-Err g c = search rules
+
+pub returns-in-Ok-clause-rest : goal.returns-in-Ok-clause-rest
+returns-in-Ok-clause-rest g c = search rules
+
+pub returns-in-Ok-clause-memory : goal.returns-in-Ok-clause-memory
+returns-in-Ok-clause-memory g c = search rules
+
+pub returns-in-Ok-clause-merging : goal.returns-in-Ok-clause-merging
+returns-in-Ok-clause-merging g c = search rules
+
+pub returns-in-Ok-clause-unchanged : goal.returns-in-Ok-clause-unchanged
+returns-in-Ok-clause-unchanged g c = search rules
+
+pub returns-in-Err-clause-rest : goal.returns-in-Err-clause-rest
+returns-in-Err-clause-rest g c = search rules
+
+pub returns-in-Err-clause-memory : goal.returns-in-Err-clause-memory
+returns-in-Err-clause-memory g c = search rules
+
+pub returns-in-Err-clause-merging : goal.returns-in-Err-clause-merging
+returns-in-Err-clause-merging g c = search rules
+
+pub returns-in-Err-clause-unchanged : goal.returns-in-Err-clause-unchanged
+returns-in-Err-clause-unchanged g c = search rules
