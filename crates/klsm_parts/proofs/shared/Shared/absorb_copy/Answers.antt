@@ -1,4 +1,4 @@
-use Rattle.std.proofs.Common.{subst, sym, rules}
+use Rattle.std.proofs.Common.{◌≡◌, length, refl, ap, subst, sym, arith, rules}
 use Rattle.klsm_run.specs.Content.{ShareNone}
 use Rattle.klsm_lsm.specs.Lsm.{content}
 use Rattle.klsm_parts.specs.Parts.{PartState}
@@ -37,7 +37,9 @@ pub returns-then-len-limit-clause-added : goal.returns-then-len-limit-clause-add
 returns-then-len-limit-clause-added g c = search rules
 
 pub returns-then-len-limit-clause-full : goal.returns-then-len-limit-clause-full
-returns-then-len-limit-clause-full g c = search rules
+returns-then-len-limit-clause-full g c =
+    let held : length (content c.args.self.now.blocks) ≡ length (content c.self.inside.lsm) = ap (λ (p : PartState). length (content p.blocks)) (sym c.self.view_is) in
+    (λ (_ : _). omega (arith, held, c.if-len-limit.true, c.len.ensures.len, c.limit.ensures, c.len-2.ensures.len, c.len-2.ensures.limit), λ _. refl)
 
 pub returns-then-len-limit-clause-unchanged : goal.returns-then-len-limit-clause-unchanged
 returns-then-len-limit-clause-unchanged g c = search rules
