@@ -78,12 +78,13 @@ fn assert_shared(rt: &impl Abort, pair: &Pair<21>, k: usize, len: usize, least: 
 }
 
 // After seven insertions at k = 2.
-fn assert_seven_inserted(rt: &impl Abort, alloc: Global, view: &View) -> Result<(), Fail> {
+fn assert_seven_inserted(rt: &impl Abort, alloc: Global, pair: &Pair<21>) -> Result<(), Fail> {
+    let view = pair.view(alloc)?;
     let whole = [1, 2, 4, 5].as_slice();
     assert_view(
         rt,
         alloc,
-        view,
+        &view,
         &[&[8]],
         &[whole, &[3, 9]],
         &[2, 1],
@@ -92,12 +93,13 @@ fn assert_seven_inserted(rt: &impl Abort, alloc: Global, view: &View) -> Result<
 }
 
 // After the deletion of the greatest candidate.
-fn assert_one_deleted(rt: &impl Abort, alloc: Global, view: &View) -> Result<(), Fail> {
+fn assert_one_deleted(rt: &impl Abort, alloc: Global, pair: &Pair<21>) -> Result<(), Fail> {
+    let view = pair.view(alloc)?;
     let whole = [1, 2, 4, 5].as_slice();
     assert_view(
         rt,
         alloc,
-        view,
+        &view,
         &[&[8]],
         &[whole, &[9]],
         &[3, 0],
@@ -111,11 +113,11 @@ fn blocks_pivots_and_candidates(rt: HostRuntime) -> Result<(), Fail> {
     let heap = Rationed::new(rt.alloc());
     let mut pair: Pair<21> = Pair::new(&heap, 2);
     pair.insert_all(&rt, &[5, 1, 4, 2, 3, 9, 8])?;
-    assert_seven_inserted(&rt, rt.alloc(), &pair.view(rt.alloc())?)?;
+    assert_seven_inserted(&rt, rt.alloc(), &pair)?;
     assert_own(&rt, &pair.own, 2, 1, item(8, 6));
     assert_shared(&rt, &pair, 2, 6, item(1, 1));
     assert_deleted(&rt, &mut pair, &mut Last, &[Some(item(3, 4))])?;
-    assert_one_deleted(&rt, rt.alloc(), &pair.view(rt.alloc())?)
+    assert_one_deleted(&rt, rt.alloc(), &pair)
 }
 
 // Own items that are the least of both parts, or less than the candidate.
@@ -139,8 +141,9 @@ fn own_items_go(rt: HostRuntime) -> Result<(), Fail> {
 }
 
 // One own item, and one block of four.
-fn assert_full(rt: &impl Abort, alloc: Global, view: &View) -> Result<(), Fail> {
-    assert_view(rt, alloc, view, &[&[5]], &[&[1, 2, 3, 4]], &[2], &[1, 2])
+fn assert_full(rt: &impl Abort, alloc: Global, pair: &Pair<3>) -> Result<(), Fail> {
+    let view = pair.view(alloc)?;
+    assert_view(rt, alloc, &view, &[&[5]], &[&[1, 2, 3, 4]], &[2], &[1, 2])
 }
 
 // A shared part of three levels holds at most 4 items.
@@ -152,12 +155,13 @@ fn full_shared_part(rt: HostRuntime) -> Result<(), Fail> {
     let before = pair.view(rt.alloc())?;
     assert_eq!(rt; pair.insert(&rt, 6), Err(LsmError::Full));
     assert!(rt; pair.view(rt.alloc())? == before);
-    assert_full(&rt, rt.alloc(), &before)
+    assert_full(&rt, rt.alloc(), &pair)
 }
 
 // No own item, a block of two and one of one.
-fn assert_none_own(rt: &impl Abort, alloc: Global, view: &View) -> Result<(), Fail> {
-    assert_view(rt, alloc, view, &[], &[&[1, 3], &[2]], &[1, 0], &[1])
+fn assert_none_own(rt: &impl Abort, alloc: Global, pair: &Pair<21>) -> Result<(), Fail> {
+    let view = pair.view(alloc)?;
+    assert_view(rt, alloc, &view, &[], &[&[1, 3], &[2]], &[1, 0], &[1])
 }
 
 // With k = 0 each item goes to the shared part, and the least one is the only candidate.
@@ -166,7 +170,7 @@ fn no_own_items(rt: HostRuntime) -> Result<(), Fail> {
     let heap = Rationed::new(rt.alloc());
     let mut pair: Pair<21> = Pair::new(&heap, 0);
     pair.insert_all(&rt, &[3, 1, 2])?;
-    assert_none_own(&rt, rt.alloc(), &pair.view(rt.alloc())?)?;
+    assert_none_own(&rt, rt.alloc(), &pair)?;
     assert_deleted(&rt, &mut pair, &mut Last, &[Some(item(1, 1))])?;
     Ok(())
 }
