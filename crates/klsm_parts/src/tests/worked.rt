@@ -146,15 +146,21 @@ fn assert_full(rt: &impl Abort, alloc: Global, pair: &Pair<3>) -> Result<(), Fai
     assert_view(rt, alloc, &view, &[&[5]], &[&[1, 2, 3, 4]], &[2], &[1, 2])
 }
 
+// Asserts that an insertion is refused, as the shared part is full, and that nothing changes.
+fn assert_sixth_refused(rt: &impl Abort, alloc: Global, pair: &mut Pair<3>) -> Result<(), Fail> {
+    let before = pair.view(alloc)?;
+    assert_eq!(rt; pair.insert(rt, 6), Err(LsmError::Full));
+    assert!(rt; pair.view(alloc)? == before);
+    Ok(())
+}
+
 // A shared part of three levels holds at most 4 items.
 #[test]
 fn full_shared_part(rt: HostRuntime) -> Result<(), Fail> {
     let heap = Rationed::new(rt.alloc());
     let mut pair: Pair<3> = Pair::new(&heap, 1);
     pair.insert_all(&rt, &[1, 2, 3, 4, 5])?;
-    let before = pair.view(rt.alloc())?;
-    assert_eq!(rt; pair.insert(&rt, 6), Err(LsmError::Full));
-    assert!(rt; pair.view(rt.alloc())? == before);
+    assert_sixth_refused(&rt, rt.alloc(), &mut pair)?;
     assert_full(&rt, rt.alloc(), &pair)
 }
 
