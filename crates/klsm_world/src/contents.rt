@@ -16,10 +16,7 @@ pub(crate) fn copied<A: Allocator>(alloc: A, items: &[Item]) -> Result<Vec<Item,
     ensures copy { IfOk result (λ copy. copy.items ≡ items.now) }
     ensures refused { IfErr result (λ why. why ≡ StepError.NoMemory) }
 {
-    let Ok(mut copy) = Vec::with_capacity(alloc, items.len()) else {
-        return Err(StepError::NoMemory);
-    };
-    let Ok(()) = copy.extend_from_slice(items) else {
+    let Ok(copy) = items.to_vec(alloc) else {
         return Err(StepError::NoMemory);
     };
     Ok(copy)
