@@ -56,7 +56,7 @@ pub without_first : (x : Item) (xs : List Item) → without x (x ∷ xs) ≡ xs
 without_first x xs = ap (λ b. if b then xs else x ∷ without x xs) (same_as_itself x)
 
 -- an item that no item is smaller than goes first
-placed_least : (x : Item) (ys : List Item) → IsNoneBelow x ys → placed x ys ≡ x ∷ ys
+pub placed_least : (x : Item) (ys : List Item) → IsNoneBelow x ys → placed x ys ≡ x ∷ ys
 placed_least x [] h = refl
 placed_least x (y ∷ ys) h = ap (λ b. if b then y ∷ placed x ys else x ∷ y ∷ ys) h.0
 

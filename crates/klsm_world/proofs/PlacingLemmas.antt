@@ -7,19 +7,15 @@ use Rattle.std.proofs.lemmas.List.Folds.{length-prefix_len}
 use Rattle.std.proofs.lemmas.Option.{cond_some}
 use Rattle.klsm_run.specs.declared.item.Item.{Item}
 use Rattle.klsm_run.specs.ItemOrder.{is_same, is_smaller}
-use Rattle.klsm_run.specs.Content.{placed, sorted, without}
+use Rattle.klsm_run.specs.Content.{sorted, without}
 use Rattle.klsm_run.proofs.AllLemmas.{all_append, all_weaker}
 use Rattle.klsm_run.proofs.ContentLemmas.{sorted_middle}
 use Rattle.klsm_run.proofs.LesserLemmas.{less_if_smaller, not_smaller_trans}
-use Rattle.klsm_run.proofs.LeastLemmas.{IsNoneBelow, not_below}
+use Rattle.klsm_run.proofs.LeastLemmas.{IsNoneBelow, not_below, placed_least}
 use Rattle.klsm_run.proofs.RankLemmas.{IsRising, rising_sorted}
 use Rattle.klsm_run.proofs.SortedLemmas.{all_sorted}
 
 -- an item that no item is smaller than goes first
-placed_least : (x : Item) (c : List Item) → IsNoneBelow x c → placed x c ≡ x ∷ c
-placed_least x [] low = refl
-placed_least x (y ∷ c) low = ap (λ b. if b then y ∷ placed x c else x ∷ y ∷ c) low.0
-
 sorted_least : (x : Item) (c : List Item) → IsNoneBelow x c → sorted (x ∷ c) ≡ x ∷ sorted c
 sorted_least x c low = placed_least x (sorted c) (all_sorted (λ y. is_smaller y x ≡ false) c low)
 
