@@ -7,7 +7,7 @@ use Rattle.klsm_run.specs.Block.{IsBlock}
 use Rattle.klsm_run.specs.Content.{sorted, ShareNone}
 use Rattle.klsm_run.proofs.AllLemmas.{all_weaker, all_append, all_front, all_back}
 use Rattle.klsm_run.proofs.SortedLemmas.{IsNew, all_sorted, length_sorted}
-use Rattle.klsm_run.proofs.MergeLemmas.{apart_if_sharing_none}
+use Rattle.klsm_run.proofs.ApartLemmas.{apart_if_sharing_none}
 use Rattle.klsm_run.proofs.ContentLemmas.{sharing_none_if_apart}
 use Rattle.klsm_lsm.specs.Level.{level}
 use Rattle.klsm_lsm.specs.Lsm.{content, IsLsm}

@@ -7,7 +7,7 @@ use Rattle.klsm_run.specs.ItemOrder.{is_smaller}
 use Rattle.klsm_run.specs.Content.{sorted, IsAscending}
 use Rattle.klsm_run.proofs.AllLemmas.{all_weaker}
 use Rattle.klsm_run.proofs.SortedLemmas.{IsNew, all_sorted, sorted_ascending}
-use Rattle.klsm_run.proofs.MergeLemmas.{apart_if_sharing_none, ascending_sorted}
+use Rattle.klsm_run.proofs.ApartLemmas.{apart_if_sharing_none, ascending_sorted}
 use Rattle.klsm_run.proofs.ContentLemmas.{not_smaller_itself, sorted_same_behind}
 use Rattle.klsm_run.proofs.LesserLemmas.{lesser, first_append}
 use Rattle.klsm_lsm.specs.Lsm.{content, IsLsm}

@@ -11,7 +11,7 @@ use Rattle.klsm_run.specs.Content.{placed, sorted, ShareNone}
 use Rattle.klsm_run.proofs.AllLemmas.{all_weaker, all_append, all_front, all_back}
 use Rattle.klsm_run.proofs.SortedLemmas.{IsNew, length_sorted}
 use Rattle.klsm_run.proofs.RemoveLemmas.{all_remove, ascending_remove}
-use Rattle.klsm_run.proofs.MergeLemmas.{AreApart, apart_if_sharing_none}
+use Rattle.klsm_run.proofs.ApartLemmas.{AreApart, apart_if_sharing_none}
 use Rattle.klsm_run.proofs.ContentLemmas.{sorted_remove, sorted_sorted, sorted_middle, sorted_same_behind, sharing_none_if_apart}
 use Rattle.klsm_lsm.specs.Level.{level}
 use Rattle.klsm_lsm.specs.Lsm.{content, IsLsm}

@@ -9,7 +9,7 @@ use Rattle.klsm_run.specs.Block.{IsBlock}
 use Rattle.klsm_run.specs.Content.{sorted, ShareNone, IsAscending}
 use Rattle.klsm_run.proofs.AllLemmas.{all_weaker, all_append, all_front, all_back}
 use Rattle.klsm_run.proofs.SortedLemmas.{IsNew, all_sorted, length_sorted}
-use Rattle.klsm_run.proofs.MergeLemmas.{AreApart, apart_if_sharing_none, ascending_sorted}
+use Rattle.klsm_run.proofs.ApartLemmas.{AreApart, apart_if_sharing_none, ascending_sorted}
 use Rattle.klsm_run.proofs.ContentLemmas.{sorted_sorted, sharing_none_if_apart}
 use Rattle.klsm_lsm.specs.Level.{least_level, level}
 use Rattle.klsm_lsm.specs.Lsm.{content, IsLsm}

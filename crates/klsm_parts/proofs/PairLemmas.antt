@@ -6,7 +6,7 @@ use Rattle.klsm_run.specs.declared.item.Item.{Item}
 use Rattle.klsm_run.specs.Content.{ShareNone}
 use Rattle.klsm_run.proofs.AllLemmas.{all_weaker, all_front, all_back}
 use Rattle.klsm_run.proofs.SortedLemmas.{IsNew}
-use Rattle.klsm_run.proofs.MergeLemmas.{AreApart, apart_if_sharing_none}
+use Rattle.klsm_run.proofs.ApartLemmas.{AreApart, apart_if_sharing_none}
 use Rattle.klsm_run.proofs.ContentLemmas.{absent_if_new, sharing_none_if_apart}
 use Rattle.klsm_lsm.specs.Lsm.{content, IsLsm}
 use Rattle.klsm_lsm.specs.Adding.{add}

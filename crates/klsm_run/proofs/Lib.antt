@@ -1,4 +1,5 @@
 pub mod AllLemmas
+pub mod ApartLemmas
 pub mod ContainsLemmas
 pub mod ContentLemmas
 pub mod HalfLemmas
@@ -6,10 +7,11 @@ pub mod IndexLemmas
 pub mod KeyLemmas
 pub mod LeastLemmas
 pub mod LesserLemmas
-pub mod MergeLemmas
 pub mod OrderLemmas
 pub mod RankLemmas
 pub mod RemoveLemmas
 pub mod ShiftLemmas
 pub mod SortedLemmas
+pub mod StoreLemmas
+pub mod UniteLemmas
 pub mod WithoutLemmas

@@ -7,7 +7,7 @@ use Rattle.klsm_run.specs.ItemOrder.{is_same, IsSmaller}
 use Rattle.klsm_run.specs.Content.{placed, sorted, without}
 use Rattle.klsm_run.proofs.OrderLemmas.{not_smaller_than_itself, Below, Same, Above, ranked}
 use Rattle.klsm_run.proofs.SortedLemmas.{IsNew, all_sorted}
-use Rattle.klsm_run.proofs.MergeLemmas.{new_if_absent}
+use Rattle.klsm_run.proofs.ApartLemmas.{new_if_absent}
 use Rattle.klsm_run.proofs.ContentLemmas.{not_smaller_itself, placed_placed}
 use Rattle.klsm_run.proofs.LeastLemmas.{Has, without_first}
 

@@ -2,4 +2,4 @@ pub mod Block
 pub mod Capacity
 pub mod Content
 pub mod ItemOrder
-pub mod Merging
+pub mod Stores

@@ -1,15 +1,16 @@
-//! A run in a store of the heap, of the size that it needs.
-ghost use Rattle.std.specs.Prelude.{◌≡◌, ◌+◌, ◌≤◌, ◌++◌, List, length, drop, false, IfOk};
+//! A run in a store of the heap, of the least power of two that holds its items when it is made.
+ghost use Rattle.std.specs.Prelude.{◌≡◌, ◌≤◌, List, length, take, false, IfOk};
 ghost use Rattle.klsm_run.specs.declared.item.Item.{Item};
 ghost use Rattle.klsm_run.specs.Content.{IsAscending};
-ghost use Rattle.klsm_run.specs.Merging.{merged};
-ghost use Rattle.klsm_run.specs.Capacity.{heap_room, IsHeapRun};
+ghost use Rattle.klsm_run.specs.Capacity.{heap_room, IsPowerFor};
+ghost use Rattle.klsm_run.specs.Stores.{spanned, HeapState, IsHeapRun};
 
-use crate::merging::Merging;
 use crate::run::level_of;
+use crate::span::Span;
 use crate::{Item, Run, RunError};
 use std::alloc::{Allocator, Global};
 use std::marker::Model;
+use std::mem;
 
 // How many items a run on the heap can hold.
 const HEAP_ROOM: usize = 1 << 20;
@@ -17,58 +18,88 @@ const HEAP_ROOM: usize = 1 << 20;
 /// A run of at most 1,048,576 items, which lie in one block of memory.
 #[derive(Drop)]
 pub struct HeapRun<A: Allocator + Copy = Global> {
-    // The run's items are those from `start` on. What lies before them was removed.
+    // The store is always full, so that its length is the capacity of the run.
     items: Vec<Item, A>,
-    start: usize,
+    span: Span,
 }
 
 impl<A: Allocator + Copy> Model for HeapRun<A> {
-    ghost Value = { List Item };
+    ghost Value = { HeapState };
 
-    ghost view = { λ run. drop run.start run.items.items };
+    ghost view = { λ run. record { items = spanned run.span run.items.items; capacity = length run.items.items } };
 
-    ghost invariant = { λ run. IsHeapRun run.start run.items.items };
+    ghost invariant = { λ run. IsHeapRun run.span run.items.items };
 }
 
 impl<A: Allocator + Copy> HeapRun<A> {
-    /// A run of the same items. It costs one growth, of the size that they need, and one copy of each.
+    /// A run of the same items. It costs one growth, of the least power of two that holds them, and one copy of each.
     pub fn copy_of<R: Run>(alloc: A, run: &R) -> Result<Self, RunError>
         requires { length (R.items run.now) ≤ heap_room }
-        ensures { IfOk result (λ copy. copy ≡ R.items run.now) }
+        ensures items { IfOk result (λ copy. copy.items ≡ R.items run.now) }
+        ensures reserved { IfOk result (λ copy.
+            IsPowerFor (length (R.items run.now)) copy.capacity) }
     {
-        let count = run.len();
-        let Ok(mut items) = Vec::with_capacity(alloc, count) else {
-            return Err(RunError::NoMemory);
-        };
-        for index in 0..count {
-            items.push_reserved(run.item_at(index));
-        }
-        Ok(HeapRun { items, start: 0 })
+        HeapRun::copy_of_for(alloc, run, run.len())
     }
 
-    // The run's items.
-    fn as_slice(&self) -> &[Item]
-        ensures items { result.now ≡ self.now }
-        ensures ascending { IsAscending self.now }
+    /// A run of the same items, with room for `count`. It costs one growth, of the least power of two that is at least
+    /// `count`, and one copy of each item.
+    pub fn copy_of_for<R: Run>(alloc: A, run: &R, count: usize) -> Result<Self, RunError>
+        requires holds { length (R.items run.now) ≤ count }
+        requires room { count ≤ heap_room }
+        ensures items { IfOk result (λ copy. copy.items ≡ R.items run.now) }
+        ensures reserved { IfOk result (λ copy. IsPowerFor count copy.capacity) }
     {
-        &self.items.as_slice()[self.start..]
+        stored_for(alloc, run.as_slice(), count)
     }
 }
 
-// What an iterator over the merged items gives, in a store of that size.
-fn collected<A: Allocator>(alloc: A, merging: Merging) -> Result<Vec<Item, A>, RunError>
-    requires { length (merging.left.now ++ merging.left_rest.now) + length merging.right.now
-        ≤ heap_room }
-    ensures { IfOk result (λ items. items.items
-        ≡ merged (merging.entry.left.now ++ merging.entry.left_rest.now) merging.entry.right.now) }
+// The least power of two that is at least so many.
+fn power_for(count: usize) -> usize
+    requires { count ≤ heap_room }
+    ensures power { IsPowerFor count result }
+    ensures room { result ≤ heap_room }
 {
-    let Ok(mut items) = Vec::with_capacity(alloc, merging.len()) else {
+    if count == 0 {
+        return 1;
+    }
+    1 << level_of(count)
+}
+
+// A run of these items, with room for `count`.
+fn stored_for<A: Allocator + Copy>(
+    alloc: A,
+    items: &[Item],
+    count: usize,
+) -> Result<HeapRun<A>, RunError>
+    requires ascending { IsAscending items.now }
+    requires holds { length items.now ≤ count }
+    requires room { count ≤ heap_room }
+    ensures items { IfOk result (λ run. run.items ≡ items.now) }
+    ensures reserved { IfOk result (λ run. IsPowerFor count run.capacity) }
+{
+    Ok(HeapRun {
+        items: stored(alloc, items, power_for(count))?,
+        span: Span::first(items.len()),
+    })
+}
+
+// A store of so many places with these items first.
+fn stored<A: Allocator>(alloc: A, items: &[Item], places: usize) -> Result<Vec<Item, A>, RunError>
+    requires { length items.now ≤ places }
+    ensures len { IfOk result (λ store. length store.items ≡ places) }
+    ensures items { IfOk result (λ store. take (length items.now) store.items ≡ items.now) }
+{
+    let Ok(mut store) = Vec::with_capacity(alloc, places) else {
         return Err(RunError::NoMemory);
     };
-    for item in merging {
-        items.push_reserved(item);
-    }
-    Ok(items)
+    let Ok(()) = store.extend_from_slice(items) else {
+        return Err(RunError::NoMemory);
+    };
+    let Ok(()) = store.resize(places, Item::default()) else {
+        return Err(RunError::NoMemory);
+    };
+    Ok(store)
 }
 
 impl<A: Allocator + Copy> Run for HeapRun<A> {
@@ -76,58 +107,56 @@ impl<A: Allocator + Copy> Run for HeapRun<A> {
 
     ghost ROOM = { heap_room };
 
-    ghost items = { λ run. run };
+    ghost items = { λ run. run.items };
+
+    ghost capacity = { λ run. run.capacity };
+
+    ghost may_reserve = { IsPowerFor };
 
     ghost is_fixed = { false };
 
     #[inline]
     fn len(&self) -> usize {
-        self.items.len() - self.start
+        self.span.len()
+    }
+
+    #[inline]
+    fn capacity(&self) -> usize {
+        self.items.len()
+    }
+
+    #[inline]
+    fn as_slice(&self) -> &[Item] {
+        self.span.of(self.items.as_slice())
     }
 
     #[inline]
     fn item_at(&self, index: usize) -> Item {
-        self.items[self.start + index]
+        self.items.as_slice()[self.span.start + index]
     }
 
+    #[inline]
     fn level(&self) -> usize {
-        level_of(self.len())
+        level_of(self.span.len())
     }
 
+    #[inline]
     fn remove_at(&mut self, index: usize) -> Item {
-        let at = self.start + index;
-        let behind = self.items.len() - at - 1;
-        // The shorter side moves, so that a removal at either end moves no item.
-        if behind < index {
-            return self.items.remove(at);
-        }
-        let item = self.items[at];
-        self.items.copy_within(self.start..at, self.start + 1);
-        self.start += 1;
-        item
+        self.span.remove_at(self.items.as_mut_slice(), index)
     }
 
-    fn shrink(&mut self) {
-        let count = self.items.len() - self.start;
-        self.items.copy_within(self.start.., 0);
-        self.items.truncate(count);
-        self.start = 0;
-        self.items.shrink_to_fit();
+    fn unite(&mut self, other: &Self) {
+        self.span.unite(self.items.as_mut_slice(), other.as_slice());
     }
 
-    fn merge(&self, other: &Self) -> Result<Self, RunError> {
-        let merging = Merging::new(self.as_slice(), other.as_slice());
-        Ok(HeapRun {
-            items: collected(*self.items.allocator(), merging)?,
-            start: 0,
-        })
+    // The stores change places.
+    fn take_from(&mut self, other: &mut Self) {
+        mem::swap(self, other);
+        other.span = Span::first(0);
     }
 
-    fn merge_without(&self, index: usize, other: &Self) -> Result<Self, RunError> {
-        let merging = Merging::without(self.as_slice(), index, other.as_slice());
-        Ok(HeapRun {
-            items: collected(*self.items.allocator(), merging)?,
-            start: 0,
-        })
+    fn copy_for(&self, count: usize) -> Result<Self, RunError> {
+        let alloc = *self.items.allocator();
+        stored_for(alloc, self.span.of(self.items.as_slice()), count)
     }
 }

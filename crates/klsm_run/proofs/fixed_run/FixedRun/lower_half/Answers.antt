@@ -1,12 +1,11 @@
-use Rattle.std.proofs.Common.{arith}
-use Rattle.std.proofs.lemmas.List.{length-take}
-use Rattle.klsm_run.specs.declared.item.Item.{Item}
+use Rattle.std.proofs.Common.{rules, ◌≤◌, length}
+use Rattle.klsm_run.specs.Content.{IsAscending}
 use Rattle.klsm_run.proofs.HalfLemmas.{ascending_take}
+use Rattle.klsm_run.proofs.StoreLemmas.{fixed_in_room, first_in_room}
 use Rattle.klsm_run.proofs.fixed_run.FixedRun.lower_half.Goals as goal
 
-pub invariant_of-result : goal.invariant_of-result
-invariant_of-result g c = rw (c.copied.ensures, c.as_slice-items.ensures.value) record {
-  ascending = ascending_take _ _ c.self.invariant.ascending;
-  in_room = omega (arith, length-take {A = Item}, c.self.invariant.in_room);
-  capacity_in_range = c.self.invariant.capacity_in_range;
-}
+pub set-requires : goal.set-requires
+set-requires g c =
+    let up : IsAscending c.of-items.result.now = rw (c.of-items.ensures, c.as_slice.ensures.value) c.self.invariant.ascending in
+    let few : length c.of-items.result.now ≤ g.row.CAP = rw (c.of-items.ensures, c.as_slice.ensures.value) (fixed_in_room c.self.invariant) in
+    (search rules, (ascending_take _ _ up, first_in_room _ _ _ few))

@@ -1,12 +1,12 @@
-use Rattle.std.proofs.Common.{arith}
-use Rattle.std.proofs.lemmas.List.{length-drop, take_rest}
-use Rattle.klsm_run.specs.declared.item.Item.{Item}
+use Rattle.std.proofs.Common.{rules, ◌≤◌, length}
+use Rattle.std.proofs.lemmas.List.{take_rest}
+use Rattle.klsm_run.specs.Content.{IsAscending}
 use Rattle.klsm_run.proofs.HalfLemmas.{ascending_drop}
+use Rattle.klsm_run.proofs.StoreLemmas.{fixed_in_room, others_in_room}
 use Rattle.klsm_run.proofs.fixed_run.FixedRun.upper_half.Goals as goal
 
-pub invariant_of-result : goal.invariant_of-result
-invariant_of-result g c = rw (c.copied.ensures, c.as_slice-items.ensures.value, take_rest) record {
-  ascending = ascending_drop _ _ c.self.invariant.ascending;
-  in_room = omega (arith, length-drop {A = Item}, c.self.invariant.in_room);
-  capacity_in_range = c.self.invariant.capacity_in_range;
-}
+pub set-requires : goal.set-requires
+set-requires g c =
+    let up : IsAscending c.of-items.result.now = rw (c.of-items.ensures, c.as_slice.ensures.value) c.self.invariant.ascending in
+    let few : length c.of-items.result.now ≤ g.row.CAP = rw (c.of-items.ensures, c.as_slice.ensures.value) (fixed_in_room c.self.invariant) in
+    (search rules, rw take_rest (ascending_drop _ _ up, others_in_room _ _ _ few))

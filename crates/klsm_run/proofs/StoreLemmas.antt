@@ -1,0 +1,87 @@
+-- Runs in their stores.
+use Rattle.std.proofs.Common.{◌≡◌, ◌⊎◌, ℕ, ◌+◌, ◌-◌, ◌<◌, ◌≤◌, ◌^◌, List, [], ◌∷◌, ◌++◌, length, take, drop, refl, sym, ap, ◌∙◌, subst, arith, inl, inr, zero, suc}
+use Rattle.std.specs.List.{refill}
+use Rattle.std.proofs.lemmas.List.{take_all, take-append-le, length-take, length-drop}
+use Rattle.std.proofs.lemmas.Bool.{cases_lt}
+use Rattle.std.proofs.Math.Pow.{pow_mono}
+use Rattle.klsm_run.specs.declared.item.Item.{Item}
+use Rattle.klsm_run.specs.declared.span.Span.{Span}
+use Rattle.klsm_run.specs.Block.{HasLevel}
+use Rattle.klsm_run.specs.Content.{IsAscending}
+use Rattle.klsm_run.specs.Capacity.{IsCapacity, IsRunCapacity, heap_room}
+use Rattle.klsm_run.specs.Stores.{spanned, IsSpan, IsFixedRun, IsHeapRun}
+
+-- the first of the first items
+pub take_within : (n k : ℕ) (xs : List Item) → n ≤ k → take n (take k xs) ≡ take n xs
+take_within zero k xs h = refl
+take_within (suc n) zero xs h = absurd (omega (arith, h))
+take_within (suc n) (suc k) [] h = refl
+take_within (suc n) (suc k) (x ∷ xs) h = ap (λ (l : List Item). x ∷ l) (take_within n k xs (omega (arith, h)))
+
+-- a store that was lent whole comes back whole
+pub lent_whole : (old new : List Item) → length new ≡ length old → refill (length old) old new ≡ new
+lent_whole old new same = take-append-le (length old) new (drop (length new) old) (omega (arith, same)) ∙ take_all (length old) new (omega (arith, same))
+
+-- a run has as many items as its span has places
+pub length_spanned : (span : Span) (stored : List Item) → IsSpan span (length stored) → length (spanned span stored) ≡ span.end - span.start
+length_spanned span stored within = omega (arith, length-take (span.end - span.start) (drop span.start stored), length-drop span.start stored, within.order, within.within)
+
+-- a store of the heap that was lent, with another run in it
+pub heap_lent : (count : ℕ) (span : Span) (old new : List Item) → length old ≡ count → length new ≡ length old → IsSpan span (length new) → IsAscending (spanned span new)
+    → length old ≤ heap_room → (length old ≡ heap_room) ⊎ ((l : ℕ) × (length old ≡ 2 ^ l)) → IsHeapRun span (take count (new ++ drop (length new) old))
+heap_lent count span old new all same within up room power =
+    let whole : take count (new ++ drop (length new) old) ≡ new = take-append-le count new (drop (length new) old) (omega (arith, all, same)) ∙ take_all count new (omega (arith, all, same)) in
+    subst (IsHeapRun span) (sym whole) (record {
+      ascending = up;
+      span_in = within;
+      at_most = omega (arith, same, room);
+      whole_or_power = subst (λ n. (n ≡ heap_room) ⊎ ((l : ℕ) × (n ≡ 2 ^ l))) (sym same) power;
+    })
+
+-- a fixed store that was lent, with another run in it
+pub fixed_lent : (capacity : ℕ) (span : Span) (old new : List Item) → length new ≡ length old → IsSpan span (length new) → IsAscending (spanned span new)
+    → length old ≡ capacity → IsCapacity capacity → IsFixedRun capacity span (refill (length old) old new)
+fixed_lent capacity span old new same within up full range =
+    subst (IsFixedRun capacity span) (sym (lent_whole old new same)) (record {
+      ascending = up;
+      span_in = subst (IsSpan span) (same ∙ full) within;
+      full = same ∙ full;
+      capacity_in_range = range;
+    })
+
+-- a block of this level has more than half as many items as the power of two
+half_of_level : (l count : ℕ) → HasLevel l count → 2 ^ l < count + count
+half_of_level zero count level = omega (arith, level)
+half_of_level (suc l) count level = omega (arith, level.0)
+
+-- a power of two that holds a block of this level holds each block of it
+power_holds : (l m count : ℕ) → HasLevel l count → count ≤ 2 ^ m → 2 ^ l ≤ 2 ^ m
+power_holds l m count level holds = elim (cases_lt m l) [
+  | inl above ↦ absurd (let low : 2 ^ suc m ≤ 2 ^ l = pow_mono (omega (arith, above)) in omega (arith, low, half_of_level l count level, holds))
+  | inr below ↦ pow_mono below
+]
+
+-- a store for all items that a run can have, or of a power of two, has room for a whole block
+pub run_capacity : (room count capacity : ℕ) → capacity ≤ room → count ≤ capacity → (capacity ≡ room) ⊎ ((l : ℕ) × (capacity ≡ 2 ^ l)) → IsRunCapacity room count capacity
+run_capacity room count capacity few holds power = record {
+  at_most = few;
+  holds = holds;
+  whole_or_power = power;
+  whole_block = λ l level. elim power [
+    | inl whole ↦ omega (arith, whole)
+    | inr exact ↦ omega (arith, power_holds l exact.0 count level (omega (arith, holds, exact.1)), exact.1)
+  ];
+}
+
+-- a run in a fixed store is within it
+pub fixed_in_room : {capacity : ℕ} {span : Span} {stored : List Item} → IsFixedRun capacity span stored → length (spanned span stored) ≤ capacity
+fixed_in_room {capacity} {span} {stored} run =
+    let within : IsSpan span (length stored) = record { order = run.span_in.order; within = omega (arith, run.span_in.within, run.full) } in
+    omega (arith, length_spanned span stored within, run.span_in.within)
+
+-- and so is each part of it
+pub first_in_room : (capacity count : ℕ) (items : List Item) → length items ≤ capacity → length (take count items) ≤ capacity
+first_in_room capacity count items few = omega (arith, few, length-take count items)
+
+pub others_in_room : (capacity count : ℕ) (items : List Item) → length items ≤ capacity → length (drop count items) ≤ capacity
+others_in_room capacity count items few = omega (arith, few, length-drop count items)

@@ -1,0 +1,16 @@
+use Rattle.std.proofs.Common.{◌∙◌, ap, sym, length}
+use Rattle.klsm_run.specs.Content.{ShareNone}
+use Rattle.klsm_run.specs.Stores.{spanned, HeapState}
+use Rattle.klsm_run.proofs.ApartLemmas.{apart_if_sharing_none, ascending_sorted}
+use Rattle.klsm_run.proofs.StoreLemmas.{heap_lent}
+use Rattle.klsm_run.proofs.heap_run.HeapRunRun.unite.Goals as goal
+
+pub unite-requires-clause-apart : goal.unite-requires-clause-apart
+unite-requires-clause-apart g c = rw (c.as_mut_slice.ensures.value, c.as_slice.ensures.items, ap (λ (s : HeapState). s.items) c.self.view_is) c.requires.apart
+
+pub invariant_of-self : goal.invariant_of-self
+invariant_of-self g c =
+    let apart : ShareNone (spanned c.self.inside.span c.self.inside.items.items) c.args.other.now.items = rw (ap (λ (s : HeapState). s.items) c.self.view_is) c.requires.apart in
+    heap_lent _ _ _ _ (ap length (sym c.as_mut_slice.ensures.value) ∙ c.as_mut_slice.ensures.len) (c.unite.ensures.len ∙ ap length c.as_mut_slice.ensures.value) c.unite.ensures.within
+    (rw (c.unite.ensures.united, c.as_mut_slice.ensures.value, c.as_slice.ensures.items) (ascending_sorted _ _ c.self.invariant.ascending c.as_slice.ensures.ascending (apart_if_sharing_none _ _ apart)))
+    c.self.invariant.at_most c.self.invariant.whole_or_power

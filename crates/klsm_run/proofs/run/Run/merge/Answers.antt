@@ -1,0 +1,4 @@
+use Rattle.klsm_run.proofs.run.Run.merge.Goals as goal
+
+pub unite-requires-clause-apart : goal.unite-requires-clause-apart
+unite-requires-clause-apart g c = rw c.in_ok-both.ensures.items c.requires.apart
