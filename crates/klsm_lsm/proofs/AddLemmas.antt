@@ -71,7 +71,7 @@ lawful_add bs run lsm block none =
     (added (bound.0 + level run) bs run lsm (all_weaker (λ c. level c < bound.0) (λ c. level c < bound.0 + level run) (λ c h. omega (arith, h)) bs bound.1) block (omega arith) none).lawful
 
 -- blocks of levels below k are at most k
-length_below : (k : ℕ) (bs : List (List Item)) → IsLsm bs → AllBelow k bs → length bs ≤ k
+pub length_below : (k : ℕ) (bs : List (List Item)) → IsLsm bs → AllBelow k bs → length bs ≤ k
 length_below k [] lsm below = omega arith
 length_below k (b ∷ bs) lsm below = omega (arith, length_below (level b) bs lsm.3 lsm.1, below.0)
 

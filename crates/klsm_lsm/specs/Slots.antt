@@ -1,5 +1,5 @@
 -- How an LSM is stored. No public clause speaks of it.
-use Rattle.std.specs.Prelude.{ℕ, ◌≡◌, ◌+◌, ◌-◌, ◌<◌, List, [], ◌∷◌, ◌++◌, length, map, take, drop, slice_index_or, Option}
+use Rattle.std.specs.Prelude.{ℕ, ◌≡◌, ◌+◌, ◌-◌, ◌<◌, ◌≤◌, List, [], ◌∷◌, ◌++◌, length, map, take, drop, slice_index_or, Option}
 use Rattle.std.specs.Option.{option_map_or}
 use Rattle.klsm_run.specs.declared.item.Item.{Item}
 use Rattle.klsm_lsm.specs.Level.{least_level, level}
@@ -27,3 +27,8 @@ pub record FallsToNext (blocks : List (List Item)) (at : ℕ) : Type 0 where
 pub record IsStored (levels room len : ℕ) (blocks : List (List Item)) : Type 0 where
   pub within : IsLsmWithin levels room blocks
   pub counted : len ≡ length (content blocks)
+
+-- the first `count` slots hold a lawful LSM within its limit, and the others keep their stores
+pub record IsSlotted (levels room len count : ℕ) (slots : List (List Item)) : Type 0 where
+  pub stored : IsStored levels room len (take count slots)
+  pub within : count ≤ length slots

@@ -8,22 +8,21 @@
 //!   two of them, and no more items than the limit. `Lsm::len` tells it to its callers.
 //! - **Adding and removing.** `Lsm::absorb` and `Lsm::insert` leave `add` of the old blocks, and `Lsm::remove` leaves `cut`.
 //!   The functions of `laws` say what these two are for: both keep an LSM lawful, and its content is the old one with the
-//!   run's items, or without the item.
-//! - **A refusal changes nothing.** What can fail is done first, on borrowed blocks. The clauses `unchanged` say so, and
-//!   `handed_back` that a refused run comes back.
-//! - **No memory over fixed runs.** The clauses `fixed` say that a run in a fixed store is refused for want of room alone.
-//!   Over other runs the clauses `merging` say that memory is wanted only where blocks become one.
+//!   run's items, or without the item. `Lsm::cascade` and `Lsm::partner` tell before which blocks become one.
+//! - **A store stays in its slot.** Blocks unite in place, and what leaves is read as a slice. An LSM over fixed runs never
+//!   takes memory, and one over other runs only where a run is put in, in one growth, before anything changes.
+//! - **A refusal changes nothing.** The clauses `unchanged` say so, and `handed_back` that a refused run comes back.
 #![tactic(auto)]
 
-mod adding;
-mod cutting;
+mod absorbing;
 mod errors;
 mod fixed;
 pub mod laws;
 mod lsm;
+mod places;
+mod removing;
 mod slots;
-#[cfg(test)]
-mod tests;
 
 pub use errors::{LsmError, Refused};
 pub use lsm::Lsm;
+pub use places::Cascade;

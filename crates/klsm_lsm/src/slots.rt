@@ -1,18 +1,18 @@
 //! The slots in which an LSM stores its blocks.
-ghost use Rattle.std.specs.Prelude.{◌≡◌, ◌+◌, ◌-◌, ◌<◌, ◌≤◌, ◌∷◌, ◌++◌, [], length, take, drop, remove, slice_get, slice_set, slice_index_or, Some, MatchOption};
+ghost use Rattle.std.specs.Prelude.{ℕ, ◌≡◌, ◌+◌, ◌-◌, ◌<◌, ◌≤◌, ◌∷◌, ◌++◌, ◌^◌, [], min, length, take, drop, remove, slice_get, slice_set, slice_index_or, Some, MatchOption};
 ghost use Rattle.std.specs.Ordering.{ord_min};
-ghost use Rattle.std.specs.List.{AllByRecursion};
 ghost use Rattle.arrayvec.specs.ArrayVec.{array_vec_len};
-ghost use Rattle.klsm_run.specs.Content.{sorted};
+ghost use Rattle.klsm_run.specs.Block.{HasLevel};
+ghost use Rattle.klsm_run.specs.Content.{sorted, ShareNone};
 ghost use Rattle.klsm_run.specs.ItemOrder.{item_cmp};
-ghost use Rattle.klsm_lsm.specs.Level.{level};
 ghost use Rattle.klsm_lsm.specs.Lsm.{content, IsLsm};
-ghost use Rattle.klsm_lsm.specs.Slots.{blocks_in};
+ghost use Rattle.klsm_lsm.specs.Slots.{block_in, blocks_in};
 
 use arrayvec::ArrayVec;
 use klsm_run::{Item, Run};
 
 // The run in a slot of a lawful LSM, none of which is empty.
+#[inline]
 pub(crate) fn held<R: Run>(slots: &[Option<R>], index: usize) -> &R
     requires lawful { IsLsm (blocks_in R.items slots.now) }
     requires index { index < length slots.now }
@@ -45,22 +45,6 @@ fn lesser(found: Option<Item>, item: Item) -> Item
     found.map_or(item, |other| other.min(item))
 }
 
-// The number of blocks of level `least` and above.
-pub(crate) fn place_of<R: Run>(slots: &[Option<R>], least: usize) -> usize
-    requires { IsLsm (blocks_in R.items slots.now) }
-    ensures within { result ≤ length slots.now }
-    ensures above { AllByRecursion (λ b. least ≤ level b)
-        (take result (blocks_in R.items slots.now)) }
-    ensures below { AllByRecursion (λ b. level b < least)
-        (drop result (blocks_in R.items slots.now)) }
-{
-    let mut place = slots.len();
-    while place > 0 && held(slots, place - 1).level() < least {
-        place -= 1;
-    }
-    place
-}
-
 // Puts a run in the place of the blocks from `start` up to `end`.
 pub(crate) fn replace<R: Run, const LEVELS: usize>(
     slots: &mut ArrayVec<Option<R>, LEVELS>,
@@ -81,24 +65,103 @@ pub(crate) fn replace<R: Run, const LEVELS: usize>(
     slots.insert(start, Some(run));
 }
 
-// Takes an item out of a block that has others, where it stands.
-pub(crate) fn take_out<R: Run, const LEVELS: usize>(
-    slots: &mut ArrayVec<Option<R>, LEVELS>,
-    block: usize,
-    index: usize,
-)
-    requires block { block < array_vec_len slots.old }
-    requires index { index < length (slice_index_or (blocks_in R.items slots.old.items) block []) }
-    ensures { blocks_in R.items slots.new.items
-        ≡ slice_set (blocks_in R.items slots.old.items) block
-        (remove (slice_index_or (blocks_in R.items slots.old.items) block []) index) }
+// Takes an item out of the run in a slot.
+pub(crate) fn take_out<R: Run>(slots: &mut [Option<R>], at: usize, index: usize) -> Item
+    requires at { at < length slots.old }
+    requires index { index < length (slice_index_or (blocks_in R.items slots.old) at []) }
+    ensures item { slice_get (slice_index_or (blocks_in R.items slots.old) at []) index ≡ Some result }
+    ensures rest { blocks_in R.items slots.new ≡ slice_set (blocks_in R.items slots.old) at
+        (remove (slice_index_or (blocks_in R.items slots.old) at []) index) }
 {
-    let Some(run) = &mut slots.as_mut_slice()[block] else {
+    let Some(run) = &mut slots[at] else {
         unreachable!();
     };
-    let _item = run.remove_at(index);
-    // At a power of two the block fell to a lower level. So a store has room for at most twice its items.
-    if run.len().is_power_of_two() {
-        run.shrink();
+    run.remove_at(index)
+}
+
+// Takes an item out of the run in a slot, and unites it with that of the next slot, in place.
+pub(crate) fn take_out_and_unite<R: Run>(slots: &mut [Option<R>], at: usize, index: usize) -> Item
+    requires at { at + 1 < length slots.old }
+    requires index { index < length (slice_index_or (blocks_in R.items slots.old) at []) }
+    requires some { 0 < length (slice_index_or (blocks_in R.items slots.old) (at + 1) []) }
+    requires apart { ShareNone (slice_index_or (blocks_in R.items slots.old) at [])
+        (slice_index_or (blocks_in R.items slots.old) (at + 1) []) }
+    requires room { (l : ℕ) → HasLevel l (length (slice_index_or (blocks_in R.items slots.old) at []))
+        → length (slice_index_or (blocks_in R.items slots.old) at []) - 1
+        + length (slice_index_or (blocks_in R.items slots.old) (at + 1) []) ≤ min R.ROOM (2 ^ l) }
+    ensures item { slice_get (slice_index_or (blocks_in R.items slots.old) at []) index ≡ Some result }
+    ensures rest { blocks_in R.items slots.new ≡ slice_set (blocks_in R.items slots.old) at
+        (sorted (remove (slice_index_or (blocks_in R.items slots.old) at []) index
+        ++ slice_index_or (blocks_in R.items slots.old) (at + 1) [])) }
+{
+    let (front, back) = slots.split_at_mut(at + 1);
+    let Some(run) = &mut front[at] else {
+        unreachable!();
+    };
+    let Some(next) = &back[0] else {
+        unreachable!();
+    };
+    remove_and_unite(run, index, next)
+}
+
+// Takes an item out of a run, and unites it with the next block, which is of the level that the run falls to.
+fn remove_and_unite<R: Run>(run: &mut R, index: usize, next: &R) -> Item
+    requires index { index < length (R.items run.old) }
+    requires apart { ShareNone (R.items run.old) (R.items next.now) }
+    requires room { (l : ℕ) → HasLevel l (length (R.items run.old))
+        → length (R.items run.old) - 1 + length (R.items next.now) ≤ min R.ROOM (2 ^ l) }
+    ensures item { slice_get (R.items run.old) index ≡ Some result }
+    ensures rest { R.items run.new ≡ sorted (remove (R.items run.old) index ++ R.items next.now) }
+{
+    // The store has room for a whole block of the level before, so for both.
+    let _level = run.level();
+    let _capacity = run.capacity();
+    let item = run.remove_at(index);
+    run.unite(next);
+    item
+}
+
+// Closes the gap of a block that is gone: each block behind it moves to the slot before.
+pub(crate) fn close_gap<R: Run>(slots: &mut [Option<R>], at: usize, count: usize)
+    requires at { at < count }
+    requires within { count ≤ length slots.old }
+    ensures moved { take (count - 1) (blocks_in R.items slots.new)
+        ≡ remove (take count (blocks_in R.items slots.old)) at }
+    ensures len { length slots.new ≡ length slots.old }
+{
+    let mut gap = at;
+    while gap + 1 < count {
+        move_back(slots, gap);
+        gap += 1;
     }
+}
+
+// Moves the run of the next slot to this one.
+fn move_back<R: Run>(slots: &mut [Option<R>], at: usize)
+    requires { at + 1 < length slots.old }
+    ensures moved { blocks_in R.items slots.new
+        ≡ slice_set (slice_set (blocks_in R.items slots.old) at
+        (slice_index_or (blocks_in R.items slots.old) (at + 1) [])) (at + 1) [] }
+    ensures len { length slots.new ≡ length slots.old }
+{
+    let (front, back) = slots.split_at_mut(at + 1);
+    take_run(&mut front[at], &mut back[0]);
+}
+
+// Takes the run of another slot. Where both have stores, these stay.
+fn take_run<R: Run>(slot: &mut Option<R>, other: &mut Option<R>)
+    ensures taken { block_in R.items slot.new ≡ block_in R.items other.old }
+    ensures emptied { block_in R.items other.new ≡ [] }
+{
+    if slot.is_none() || other.is_none() {
+        *slot = other.take();
+        return;
+    }
+    let Some(run) = slot else {
+        unreachable!();
+    };
+    let Some(given) = other else {
+        unreachable!();
+    };
+    run.take_from(given);
 }

@@ -1,9 +1,8 @@
-use Rattle.std.proofs.Common.{◌∙◌}
-use Rattle.klsm_lsm.proofs.SlotLemmas.{blocks_in_set}
+use Rattle.std.proofs.Common.{remove, sym, ap, ◌∙◌}
+use Rattle.klsm_run.specs.declared.item.Item.{Item}
+use Rattle.klsm_lsm.proofs.TwoSlotLemmas.{run_in_slot, set_in_slot}
 use Rattle.klsm_lsm.proofs.slots.take_out.Goals as goal
 
-pub returns-then-is_power_of_two : goal.returns-then-is_power_of_two
-returns-then-is_power_of_two g c = blocks_in_set g.R.Run.items _ _ _ c.index-as_mut_slice-block.result _ _ _ c.as_mut_slice.ensures.value c.requires.block c.in-Some.is (c.shrink.ensures ∙ c.remove_at-item.ensures.rest)
-
-pub returns-else-is_power_of_two : goal.returns-else-is_power_of_two
-returns-else-is_power_of_two g c = blocks_in_set g.R.Run.items _ _ _ c.index-as_mut_slice-block.result _ _ _ c.as_mut_slice.ensures.value c.requires.block c.in-Some.is c.remove_at-item.ensures.rest
+pub returns-clause-rest : goal.returns-clause-rest
+returns-clause-rest g c =
+    set_in_slot g.R.Run.items _ _ _ _ (c.remove_at.ensures.rest ∙ ap (λ b. remove b c.args.index) (sym (run_in_slot g.R.Run.items _ _ _ _ c.requires.at c.in-Some.is)))

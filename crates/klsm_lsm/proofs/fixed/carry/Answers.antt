@@ -1,0 +1,42 @@
+use Rattle.std.proofs.Common.{rules, ◌≡◌, ◌+◌, ◌-◌, ◌<◌, [], length, get_or, refl, sym, ap, ◌∙◌, arith}
+use Rattle.std.proofs.lemmas.List.{length-map, length-take-le}
+use Rattle.klsm_lsm.specs.Level.{level}
+use Rattle.klsm_lsm.specs.Slots.{blocks_in}
+use Rattle.klsm_lsm.proofs.CarryLemmas.{carrying_first, some_before, carrying_can, carrying_more, carrying_last}
+use Rattle.klsm_lsm.proofs.fixed.carry.Goals as goal
+
+pub loop-at-init : goal.loop-at-init
+loop-at-init g c =
+    let within : c.args.last < length (blocks_in (λ run. run) c.args.slots.now) = rw length-map c.requires.within in
+    record {
+      order = omega arith;
+      len = refl;
+      carrying = carrying_first _ _ _ _ (length-take-le _ _ (omega (arith, within))) within refl c.requires.lawful c.requires.some c.requires.apart c.requires.room c.requires.above;
+    }
+
+pub level_in-requires : goal.level_in-requires
+level_in-requires g c =
+    (search rules, (omega (arith, c.loop-at.invariant.order, c.loop-at.invariant.len, c.requires.within, c.loop-at-test.true), some_before _ _ _ _ _ c.loop-at-test.true c.loop-at.invariant.carrying))
+
+pub unite_next-requires : goal.unite_next-requires
+unite_next-requires g c =
+    let back : c.loop-at.at - 1 + 1 ≡ c.loop-at.at = omega (arith, c.loop-at-test.true) in
+    let now = c.loop-at.invariant in
+    let can = carrying_can _ _ _ _ _ c.loop-at-test.true now.carrying in
+    (search rules, (omega (arith, now.order, now.len, c.requires.within, c.loop-at-test.true), (some_before _ _ _ _ _ c.loop-at-test.true now.carrying, (rw back now.carrying.carried.some, (rw back can.apart, rw back can.fits)))))
+
+pub loop-at-preserved : goal.loop-at-preserved
+loop-at-preserved g c =
+    let back : c.loop-at.at - 1 + 1 ≡ c.loop-at.at = omega (arith, c.loop-at-test.true) in
+    let now = c.loop-at.invariant in
+    let same : level (get_or (blocks_in (λ run. run) c.loop-at.slots) (c.loop-at.at - 1) []) ≡ level (get_or (blocks_in (λ run. run) c.loop-at.slots) c.loop-at.at []) =
+    sym c.level_in.ensures ∙ (c.if-level_in.false ∙ c.level_in-in-loop-at.ensures) in
+    record {
+      order = omega (arith, now.order);
+      len = c.unite_next.ensures.len ∙ now.len;
+      carrying = carrying_more _ _ _ _ _ _ c.loop-at-test.true now.carrying same (rw back at c.unite_next.ensures.united);
+    }
+
+pub returns-then-level_in-clause-added : goal.returns-then-level_in-clause-added
+returns-then-level_in-clause-added g c =
+    carrying_last _ _ _ _ _ c.loop-at-test.true c.loop-at.invariant.carrying (λ same. c.if-level_in.true (c.level_in.ensures ∙ (same ∙ sym c.level_in-in-loop-at.ensures)))

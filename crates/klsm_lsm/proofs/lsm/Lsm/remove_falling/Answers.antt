@@ -1,0 +1,63 @@
+use Rattle.std.proofs.Common.{◌≡◌, ◌+◌, ◌-◌, ◌<◌, ◌++◌, [], length, get_or, take, remove, refl, sym, ap, ◌∙◌, arith}
+use Rattle.std.proofs.lemmas.List.{length-map}
+use Rattle.klsm_run.specs.Content.{sorted}
+use Rattle.klsm_lsm.specs.Lsm.{content}
+use Rattle.klsm_lsm.specs.Adding.{cut}
+use Rattle.klsm_lsm.specs.Slots.{blocks_in}
+use Rattle.klsm_lsm.proofs.RemovingLemmas.{block_in_place, some_item, can_fall, fallen, cut_stored}
+use Rattle.klsm_lsm.proofs.StoredLemmas.{count_blocks, slots_back, view_back}
+use Rattle.klsm_lsm.proofs.lsm.Lsm.remove_falling.Goals as goal
+
+pub overflow_sub-self : goal.overflow_sub-self
+overflow_sub-self g c =
+    let some : 0 < length (content c.args.self.now) = some_item c.args.self.now c.args.block c.args.index c.requires.index in
+    omega (arith, c.self.invariant.stored.counted, ap (λ bs. length (content bs)) c.self.view_is, some)
+
+pub take_out_and_unite-item-requires : goal.take_out_and_unite-item-requires
+take_out_and_unite-item-requires g c =
+    let value = c.as_mut_slice-slots.ensures.value in
+    let falls = c.requires.falls in
+    let sl = blocks_in g.R.Run.items c.self.inside.slots.items in
+    let one : get_or sl c.args.block [] ≡ get_or c.args.self.now c.args.block [] = block_in_place c.args.self.now c.args.block c.self.invariant c.self.view_is (omega (arith, falls.within)) in
+    let two : get_or sl (c.args.block + 1) [] ≡ get_or c.args.self.now (c.args.block + 1) [] = block_in_place c.args.self.now (c.args.block + 1) c.self.invariant c.self.view_is falls.within in
+    let can = can_fall _ _ _ _ sl c.args.self.now c.args.block c.self.invariant c.self.view_is falls c.requires.others in
+    record {
+      at = rw value (omega (arith, falls.within, ap length c.self.view_is, count_blocks c.self.invariant, rw length-map at c.self.invariant.within));
+      index = rw (value, one) c.requires.index;
+      some = rw (value, two) can.some;
+      apart = rw (value, one, two) can.apart;
+      room = rw (value, one, two) can.fits;
+    }
+
+pub close_gap-requires-clause-at : goal.close_gap-requires-clause-at
+close_gap-requires-clause-at g c = omega (arith, c.requires.falls.within, ap length c.self.view_is, count_blocks c.self.invariant)
+
+pub invariant_of-self : goal.invariant_of-self
+invariant_of-self g c =
+    let value = c.as_mut_slice-slots.ensures.value in
+    let falls = c.requires.falls in
+    let sl = blocks_in g.R.Run.items c.self.inside.slots.items in
+    let one : get_or sl c.args.block [] ≡ get_or c.args.self.now c.args.block [] = block_in_place c.args.self.now c.args.block c.self.invariant c.self.view_is (omega (arith, falls.within)) in
+    let two : get_or sl (c.args.block + 1) [] ≡ get_or c.args.self.now (c.args.block + 1) [] = block_in_place c.args.self.now (c.args.block + 1) c.self.invariant c.self.view_is falls.within in
+    let rest = fallen sl _ _ c.args.self.now c.args.block c.args.index _ c.self.invariant c.self.view_is falls c.requires.others c.requires.index (rw value at c.take_out_and_unite-item.ensures.rest) (rw (one, two) refl) c.close_gap.ensures.moved in
+    let len : length c.take_out_and_unite-item.new.slots ≡ length c.self.inside.slots.items = c.take_out_and_unite-item.auto.slots ∙ ap length value in
+    slots_back g.R.Run.items _ _ _ _ c.self.inside.slots.items c.close_gap.new.slots _ (c.close_gap.ensures.len ∙ len) (omega (arith, rw length-map at c.self.invariant.within)) rest
+    (cut_stored c.args.self.now c.args.block c.args.index c.self.invariant c.self.view_is c.requires.index)
+
+pub returns-clause-item : goal.returns-clause-item
+returns-clause-item g c =
+    let value = c.as_mut_slice-slots.ensures.value in
+    let sl = blocks_in g.R.Run.items c.self.inside.slots.items in
+    let one : get_or sl c.args.block [] ≡ get_or c.args.self.now c.args.block [] = block_in_place c.args.self.now c.args.block c.self.invariant c.self.view_is (omega (arith, c.requires.falls.within)) in
+    rw (value, one) at c.take_out_and_unite-item.ensures.item
+
+pub returns-clause-rest : goal.returns-clause-rest
+returns-clause-rest g c =
+    let value = c.as_mut_slice-slots.ensures.value in
+    let falls = c.requires.falls in
+    let sl = blocks_in g.R.Run.items c.self.inside.slots.items in
+    let one : get_or sl c.args.block [] ≡ get_or c.args.self.now c.args.block [] = block_in_place c.args.self.now c.args.block c.self.invariant c.self.view_is (omega (arith, falls.within)) in
+    let two : get_or sl (c.args.block + 1) [] ≡ get_or c.args.self.now (c.args.block + 1) [] = block_in_place c.args.self.now (c.args.block + 1) c.self.invariant c.self.view_is falls.within in
+    let rest = fallen sl _ _ c.args.self.now c.args.block c.args.index _ c.self.invariant c.self.view_is falls c.requires.others c.requires.index (rw value at c.take_out_and_unite-item.ensures.rest) (rw (one, two) refl) c.close_gap.ensures.moved in
+    let len : length c.take_out_and_unite-item.new.slots ≡ length c.self.inside.slots.items = c.take_out_and_unite-item.auto.slots ∙ ap length value in
+    view_back g.R.Run.items _ c.self.inside.slots.items c.close_gap.new.slots _ (c.close_gap.ensures.len ∙ len) rest
