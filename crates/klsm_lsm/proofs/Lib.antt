@@ -6,6 +6,7 @@ pub mod CutLemmas
 pub mod FallLemmas
 pub mod FewLemmas
 pub mod GapLemmas
+pub mod InsertLemmas
 pub mod JoinLemmas
 pub mod JoiningLemmas
 pub mod KeyLemmas

@@ -44,56 +44,83 @@ impl<const CAP: usize, const LEVELS: usize> Lsm<FixedRun<CAP>, LEVELS> {
         ensures rest { victim.new ≡ left_by_spy victim.old }
         ensures count { result ≡ length (content self.new) }
     {
-        if victim.count == 0 {
+        if victim.blocks() == 0 {
             return 0;
         }
-        let items = victim.block(0).as_slice();
-        let kept = if victim.count == 1 {
-            items.len() / 2
-        } else {
-            0
-        };
-        let moved = items.len() - kept;
-        put_last(&mut self.slots, 0, &items[kept..]);
-        self.count = 1;
-        self.len = moved;
-        if kept == 0 {
-            victim.discard_largest();
-        } else {
-            victim.keep_least(kept);
+        if victim.blocks() == 1 {
+            return self.spy_half(victim);
         }
-        moved
+        let _limit = victim.len();
+        self.fill(victim.block(0).as_slice());
+        victim.discard_largest();
+        self.len()
+    }
+
+    // Takes the greatest half of the victim's only block.
+    fn spy_half(&mut self, victim: &mut Self) -> usize
+        requires capacity { IsCapacity CAP }
+        requires empty { self.old ≡ [] }
+        requires only { length victim.old ≡ 1 }
+        ensures taken { self.new ≡ option_to_list (spied victim.old) }
+        ensures rest { victim.new ≡ left_by_spy victim.old }
+        ensures count { result ≡ length (content self.new) }
+    {
+        let _limit = victim.len();
+        let items = victim.block(0).as_slice();
+        self.fill(&items[items.len() / 2..]);
+        victim.lose_half();
+        self.len()
+    }
+
+    // Puts items into an LSM that has none.
+    fn fill(&mut self, items: &[Item])
+        requires capacity { IsCapacity CAP }
+        requires empty { self.old ≡ [] }
+        requires some { 0 < length items.now }
+        requires ascending { IsAscending items.now }
+        requires limit { length items.now ≤ limit_of LEVELS CAP }
+        ensures { self.new ≡ items.now ∷ [] }
+    {
+        put_last(&mut self.slots, 0, items);
+        self.count = 1;
+        self.len = items.len();
     }
 
     // Keeps the least items of the only block.
     fn keep_least(&mut self, kept: usize)
         requires only { length self.old ≡ 1 }
         requires some { 0 < kept }
-        requires within { kept ≤ length (content self.old) }
-        ensures { self.new ≡ take kept (content self.old) ∷ [] }
+        requires within { kept ≤ length (slice_index_or self.old 0 []) }
+        ensures { self.new ≡ take kept (slice_index_or self.old 0 []) ∷ [] }
     {
         truncate_slot(&mut self.slots.as_mut_slice()[0], kept);
         self.len = kept;
     }
 
-    /// Takes the largest block out or, where it is the only one, its greatest half, rounded up.
+    /// Takes the largest block out or, where it is the only one, its greatest half, rounded up. Its store moves.
     pub fn split_for_spy(&mut self) -> Option<FixedRun<CAP>>
         ensures given { result ≡ spied self.old }
         ensures rest { self.new ≡ left_by_spy self.old }
     {
-        let count = self.len();
-        let largest = self.take_largest()?;
-        if largest.len() < count {
-            return Some(largest);
+        if self.blocks() != 1 {
+            return self.take_largest();
         }
-        let upper = largest.upper_half();
-        let lower = largest.lower_half();
-        if lower.len() > 0 {
-            let Ok(()) = self.absorb(lower) else {
-                unreachable!();
-            };
-        }
+        let upper = self.block(0).upper_half();
+        self.lose_half();
         Some(upper)
+    }
+
+    // Leaves the least half of the only block, rounded down.
+    fn lose_half(&mut self)
+        requires { length self.old ≡ 1 }
+        ensures { self.new ≡ left_by_spy self.old }
+    {
+        let kept = self.block(0).len() / 2;
+        if kept == 0 {
+            self.discard_largest();
+        } else {
+            self.keep_least(kept);
+        }
     }
 }
 

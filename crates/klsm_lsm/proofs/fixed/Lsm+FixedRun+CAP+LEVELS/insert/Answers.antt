@@ -1,0 +1,30 @@
+use Rattle.std.proofs.Common.{rules, ◌≡◌, ◌+◌, ◌<◌, length, ap, ◌∙◌, arith}
+use Rattle.std.proofs.lemmas.List.{length-map}
+use Rattle.klsm_lsm.specs.Limit.{limit_of}
+use Rattle.klsm_lsm.specs.Slots.{blocks_in}
+use Rattle.klsm_lsm.proofs.InsertLemmas.{free_level, can_carry, insert_stored, inserted}
+use Rattle.klsm_lsm.proofs.StoredLemmas.{slots_back, view_back}
+use Rattle.klsm_lsm.proofs.fixed.Lsm+FixedRun+CAP+LEVELS.insert.Goals as goal
+
+pub put_last-requires : goal.put_last-requires
+put_last-requires g c =
+    let less : c.self.inside.len < limit_of g.row.LEVELS g.row.CAP = omega (arith, c.if-self-limit.false, c.limit.ensures) in
+    (search rules, (search rules, (c.requires.capacity, (rw length-map at c.self.invariant.within, (free_level _ _ _ _ _ c.self.invariant less, ((tt, tt), c.requires.capacity.some_room))))))
+
+pub carry-requires : goal.carry-requires
+carry-requires g c =
+    let less : c.self.inside.len < limit_of g.row.LEVELS g.row.CAP = omega (arith, c.if-self-limit.false, c.limit.ensures) in
+    let can = can_carry _ _ _ _ _ (blocks_in (λ run. run) c.put_last.new.slots.items) _ _ c.self.invariant c.self.view_is less c.requires.new c.put_last.ensures.blocks in
+    rw c.as_mut_slice.ensures.value (search rules, (c.put_last.ensures.within, (can.lawful, (can.some, (can.apart, (can.fits, can.above))))))
+
+pub invariant_of-self : goal.invariant_of-self
+invariant_of-self g c =
+    let less : c.self.inside.len < limit_of g.row.LEVELS g.row.CAP = omega (arith, c.if-self-limit.false, c.limit.ensures) in
+    let added = inserted _ _ _ _ _ _ (blocks_in (λ run. run) c.put_last.new.slots.items) (blocks_in (λ run. run) c.carry.new.slots) _ _ c.self.invariant c.self.view_is c.put_last.ensures.blocks (rw c.as_mut_slice.ensures.value at c.carry.ensures.added) in
+    slots_back (λ run. run) _ _ _ _ c.put_last.new.slots.items c.carry.new.slots _ (c.carry.ensures.len ∙ ap length c.as_mut_slice.ensures.value) (omega (arith, c.carry.ensures.within, c.put_last.ensures.within)) added
+    (insert_stored _ _ _ _ _ _ _ c.self.invariant c.self.view_is less c.requires.new)
+
+pub returns-clause-added : goal.returns-clause-added
+returns-clause-added g c =
+    let added = inserted _ _ _ _ _ _ (blocks_in (λ run. run) c.put_last.new.slots.items) (blocks_in (λ run. run) c.carry.new.slots) _ _ c.self.invariant c.self.view_is c.put_last.ensures.blocks (rw c.as_mut_slice.ensures.value at c.carry.ensures.added) in
+    view_back (λ run. run) _ c.put_last.new.slots.items c.carry.new.slots _ (c.carry.ensures.len ∙ ap length c.as_mut_slice.ensures.value) added
