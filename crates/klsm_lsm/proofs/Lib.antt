@@ -5,9 +5,12 @@ pub mod CutLemmas
 pub mod FallLemmas
 pub mod JoinLemmas
 pub mod KeyLemmas
+pub mod LeastBlockLemmas
 pub mod LeastLemmas
 pub mod LevelLemmas
 pub mod LimitLemmas
+pub mod PartnerLemmas
 pub mod PlaceLemmas
 pub mod SlotLemmas
 pub mod SpyLemmas
+pub mod UnitedLemmas

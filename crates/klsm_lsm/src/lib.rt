@@ -21,9 +21,11 @@ mod errors;
 mod fixed;
 pub mod laws;
 mod lsm;
+mod places;
 mod slots;
 #[cfg(test)]
 mod tests;
 
 pub use errors::{LsmError, Refused};
 pub use lsm::Lsm;
+pub use places::Cascade;

@@ -1,0 +1,103 @@
+//! Which blocks a change will concern: looks at an LSM that change nothing.
+ghost use Rattle.std.specs.Prelude.{◌≡◌, ◌+◌, ◌<◌, ◌≤◌, ◌↔◌, [], length, take, drop, slice_index_or, IsTrue, MatchOption};
+ghost use Rattle.std.specs.List.{AllByRecursion};
+ghost use Rattle.klsm_run.specs.ItemOrder.{is_smaller};
+ghost use Rattle.klsm_lsm.specs.Level.{level};
+ghost use Rattle.klsm_lsm.specs.Places.{IsCascade, IsPartner, IsLeastBlock};
+ghost use Rattle.klsm_lsm.specs.Slots.{FallsToNext};
+
+use crate::Lsm;
+use klsm_run::{Item, Run};
+
+/// The blocks that a run becomes one with: `count` blocks from `first` on. The result stands at `first`.
+#[derive(Clone, Copy, Debug, PartialEq, Eq)]
+pub struct Cascade {
+    /// The first of them.
+    pub first: usize,
+    /// How many they are.
+    pub count: usize,
+}
+
+impl<R: Run, const LEVELS: usize> Lsm<R, LEVELS> {
+    /// The blocks that each run of a level becomes one with where it is put in.
+    pub fn cascade(&self, level: usize) -> Cascade
+        ensures { IsCascade self.now level result.first result.count }
+    {
+        let _lawful = self.len();
+        let end = self.place_of_level(level);
+        let mut first = end;
+        // The level of the run with the blocks from `first` on.
+        let mut joined = level;
+        while first > 0 && self.block(first - 1).level() == joined {
+            first -= 1;
+            joined += 1;
+        }
+        Cascade {
+            first,
+            count: end - first,
+        }
+    }
+
+    /// The block that becomes one with this block where an item of it is taken out, if one does.
+    pub fn partner(&self, block: usize) -> Option<usize>
+        requires { block < length self.now }
+        ensures { IsPartner self.now block result }
+    {
+        let last = self.blocks() - 1;
+        if block < last && self.falls_to_next(block) {
+            return Some(block + 1);
+        }
+        None
+    }
+
+    /// The block that begins with the least item, if there is one. It costs one comparison a block.
+    pub fn least_block(&self) -> Option<usize>
+        ensures { IsLeastBlock self.now result }
+    {
+        let _lawful = self.len();
+        let mut found: Option<(usize, Item)> = None;
+        for block in 0..self.blocks() {
+            let first = self.block(block).item_at(0);
+            if comes_before(first, found) {
+                found = Some((block, first));
+            }
+        }
+        let Some((block, _)) = found else {
+            return None;
+        };
+        Some(block)
+    }
+
+    // The number of blocks of a level and above.
+    fn place_of_level(&self, least: usize) -> usize
+        ensures within { result ≤ length self.now }
+        ensures above { AllByRecursion (λ b. least ≤ level b) (take result self.now) }
+        ensures below { AllByRecursion (λ b. level b < least) (drop result self.now) }
+    {
+        let _lawful = self.len();
+        let mut place = self.blocks();
+        while place > 0 && self.block(place - 1).level() < least {
+            place -= 1;
+        }
+        place
+    }
+
+    // Whether a block with others beside an item is of the level of the next block without it.
+    fn falls_to_next(&self, block: usize) -> bool
+        requires { block + 1 < length self.now }
+        ensures { IsTrue result ↔ ((1 < length (slice_index_or self.now block [])) × FallsToNext self.now block) }
+    {
+        let _lawful = self.len();
+        let _within = self.blocks();
+        let count = self.block(block).len();
+        count > 1 && count - 1 <= 1 << self.block(block + 1).level()
+    }
+}
+
+// Whether an item is smaller than the least found, where one is found.
+#[inline]
+fn comes_before(item: Item, found: Option<(usize, Item)>) -> bool
+    ensures { MatchOption found (IsTrue result) (λ f. result ≡ is_smaller item f.1) }
+{
+    found.is_none_or(|(_, least)| item < least)
+}
