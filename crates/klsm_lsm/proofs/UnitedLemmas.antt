@@ -1,6 +1,6 @@
 -- A run of a level becomes one with blocks that the levels alone tell.
 use Rattle.std.proofs.Common.{◌≡◌, ℕ, ◌+◌, ◌-◌, ◌<◌, ◌≤◌, ◌^◌, List, [], ◌∷◌, ◌++◌, length, get_or, take, drop, refl, sym, ap, ◌∙◌, subst, arith, add-one, zero, suc}
-use Rattle.std.proofs.lemmas.List.{append_assoc, drop_more}
+use Rattle.std.proofs.lemmas.List.{append_assoc, drop_more, length-append}
 use Rattle.klsm_run.specs.declared.item.Item.{Item}
 use Rattle.klsm_run.specs.Block.{IsBlock, HasLevel}
 use Rattle.klsm_run.specs.Content.{sorted, ShareNone}
@@ -72,3 +72,9 @@ pub united_up_to : (bs : List (List Item)) (l first count end : ℕ) (b run : Li
 united_up_to bs l first count end b run lsm some within at differ is uniting =
     sym (carried_last_at _ bs first b _ _ _ lsm some within at (λ same. differ (same ∙ uniting.level_is)) uniting.carried)
     ∙ ap (λ n. take first bs ++ whole_of bs first count run ∷ drop n bs) is
+
+-- a block holds no more than all
+pub one_within : (bs : List (List Item)) (i : ℕ) → length (get_or bs i []) ≤ length (content bs)
+one_within [] i = omega arith
+one_within (b ∷ bs) zero = omega (arith, length-append b (content bs))
+one_within (b ∷ bs) (suc i) = omega (arith, one_within bs i, length-append b (content bs))

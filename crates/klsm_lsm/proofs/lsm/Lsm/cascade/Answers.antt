@@ -2,7 +2,7 @@ use Rattle.std.proofs.Common.{◌≡◌, ◌+◌, ◌-◌, ◌<◌, ◌≤◌, �
 use Rattle.std.proofs.lemmas.Option.{get_or_from_slice_get}
 use Rattle.klsm_lsm.specs.Level.{level}
 use Rattle.klsm_lsm.proofs.LevelLemmas.{level_is}
-use Rattle.klsm_lsm.proofs.UnitedLemmas.{IsUniting, uniting_first, uniting_more, united_all, united_up_to}
+use Rattle.klsm_lsm.proofs.UnitedLemmas.{IsUniting, uniting_first, uniting_more, united_all, united_up_to, one_within}
 use Rattle.klsm_lsm.proofs.lsm.Lsm.cascade.Goals as goal
 use Rattle.klsm_lsm.proofs.lsm.Lsm.cascade.Goals.{then-loop-first-test+else-level-joined, else-loop-first-test}
 
@@ -15,7 +15,9 @@ loop-first-init g c = record {
 
 pub overflow_add-joined : goal.overflow_add-joined
 overflow_add-joined g c =
-    let fits : length (g.R.Run.items c.block.result.now) ≤ 2 ^ 64 = omega (arith, c.len-lawful.ensures.len) in
+    let block = get_or_from_slice_get c.args.self.now (c.loop-first.first - 1) _ [] c.block.ensures.block in
+    let fits : length (g.R.Run.items c.block.result.now) ≤ 2 ^ 64 =
+    rw (← block) (omega (arith, one_within c.args.self.now (c.loop-first.first - 1), c.len-lawful.ensures.len, c.len-lawful.type_inv)) in
     omega (arith, c.level.ensures.least 64 fits, c.if-level-joined.true)
 
 pub loop-first-preserved : goal.loop-first-preserved

@@ -1,5 +1,5 @@
 use Rattle.std.proofs.Common.{◌+◌, [], length, sym, ap, ◌∙◌, arith}
-use Rattle.std.proofs.lemmas.Bool.{lt-ltb, ltb-true}
+use Rattle.std.proofs.lemmas.Bool.{ltb-true}
 use Rattle.std.proofs.lemmas.Option.{get_or_from_slice_get}
 use Rattle.klsm_lsm.specs.Level.{level}
 use Rattle.klsm_lsm.proofs.LevelLemmas.{level_is}

@@ -1,7 +1,6 @@
-use Rattle.std.proofs.Common.{◌≡◌, ◌<◌, [], length, None, MatchOption, IsTrue, sym, subst, arith}
+use Rattle.std.proofs.Common.{◌≡◌, ◌<◌, [], length, MatchOption, IsTrue, sym, subst, arith}
 use Rattle.std.proofs.lemmas.Option.{get_or_from_slice_get}
 use Rattle.klsm_run.specs.ItemOrder.{is_smaller}
-use Rattle.klsm_lsm.specs.Places.{IsLeastBlock}
 use Rattle.klsm_lsm.proofs.LeastBlockLemmas.{IsFirstFound, first_found_here, first_found_before, none_found, some_found}
 use Rattle.klsm_lsm.proofs.lsm.Lsm.least_block.Goals as goal
 use Rattle.klsm_lsm.proofs.lsm.Lsm.least_block.Goals.{then-comes_before, else-comes_before}

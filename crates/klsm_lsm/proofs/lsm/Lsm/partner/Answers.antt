@@ -1,6 +1,5 @@
 use Rattle.std.proofs.Common.{refl, arith}
 use Rattle.std.proofs.lemmas.Bool.{both_ways}
-use Rattle.klsm_lsm.specs.Slots.{FallsToNext}
 use Rattle.klsm_lsm.proofs.FallLemmas.{cut_falling}
 use Rattle.klsm_lsm.proofs.PartnerLemmas.{cut_is_alone}
 use Rattle.klsm_lsm.proofs.lsm.Lsm.partner.Goals as goal
