@@ -1,7 +1,9 @@
 pub mod EventLemmas
 pub mod FlushLemmas
 pub mod FoundLemmas
+pub mod GreatestLemmas
 pub mod ListingLemmas
+pub mod MendLemmas
 pub mod OwnLemmas
 pub mod PairLemmas
 pub mod PivotLemmas

@@ -30,6 +30,7 @@ mod flushing;
 pub mod laws;
 mod listing;
 mod local;
+mod mending;
 mod part;
 mod picker;
 mod ranks;

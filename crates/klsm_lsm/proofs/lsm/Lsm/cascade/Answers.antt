@@ -1,8 +1,7 @@
-use Rattle.std.proofs.Common.{◌≡◌, ◌+◌, ◌-◌, ◌<◌, ◌≤◌, ◌^◌, [], length, get_or, refl, sym, ap, ◌∙◌, subst, arith}
+use Rattle.std.proofs.Common.{◌≡◌, ◌+◌, ◌-◌, ◌≤◌, ◌^◌, [], length, sym, ◌∙◌, arith}
 use Rattle.std.proofs.lemmas.Option.{get_or_from_slice_get}
-use Rattle.klsm_lsm.specs.Level.{level}
 use Rattle.klsm_lsm.proofs.LevelLemmas.{level_is}
-use Rattle.klsm_lsm.proofs.UnitedLemmas.{IsUniting, uniting_first, uniting_more, united_all, united_up_to, one_within}
+use Rattle.klsm_lsm.proofs.UnitedLemmas.{uniting_first, uniting_more, united_all, united_up_to, one_within}
 use Rattle.klsm_lsm.proofs.lsm.Lsm.cascade.Goals as goal
 use Rattle.klsm_lsm.proofs.lsm.Lsm.cascade.Goals.{then-loop-first-test+else-level-joined, else-loop-first-test}
 
