@@ -194,3 +194,17 @@ pub less_counted : (n : ℕ) (bs : List (List Item)) (ps lent read : List ℕ) (
 less_counted n bs ps lent read j q g same same_read lsm more pivots is found greatest =
     rw same (rw (refill_same ps (set ps j q) (length-set ps j q))
     (pivot_less n bs ps j q g lsm more pivots (ap (λ (l : List ℕ). get_or l j 0) (sym same_read) ∙ (is ∙ add-one q)) found (subst (λ l. NoneAbove g (marked bs l)) same_read greatest)))
+
+-- one item more that is not greater
+pub up_to_more : (g : Item) (xs : List Item) (i : ℕ) (x : Item) → slice_get xs i ≡ Some x → is_smaller g x ≡ false → NoneAbove g (take i xs) → NoneAbove g (take (i + 1) xs)
+up_to_more g xs i x found not_greater so_far =
+    subst (NoneAbove g) (sym (take_more xs i x (slice_get_within xs i x found) ∙ ap (λ y. take i xs ++ y ∷ []) (get_or_from_slice_get xs i x x found)))
+    (all_append (λ y. is_smaller g y ≡ false) (take i xs) (x ∷ []) so_far (not_greater, tt))
+
+-- all items from a greater one on are greater
+pub beyond_here : (g : Item) (xs : List Item) (i : ℕ) (x : Item) → IsAscending xs → slice_get xs i ≡ Some x → is_smaller g x ≡ true → AllByRecursion (λ y. is_smaller g y ≡ true) (drop i xs)
+beyond_here g [] i x up found greater = absurd (omega (arith, slice_get_within [] i x found))
+beyond_here g (y ∷ ys) zero x up found greater =
+    let here : is_smaller g y ≡ true = subst (λ z. is_smaller g z ≡ true) (sym (same_Some y x found)) greater in
+    (here, all_weaker (IsSmaller y) (λ z. is_smaller g z ≡ true) (λ z less. ap is_lt (smaller_trans g y z (less_if_smaller g y here) less)) ys up.0)
+beyond_here g (y ∷ ys) (suc i) x up found greater = beyond_here g ys i x up.1 found greater

@@ -1,3 +1,4 @@
+pub mod AddedLemmas
 pub mod EventLemmas
 pub mod FlushLemmas
 pub mod FoundLemmas
@@ -7,5 +8,6 @@ pub mod MendLemmas
 pub mod OwnLemmas
 pub mod PairLemmas
 pub mod PivotLemmas
+pub mod PivotListLemmas
 pub mod SpyLemmas
 pub mod TakeLemmas

@@ -1,5 +1,5 @@
 -- Pivots that are mended where blocks change. No public clause speaks of it: those say which items are marked.
-use Rattle.std.specs.Prelude.{ℕ, ◌+◌, ◌-◌, ◌∷◌, ◌++◌, [], Bool, List, take, drop, remove, sum, slice_set, slice_index_or, if◌then◌else◌}
+use Rattle.std.specs.Prelude.{ℕ, ◌+◌, ◌-◌, ◌∷◌, ◌++◌, [], Bool, List, take, drop, remove, sum, slice_set, slice_index_or, if◌then◌else◌, Option, Some, None}
 
 -- the pivots with one in the place of the `count` pivots from `first` on, which adds theirs to another
 abbrev pub united_pivots : List ℕ → ℕ → ℕ → ℕ → List ℕ
@@ -9,8 +9,8 @@ united_pivots pivots first count pivot = take first pivots ++ (pivot + sum (take
 abbrev pub less_marked : List ℕ → ℕ → List ℕ
 less_marked pivots at = slice_set pivots at (slice_index_or pivots at 0 - 1)
 
--- the pivots after a marked item was cut out of block `at`: whether it was the only one there, and whether the block became
--- one with the next
-abbrev pub cut_pivots : List ℕ → ℕ → Bool → Bool → List ℕ
-cut_pivots pivots at is_only is_joined =
-    if is_only then remove pivots at else if is_joined then united_pivots (less_marked pivots at) at 2 0 else less_marked pivots at
+-- the pivots after a marked item was cut out of block `at`: whether it was the only one there, and which block became one with
+-- its block
+abbrev pub cut_pivots : List ℕ → ℕ → Bool → Option ℕ → List ℕ
+cut_pivots pivots at is_only None = if is_only then remove pivots at else less_marked pivots at
+cut_pivots pivots at is_only (Some next) = united_pivots (less_marked pivots at) at 2 0

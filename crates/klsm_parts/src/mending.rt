@@ -1,5 +1,5 @@
 //! How pivots are mended where the blocks of a shared part change, so that no change counts them anew.
-ghost use Rattle.std.specs.Prelude.{◌≡◌, ℕ, ◌+◌, ◌-◌, ◌<◌, ◌≤◌, ◌^◌, ◌∷◌, [], length, min, sum, take, drop, true, false, slice_get, slice_set, slice_index, slice_index_or, Some, IsTrue, MatchOption};
+ghost use Rattle.std.specs.Prelude.{◌≡◌, ℕ, ◌+◌, ◌-◌, ◌<◌, ◌≤◌, ◌^◌, ◌∷◌, [], length, min, sum, take, drop, true, false, slice_get, slice_set, slice_index, slice_index_or, Some, IsTrue, IfSome, MatchOption};
 ghost use Rattle.std.specs.List.{AllByRecursion};
 ghost use Rattle.arrayvec.specs.ArrayVec.{array_vec_len};
 ghost use Rattle.klsm_run.specs.ItemOrder.{is_smaller};
@@ -15,26 +15,26 @@ use klsm_run::{Item, Run};
 
 /// Mends the pivots after a marked item was cut out of a block. It costs one comparison a block.
 ///
-/// `is_only` tells that the block had no other item, and `is_joined` that it became one with the next.
+/// `is_only` tells whether the block had no other item, and `partner` the block that became one with it, if one did.
 pub(crate) fn mend_cut<R: Run, const LEVELS: usize>(
     lsm: &Lsm<R, LEVELS>,
     pivots: &mut ArrayVec<usize, LEVELS>,
     block: usize,
     is_only: bool,
-    is_joined: bool,
+    partner: Option<usize>,
     k: usize,
 )
     requires lawful { IsLsm lsm.now }
     requires block { block < array_vec_len pivots.old }
     requires some { 0 < slice_index pivots.old.items block }
-    requires next { IsTrue is_joined → block + 1 < array_vec_len pivots.old }
+    requires next { IfSome partner (λ _. block + 1 < array_vec_len pivots.old) }
     requires fits { sum pivots.old.items < 2 ^ 64 }
     requires k { k ≤ 128 }
     requires marks { ArePivots (min (k + 1) (length (content lsm.now) + 1) - 1) lsm.now
-        (cut_pivots pivots.old.items block is_only is_joined) }
+        (cut_pivots pivots.old.items block is_only partner) }
     ensures { ArePivots (k + 1) lsm.now pivots.new.items }
 {
-    cut_pivot(pivots, block, is_only, is_joined);
+    cut_pivot(pivots, block, is_only, partner);
     if lsm.len() > k {
         mark_least(lsm, pivots);
     }
@@ -45,21 +45,23 @@ fn cut_pivot<const LEVELS: usize>(
     pivots: &mut ArrayVec<usize, LEVELS>,
     block: usize,
     is_only: bool,
-    is_joined: bool,
+    partner: Option<usize>,
 )
     requires block { block < array_vec_len pivots.old }
     requires some { 0 < slice_index pivots.old.items block }
-    requires next { IsTrue is_joined → block + 1 < array_vec_len pivots.old }
+    requires next { IfSome partner (λ _. block + 1 < array_vec_len pivots.old) }
     requires fits { sum pivots.old.items < 2 ^ 64 }
-    ensures { pivots.new.items ≡ cut_pivots pivots.old.items block is_only is_joined }
+    ensures { pivots.new.items ≡ cut_pivots pivots.old.items block is_only partner }
 {
-    if is_only {
-        let _one = pivots.remove(block);
-        return;
-    }
-    mark_less(pivots, block);
-    if is_joined {
-        unite_pivots(pivots, block, 2, 0);
+    match partner {
+        Some(_next) => {
+            mark_less(pivots, block);
+            unite_pivots(pivots, block, 2, 0);
+        }
+        None if is_only => {
+            let _one = pivots.remove(block);
+        }
+        None => mark_less(pivots, block),
     }
 }
 
@@ -67,7 +69,9 @@ fn cut_pivot<const LEVELS: usize>(
 fn mark_less<const LEVELS: usize>(pivots: &mut ArrayVec<usize, LEVELS>, block: usize)
     requires block { block < array_vec_len pivots.old }
     requires some { 0 < slice_index pivots.old.items block }
-    ensures { pivots.new.items ≡ slice_set pivots.old.items block (slice_index_or pivots.old.items block 0 - 1) }
+    ensures less { pivots.new.items
+        ≡ slice_set pivots.old.items block (slice_index_or pivots.old.items block 0 - 1) }
+    ensures fits { array_vec_len pivots.new ≤ LEVELS }
 {
     pivots.as_mut_slice()[block] -= 1;
 }
