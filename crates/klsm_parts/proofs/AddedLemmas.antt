@@ -27,7 +27,7 @@ use Rattle.klsm_lsm.proofs.CutLemmas.{lawful_cut, length_cut}
 use Rattle.klsm_lsm.proofs.ContentLemmas.{ascending_content}
 use Rattle.klsm_parts.specs.Least.{least}
 use Rattle.klsm_parts.specs.Pivots.{marked, unmarked, AreWithin, ArePivots}
-use Rattle.klsm_parts.specs.Mending.{united_pivots, less_marked, cut_pivots}
+use Rattle.klsm_parts.specs.Mending.{united_pivots, less_marked, cut_pivots, IsMendable}
 use Rattle.klsm_parts.proofs.PivotLemmas.{length_marked}
 use Rattle.klsm_parts.proofs.FoundLemmas.{one_each}
 use Rattle.klsm_parts.proofs.PivotListLemmas.{sum_less}
@@ -76,19 +76,9 @@ run_some_marked k bs ps run q j i g lsm pivots pivot at greatest within up_to be
     (sum_by-cons (λ (x : ℕ). x) q ps ∙ ap (λ n. q + n) (sum_of_pivots (k + 1) bs ps pivots))
 
 -- what the pivots' mending asks after a run was put in
-pub record IsMendable (k first count q n : ℕ) (bs after : List (List Item)) (ps : List ℕ) (run : List Item) : Type 0 where
-  pub lawful : IsLsm after
-  pub within : first + count ≤ length ps
-  pub blocks : length after + count ≡ length ps + 1
-  pub total : q + sum ps ≡ n
-  pub enough : min (k + 1) (length (content after)) ≤ n
-  pub at_most : n ≤ length (content after)
-  pub size : length (content after) ≡ length (content bs) + length run
-  pub marks : ArePivots n after (united_pivots ps first count q)
-
 pub mendable : (k l first count q n : ℕ) (bs : List (List Item)) (ps : List ℕ) (run : List Item) → IsLsm bs → ArePivots (k + 1) bs ps → IsBlock l run → ShareNone (content bs) run → IsCascade bs l first count
     → q ≤ length run → (length (content bs) ≤ k → q ≡ length run) → n ≡ q + min (k + 1) (length (content bs)) → ArePivots (q + min (k + 1) (length (content bs))) (run ∷ bs) (q ∷ ps)
-    → IsMendable k first count q n bs (add bs run) ps run
+    → IsMendable k first count q n (add bs run) ps
 mendable k l first count q n bs ps run lsm pivots block apart cascade within all is marks =
     let c = content bs in
     let m = q + min (k + 1) (length c) in
@@ -109,7 +99,6 @@ mendable k l first count q n bs ps run lsm pivots block apart cascade within all
       total = total ∙ sym is;
       enough = is_enough size;
       at_most = omega (arith, is, size, within);
-      size = size;
       marks = rw is (pivots_if_split (SkipsFew whole m) (SkipsMany whole m) m (add bs run) (united_pivots ps first count q) (skips_apart whole m) after (sum_united ps first count q ∙ total));
     }
   where

@@ -5,8 +5,9 @@ ghost use Rattle.arrayvec.specs.ArrayVec.{array_vec_len};
 ghost use Rattle.klsm_run.specs.ItemOrder.{is_smaller};
 ghost use Rattle.klsm_run.specs.Content.{ShareNone};
 ghost use Rattle.klsm_lsm.specs.Lsm.{content, IsLsm};
+ghost use Rattle.klsm_lsm.specs.Adding.{add};
 ghost use Rattle.klsm_parts.specs.Pivots.{ArePivots, AreWithin, marked};
-ghost use Rattle.klsm_parts.specs.Mending.{united_pivots, cut_pivots};
+ghost use Rattle.klsm_parts.specs.Mending.{united_pivots, cut_pivots, IsMendable};
 
 use crate::ranks::{Place, mark_least};
 use arrayvec::ArrayVec;
@@ -111,20 +112,15 @@ pub(crate) fn mend_added<R: Run, const LEVELS: usize>(
     added: Added,
     k: usize,
 )
-    requires lawful { IsLsm lsm.now }
-    requires within { added.cascade.first + added.cascade.count ≤ array_vec_len pivots.old }
-    requires blocks { length lsm.now + added.cascade.count ≡ array_vec_len pivots.old + 1 }
-    requires fits { added.pivot + sum pivots.old.items < 2 ^ 64 }
+    requires mendable { IsMendable k added.cascade.first added.cascade.count added.pivot added.marked
+        lsm.now pivots.old.items }
     requires k { k ≤ 128 }
-    requires enough { min (k + 1) (length (content lsm.now)) ≤ added.marked }
-    requires at_most { added.marked ≤ length (content lsm.now) }
-    requires marks { ArePivots added.marked lsm.now
-        (united_pivots pivots.old.items added.cascade.first added.cascade.count added.pivot) }
     ensures { ArePivots (k + 1) lsm.now pivots.new.items }
 {
     let _blocks = lsm.blocks();
+    let most = lsm.len().min(k + 1);
     unite_pivots(pivots, added.cascade.first, added.cascade.count, added.pivot);
-    unmark_to(lsm, pivots, added.marked, lsm.len().min(k + 1));
+    unmark_to(lsm, pivots, added.marked, most);
 }
 
 // Marks the greatest marked items no longer, down to the least `most`.
@@ -200,9 +196,34 @@ fn comes_after(item: Item, found: Option<(usize, Item)>) -> bool
     found.is_none_or(|(_, greatest)| greatest < item)
 }
 
-/// How many of a run's first items will be marked with those that are: all of them where at most k items are held, else
-/// those that are not greater than each marked one.
-pub(crate) fn pivot_of_run<B: Run, R: Run, const LEVELS: usize>(
+/// What a run that is to be put in will change. It costs one comparison for each of its items that will be marked, and
+/// one a block.
+pub(crate) fn added_by<B: Run, R: Run, const LEVELS: usize>(
+    lsm: &Lsm<B, LEVELS>,
+    pivots: &[usize],
+    run: &R,
+    k: usize,
+) -> Added
+    requires lawful { IsLsm lsm.now }
+    requires pivots { ArePivots (k + 1) lsm.now pivots.now }
+    requires k { k ≤ 128 }
+    requires some { 0 < length (R.items run.now) }
+    requires apart { ShareNone (content lsm.now) (R.items run.now) }
+    requires room { length (content lsm.now) + length (R.items run.now) < 2 ^ 64 }
+    ensures { IsMendable k result.cascade.first result.cascade.count result.pivot result.marked
+        (add lsm.now (R.items run.now)) pivots.now }
+{
+    let pivot = pivot_of_run(lsm, pivots, run, k);
+    Added {
+        cascade: lsm.cascade(run.level()),
+        pivot,
+        marked: pivot + lsm.len().min(k + 1),
+    }
+}
+
+// How many of a run's first items will be marked with those that are: all of them where at most k items are held, else
+// those that are not greater than each marked one.
+fn pivot_of_run<B: Run, R: Run, const LEVELS: usize>(
     lsm: &Lsm<B, LEVELS>,
     pivots: &[usize],
     run: &R,
