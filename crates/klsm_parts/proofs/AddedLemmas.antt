@@ -27,7 +27,7 @@ use Rattle.klsm_lsm.proofs.CutLemmas.{lawful_cut, length_cut}
 use Rattle.klsm_lsm.proofs.ContentLemmas.{ascending_content}
 use Rattle.klsm_parts.specs.Least.{least}
 use Rattle.klsm_parts.specs.Pivots.{marked, unmarked, AreWithin, ArePivots}
-use Rattle.klsm_parts.specs.Mending.{united_pivots, less_marked, cut_pivots, IsMendable}
+use Rattle.klsm_parts.specs.Mending.{united_pivots, less_marked, cut_pivots, IsMendable, IsCutMendable}
 use Rattle.klsm_parts.proofs.PivotLemmas.{length_marked}
 use Rattle.klsm_parts.proofs.FoundLemmas.{one_each}
 use Rattle.klsm_parts.proofs.PivotListLemmas.{sum_less}
@@ -174,17 +174,9 @@ cut_split P Q bs ps at index (Some next) apart split here each before within (is
     }
 
 -- what the pivots' mending asks after a candidate was cut out
-pub record IsCutMendable (k at index : ℕ) (is_only : Bool) (partner : Option ℕ) (bs : List (List Item)) (ps : List ℕ) : Type 0 where
-  pub lawful : IsLsm (cut bs at index)
-  pub block : at < length ps
-  pub some : 0 < get_or ps at 0
-  pub next : IfSome partner (λ _. at + 1 < length ps)
-  pub few : sum ps ≤ k + 1
-  pub marks : ArePivots (min (k + 1) (length (content (cut bs at index)) + 1) - 1) (cut bs at index) (cut_pivots ps at is_only partner)
-
 pub cut_mendable : (k at index rank : ℕ) (x : Item) (is_only : Bool) (partner : Option ℕ) (bs : List (List Item)) (ps : List ℕ) → IsLsm bs → ArePivots (k + 1) bs ps → at < length bs
     → slice_get (get_or bs at []) index ≡ Some x → slice_get (least (k + 1) (content bs)) rank ≡ Some x → IsPartner bs at partner → is_only ≡ (length (get_or bs at []) == 1)
-    → IsCutMendable k at index is_only partner bs ps
+    → IsCutMendable k (cut bs at index) at is_only partner ps
 cut_mendable k at index rank x is_only partner bs ps lsm pivots here found among partner_is only =
     let c = content bs in
     let few = SkipsFew c (k + 1) in let many = SkipsMany c (k + 1) in

@@ -1,5 +1,5 @@
 -- Pivots that are mended where blocks change. No public clause speaks of it: those say which items are marked.
-use Rattle.std.specs.Prelude.{ℕ, ◌≡◌, ◌+◌, ◌-◌, ◌≤◌, ◌∷◌, ◌++◌, [], min, length, Bool, List, take, drop, remove, sum, slice_set, slice_index_or, if◌then◌else◌, Option, Some, None}
+use Rattle.std.specs.Prelude.{ℕ, ◌≡◌, ◌+◌, ◌-◌, ◌<◌, ◌≤◌, ◌∷◌, ◌++◌, [], min, length, Bool, List, take, drop, remove, sum, slice_set, slice_index_or, if◌then◌else◌, Option, Some, None, IfSome}
 use Rattle.klsm_run.specs.declared.item.Item.{Item}
 use Rattle.klsm_lsm.specs.Lsm.{content, IsLsm}
 use Rattle.klsm_parts.specs.Pivots.{ArePivots}
@@ -28,3 +28,12 @@ pub record IsMendable (k first count q n : ℕ) (after : List (List Item)) (pivo
   pub enough : min (k + 1) (length (content after)) ≤ n
   pub at_most : n ≤ length (content after)
   pub marks : ArePivots n after (united_pivots pivots first count q)
+
+-- blocks after a marked item was cut out of block `at`: fewer items are marked by one, and they are the least
+pub record IsCutMendable (k : ℕ) (after : List (List Item)) (at : ℕ) (is_only : Bool) (partner : Option ℕ) (pivots : List ℕ) : Type 0 where
+  pub lawful : IsLsm after
+  pub block : at < length pivots
+  pub some : 0 < slice_index_or pivots at 0
+  pub next : IfSome partner (λ _. at + 1 < length pivots)
+  pub few : sum pivots ≤ k + 1
+  pub marks : ArePivots (min (k + 1) (length (content after) + 1) - 1) after (cut_pivots pivots at is_only partner)

@@ -7,7 +7,7 @@ ghost use Rattle.klsm_run.specs.Content.{ShareNone};
 ghost use Rattle.klsm_lsm.specs.Lsm.{content, IsLsm};
 ghost use Rattle.klsm_lsm.specs.Adding.{add};
 ghost use Rattle.klsm_parts.specs.Pivots.{ArePivots, AreWithin, marked};
-ghost use Rattle.klsm_parts.specs.Mending.{united_pivots, cut_pivots, IsMendable};
+ghost use Rattle.klsm_parts.specs.Mending.{united_pivots, cut_pivots, IsMendable, IsCutMendable};
 
 use crate::ranks::{Place, mark_least};
 use arrayvec::ArrayVec;
@@ -25,15 +25,10 @@ pub(crate) fn mend_cut<R: Run, const LEVELS: usize>(
     partner: Option<usize>,
     k: usize,
 )
-    requires lawful { IsLsm lsm.now }
-    requires block { block < array_vec_len pivots.old }
-    requires some { 0 < slice_index pivots.old.items block }
-    requires next { IfSome partner (λ _. block + 1 < array_vec_len pivots.old) }
-    requires fits { sum pivots.old.items < 2 ^ 64 }
+    requires mendable { IsCutMendable k lsm.now block is_only partner pivots.old.items }
     requires k { k ≤ 128 }
-    requires marks { ArePivots (min (k + 1) (length (content lsm.now) + 1) - 1) lsm.now
-        (cut_pivots pivots.old.items block is_only partner) }
-    ensures { ArePivots (k + 1) lsm.now pivots.new.items }
+    ensures lawful { IsLsm lsm.now }
+    ensures pivots { ArePivots (k + 1) lsm.now pivots.new.items }
 {
     cut_pivot(pivots, block, is_only, partner);
     if lsm.len() > k {
@@ -115,7 +110,8 @@ pub(crate) fn mend_added<R: Run, const LEVELS: usize>(
     requires mendable { IsMendable k added.cascade.first added.cascade.count added.pivot added.marked
         lsm.now pivots.old.items }
     requires k { k ≤ 128 }
-    ensures { ArePivots (k + 1) lsm.now pivots.new.items }
+    ensures lawful { IsLsm lsm.now }
+    ensures pivots { ArePivots (k + 1) lsm.now pivots.new.items }
 {
     let _blocks = lsm.blocks();
     let most = lsm.len().min(k + 1);

@@ -12,10 +12,10 @@ unite_pivots-requires g c =
 pub unmark_to-requires : goal.unmark_to-requires
 unmark_to-requires g c =
     let can = c.requires.mendable in
-    (search rules, (search rules, (can.lawful, (omega (arith, can.enough, c.min.ensures, c.len.ensures.len), (can.at_most, subst (ArePivots c.args.added.marked c.args.lsm.now) (sym c.unite_pivots.ensures) can.marks)))))
+    (search rules, (search rules, (can.lawful, (omega (arith, can.enough, c.min-most.ensures, c.len.ensures.len), (can.at_most, subst (ArePivots c.args.added.marked c.args.lsm.now) (sym c.unite_pivots.ensures) can.marks)))))
 
-pub returns : goal.returns
-returns g c =
+pub returns-clause-pivots : goal.returns-clause-pivots
+returns-clause-pivots g c =
     let after = c.args.lsm.now in
-    let count : c.min.result ≡ min (c.args.k + 1) (length (content after)) = omega (arith, c.min.ensures, c.len.ensures.len) in
+    let count : c.min-most.result ≡ min (c.args.k + 1) (length (content after)) = omega (arith, c.min-most.ensures, c.len.ensures.len) in
     pivots_all (c.args.k + 1) after c.unmark_to.new.pivots.items (subst (λ n. ArePivots n after c.unmark_to.new.pivots.items) count c.unmark_to.ensures)
