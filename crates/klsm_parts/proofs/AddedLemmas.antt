@@ -1,5 +1,5 @@
 -- The pivots of a run that is put in, and those of the blocks after it was, or after an item was cut out.
-use Rattle.std.proofs.Common.{◌≡◌, ℕ, ◌+◌, ◌-◌, ◌<◌, ◌≤◌, ◌^◌, ◌==◌, Bool, true, false, List, [], ◌∷◌, ◌++◌, length, get_or, set, remove, take, drop, min, sum, Option, Some, None, IfSome, take_all, refl, sym, ap, ◌∙◌, subst, arith, zero, suc, add-one, if◌then◌else◌, inl, inr}
+use Rattle.std.proofs.Common.{◌≡◌, ℕ, ◌+◌, ◌-◌, ◌<◌, ◌≤◌, ◌==◌, Bool, true, false, List, [], ◌∷◌, ◌++◌, length, get_or, set, remove, take, drop, min, sum, Option, Some, None, IfSome, take_all, sym, ap, ◌∙◌, subst, arith, zero, suc, inl, inr}
 use Rattle.std.specs.List.{AllByRecursion, slice_get}
 use Rattle.std.specs.Ordering.{is_lt}
 use Rattle.std.proofs.lemmas.Bool.{cases_lt, cases_eq, eq-eqb, ne_eqb}
@@ -9,7 +9,7 @@ use Rattle.std.proofs.lemmas.Option.{slice_get_within}
 use Rattle.klsm_run.specs.declared.item.Item.{Item}
 use Rattle.klsm_run.specs.ItemOrder.{is_smaller, IsSmaller}
 use Rattle.klsm_run.specs.Block.{IsBlock}
-use Rattle.klsm_run.specs.Content.{sorted, skipped, ShareNone, IsAscending}
+use Rattle.klsm_run.specs.Content.{sorted, ShareNone, IsAscending}
 use Rattle.klsm_run.proofs.AllLemmas.{all_weaker, all_front, all_back}
 use Rattle.klsm_run.proofs.SortedLemmas.{length_sorted}
 use Rattle.klsm_run.proofs.OrderLemmas.{smaller_trans, Below, Same, Above, ranked}
@@ -17,10 +17,9 @@ use Rattle.klsm_run.proofs.ContentLemmas.{sorted_swap, sorted_same_behind}
 use Rattle.klsm_run.proofs.LesserLemmas.{less_if_smaller}
 use Rattle.klsm_run.proofs.IndexLemmas.{at_each, slice_get-drop}
 use Rattle.klsm_run.proofs.RankLemmas.{least_skip_few}
-use Rattle.klsm_lsm.specs.Level.{level}
 use Rattle.klsm_lsm.specs.Lsm.{content, IsLsm}
 use Rattle.klsm_lsm.specs.Adding.{add, cut}
-use Rattle.klsm_lsm.specs.Places.{united, IsCascade, IsPartner, cut_together, cut_alone}
+use Rattle.klsm_lsm.specs.Places.{united, IsCascade, IsPartner}
 use Rattle.klsm_lsm.proofs.JoinLemmas.{is_block, some_in_block}
 use Rattle.klsm_lsm.proofs.AddLemmas.{lawful_add, sorted_add, length_add}
 use Rattle.klsm_lsm.proofs.CutLemmas.{lawful_cut, length_cut}

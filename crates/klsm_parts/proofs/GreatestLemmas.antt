@@ -1,12 +1,12 @@
 -- The greatest marked item, and what is left where it is marked no longer.
-use Rattle.std.proofs.Common.{◌≡◌, ℕ, ◌+◌, ◌-◌, ◌<◌, ◌≤◌, Bool, true, false, List, [], ◌∷◌, ◌++◌, length, get_or, set, take, drop, min, sum, Option, Some, None, MatchOption, IsTrue, take_all, refl, sym, ap, ◌∙◌, subst, arith, zero, suc, add-one}
+use Rattle.std.proofs.Common.{◌≡◌, ℕ, ◌+◌, ◌-◌, ◌<◌, ◌≤◌, true, false, List, [], ◌∷◌, ◌++◌, length, get_or, set, take, drop, Option, Some, None, MatchOption, IsTrue, take_all, sym, ap, ◌∙◌, subst, arith, zero, suc, add-one}
 use Rattle.std.specs.List.{AllByRecursion, slice_get, refill}
-use Rattle.std.proofs.lemmas.List.{append-nil, append_assoc, take_more, length-append, length-set}
+use Rattle.std.proofs.lemmas.List.{append-nil, append_assoc, take_more, length-set}
 use Rattle.std.proofs.lemmas.Option.{get_or_from_slice_get, slice_get_within, same_Some}
 use Rattle.klsm_run.specs.declared.item.Item.{Item}
 use Rattle.klsm_run.specs.ItemOrder.{is_smaller, IsSmaller}
 use Rattle.std.specs.Ordering.{is_lt}
-use Rattle.klsm_run.specs.Content.{placed, sorted, ShareNone, IsAscending}
+use Rattle.klsm_run.specs.Content.{placed, sorted, IsAscending}
 use Rattle.klsm_run.proofs.AllLemmas.{all_weaker, all_append, all_front, all_back}
 use Rattle.klsm_run.proofs.SortedLemmas.{sorted_ascending, all_sorted, length_sorted}
 use Rattle.klsm_run.proofs.HalfLemmas.{ascending_take}
@@ -19,9 +19,7 @@ use Rattle.klsm_run.proofs.WithoutLemmas.{placed_cancel}
 use Rattle.klsm_lsm.specs.Lsm.{content, IsLsm}
 use Rattle.klsm_lsm.proofs.ContentLemmas.{ascending_content}
 use Rattle.klsm_lsm.proofs.SlotLemmas.{refill_same}
-use Rattle.klsm_parts.specs.Pivots.{marked, unmarked, AreWithin, ArePivots}
-use Rattle.klsm_parts.proofs.PivotLemmas.{length_marked}
-use Rattle.klsm_parts.proofs.MendLemmas.{AreSplit}
+use Rattle.klsm_parts.specs.Pivots.{marked, AreWithin, ArePivots}
 
 -- no item of a list is greater than another
 abbrev pub NoneAbove : Item → List Item → Type 0

@@ -1,8 +1,8 @@
 -- Pivots that are mended: where each marked item is smaller than each other one, the marked items are the least, and this stays so
 -- where blocks lose an item or become one.
-use Rattle.std.proofs.Common.{◌≡◌, ℕ, ◌+◌, ◌-◌, ◌<◌, ◌≤◌, Bool, true, false, List, [], ◌∷◌, ◌++◌, length, get_or, set, remove, take, drop, min, sum, refl, sym, ap, ◌∙◌, subst, arith, zero, suc, if◌then◌else◌}
+use Rattle.std.proofs.Common.{◌≡◌, ℕ, ◌+◌, ◌-◌, ◌<◌, ◌≤◌, Bool, true, false, List, [], ◌∷◌, ◌++◌, length, get_or, set, remove, take, drop, sum, refl, sym, ap, ◌∙◌, subst, arith, zero, suc, if◌then◌else◌}
 use Rattle.std.specs.List.{AllByRecursion}
-use Rattle.std.proofs.lemmas.List.{append-nil, append_assoc, take-append-drop, take-append-le, drop-append-le, take_all, drop-drop, length-append, length-take-le}
+use Rattle.std.proofs.lemmas.List.{take-append-le, drop-append-le, take_all, drop-drop, length-append, length-take-le}
 use Rattle.std.proofs.lemmas.List.Edits.{length-remove}
 use Rattle.std.proofs.lemmas.List.Sums.{sum_by-cons, sum_by-append, sum_by-take-drop}
 use Rattle.klsm_run.specs.declared.item.Item.{Item}
@@ -11,7 +11,7 @@ use Rattle.klsm_run.specs.Content.{placed, sorted, skipped, IsAscending}
 use Rattle.klsm_run.proofs.AllLemmas.{all_weaker, all_append, all_front, all_back}
 use Rattle.klsm_run.proofs.SortedLemmas.{placed_first, all_sorted, length_sorted}
 use Rattle.klsm_run.proofs.RemoveLemmas.{all_remove}
-use Rattle.klsm_run.proofs.ContentLemmas.{sorted_swap, sorted_same_behind}
+use Rattle.klsm_run.proofs.ContentLemmas.{sorted_swap}
 use Rattle.klsm_run.proofs.LeastLemmas.{all_unsorted}
 use Rattle.klsm_run.proofs.LesserLemmas.{less_if_smaller}
 use Rattle.klsm_run.proofs.RankLemmas.{skipped_not_above, least_skip_few, rest_skip_many}
@@ -180,11 +180,14 @@ split_united P Q bs ps first count q run apart split =
 pub sum_united : (ps : List ℕ) (first count q : ℕ) → sum (united_pivots ps first count q) ≡ q + sum ps
 sum_united ps first count q =
     let f = λ (x : ℕ). x in
-    omega (arith, sum_by-append f (take first ps) ((q + sum (take count (drop first ps))) ∷ drop (first + count) ps),
-    sum_by-cons f (q + sum (take count (drop first ps))) (drop (first + count) ps),
-    ap sum (drop-drop count first ps),
-    sum_by-take-drop f (drop first ps) count,
-    sum_by-take-drop f ps first)
+    omega (
+      arith,
+      sum_by-append f (take first ps) ((q + sum (take count (drop first ps))) ∷ drop (first + count) ps),
+      sum_by-cons f (q + sum (take count (drop first ps))) (drop (first + count) ps),
+      ap sum (drop-drop count first ps),
+      sum_by-take-drop f (drop first ps) count,
+      sum_by-take-drop f ps first,
+    )
 
 -- a block with one marked item less
 take_without : (b : List Item) (p index : ℕ) → index ≤ p → p < length b → take p (remove b index) ≡ remove (take (suc p) b) index

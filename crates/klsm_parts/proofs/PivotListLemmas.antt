@@ -1,5 +1,5 @@
 -- Pivots that are taken out and added.
-use Rattle.std.proofs.Common.{◌≡◌, ℕ, ◌+◌, ◌-◌, ◌<◌, ◌≤◌, List, [], ◌∷◌, ◌++◌, length, get_or, set, remove, take, drop, sum, refl, sym, ap, ◌∙◌, subst, arith, zero, suc, add-one}
+use Rattle.std.proofs.Common.{◌≡◌, ℕ, ◌+◌, ◌-◌, ◌<◌, ◌≤◌, List, [], ◌∷◌, ◌++◌, length, get_or, set, remove, take, drop, sum, refl, sym, ap, ◌∙◌, arith, zero, suc, add-one}
 use Rattle.std.proofs.lemmas.List.{drop-drop, length-append, length-take, length-drop, take-append-drop}
 use Rattle.std.proofs.lemmas.List.Sums.{sum_by_more, sum_by-set, sum_by-take-le, sum_by-take-drop}
 

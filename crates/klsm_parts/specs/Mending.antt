@@ -1,5 +1,5 @@
 -- Pivots that are mended where blocks change. No public clause speaks of it: those say which items are marked.
-use Rattle.std.specs.Prelude.{ℕ, ◌≡◌, ◌+◌, ◌-◌, ◌<◌, ◌≤◌, ◌∷◌, ◌++◌, [], min, length, Bool, List, take, drop, remove, sum, slice_set, slice_index_or, if◌then◌else◌, Option, Some, None, IfSome}
+use Rattle.std.specs.Prelude.{ℕ, ◌≡◌, ◌+◌, ◌-◌, ◌<◌, ◌≤◌, ◌∷◌, ◌++◌, min, length, Bool, List, take, drop, remove, sum, slice_set, slice_index_or, if◌then◌else◌, Option, Some, None, IfSome}
 use Rattle.klsm_run.specs.declared.item.Item.{Item}
 use Rattle.klsm_lsm.specs.Lsm.{content, IsLsm}
 use Rattle.klsm_parts.specs.Pivots.{ArePivots}

@@ -115,7 +115,12 @@ pub(crate) fn mend_added<R: Run, const LEVELS: usize>(
 {
     let _blocks = lsm.blocks();
     let most = lsm.len().min(k + 1);
-    unite_pivots(pivots, added.cascade.first, added.cascade.count, added.pivot);
+    unite_pivots(
+        pivots,
+        added.cascade.first,
+        added.cascade.count,
+        added.pivot,
+    );
     unmark_to(lsm, pivots, added.marked, most);
 }
 

@@ -172,7 +172,14 @@ impl<const LEVELS: usize, A: Allocator + Copy> Shared<LEVELS, A> {
         let is_only = self.lsm.block(place.block).len() == 1;
         match self.lsm.remove(place.block, place.index) {
             Ok(_item) => {
-                mend_cut(&self.lsm, &mut self.pivots, place.block, is_only, partner, self.k);
+                mend_cut(
+                    &self.lsm,
+                    &mut self.pivots,
+                    place.block,
+                    is_only,
+                    partner,
+                    self.k,
+                );
                 Ok(())
             }
             Err(why) => Err(why),

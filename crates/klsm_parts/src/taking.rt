@@ -1,5 +1,6 @@
 //! The deletion from an own part and the shared one.
 ghost use Rattle.std.specs.Prelude.{◌≡◌, ◌+◌, ◌<◌, ◌≤◌, ◌↔◌, ◌++◌, [], false, length, slice_get, slice_index_or, option_map, Some, None, Ok, IsTrue, IfOk, IfErr, OnErr, MatchResult, MatchOption, IfSome};
+ghost use Rattle.std.specs.List.{Contains};
 ghost use Rattle.klsm_run.specs.Content.{ShareNone, skipped};
 ghost use Rattle.klsm_run.specs.ItemOrder.{is_smaller};
 ghost use Rattle.klsm_lsm.specs.Lsm.{content};
@@ -75,7 +76,8 @@ fn choose<const CAP: usize, const LEVELS: usize, A: Allocator + Copy, P: Picker>
         (λ candidate. option_map (λ place. place.item) result
         ≡ unless_smaller candidate (least_in own.now)) }
     ensures place { IfSome result (λ place. (place.block < length shared.now.blocks)
-        × (slice_get (slice_index_or shared.now.blocks place.block []) place.index ≡ Some place.item)) }
+        × (slice_get (slice_index_or shared.now.blocks place.block []) place.index ≡ Some place.item)
+        × Contains (candidates_of shared.now) place.item) }
 {
     let least_own = own.least();
     let least_shared = shared.least()?;

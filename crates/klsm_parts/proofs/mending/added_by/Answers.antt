@@ -1,4 +1,4 @@
-use Rattle.std.proofs.Common.{◌≡◌, ◌+◌, ◌<◌, ◌≤◌, length, min, subst, sym, arith, rules}
+use Rattle.std.proofs.Common.{arith}
 use Rattle.klsm_parts.proofs.AddedLemmas.{mendable}
 use Rattle.klsm_parts.proofs.mending.added_by.Goals as goal
 

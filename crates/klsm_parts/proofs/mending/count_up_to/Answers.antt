@@ -1,4 +1,4 @@
-use Rattle.std.proofs.Common.{◌≡◌, ◌+◌, true, false, ap, sym, ◌∙◌, arith, rules}
+use Rattle.std.proofs.Common.{sym, ◌∙◌, arith}
 use Rattle.klsm_parts.proofs.GreatestLemmas.{up_to_more, beyond_here}
 use Rattle.klsm_parts.proofs.mending.count_up_to.Goals as goal
 

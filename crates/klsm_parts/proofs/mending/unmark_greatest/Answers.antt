@@ -1,8 +1,5 @@
-use Rattle.std.proofs.Common.{◌≡◌, ◌+◌, ◌<◌, [], length, get_or, set, refl, sym, ap, ◌∙◌, subst, arith, rules, add-one}
-use Rattle.klsm_lsm.proofs.SlotLemmas.{refill_same}
-use Rattle.std.proofs.lemmas.List.{length-set}
-use Rattle.klsm_parts.proofs.FoundLemmas.{one_each}
-use Rattle.klsm_parts.proofs.GreatestLemmas.{pivot_less, less_counted}
+use Rattle.std.proofs.Common.{rules}
+use Rattle.klsm_parts.proofs.GreatestLemmas.{less_counted}
 use Rattle.klsm_parts.proofs.mending.unmark_greatest.Goals as goal
 
 pub greatest_marked-place-requires : goal.greatest_marked-place-requires

@@ -1,5 +1,4 @@
-use Rattle.std.proofs.Common.{◌≡◌, ◌+◌, ◌-◌, ◌<◌, length, min, subst, sym, arith, rules}
-use Rattle.klsm_lsm.specs.Lsm.{content}
+use Rattle.std.proofs.Common.{◌≡◌, ◌+◌, ◌-◌, subst, arith, rules}
 use Rattle.klsm_parts.specs.Pivots.{ArePivots}
 use Rattle.klsm_parts.proofs.PivotLemmas.{length_marked}
 use Rattle.klsm_parts.proofs.mending.unmark_to.Goals as goal
