@@ -152,10 +152,10 @@ same_if_neither x y xy yx = elim (ranked x y) [
   | Above greater less ↦ let bad : true ≡ false = rw less at yx in cc
 ]
 
--- pivots of the least n + 1 items, and one less at the block whose marked items end with the greatest
-pub pivot_less : (n : ℕ) (bs : List (List Item)) (ps : List ℕ) (j q : ℕ) (g : Item) → IsLsm bs → n < length (content bs) → ArePivots (n + 1) bs ps
-    → get_or ps j 0 ≡ suc q → slice_get (get_or bs j []) q ≡ Some g → NoneAbove g (marked bs ps) → ArePivots n bs (set ps j q)
-pivot_less n bs ps j q g lsm more pivots is found greatest =
+-- the greatest of the least n + 1 items is the one of rank n
+pub greatest_ranked : (n : ℕ) (bs : List (List Item)) (ps : List ℕ) (j q : ℕ) (g : Item) → IsLsm bs → n < length (content bs) → ArePivots (n + 1) bs ps
+    → get_or ps j 0 ≡ suc q → slice_get (get_or bs j []) q ≡ Some g → NoneAbove g (marked bs ps) → slice_get (sorted (content bs)) n ≡ Some g
+greatest_ranked n bs ps j q g lsm more pivots is found greatest =
     let all = sorted (content bs) in
     let up = ascending_content bs lsm in
     let last = at_index all n (omega (arith, more, length_sorted (content bs))) in
@@ -167,17 +167,26 @@ pivot_less n bs ps j q g lsm more pivots is found greatest =
     let y_not_below : is_smaller y g ≡ false = at_marked (λ z. is_smaller y z ≡ false) bs ps j q g pivots.within y_greatest (omega (arith, is)) found in
     let g_all : NoneAbove g (take n all ++ y ∷ []) = subst (NoneAbove g) (pivots.exact ∙ one_more) (all_sorted (λ z. is_smaller g z ≡ false) (marked bs ps) greatest) in
     let g_not_below : is_smaller g y ≡ false = (all_back (λ z. is_smaller g z ≡ false) (take n all) (y ∷ []) g_all).0 in
-    let same : g ≡ y = same_if_neither g y g_not_below y_not_below in
+    last.1 ∙ ap Some (sym (same_if_neither g y g_not_below y_not_below))
+
+-- pivots of the least n + 1 items, and one less at the block whose marked items end with the greatest
+pub pivot_less : (n : ℕ) (bs : List (List Item)) (ps : List ℕ) (j q : ℕ) (g : Item) → IsLsm bs → n < length (content bs) → ArePivots (n + 1) bs ps
+    → get_or ps j 0 ≡ suc q → slice_get (get_or bs j []) q ≡ Some g → NoneAbove g (marked bs ps) → ArePivots n bs (set ps j q)
+pivot_less n bs ps j q g lsm more pivots is found greatest =
+    let all = sorted (content bs) in
+    let up = ascending_content bs lsm in
+    let last : slice_get all n ≡ Some g = greatest_ranked n bs ps j q g lsm more pivots is found greatest in
+    let one_more : take (n + 1) all ≡ take n all ++ g ∷ [] =
+    take_more all n g (slice_get_within all n g last) ∙ ap (λ z. take n all ++ z ∷ []) (get_or_from_slice_get all n g g last) in
     let first_up : IsAscending (take n all) = ascending_take n all up in
-    let both : placed y (sorted (marked bs (set ps j q))) ≡ placed y (take n all) =
-    ap (λ z. placed z (sorted (marked bs (set ps j q)))) (sym same)
-    ∙ (sym (marked_less bs ps j q g pivots.within is found)
+    let both : placed g (sorted (marked bs (set ps j q))) ≡ placed g (take n all) =
+    sym (marked_less bs ps j q g pivots.within is found)
     ∙ (pivots.exact
     ∙ (sym (sorted_ascending (take (n + 1) all) (ascending_take (n + 1) all up))
     ∙ (ap sorted one_more
-    ∙ (sorted_middle y (take n all) []
-    ∙ (ap (λ xs. sorted (y ∷ xs)) (append-nil (take n all)) ∙ ap (placed y) (sorted_ascending (take n all) first_up))))))) in
-    record { within = within_less bs ps j q pivots.within is; exact = placed_cancel y _ _ both }
+    ∙ (sorted_middle g (take n all) []
+    ∙ (ap (λ xs. sorted (g ∷ xs)) (append-nil (take n all)) ∙ ap (placed g) (sorted_ascending (take n all) first_up)))))) in
+    record { within = within_less bs ps j q pivots.within is; exact = placed_cancel g _ _ both }
 
 pub pivot_in_block : (bs : List (List Item)) (ps : List ℕ) (j : ℕ) → AreWithin bs ps → get_or ps j 0 ≤ length (get_or bs j [])
 pivot_in_block [] [] j within = omega arith

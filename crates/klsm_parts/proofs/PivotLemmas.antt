@@ -118,6 +118,13 @@ pivots_all n bs ps pivots = record {
   exact = pivots.exact ∙ (ap (λ m. take (min n m) (sorted (content bs))) (sym (length_sorted (content bs))) ∙ take_min n (sorted (content bs)));
 }
 
+-- and pivots of any number are those of all items, where there are no more
+pub pivots_min : (n : ℕ) (bs : List (List Item)) (ps : List ℕ) → ArePivots n bs ps → ArePivots (min n (length (content bs))) bs ps
+pivots_min n bs ps pivots = record {
+  within = pivots.within;
+  exact = pivots.exact ∙ sym (ap (λ m. take (min n m) (sorted (content bs))) (sym (length_sorted (content bs))) ∙ take_min n (sorted (content bs)));
+}
+
 count_marked_by : (p : Item → Bool) (bs : List (List Item)) (ps : List ℕ) (j : ℕ) → AreWithin bs ps → AllByRecursion (λ x. p x ≡ true) (marked bs ps) → AllByRecursion (λ x. p x ≡ false) (content (unmarked bs ps)) → get_or ps j 0 ≡ count_by p (get_or bs j [])
 count_marked_by p [] [] j within all none = refl
 count_marked_by p [] (n ∷ ps) j within all none = absurd within

@@ -10,7 +10,7 @@ ghost use Rattle.klsm_parts.specs.Pivots.{ArePivots, IsPivotAt, count_in_least};
 ghost use Rattle.klsm_parts.specs.Parts.{PartState, IsShared, least_in, candidates_of};
 ghost use Rattle.klsm_parts.specs.Taking.{IsMergingCut};
 
-use crate::mending::{added_by, mend_added, mend_cut};
+use crate::mending::{added_by, mend_added, mend_cut, place_from_above};
 use crate::ranks::{Place, pivots_of, place_of};
 use arrayvec::ArrayVec;
 use klsm_lsm::{Lsm, LsmError};
@@ -113,7 +113,8 @@ impl<const LEVELS: usize, A: Allocator + Copy> Shared<LEVELS, A> {
         (self.k + 1).min(self.lsm.len())
     }
 
-    /// Candidate `index`, counted from the least. It costs `index + 1` comparisons a block.
+    /// Candidate `index`, counted from the least. It is counted from the nearer end, and costs as many comparisons a block
+    /// as are counted.
     pub fn candidate(&self, index: usize) -> Item
         requires { index < length (candidates_of self.now) }
         ensures { slice_get (candidates_of self.now) index ≡ Some result }
@@ -128,7 +129,11 @@ impl<const LEVELS: usize, A: Allocator + Copy> Shared<LEVELS, A> {
         ensures index { slice_get (slice_index_or self.now.blocks result.block []) result.index ≡ Some result.item }
         ensures candidate { slice_get (candidates_of self.now) index ≡ Some result.item }
     {
-        place_of(&self.lsm, index)
+        let marked = self.candidates();
+        if index < marked / 2 {
+            return place_of(&self.lsm, index);
+        }
+        place_from_above(&self.lsm, self.pivots.as_slice(), marked, index)
     }
 
     // Puts a copy of a run in. What can be refused comes first, and Full before a growth.
