@@ -107,7 +107,7 @@ found_least bs ps i b x within all found =
 pub some_behind : (n : ℕ) (bs : List (List Item)) (ps : List ℕ) → ArePivots n bs ps → n < length (content bs) → length (marked bs ps) < length (content bs)
 some_behind n bs ps pivots more = omega (arith, length_marked n bs ps pivots, more)
 
-pivot_within : (bs : List (List Item)) (ps : List ℕ) (j : ℕ) → AreWithin bs ps → get_or ps j 0 ≤ length (marked bs ps)
+pub pivot_within : (bs : List (List Item)) (ps : List ℕ) (j : ℕ) → AreWithin bs ps → get_or ps j 0 ≤ length (marked bs ps)
 pivot_within [] [] j within = omega arith
 pivot_within [] (p ∷ ps) j within = absurd within
 pivot_within (b ∷ bs) [] j within = absurd within

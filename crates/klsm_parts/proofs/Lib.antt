@@ -1,9 +1,13 @@
+pub mod AddedLemmas
 pub mod EventLemmas
 pub mod FlushLemmas
 pub mod FoundLemmas
+pub mod GreatestLemmas
 pub mod ListingLemmas
+pub mod MendLemmas
 pub mod OwnLemmas
 pub mod PairLemmas
 pub mod PivotLemmas
+pub mod PivotListLemmas
 pub mod SpyLemmas
 pub mod TakeLemmas

@@ -6,7 +6,7 @@ use Rattle.std.proofs.lemmas.List.{append-nil, append_assoc, take-append-drop, t
 use Rattle.std.proofs.lemmas.List.Sums.{sum_by-take-drop}
 use Rattle.std.proofs.lemmas.Option.{none-some, get_or_from_slice_get, slice_get_within}
 use Rattle.klsm_run.specs.declared.item.Item.{Item}
-use Rattle.klsm_run.specs.Content.{placed, sorted, skipped}
+use Rattle.klsm_run.specs.Content.{placed, sorted, skipped, IsAscending}
 use Rattle.klsm_run.proofs.AllLemmas.{all_weaker, all_front, all_back}
 use Rattle.klsm_run.proofs.SortedLemmas.{sorted_ascending, length_sorted}
 use Rattle.klsm_run.proofs.HalfLemmas.{ascending_take, ascending_drop}
@@ -43,19 +43,19 @@ length_marked n bs ps pivots =
     sym (length_sorted (marked bs ps)) ∙ (ap length pivots.exact ∙ (length-take n (sorted (content bs)) ∙ ap (min n) (length_sorted (content bs))))
 
 -- the other items are all but the least n
-pub unmarked_is_rest : (n : ℕ) (bs : List (List Item)) (ps : List ℕ) → IsLsm bs → ArePivots n bs ps → sorted (content (unmarked bs ps)) ≡ drop n (sorted (content bs))
-unmarked_is_rest n bs ps lsm pivots =
+pub unmarked_is_rest : (n : ℕ) (bs : List (List Item)) (ps : List ℕ) → IsAscending (sorted (content bs)) → ArePivots n bs ps → sorted (content (unmarked bs ps)) ≡ drop n (sorted (content bs))
+unmarked_is_rest n bs ps up pivots =
     let all = sorted (content bs) in let first = take n all in let rest = drop n all in let u = content (unmarked bs ps) in
     let whole : sorted (first ++ rest) ≡ sorted (first ++ u) =
     ap sorted (take-append-drop n all)
     ∙ (sorted_itself (content bs)
     ∙ (marked_and_unmarked bs ps
     ∙ (sym (sorted_sorted (marked bs ps) u) ∙ ap (λ xs. sorted (xs ++ u)) pivots.exact))) in
-    sym (sorted_cancel first rest u whole) ∙ sorted_ascending rest (ascending_drop n all (ascending_content bs lsm))
+    sym (sorted_cancel first rest u whole) ∙ sorted_ascending rest (ascending_drop n all up)
 
 -- the least of the other items is the one of rank n
 pub first_unmarked : (n : ℕ) (bs : List (List Item)) (ps : List ℕ) → IsLsm bs → ArePivots n bs ps → slice_get (sorted (content (unmarked bs ps))) 0 ≡ slice_get (sorted (content bs)) n
-first_unmarked n bs ps lsm pivots = ap (λ xs. slice_get xs 0) (unmarked_is_rest n bs ps lsm pivots) ∙ first_behind n (sorted (content bs))
+first_unmarked n bs ps lsm pivots = ap (λ xs. slice_get xs 0) (unmarked_is_rest n bs ps (ascending_content bs lsm) pivots) ∙ first_behind n (sorted (content bs))
 
 -- one more marked item of block j
 marked_more : (bs : List (List Item)) (ps : List ℕ) (j : ℕ) (x : Item) → AreWithin bs ps → slice_get (get_or bs j []) (get_or ps j 0) ≡ Some x → sorted (marked bs (set ps j (get_or ps j 0 + 1))) ≡ sorted (x ∷ marked bs ps)
@@ -118,6 +118,13 @@ pivots_all n bs ps pivots = record {
   exact = pivots.exact ∙ (ap (λ m. take (min n m) (sorted (content bs))) (sym (length_sorted (content bs))) ∙ take_min n (sorted (content bs)));
 }
 
+-- and pivots of any number are those of all items, where there are no more
+pub pivots_min : (n : ℕ) (bs : List (List Item)) (ps : List ℕ) → ArePivots n bs ps → ArePivots (min n (length (content bs))) bs ps
+pivots_min n bs ps pivots = record {
+  within = pivots.within;
+  exact = pivots.exact ∙ sym (ap (λ m. take (min n m) (sorted (content bs))) (sym (length_sorted (content bs))) ∙ take_min n (sorted (content bs)));
+}
+
 count_marked_by : (p : Item → Bool) (bs : List (List Item)) (ps : List ℕ) (j : ℕ) → AreWithin bs ps → AllByRecursion (λ x. p x ≡ true) (marked bs ps) → AllByRecursion (λ x. p x ≡ false) (content (unmarked bs ps)) → get_or ps j 0 ≡ count_by p (get_or bs j [])
 count_marked_by p [] [] j within all none = refl
 count_marked_by p [] (n ∷ ps) j within all none = absurd within
@@ -135,7 +142,7 @@ pivot_counts n bs ps j lsm pivots =
     let c = content bs in
     let up = ascending_content bs lsm in
     let few = all_unsorted (λ x. skipped c x < n) (marked bs ps) (subst (AllByRecursion (λ x. skipped c x < n)) (sym pivots.exact) (least_skip_few n c up)) in
-    let many = all_unsorted (λ x. n ≤ skipped c x) (content (unmarked bs ps)) (subst (AllByRecursion (λ x. n ≤ skipped c x)) (sym (unmarked_is_rest n bs ps lsm pivots)) (rest_skip_many n c up)) in
+    let many = all_unsorted (λ x. n ≤ skipped c x) (content (unmarked bs ps)) (subst (AllByRecursion (λ x. n ≤ skipped c x)) (sym (unmarked_is_rest n bs ps up pivots)) (rest_skip_many n c up)) in
     count_marked_by (λ x. nat_lt (skipped c x) n) bs ps j pivots.within
     (all_weaker (λ x. skipped c x < n) (λ x. nat_lt (skipped c x) n ≡ true) (λ x less. lt-ltb (skipped c x) n less) (marked bs ps) few)
     (all_weaker (λ x. n ≤ skipped c x) (λ x. nat_lt (skipped c x) n ≡ false) (λ x more. le-ltb (skipped c x) n more) (content (unmarked bs ps)) many)

@@ -30,6 +30,7 @@ mod flushing;
 pub mod laws;
 mod listing;
 mod local;
+mod mending;
 mod part;
 mod picker;
 mod ranks;
@@ -40,6 +41,7 @@ mod taking;
 mod tests;
 
 pub use flushing::flush;
+pub use klsm_lsm::LsmError;
 pub use local::{Local, put};
 pub use part::Part;
 pub use picker::{First, Last, Picker, Random, random_of};

@@ -8,11 +8,10 @@ ghost use Rattle.klsm_lsm.specs.Adding.{add};
 ghost use Rattle.klsm_lsm.specs.Spying.{spied, left_by_spy};
 ghost use Rattle.klsm_parts.specs.Least.{IsLeast};
 ghost use Rattle.klsm_parts.specs.Parts.{PartState, IsOwn, items_in, least_in};
-ghost use Rattle.klsm_parts.specs.Events.{MayPut, own_after_put};
+ghost use Rattle.klsm_parts.specs.Events.{MayPut, MayTake, own_after_put, own_after_take};
 ghost use Rattle.klsm_parts.specs.Flushing.{kept};
 ghost use Rattle.klsm_parts.specs.Taking.{IsCutFrom};
 
-use crate::ranks::place_of;
 use klsm_lsm::Lsm;
 use klsm_run::{FixedRun, Item};
 use std::marker::Model;
@@ -92,16 +91,21 @@ impl<const CAP: usize> Local<CAP> {
         };
     }
 
-    // Takes the least item out.
-    pub(crate) fn take_least(&mut self) -> Item
-        requires lawful { IsLsm self.old.blocks }
-        requires some { 0 < length (content self.old.blocks) }
+    /// Takes the least item out. It takes no memory, and costs one comparison a block.
+    pub fn take_least(&mut self) -> Item
+        requires { 0 < length (content self.old.blocks) }
         ensures least { IsLeast result (content self.old.blocks) }
         ensures cut { IsCutFrom result self.old.blocks self.new.blocks }
         ensures k { self.new.k ≡ self.old.k }
+
+        // What takes effect on the contents, where the shared part is empty.
+        ensures event { MayTake self.old.k (items_in self.old) [] result
+            × (items_in self.new ≡ own_after_take (items_in self.old) result) }
     {
-        let place = place_of(&self.lsm, 0);
-        let Ok(item) = self.lsm.remove(place.block, place.index) else {
+        let Some(block) = self.lsm.least_block() else {
+            unreachable!();
+        };
+        let Ok(item) = self.lsm.remove(block, 0) else {
             unreachable!();
         };
         item
@@ -135,10 +139,11 @@ impl<const CAP: usize> Local<CAP> {
 /// Puts an item into an own part that has room. It takes no memory.
 pub fn put<const CAP: usize>(own: &mut Local<CAP>, item: Item)
     requires capacity { IsCapacity CAP }
-    requires room { MayPut own.old.k (items_in own.old) }
+    requires room { length (content own.old.blocks) < own.old.k }
     requires new { ¬ Contains (content own.old.blocks) item }
     ensures blocks { own.new ≡ record { k = own.old.k; blocks = add own.old.blocks (item ∷ []) } }
-    ensures event { items_in own.new ≡ own_after_put (items_in own.old) item }
+    ensures event { MayPut own.old.k (items_in own.old)
+        × (items_in own.new ≡ own_after_put (items_in own.old) item) }
 {
     let Ok(()) = own.lsm.insert(item) else {
         unreachable!();

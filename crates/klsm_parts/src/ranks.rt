@@ -1,5 +1,5 @@
 //! The items of an LSM by rank: item i is the i-th least, counted from 0.
-ghost use Rattle.std.specs.Prelude.{◌≡◌, ◌<◌, ◌≤◌, [], length, replicate, Some, slice_get, slice_index, slice_index_or, IsTrue, MatchOption};
+ghost use Rattle.std.specs.Prelude.{◌≡◌, ℕ, ◌+◌, ◌<◌, ◌≤◌, [], length, replicate, Some, slice_get, slice_index, slice_index_or, IsTrue, MatchOption};
 ghost use Rattle.klsm_run.specs.Content.{sorted};
 ghost use Rattle.klsm_run.specs.ItemOrder.{is_smaller};
 ghost use Rattle.klsm_lsm.specs.Lsm.{content, IsLsm};
@@ -30,10 +30,25 @@ pub(crate) fn pivots_of<R: Run, const LEVELS: usize>(
 {
     let mut pivots = none_of(lsm);
     for _ in 0..count {
-        let block = least_unmarked(lsm, pivots.as_slice());
-        pivots.as_mut_slice()[block] += 1;
+        mark_least(lsm, &mut pivots);
     }
     pivots
+}
+
+/// Marks one item more, the least of those that are not marked. It costs one comparison a block.
+pub(crate) fn mark_least<R: Run, const LEVELS: usize>(
+    lsm: &Lsm<R, LEVELS>,
+    pivots: &mut ArrayVec<usize, LEVELS>,
+)
+    requires lawful { IsLsm lsm.now }
+    requires within { AreWithin lsm.now pivots.old.items }
+    requires some { length (marked lsm.now pivots.old.items) < length (content lsm.now) }
+    ensures { (n : ℕ) → n < length (content lsm.now) → ArePivots n lsm.now pivots.old.items
+        → ArePivots (n + 1) lsm.now pivots.new.items }
+{
+    let _count = lsm.len();
+    let block = least_unmarked(lsm, pivots.as_slice());
+    pivots.as_mut_slice()[block] += 1;
 }
 
 // A pivot of 0 for each block.

@@ -1,5 +1,6 @@
 //! The part that all members share.
 ghost use Rattle.std.specs.Prelude.{◌≡◌, ◌≢◌, ◌+◌, ◌<◌, ◌≤◌, ◌↔◌, [], length, min, slice_get, slice_index_or, Some, IsOk, IfOk, IfErr, OnOk, OnErr, IsErrAnd};
+ghost use Rattle.std.specs.List.{Contains};
 ghost use Rattle.klsm_run.specs.Capacity.{IsCapacity, heap_room};
 ghost use Rattle.klsm_run.specs.Content.{sorted, ShareNone};
 ghost use Rattle.klsm_lsm.specs.Lsm.{content, IsLsm};
@@ -9,6 +10,7 @@ ghost use Rattle.klsm_parts.specs.Pivots.{ArePivots, IsPivotAt, count_in_least};
 ghost use Rattle.klsm_parts.specs.Parts.{PartState, IsShared, least_in, candidates_of};
 ghost use Rattle.klsm_parts.specs.Taking.{IsMergingCut};
 
+use crate::mending::{added_by, mend_added, mend_cut, place_from_above};
 use crate::ranks::{Place, pivots_of, place_of};
 use arrayvec::ArrayVec;
 use klsm_lsm::{Lsm, LsmError};
@@ -94,6 +96,16 @@ impl<const LEVELS: usize, A: Allocator + Copy> Shared<LEVELS, A> {
         self.pivots.as_slice()[block]
     }
 
+    /// The same as `pivot`, counted anew. It costs `k + 1` comparisons a block.
+    pub fn pivot_anew(&self, block: usize) -> usize
+        requires { block < length self.now.blocks }
+        ensures exact { IsPivotAt (self.now.k + 1) self.now.blocks block result }
+        ensures counts { result ≡ count_in_least (self.now.k + 1) (content self.now.blocks)
+            (slice_index_or self.now.blocks block []) }
+    {
+        candidate_pivots(&self.lsm, self.k).as_slice()[block]
+    }
+
     /// The number of candidates.
     pub fn candidates(&self) -> usize
         ensures { result ≡ length (candidates_of self.now) }
@@ -101,7 +113,8 @@ impl<const LEVELS: usize, A: Allocator + Copy> Shared<LEVELS, A> {
         (self.k + 1).min(self.lsm.len())
     }
 
-    /// Candidate `index`, counted from the least. It costs `index + 1` comparisons a block.
+    /// Candidate `index`, counted from the least. It is counted from the nearer end, and costs as many comparisons a block
+    /// as are counted.
     pub fn candidate(&self, index: usize) -> Item
         requires { index < length (candidates_of self.now) }
         ensures { slice_get (candidates_of self.now) index ≡ Some result }
@@ -116,7 +129,11 @@ impl<const LEVELS: usize, A: Allocator + Copy> Shared<LEVELS, A> {
         ensures index { slice_get (slice_index_or self.now.blocks result.block []) result.index ≡ Some result.item }
         ensures candidate { slice_get (candidates_of self.now) index ≡ Some result.item }
     {
-        place_of(&self.lsm, index)
+        let marked = self.candidates();
+        if index < marked / 2 {
+            return place_of(&self.lsm, index);
+        }
+        place_from_above(&self.lsm, self.pivots.as_slice(), marked, index)
     }
 
     // Puts a copy of a run in. What can be refused comes first, and Full before a growth.
@@ -135,28 +152,39 @@ impl<const LEVELS: usize, A: Allocator + Copy> Shared<LEVELS, A> {
         let Ok(copy) = HeapRun::copy_of(self.alloc, run) else {
             return Err(LsmError::NoMemory);
         };
+        let added = added_by(&self.lsm, self.pivots.as_slice(), run, self.k);
         match self.lsm.absorb(copy) {
             Ok(()) => {
-                self.pivots = candidate_pivots(&self.lsm, self.k);
+                mend_added(&self.lsm, &mut self.pivots, added, self.k);
                 Ok(())
             }
             Err(refused) => Err(refused.why),
         }
     }
 
-    // Takes an item out of its place.
+    // Takes a candidate out of its place.
     pub(crate) fn remove(&mut self, place: Place) -> Result<(), LsmError>
         requires block { place.block < length self.old.blocks }
         requires index { slice_get (slice_index_or self.old.blocks place.block []) place.index ≡ Some place.item }
+        requires candidate { Contains (candidates_of self.old) place.item }
         ensures rest { OnOk result (self.new
             ≡ record { k = self.old.k; blocks = cut self.old.blocks place.block place.index }) }
         ensures memory { IfErr result (λ why. why ≡ LsmError.NoMemory) }
         ensures merging { OnErr result (IsMergingCut place.item self.old.blocks) }
         ensures unchanged { OnErr result (self.new ≡ self.old) }
     {
+        let partner = self.lsm.partner(place.block);
+        let is_only = self.lsm.block(place.block).len() == 1;
         match self.lsm.remove(place.block, place.index) {
             Ok(_item) => {
-                self.pivots = candidate_pivots(&self.lsm, self.k);
+                mend_cut(
+                    &self.lsm,
+                    &mut self.pivots,
+                    place.block,
+                    is_only,
+                    partner,
+                    self.k,
+                );
                 Ok(())
             }
             Err(why) => Err(why),

@@ -21,6 +21,7 @@ pub fn spy<const CAP: usize>(own: &mut Local<CAP>, victim: &mut Local<CAP>) -> u
         ≡ record { k = victim.old.k; blocks = left_by_spy victim.old.blocks } }
     ensures count { result ≡ length (items_in own.new) }
     ensures none { (result ≡ 0) ↔ (items_in victim.old ≡ []) }
+    ensures unchanged { (result ≡ 0) → (own.new ≡ own.old) × (victim.new ≡ victim.old) }
 
     // What takes effect on the contents.
     ensures event { IfSome (spied victim.old.blocks) (λ moved.

@@ -1,5 +1,6 @@
 //! The deletion from an own part and the shared one.
 ghost use Rattle.std.specs.Prelude.{◌≡◌, ◌+◌, ◌<◌, ◌≤◌, ◌↔◌, ◌++◌, [], false, length, slice_get, slice_index_or, option_map, Some, None, Ok, IsTrue, IfOk, IfErr, OnErr, MatchResult, MatchOption, IfSome};
+ghost use Rattle.std.specs.List.{Contains};
 ghost use Rattle.klsm_run.specs.Content.{ShareNone, skipped};
 ghost use Rattle.klsm_run.specs.ItemOrder.{is_smaller};
 ghost use Rattle.klsm_lsm.specs.Lsm.{content};
@@ -16,8 +17,8 @@ use std::alloc::Allocator;
 /// Takes an item out of the two parts: the least own one where it is the least of both parts, else the lesser of the least
 /// own one and the candidate that the picker answers. `None` where both parts are empty.
 ///
-/// What it takes skips at most k items of the two parts. It costs `index + 1` comparisons a block of the shared part, and
-/// the count of the pivots anew where a shared item goes.
+/// What it takes skips at most k items of the two parts. It costs as many comparisons a block of the shared part as
+/// candidates are counted, from the nearer end, and one where a shared item goes.
 pub fn take<const CAP: usize, const LEVELS: usize, A: Allocator + Copy, P: Picker>(
     own: &mut Local<CAP>,
     shared: &mut Shared<LEVELS, A>,
@@ -75,7 +76,8 @@ fn choose<const CAP: usize, const LEVELS: usize, A: Allocator + Copy, P: Picker>
         (λ candidate. option_map (λ place. place.item) result
         ≡ unless_smaller candidate (least_in own.now)) }
     ensures place { IfSome result (λ place. (place.block < length shared.now.blocks)
-        × (slice_get (slice_index_or shared.now.blocks place.block []) place.index ≡ Some place.item)) }
+        × (slice_get (slice_index_or shared.now.blocks place.block []) place.index ≡ Some place.item)
+        × Contains (candidates_of shared.now) place.item) }
 {
     let least_own = own.least();
     let least_shared = shared.least()?;

@@ -1,25 +1,27 @@
 use Rattle.std.proofs.Common.{◌<◌, length, subst, sym, arith, rules}
 use Rattle.klsm_run.proofs.SortedLemmas.{length_sorted}
 use Rattle.klsm_lsm.specs.Lsm.{content}
-use Rattle.klsm_parts.specs.Parts.{PartState, items_in}
+use Rattle.klsm_parts.specs.Parts.{PartState}
 use Rattle.klsm_parts.proofs.OwnLemmas.{has_room, own_added, put_is}
 use Rattle.klsm_parts.proofs.local.put.Goals as goal
 
 pub unreachable-requires : goal.unreachable-requires
 unreachable-requires g c =
-    let room = subst (λ (p : PartState). length (items_in p) < p.k) (sym c.own.view_is) c.requires.room in
-    let few : length (content c.own.inside.lsm) < g.row.CAP = omega (arith, room, length_sorted (content c.own.inside.lsm), c.own.invariant.k_in_range) in
+    let room = subst (λ (p : PartState). length (content p.blocks) < p.k) (sym c.own.view_is) c.requires.room in
+    let few : length (content c.own.inside.lsm) < g.row.CAP = omega (arith, room, c.own.invariant.k_in_range) in
     let bad = c.in_default.ensures.room.1 (has_room g.row.CAP (length (content c.own.inside.lsm)) few c.own.invariant.capacity_in_range) in
     cc
 
 pub invariant_of-own : goal.invariant_of-own
 invariant_of-own g c =
-    let room = subst (λ (p : PartState). length (items_in p) < p.k) (sym c.own.view_is) c.requires.room in
-    let fewer : length (content c.own.inside.lsm) < c.own.inside.k = omega (arith, room, length_sorted (content c.own.inside.lsm)) in
-    rw c.in-Ok.ensures.added (own_added g.row.CAP c.own.inside.k c.own.inside.lsm c.own.inside.lsm c.args.item c.own.invariant fewer)
+    let room = subst (λ (p : PartState). length (content p.blocks) < p.k) (sym c.own.view_is) c.requires.room in
+    rw c.in-Ok.ensures.added (own_added g.row.CAP c.own.inside.k c.own.inside.lsm c.own.inside.lsm c.args.item c.own.invariant room)
 
 pub returns-clause-event : goal.returns-clause-event
-returns-clause-event g c = rw (c.in-Ok.ensures.added, ← c.own.view_is) (put_is c.own.inside.lsm c.args.item)
+returns-clause-event g c = (
+  rw (length_sorted (content c.args.own.now.blocks)) c.requires.room,
+  rw (c.in-Ok.ensures.added, ← c.own.view_is) (put_is c.own.inside.lsm c.args.item),
+)
 
 pub insert-requires : goal.insert-requires
 insert-requires g c = search rules

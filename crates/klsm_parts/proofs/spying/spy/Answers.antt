@@ -35,6 +35,11 @@ returns-clause-none g c =
       λ none. absurd (c.if-len-eq0.false (omega (arith, c.len-2.ensures.len, length_sorted (content c.args.victim.now.blocks), ap length none))),
     )
 
+pub returns-clause-unchanged : goal.returns-clause-unchanged
+returns-clause-unchanged g c none =
+    let some = some_moved c.args.victim.now.blocks c.split_for_spy-moved.result c.len-2.ensures.lawful c.split_for_spy-moved.ensures.given in
+    absurd (omega (arith, some, none, c.len-count.ensures.len))
+
 pub returns-clause-event : goal.returns-clause-event
 returns-clause-event g c =
     let given = c.split_for_spy-moved.ensures.given in

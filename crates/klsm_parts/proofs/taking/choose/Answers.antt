@@ -1,4 +1,5 @@
 use Rattle.std.proofs.Common.{◌≡◌, true, false, sym, ◌∙◌, subst, rules}
+use Rattle.klsm_run.proofs.IndexLemmas.{contains_at}
 use Rattle.klsm_lsm.specs.Lsm.{content}
 use Rattle.klsm_parts.proofs.TakeLemmas.{IsTested, not_asked, is_asked, own_goes, candidate_goes, some_candidate}
 use Rattle.klsm_parts.proofs.taking.choose.Goals as goal
@@ -46,6 +47,10 @@ returns-clause-asked g c asked = record {
   found = c.place_of_candidate-candidate.ensures.candidate;
   follows = candidate_goes _ c.place_of_candidate-candidate.result.item c.is_smaller_own-2.result (subst (λ o. IsTested o c.place_of_candidate-candidate.result.item c.is_smaller_own-2.result) c.least-least_own.ensures c.is_smaller_own-2.ensures) c.if-is_smaller_own-2.false;
 }
+
+pub returns-clause-place : goal.returns-clause-place
+returns-clause-place g c =
+    (c.place_of_candidate-candidate.ensures.block, c.place_of_candidate-candidate.ensures.index, contains_at _ c.pick-index.result _ c.place_of_candidate-candidate.ensures.candidate)
 
 pub least-least_own-requires : goal.least-least_own-requires
 least-least_own-requires g c = search rules

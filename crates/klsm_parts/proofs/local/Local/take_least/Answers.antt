@@ -1,33 +1,34 @@
-use Rattle.std.proofs.Common.{[], get_or, rules}
+use Rattle.std.proofs.Common.{◌≡◌, ◌<◌, [], length, get_or, Some, refl, sym, ◌∙◌, subst, rules, inl}
+use Rattle.std.specs.List.{slice_get}
 use Rattle.std.proofs.lemmas.Option.{slice_get_within}
+use Rattle.klsm_run.specs.Content.{sorted}
+use Rattle.klsm_lsm.specs.Lsm.{content}
+use Rattle.klsm_parts.specs.Parts.{PartState, items_in}
+use Rattle.klsm_parts.specs.Events.{MayTake, own_after_take}
+use Rattle.klsm_parts.specs.Taking.{IsCutFrom}
+use Rattle.klsm_parts.proofs.FoundLemmas.{some_ranked}
+use Rattle.klsm_parts.proofs.EventLemmas.{cut_is_taken, may_take_own, may_take_sorted}
 use Rattle.klsm_parts.proofs.OwnLemmas.{own_cut}
 use Rattle.klsm_parts.proofs.local.Local.take_least.Goals as goal
 
-pub invariant_of-self : goal.invariant_of-self
-invariant_of-self g c =
-    rw c.in-Ok.ensures.rest (own_cut g.row.CAP c.self.inside.k c.self.inside.lsm c.place_of-place.result.block c.place_of-place.result.index c.place_of-place.result.item c.self.invariant c.place_of-place.ensures.index)
-
-pub place_of-place-requires-room-R-Run : goal.place_of-place-requires-room-R-Run
-place_of-place-requires-room-R-Run g c = search rules
-
-pub place_of-place-requires : goal.place_of-place-requires
-place_of-place-requires g c = search rules
-
-pub remove-requires-room-R-Run : goal.remove-requires-room-R-Run
-remove-requires-room-R-Run g c = search rules
-
 pub remove-requires : goal.remove-requires
 remove-requires g c =
-    (search rules, (c.place_of-place.ensures.block, slice_get_within (get_or c.self.inside.lsm c.place_of-place.result.block []) c.place_of-place.result.index c.place_of-place.result.item c.place_of-place.ensures.index))
+    let bs = c.self.inside.lsm in
+    let some = subst (λ (p : PartState). 0 < length (content p.blocks)) (sym c.self.view_is) c.requires in
+    let first = some_ranked 0 bs some in
+    let there = c.in-Some.ensures in
+    (search rules, (there.0, slice_get_within (get_or bs c.in-Some.block []) 0 first.0 (there.1 ∙ first.1)))
 
-pub unreachable-requires : goal.unreachable-requires
-unreachable-requires g c = search rules
+pub invariant_of-self : goal.invariant_of-self
+invariant_of-self g c =
+    rw c.in-Ok.ensures.rest (own_cut g.row.CAP c.self.inside.k c.self.inside.lsm c.in-Some.block 0 c.in-Ok.item c.self.invariant c.in-Ok.ensures.item)
 
-pub returns-clause-least : goal.returns-clause-least
-returns-clause-least g c = search rules
-
-pub returns-clause-cut : goal.returns-clause-cut
-returns-clause-cut g c = search rules
-
-pub returns-clause-k : goal.returns-clause-k
-returns-clause-k g c = search rules
+pub returns-clause-event : goal.returns-clause-event
+returns-clause-event g c =
+    let bs = c.self.inside.lsm in
+    let first : slice_get (sorted (content bs)) 0 ≡ Some c.in-Ok.item = sym c.in-Some.ensures.1 ∙ c.in-Ok.ensures.item in
+    let cut : IsCutFrom c.in-Ok.item bs c.remove.new.self = (c.in-Some.block, 0, c.in-Ok.ensures.item, c.in-Ok.ensures.rest) in
+    subst (λ (p : PartState). MayTake p.k (items_in p) [] c.in-Ok.item × (sorted (content c.remove.new.self) ≡ own_after_take (items_in p) c.in-Ok.item)) c.self.view_is (
+      may_take_sorted c.self.inside.k (content bs) [] c.in-Ok.item (may_take_own c.self.inside.k (content bs) [] c.in-Ok.item first (inl refl)),
+      cut_is_taken bs c.remove.new.self c.in-Ok.item cut,
+    )

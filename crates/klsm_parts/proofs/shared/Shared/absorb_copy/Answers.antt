@@ -1,7 +1,8 @@
-use Rattle.std.proofs.Common.{◌≡◌, length, refl, ap, subst, sym, arith, rules}
+use Rattle.std.proofs.Common.{◌≡◌, ◌+◌, ◌<◌, ◌^◌, length, refl, ap, subst, sym, arith, rules}
 use Rattle.klsm_run.specs.Content.{ShareNone}
 use Rattle.klsm_lsm.specs.Lsm.{content}
 use Rattle.klsm_parts.specs.Parts.{PartState}
+use Rattle.klsm_parts.specs.Pivots.{ArePivots}
 use Rattle.klsm_parts.proofs.shared.Shared.absorb_copy.Goals as goal
 
 pub absorb-requires : goal.absorb-requires
@@ -23,9 +24,6 @@ len-requires-2 g c = search rules
 
 pub copy_of-requires : goal.copy_of-requires
 copy_of-requires g c = search rules
-
-pub candidate_pivots-self-inside-requires : goal.candidate_pivots-self-inside-requires
-candidate_pivots-self-inside-requires g c = search rules
 
 pub drop-refused-requires : goal.drop-refused-requires
 drop-refused-requires g c = search rules
@@ -73,3 +71,11 @@ returns-in-Err-clause-added g c = search rules
 
 pub returns-in-Err-clause-unchanged : goal.returns-in-Err-clause-unchanged
 returns-in-Err-clause-unchanged g c = search rules
+
+pub added_by-added-requires : goal.added_by-added-requires
+added_by-added-requires g c =
+    let apart = subst (λ (p : PartState). ShareNone (content p.blocks) (g.R.Run.items c.args.run.now)) (sym c.self.view_is) c.requires.apart in
+    let pivots = subst (ArePivots (c.self.inside.k + 1) c.self.inside.lsm) (sym c.as_slice.ensures.value) c.self.invariant.pivots_exact in
+    let room : length (content c.self.inside.lsm) + length (g.R.Run.items c.args.run.now) < 2 ^ 64 =
+    omega (arith, c.if-len-limit.false, c.len.ensures.len, c.len-2.ensures.len, c.requires.some, c.limit.type_inv) in
+    (search rules, (c.self.invariant.lawful, (pivots, (c.self.invariant.k_in_range, (c.requires.some, (apart, room))))))

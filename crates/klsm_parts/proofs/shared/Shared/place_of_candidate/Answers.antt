@@ -1,4 +1,4 @@
-use Rattle.std.proofs.Common.{◌≡◌, ◌+◌, ◌<◌, length, Some, subst, sym, ◌∙◌, arith, rules}
+use Rattle.std.proofs.Common.{◌≡◌, ◌+◌, ◌<◌, ◌≤◌, length, min, Some, subst, sym, ◌∙◌, arith, rules}
 use Rattle.std.specs.List.{slice_get}
 use Rattle.std.proofs.lemmas.List.{length-take}
 use Rattle.klsm_run.specs.Content.{sorted}
@@ -6,7 +6,9 @@ use Rattle.klsm_run.proofs.SortedLemmas.{length_sorted}
 use Rattle.klsm_run.proofs.IndexLemmas.{slice_get-take}
 use Rattle.klsm_lsm.specs.Lsm.{content}
 use Rattle.klsm_parts.specs.Least.{least}
-use Rattle.klsm_parts.specs.Parts.{PartState}
+use Rattle.klsm_parts.specs.Parts.{PartState, candidates_of}
+use Rattle.klsm_parts.specs.Pivots.{ArePivots}
+use Rattle.klsm_parts.proofs.PivotLemmas.{pivots_min}
 use Rattle.klsm_parts.proofs.shared.Shared.place_of_candidate.Goals as goal
 
 pub place_of-requires : goal.place_of-requires
@@ -16,14 +18,24 @@ place_of-requires g c =
     let rank : c.args.index < length (content lsm) = omega (arith, among, length-take (c.self.inside.k + 1) (sorted (content lsm)), length_sorted (content lsm)) in
     (search rules, (c.self.invariant.levels_in_range, (c.self.invariant.lawful, rank)))
 
-pub returns-clause-candidate : goal.returns-clause-candidate
-returns-clause-candidate g c =
+pub place_from_above-requires : goal.place_from_above-requires
+place_from_above-requires g c =
+    let lsm = c.self.inside.lsm in
+    let k = c.self.inside.k in
+    let among = subst (λ (p : PartState). c.args.index < length (least (p.k + 1) (content p.blocks))) (sym c.self.view_is) c.requires in
+    let all = subst (λ (p : PartState). c.candidates-marked.result ≡ length (candidates_of p)) (sym c.self.view_is) c.candidates-marked.ensures in
+    let count : min (k + 1) (length (content lsm)) ≡ c.candidates-marked.result = omega (arith, all, length-take (k + 1) (sorted (content lsm)), length_sorted (content lsm)) in
+    let pivots = subst (λ n. ArePivots n lsm c.self.inside.pivots.items) count (pivots_min (k + 1) lsm c.self.inside.pivots.items c.self.invariant.pivots_exact) in
+    (search rules, (c.self.invariant.levels_in_range, (c.self.invariant.lawful, (subst (ArePivots c.candidates-marked.result lsm) (sym c.as_slice.ensures.value) pivots, (omega (arith, among, all), omega (arith, count))))))
+
+pub returns-then-index-marked-clause-candidate : goal.returns-then-index-marked-clause-candidate
+returns-then-index-marked-clause-candidate g c =
     let among : c.args.index < c.args.self.now.k + 1 = omega (arith, c.requires, length-take (c.args.self.now.k + 1) (sorted (content c.args.self.now.blocks))) in
     slice_get-take (c.args.self.now.k + 1) (sorted (content c.args.self.now.blocks)) c.args.index among
     ∙ subst (λ (p : PartState). slice_get (sorted (content p.blocks)) c.args.index ≡ Some c.place_of.result.item) c.self.view_is c.place_of.ensures.rank
 
-pub returns-clause-block : goal.returns-clause-block
-returns-clause-block g c = search rules
-
-pub returns-clause-index : goal.returns-clause-index
-returns-clause-index g c = search rules
+pub returns-clause-candidate : goal.returns-clause-candidate
+returns-clause-candidate g c =
+    let among : c.args.index < c.args.self.now.k + 1 = omega (arith, c.requires, length-take (c.args.self.now.k + 1) (sorted (content c.args.self.now.blocks))) in
+    slice_get-take (c.args.self.now.k + 1) (sorted (content c.args.self.now.blocks)) c.args.index among
+    ∙ subst (λ (p : PartState). slice_get (sorted (content p.blocks)) c.args.index ≡ Some c.place_from_above.result.item) c.self.view_is c.place_from_above.ensures.rank

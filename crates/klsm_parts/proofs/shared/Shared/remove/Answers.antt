@@ -1,7 +1,10 @@
-use Rattle.std.proofs.Common.{◌≡◌, ◌<◌, [], length, get_or, Some, subst, sym, rules}
-use Rattle.std.specs.List.{slice_get}
-use Rattle.std.proofs.lemmas.Option.{slice_get_within}
-use Rattle.klsm_parts.specs.Parts.{PartState}
+use Rattle.std.proofs.Common.{◌≡◌, ◌<◌, ◌==◌, [], length, get_or, Some, subst, sym, ap, ◌∙◌, rules}
+use Rattle.std.specs.List.{Contains, slice_get}
+use Rattle.std.proofs.lemmas.Option.{slice_get_within, get_or_from_slice_get}
+use Rattle.klsm_run.proofs.IndexLemmas.{index_of}
+use Rattle.klsm_parts.specs.Parts.{PartState, candidates_of}
+use Rattle.klsm_parts.specs.Mending.{IsCutMendable}
+use Rattle.klsm_parts.proofs.AddedLemmas.{cut_mendable}
 use Rattle.klsm_parts.proofs.shared.Shared.remove.Goals as goal
 
 pub remove-requires : goal.remove-requires
@@ -10,35 +13,18 @@ remove-requires g c =
     let index = subst (λ (p : PartState). slice_get (get_or p.blocks c.args.place.block []) c.args.place.index ≡ Some c.args.place.item) (sym c.self.view_is) c.requires.index in
     (search rules, (block, slice_get_within (get_or c.self.inside.lsm c.args.place.block []) c.args.place.index c.args.place.item index))
 
-pub candidate_pivots-self-inside-requires : goal.candidate_pivots-self-inside-requires
-candidate_pivots-self-inside-requires g c = search rules
+pub mend_cut-requires : goal.mend_cut-requires
+mend_cut-requires g c =
+    let bs = c.self.inside.lsm in
+    let at = c.args.place.block in
+    let here = subst (λ (p : PartState). at < length p.blocks) (sym c.self.view_is) c.requires.block in
+    let found = subst (λ (p : PartState). slice_get (get_or p.blocks at []) c.args.place.index ≡ Some c.args.place.item) (sym c.self.view_is) c.requires.index in
+    let among = subst (λ (p : PartState). Contains (candidates_of p) c.args.place.item) (sym c.self.view_is) c.requires.candidate in
+    let rank = index_of _ c.args.place.item among in
+    let block = get_or_from_slice_get bs at _ [] c.block.ensures.block in
+    let only = ap (λ n. n == 1) (c.len-is_only.ensures.len ∙ ap length (sym block)) in
+    let can = cut_mendable c.self.inside.k at c.args.place.index rank.0 c.args.place.item _ _ bs c.self.inside.pivots.items c.self.invariant.lawful c.self.invariant.pivots_exact here found rank.1 c.partner-partner.ensures only in
+    (search rules, (search rules, (subst (λ cs. IsCutMendable c.self.inside.k cs at (c.len-is_only.result == 1) c.partner-partner.result c.self.inside.pivots.items) (sym c.in-Ok.ensures.rest) can, c.self.invariant.k_in_range)))
 
 pub invariant_of-self : goal.invariant_of-self
 invariant_of-self g c = search rules
-
-pub invariant_of-self-in-Err : goal.invariant_of-self-in-Err
-invariant_of-self-in-Err g c = search rules
-
-pub returns-in-Ok-clause-rest : goal.returns-in-Ok-clause-rest
-returns-in-Ok-clause-rest g c = search rules
-
-pub returns-in-Ok-clause-memory : goal.returns-in-Ok-clause-memory
-returns-in-Ok-clause-memory g c = search rules
-
-pub returns-in-Ok-clause-merging : goal.returns-in-Ok-clause-merging
-returns-in-Ok-clause-merging g c = search rules
-
-pub returns-in-Ok-clause-unchanged : goal.returns-in-Ok-clause-unchanged
-returns-in-Ok-clause-unchanged g c = search rules
-
-pub returns-in-Err-clause-rest : goal.returns-in-Err-clause-rest
-returns-in-Err-clause-rest g c = search rules
-
-pub returns-in-Err-clause-memory : goal.returns-in-Err-clause-memory
-returns-in-Err-clause-memory g c = search rules
-
-pub returns-in-Err-clause-merging : goal.returns-in-Err-clause-merging
-returns-in-Err-clause-merging g c = search rules
-
-pub returns-in-Err-clause-unchanged : goal.returns-in-Err-clause-unchanged
-returns-in-Err-clause-unchanged g c = search rules

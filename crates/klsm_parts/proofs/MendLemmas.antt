@@ -1,0 +1,224 @@
+-- Pivots that are mended: where each marked item is smaller than each other one, the marked items are the least, and this stays so
+-- where blocks lose an item or become one.
+use Rattle.std.proofs.Common.{◌≡◌, ℕ, ◌+◌, ◌-◌, ◌<◌, ◌≤◌, Bool, true, false, List, [], ◌∷◌, ◌++◌, length, get_or, set, remove, take, drop, sum, refl, sym, ap, ◌∙◌, subst, arith, zero, suc, if◌then◌else◌}
+use Rattle.std.specs.List.{AllByRecursion}
+use Rattle.std.proofs.lemmas.List.{take-append-le, drop-append-le, take_all, drop-drop, length-append, length-take-le}
+use Rattle.std.proofs.lemmas.List.Edits.{length-remove}
+use Rattle.std.proofs.lemmas.List.Sums.{sum_by-cons, sum_by-append, sum_by-take-drop}
+use Rattle.klsm_run.specs.declared.item.Item.{Item}
+use Rattle.klsm_run.specs.ItemOrder.{is_smaller, IsSmaller}
+use Rattle.klsm_run.specs.Content.{placed, sorted, skipped, IsAscending}
+use Rattle.klsm_run.proofs.AllLemmas.{all_weaker, all_append, all_front, all_back}
+use Rattle.klsm_run.proofs.SortedLemmas.{placed_first, all_sorted, length_sorted}
+use Rattle.klsm_run.proofs.RemoveLemmas.{all_remove}
+use Rattle.klsm_run.proofs.ContentLemmas.{sorted_swap}
+use Rattle.klsm_run.proofs.LeastLemmas.{all_unsorted}
+use Rattle.klsm_run.proofs.LesserLemmas.{less_if_smaller}
+use Rattle.klsm_run.proofs.RankLemmas.{skipped_not_above, least_skip_few, rest_skip_many}
+use Rattle.klsm_lsm.specs.Lsm.{content}
+use Rattle.klsm_lsm.specs.Places.{united}
+use Rattle.klsm_parts.specs.Pivots.{marked, unmarked, AreWithin, ArePivots}
+use Rattle.klsm_parts.specs.Mending.{united_pivots}
+use Rattle.klsm_parts.proofs.PivotLemmas.{marked_and_unmarked, unmarked_is_rest}
+
+-- what is true of each marked item, and of each other
+abbrev pub AreSplit : (Item → Type 0) → (Item → Type 0) → List (List Item) → List ℕ → Type 0
+AreSplit P Q [] [] = Unit {0}
+AreSplit P Q [] (p ∷ ps) = ⊥
+AreSplit P Q (b ∷ bs) [] = ⊥
+AreSplit P Q (b ∷ bs) (p ∷ ps) = (p ≤ length b) × AllByRecursion P (take p b) × AllByRecursion Q (drop p b) × AreSplit P Q bs ps
+
+-- each item of the first kind is smaller than each of the second
+abbrev pub AreApart : (Item → Type 0) → (Item → Type 0) → Type 0
+AreApart P Q = (x y : Item) → P x → Q y → IsSmaller x y
+
+pub split_within : (P Q : Item → Type 0) (bs : List (List Item)) (ps : List ℕ) → AreSplit P Q bs ps → AreWithin bs ps
+split_within P Q [] [] split = tt
+split_within P Q [] (p ∷ ps) split = absurd split
+split_within P Q (b ∷ bs) [] split = absurd split
+split_within P Q (b ∷ bs) (p ∷ ps) split = (split.0, split_within P Q bs ps split.3)
+
+pub split_marked : (P Q : Item → Type 0) (bs : List (List Item)) (ps : List ℕ) → AreSplit P Q bs ps → AllByRecursion P (marked bs ps)
+split_marked P Q [] [] split = tt
+split_marked P Q [] (p ∷ ps) split = absurd split
+split_marked P Q (b ∷ bs) [] split = absurd split
+split_marked P Q (b ∷ bs) (p ∷ ps) split = all_append P (take p b) (marked bs ps) split.1 (split_marked P Q bs ps split.3)
+
+pub split_unmarked : (P Q : Item → Type 0) (bs : List (List Item)) (ps : List ℕ) → AreSplit P Q bs ps → AllByRecursion Q (content (unmarked bs ps))
+split_unmarked P Q [] [] split = tt
+split_unmarked P Q [] (p ∷ ps) split = absurd split
+split_unmarked P Q (b ∷ bs) [] split = absurd split
+split_unmarked P Q (b ∷ bs) (p ∷ ps) split = all_append Q (drop p b) (content (unmarked bs ps)) split.2 (split_unmarked P Q bs ps split.3)
+
+pub split_of : (P Q : Item → Type 0) (bs : List (List Item)) (ps : List ℕ) → AreWithin bs ps → AllByRecursion P (marked bs ps) → AllByRecursion Q (content (unmarked bs ps)) → AreSplit P Q bs ps
+split_of P Q [] [] within some rest = tt
+split_of P Q [] (p ∷ ps) within some rest = absurd within
+split_of P Q (b ∷ bs) [] within some rest = absurd within
+split_of P Q (b ∷ bs) (p ∷ ps) within some rest = (
+  within.0,
+  all_front P (take p b) (marked bs ps) some,
+  all_front Q (drop p b) (content (unmarked bs ps)) rest,
+  split_of P Q bs ps within.1 (all_back P (take p b) (marked bs ps) some) (all_back Q (drop p b) (content (unmarked bs ps)) rest),
+)
+
+-- the pivots count the marked items
+pub count_marked : (bs : List (List Item)) (ps : List ℕ) → AreWithin bs ps → length (marked bs ps) ≡ sum ps
+count_marked [] [] within = refl
+count_marked [] (p ∷ ps) within = absurd within
+count_marked (b ∷ bs) [] within = absurd within
+count_marked (b ∷ bs) (p ∷ ps) within =
+    length-append (take p b) (marked bs ps) ∙ omega (arith, length-take-le p b within.0, count_marked bs ps within.1, sum_by-cons (λ x. x) p ps)
+
+placed_before : (x : Item) (zs ws : List Item) → AllByRecursion (IsSmaller x) ws → placed x (zs ++ ws) ≡ placed x zs ++ ws
+placed_before x [] ws h = placed_first x ws h
+placed_before x (z ∷ zs) ws h = elim (is_smaller z x) as (λ b. (if b then z ∷ placed x (zs ++ ws) else x ∷ z ∷ (zs ++ ws)) ≡ (if b then z ∷ placed x zs else x ∷ z ∷ zs) ++ ws) [
+  | true ↦ ap (λ (l : List Item). z ∷ l) (placed_before x zs ws h)
+  | false ↦ refl
+]
+
+-- the two kinds sort apart
+sorted_apart : (P Q : Item → Type 0) (xs ys : List Item) → AreApart P Q → AllByRecursion P xs → AllByRecursion Q ys → sorted (xs ++ ys) ≡ sorted xs ++ sorted ys
+sorted_apart P Q [] ys apart some rest = refl
+sorted_apart P Q (x ∷ xs) ys apart some rest =
+    ap (placed x) (sorted_apart P Q xs ys apart some.1 rest)
+    ∙ placed_before x (sorted xs) (sorted ys) (all_sorted (IsSmaller x) ys (all_weaker Q (IsSmaller x) (λ y h. apart x y some.0 h) ys rest))
+
+drop_nil : (n : ℕ) → ◌≡◌ {A = List Item} (drop n []) []
+drop_nil zero = refl
+drop_nil (suc n) = refl
+
+drop_past : (n : ℕ) (xs : List Item) → length xs ≤ n → drop n xs ≡ []
+drop_past n [] past = drop_nil n
+drop_past zero (x ∷ xs) past = absurd (omega (arith, past))
+drop_past (suc n) (x ∷ xs) past = drop_past n xs (omega (arith, past))
+
+-- one block of the items of several, of which so many are marked
+pub record IsOneOf (P Q : Item → Type 0) (block : List Item) (n : ℕ) : Type 0 where
+  pub within : n ≤ length block
+  pub some : AllByRecursion P (take n block)
+  pub rest : AllByRecursion Q (drop n block)
+
+pub one_of : (P Q : Item → Type 0) (bs : List (List Item)) (ps : List ℕ) (block : List Item) (n : ℕ) → AreApart P Q → AreSplit P Q bs ps → block ≡ sorted (content bs) → n ≡ sum ps → IsOneOf P Q block n
+one_of P Q bs ps block n apart split is count =
+    let m = marked bs ps in let u = content (unmarked bs ps) in
+    let some = split_marked P Q bs ps split in
+    let rest = split_unmarked P Q bs ps split in
+    let parts : block ≡ sorted m ++ sorted u = is ∙ (marked_and_unmarked bs ps ∙ sorted_apart P Q m u apart some rest) in
+    let size : length (sorted m) ≡ n = length_sorted m ∙ (count_marked bs ps (split_within P Q bs ps split) ∙ sym count) in
+    let front : take n block ≡ sorted m = ap (take n) parts ∙ (take-append-le n (sorted m) (sorted u) (omega (arith, size)) ∙ take_all n (sorted m) (omega (arith, size))) in
+    let back : drop n block ≡ sorted u = ap (drop n) parts ∙ (drop-append-le n (sorted m) (sorted u) (omega (arith, size)) ∙ ap (λ xs. xs ++ sorted u) (drop_past n (sorted m) (omega (arith, size)))) in
+    record {
+      within = omega (arith, ap length parts, length-append (sorted m) (sorted u), size);
+      some = subst (AllByRecursion P) (sym front) (all_sorted P m some);
+      rest = subst (AllByRecursion Q) (sym back) (all_sorted Q u rest);
+    }
+
+-- the marked items are the least ones
+pub pivots_if_split : (P Q : Item → Type 0) (n : ℕ) (bs : List (List Item)) (ps : List ℕ) → AreApart P Q → AreSplit P Q bs ps → sum ps ≡ n → ArePivots n bs ps
+pivots_if_split P Q n bs ps apart split count =
+    let m = marked bs ps in let u = content (unmarked bs ps) in
+    let within = split_within P Q bs ps split in
+    let parts : sorted (content bs) ≡ sorted m ++ sorted u = marked_and_unmarked bs ps ∙ sorted_apart P Q m u apart (split_marked P Q bs ps split) (split_unmarked P Q bs ps split) in
+    let size : length (sorted m) ≡ n = length_sorted m ∙ (count_marked bs ps within ∙ count) in
+    record {
+      within = within;
+      exact = sym (ap (take n) parts ∙ (take-append-le n (sorted m) (sorted u) (omega (arith, size)) ∙ take_all n (sorted m) (omega (arith, size))));
+    }
+
+-- few items are smaller than a marked one, and many are smaller than each other one
+abbrev pub SkipsFew : List Item → ℕ → Item → Type 0
+SkipsFew c n x = skipped c x < n
+
+abbrev pub SkipsMany : List Item → ℕ → Item → Type 0
+SkipsMany c n x = n ≤ skipped c x
+
+pub skips_apart : (c : List Item) (n : ℕ) → AreApart (SkipsFew c n) (SkipsMany c n)
+skips_apart c n x y few many = by_test (is_smaller x y) refl
+  where
+    by_test : (b : Bool) → is_smaller x y ≡ b → IsSmaller x y
+    by_test true smaller = less_if_smaller x y smaller
+    by_test false not_smaller = absurd (omega (arith, few, many, skipped_not_above y x c not_smaller))
+
+pub split_if_pivots : (n : ℕ) (bs : List (List Item)) (ps : List ℕ) → IsAscending (sorted (content bs)) → ArePivots n bs ps → AreSplit (SkipsFew (content bs) n) (SkipsMany (content bs) n) bs ps
+split_if_pivots n bs ps up pivots =
+    let c = content bs in
+    split_of (SkipsFew c n) (SkipsMany c n) bs ps pivots.within
+    (all_unsorted (SkipsFew c n) (marked bs ps) (subst (AllByRecursion (SkipsFew c n)) (sym pivots.exact) (least_skip_few n c up)))
+    (all_unsorted (SkipsMany c n) (content (unmarked bs ps)) (subst (AllByRecursion (SkipsMany c n)) (sym (unmarked_is_rest n bs ps up pivots)) (rest_skip_many n c up)))
+
+-- some of the blocks
+split_take : (P Q : Item → Type 0) (n : ℕ) (bs : List (List Item)) (ps : List ℕ) → AreSplit P Q bs ps → AreSplit P Q (take n bs) (take n ps)
+split_take P Q zero bs ps split = tt
+split_take P Q (suc n) [] [] split = tt
+split_take P Q (suc n) [] (p ∷ ps) split = absurd split
+split_take P Q (suc n) (b ∷ bs) [] split = absurd split
+split_take P Q (suc n) (b ∷ bs) (p ∷ ps) split = (split.0, split.1, split.2, split_take P Q n bs ps split.3)
+
+split_drop : (P Q : Item → Type 0) (n : ℕ) (bs : List (List Item)) (ps : List ℕ) → AreSplit P Q bs ps → AreSplit P Q (drop n bs) (drop n ps)
+split_drop P Q zero bs ps split = split
+split_drop P Q (suc n) [] [] split = tt
+split_drop P Q (suc n) [] (p ∷ ps) split = absurd split
+split_drop P Q (suc n) (b ∷ bs) [] split = absurd split
+split_drop P Q (suc n) (b ∷ bs) (p ∷ ps) split = split_drop P Q n bs ps split.3
+
+split_append : (P Q : Item → Type 0) (bs cs : List (List Item)) (ps qs : List ℕ) → AreSplit P Q bs ps → AreSplit P Q cs qs → AreSplit P Q (bs ++ cs) (ps ++ qs)
+split_append P Q [] cs [] qs split rest = rest
+split_append P Q [] cs (p ∷ ps) qs split rest = absurd split
+split_append P Q (b ∷ bs) cs [] qs split rest = absurd split
+split_append P Q (b ∷ bs) cs (p ∷ ps) qs split rest = (split.0, split.1, split.2, split_append P Q bs cs ps qs split.3 rest)
+
+-- blocks that become one with a run, and pivots that add
+pub split_united : (P Q : Item → Type 0) (bs : List (List Item)) (ps : List ℕ) (first count q : ℕ) (run : List Item) → AreApart P Q → AreSplit P Q (run ∷ bs) (q ∷ ps) → AreSplit P Q (united bs first count run) (united_pivots ps first count q)
+split_united P Q bs ps first count q run apart split =
+    let mid = take count (drop first bs) in let pmid = take count (drop first ps) in
+    let inner : AreSplit P Q (run ∷ mid) (q ∷ pmid) = (split.0, split.1, split.2, split_take P Q count (drop first bs) (drop first ps) (split_drop P Q first bs ps split.3)) in
+    let one : IsOneOf P Q (sorted (content mid ++ run)) (q + sum pmid) = one_of P Q (run ∷ mid) (q ∷ pmid) _ _ apart inner (sorted_swap (content mid) run) (sym (sum_by-cons (λ x. x) q pmid)) in
+    split_append P Q (take first bs) _ (take first ps) _ (split_take P Q first bs ps split.3)
+    (one.within, one.some, one.rest, split_drop P Q (first + count) bs ps split.3)
+
+-- the pivots count as many as before, and those of the run
+pub sum_united : (ps : List ℕ) (first count q : ℕ) → sum (united_pivots ps first count q) ≡ q + sum ps
+sum_united ps first count q =
+    let f = λ (x : ℕ). x in
+    omega (
+      arith,
+      sum_by-append f (take first ps) ((q + sum (take count (drop first ps))) ∷ drop (first + count) ps),
+      sum_by-cons f (q + sum (take count (drop first ps))) (drop (first + count) ps),
+      ap sum (drop-drop count first ps),
+      sum_by-take-drop f (drop first ps) count,
+      sum_by-take-drop f ps first,
+    )
+
+-- a block with one marked item less
+take_without : (b : List Item) (p index : ℕ) → index ≤ p → p < length b → take p (remove b index) ≡ remove (take (suc p) b) index
+take_without [] p index here within = absurd (omega (arith, within))
+take_without (x ∷ b) p zero here within = refl
+take_without (x ∷ b) zero (suc index) here within = absurd (omega (arith, here))
+take_without (x ∷ b) (suc p) (suc index) here within = ap (λ (l : List Item). x ∷ l) (take_without b p index (omega (arith, here)) (omega (arith, within)))
+
+drop_without : (b : List Item) (p index : ℕ) → index ≤ p → p < length b → drop p (remove b index) ≡ drop (suc p) b
+drop_without [] p index here within = absurd (omega (arith, within))
+drop_without (x ∷ b) p zero here within = refl
+drop_without (x ∷ b) zero (suc index) here within = absurd (omega (arith, here))
+drop_without (x ∷ b) (suc p) (suc index) here within = drop_without b p index (omega (arith, here)) (omega (arith, within))
+
+less_one_block : (P Q : Item → Type 0) (b : List Item) (p index : ℕ) → index < p → p ≤ length b → AllByRecursion P (take p b) → AllByRecursion Q (drop p b) → IsOneOf P Q (remove b index) (p - 1)
+less_one_block P Q b zero index here within some rest = absurd (omega (arith, here))
+less_one_block P Q b (suc p) index here within some rest =
+    let less : suc p - 1 ≡ p = omega arith in
+    rw less record {
+      within = omega (arith, length-remove b index (omega (arith, here, within)));
+      some = rw (take_without b p index (omega (arith, here)) (omega (arith, within))) (all_remove P (take (suc p) b) index some);
+      rest = rw (drop_without b p index (omega (arith, here)) (omega (arith, within))) rest;
+    }
+
+pub split_less : (P Q : Item → Type 0) (bs : List (List Item)) (ps : List ℕ) (at index : ℕ) → at < length bs → index < get_or ps at 0 → AreSplit P Q bs ps → AreSplit P Q (set bs at (remove (get_or bs at []) index)) (set ps at (get_or ps at 0 - 1))
+split_less P Q [] ps at index within here split = absurd (omega (arith, within))
+split_less P Q (b ∷ bs) [] at index within here split = absurd split
+split_less P Q (b ∷ bs) (p ∷ ps) zero index within here split =
+    let one = less_one_block P Q b p index here split.0 split.1 split.2 in (one.within, one.some, one.rest, split.3)
+split_less P Q (b ∷ bs) (p ∷ ps) (suc at) index within here split = (split.0, split.1, split.2, split_less P Q bs ps at index (omega (arith, within)) here split.3)
+
+-- without a block
+pub split_remove : (P Q : Item → Type 0) (bs : List (List Item)) (ps : List ℕ) (at : ℕ) → AreSplit P Q bs ps → AreSplit P Q (remove bs at) (remove ps at)
+split_remove P Q bs ps at split = split_append P Q (take at bs) (drop (suc at) bs) (take at ps) (drop (suc at) ps) (split_take P Q at bs ps split) (split_drop P Q (suc at) bs ps split)

@@ -1,0 +1,36 @@
+use Rattle.std.proofs.Common.{◌≡◌, ◌<◌, ◌≤◌, [], length, get_or, subst, arith, rules}
+use Rattle.std.specs.List.{slice_get}
+use Rattle.klsm_run.specs.Content.{sorted}
+use Rattle.klsm_lsm.specs.Lsm.{content}
+use Rattle.klsm_parts.specs.Pivots.{marked, unmarked}
+use Rattle.klsm_parts.proofs.FoundLemmas.{one_each, pivot_within, pivot_counted}
+use Rattle.klsm_parts.proofs.ranks.mark_least.Goals as goal
+
+pub least_unmarked-block-requires : goal.least_unmarked-block-requires
+least_unmarked-block-requires g c =
+    (search rules, (rw c.as_slice.ensures.value c.requires.within, rw c.as_slice.ensures.value c.requires.some))
+
+pub bounds-as_mut_slice-block : goal.bounds-as_mut_slice-block
+bounds-as_mut_slice-block g c =
+    rw c.as_mut_slice.ensures.value (omega (arith, one_each c.args.lsm.now c.args.pivots.now.items c.requires.within, c.least_unmarked-block.ensures.block))
+
+pub offset_bounds-as_mut_slice-block : goal.offset_bounds-as_mut_slice-block
+offset_bounds-as_mut_slice-block g c =
+    let here : c.least_unmarked-block.result < length c.as_mut_slice.result.now =
+    rw c.as_mut_slice.ensures.value (omega (arith, one_each c.args.lsm.now c.args.pivots.now.items c.requires.within, c.least_unmarked-block.ensures.block)) in
+    search rules
+
+pub overflow_add-as_mut_slice : goal.overflow_add-as_mut_slice
+overflow_add-as_mut_slice g c =
+    let small : get_or c.as_mut_slice.result.now c.least_unmarked-block.result 0 ≤ length (marked c.args.lsm.now c.args.pivots.now.items) =
+    rw c.as_mut_slice.ensures.value (pivot_within c.args.lsm.now c.args.pivots.now.items c.least_unmarked-block.result c.requires.within) in
+    omega (arith, small, c.requires.some, c.len-count.ensures.len, c.len-count.type_inv)
+
+pub bounds-as_mut_slice-block-2 : goal.bounds-as_mut_slice-block-2
+bounds-as_mut_slice-block-2 g c =
+    rw c.as_mut_slice.ensures.value (omega (arith, one_each c.args.lsm.now c.args.pivots.now.items c.requires.within, c.least_unmarked-block.ensures.block))
+
+pub returns : goal.returns
+returns g c n more pivots =
+    pivot_counted n c.args.lsm.now c.args.pivots.now.items c.as_mut_slice.result.now c.least_unmarked-block.result c.as_mut_slice.ensures.value c.requires.lawful pivots more
+    (subst (λ ps. slice_get (get_or c.args.lsm.now c.least_unmarked-block.result []) (get_or ps c.least_unmarked-block.result 0) ≡ slice_get (sorted (content (unmarked c.args.lsm.now ps))) 0) c.as_slice.ensures.value c.least_unmarked-block.ensures.least)
