@@ -1,12 +1,11 @@
 -- Items that are put into the slot behind the blocks.
-use Rattle.std.proofs.Common.{◌≡◌, ℕ, ◌+◌, ◌-◌, ◌<◌, ◌≤◌, ◌^◌, ◌/◌, Some, drop, List, [], ◌∷◌, ◌++◌, length, get_or, take, min, refl, sym, ap, ◌∙◌, subst, arith, zero, suc}
+use Rattle.std.proofs.Common.{◌≡◌, ℕ, ◌+◌, ◌-◌, ◌<◌, ◌≤◌, ◌/◌, Some, drop, List, [], ◌∷◌, ◌++◌, length, get_or, take, refl, sym, ap, ◌∙◌, subst, arith, zero, suc}
 use Rattle.std.specs.List.{AllByRecursion, Contains, slice_get}
 use Rattle.std.proofs.lemmas.Option.{none-some, same_Some}
 use Rattle.klsm_run.proofs.HalfLemmas.{ascending_take}
 use Rattle.std.proofs.lemmas.List.{length-append, length-drop, length-take, take-append-le, take_all, get_or-take, get_or-append_right}
 use Rattle.klsm_run.specs.declared.item.Item.{Item}
 use Rattle.klsm_run.specs.Content.{IsAscending, ShareNone}
-use Rattle.klsm_run.specs.Capacity.{IsCapacity}
 use Rattle.klsm_run.proofs.ApartLemmas.{apart_from_single}
 use Rattle.klsm_lsm.specs.Level.{level}
 use Rattle.klsm_lsm.specs.Lsm.{content, IsLsm}

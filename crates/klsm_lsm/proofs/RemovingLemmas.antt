@@ -1,23 +1,21 @@
 -- The slots after an item was taken out of a block.
-use Rattle.std.proofs.Common.{◌≡◌, ℕ, ◌+◌, ◌-◌, ◌<◌, ◌≤◌, ◌^◌, List, [], ◌∷◌, ◌++◌, length, get_or, set, take, drop, remove, min, Some, refl, sym, ap, ◌∙◌, subst, arith, pow-suc, zero, suc}
-use Rattle.std.specs.List.{slice_get}
+use Rattle.std.proofs.Common.{◌≡◌, ℕ, ◌+◌, ◌-◌, ◌<◌, ◌≤◌, ◌^◌, List, [], ◌∷◌, ◌++◌, length, get_or, set, take, drop, remove, min, refl, sym, ap, ◌∙◌, subst, arith, pow-suc, zero, suc}
 use Rattle.std.proofs.Math.Seq.{take-set-lt}
 use Rattle.std.proofs.Math.Pow.{pow_mono}
-use Rattle.std.proofs.lemmas.List.{length-append, length-set, get_or-take}
+use Rattle.std.proofs.lemmas.List.{length-append, get_or-take}
 use Rattle.std.proofs.lemmas.Option.{slice_get-get_or}
 use Rattle.klsm_run.specs.declared.item.Item.{Item}
 use Rattle.klsm_run.specs.Block.{HasLevel}
 use Rattle.klsm_run.specs.Content.{sorted, ShareNone}
 use Rattle.klsm_lsm.specs.Level.{least_level, level}
-use Rattle.klsm_lsm.specs.Lsm.{content, IsLsm}
+use Rattle.klsm_lsm.specs.Lsm.{content}
 use Rattle.klsm_lsm.specs.Adding.{cut}
-use Rattle.klsm_lsm.specs.Limit.{limit_of}
-use Rattle.klsm_lsm.specs.Slots.{with_block, FallsToNext, IsStored, IsSlotted}
+use Rattle.klsm_lsm.specs.Slots.{FallsToNext, IsStored, IsSlotted}
 use Rattle.klsm_lsm.proofs.FallLemmas.{cut_falling, cut_only, cut_not_falling}
 use Rattle.klsm_lsm.proofs.LevelLemmas.{level_least, level_enough}
 use Rattle.klsm_lsm.proofs.LimitLemmas.{stored_cut}
 use Rattle.klsm_lsm.proofs.PlaceLemmas.{next_shares_none, level_next, two_within}
-use Rattle.klsm_lsm.proofs.SlotLemmas.{some_at, block_at}
+use Rattle.klsm_lsm.proofs.SlotLemmas.{some_at}
 use Rattle.klsm_lsm.proofs.StoredLemmas.{count_blocks}
 
 abbrev Blocks : Type 0

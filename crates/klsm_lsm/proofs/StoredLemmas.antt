@@ -3,10 +3,9 @@ use Rattle.std.proofs.Common.{◌≡◌, ℕ, ◌+◌, ◌-◌, ◌<◌, ◌≤�
 use Rattle.std.specs.List.{refill, take-map}
 use Rattle.std.proofs.lemmas.List.{length-map, length-set, length-take, length-drop, length-append, take_all, take_more_set, map-set, get_or-take}
 use Rattle.klsm_run.specs.declared.item.Item.{Item}
-use Rattle.klsm_lsm.specs.Lsm.{content, IsLsm}
+use Rattle.klsm_lsm.specs.Lsm.{content}
 use Rattle.klsm_lsm.specs.Limit.{IsLsmWithin}
 use Rattle.klsm_lsm.specs.Slots.{block_in, blocks_in, with_block, IsStored, IsSlotted}
-use Rattle.klsm_lsm.proofs.AddLemmas.{length_lsm}
 use Rattle.klsm_lsm.proofs.LimitLemmas.{blocks_fit}
 use Rattle.klsm_lsm.proofs.SlotLemmas.{some_at, block_in_slot, blocks_in_remove, blocks_in_with, refill_same}
 

@@ -1,6 +1,7 @@
 -- Parts, as contracts see them.
 use Rattle.std.specs.Prelude.{ℕ, ◌+◌, ◌≤◌, List, length, slice_get, Option}
 use Rattle.klsm_run.specs.declared.item.Item.{Item}
+use Rattle.klsm_run.specs.Capacity.{IsCapacity}
 use Rattle.klsm_run.specs.Content.{sorted}
 use Rattle.klsm_lsm.specs.Lsm.{content, IsLsm}
 use Rattle.klsm_lsm.specs.Limit.{IsLevelCount}
@@ -28,7 +29,7 @@ candidates_of shared = least (shared.k + 1) (content shared.blocks)
 pub record IsOwn (capacity : ℕ) (part : PartState) : Type 0 where
   pub few : length (content part.blocks) ≤ part.k
   pub k_in_range : part.k ≤ capacity
-  pub capacity_in_range : capacity ≤ 128
+  pub capacity_in_range : IsCapacity capacity
 
 -- a shared part is a lawful LSM with exact pivots of its least k+1 items
 pub record IsShared (levels : ℕ) (part : PartState) (pivots : List ℕ) : Type 0 where

@@ -33,11 +33,6 @@ pub record IsPicked {P : Type 0} (may_pick : P → ℕ → ℕ → P → Type 0)
 abbrev pub IsCutFrom : Item → List (List Item) → List (List Item) → Type 0
 IsCutFrom x blocks rest = (at : ℕ) × (index : ℕ) × (slice_get (slice_index_or blocks at []) index ≡ Some x) × (rest ≡ cut blocks at index)
 
--- to cut an item out of its block, two blocks have to become one
-abbrev pub IsMergingCut : Item → List (List Item) → Type 0
-IsMergingCut x blocks = (at : ℕ) × (index : ℕ) × (slice_get (slice_index_or blocks at []) index ≡ Some x)
-    × (1 < length (slice_index_or blocks at [])) × (length (cut blocks at index) < length blocks)
-
 -- an item leaves one of two parts, and the other stays
 abbrev pub Leaves : Item → PartState → PartState → PartState → PartState → Type 0
 Leaves x own own_after shared shared_after =

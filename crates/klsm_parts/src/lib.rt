@@ -12,7 +12,7 @@
 //! let mut shared: Shared<21> = Shared::new(alloc, 16);
 //! put(&mut own, item);                                  // the own part has room
 //! flush(&mut own, &mut shared, item)?;                  // it has not: its largest block moves
-//! let next = take(&mut own, &mut shared, &mut random_of(1))?;
+//! let next = take(&mut own, &mut shared, &mut random_of(1));
 //! let count = spy(&mut own, &mut victim);               // the own part is empty: items move from another member's
 //! ```
 //!
@@ -37,8 +37,6 @@ mod ranks;
 mod shared;
 mod spying;
 mod taking;
-#[cfg(test)]
-mod tests;
 
 pub use flushing::flush;
 pub use klsm_lsm::LsmError;

@@ -1,6 +1,7 @@
 //! The part of one member.
-ghost use Rattle.std.specs.Prelude.{◌≡◌, ◌<◌, ◌≤◌, ◌∷◌, [], length, slice_get, Some};
+ghost use Rattle.std.specs.Prelude.{◌≡◌, ◌<◌, ◌≤◌, ◌∷◌, [], length};
 ghost use Rattle.std.specs.List.{Contains};
+ghost use Rattle.std.specs.Option.{option_to_list};
 ghost use Rattle.klsm_run.specs.Capacity.{IsCapacity};
 ghost use Rattle.klsm_run.specs.Content.{sorted, without};
 ghost use Rattle.klsm_lsm.specs.Lsm.{content, IsLsm};
@@ -83,9 +84,10 @@ impl<const CAP: usize> Local<CAP> {
         requires new { ¬ Contains (content self.old.blocks) item }
         ensures { self.new ≡ record { k = self.old.k; blocks = kept self.old.blocks item } }
     {
-        let Some(_largest) = self.lsm.take_largest() else {
+        if self.lsm.blocks() == 0 {
             return;
-        };
+        }
+        self.lsm.discard_largest();
         let Ok(()) = self.lsm.insert(item) else {
             unreachable!();
         };
@@ -105,34 +107,21 @@ impl<const CAP: usize> Local<CAP> {
         let Some(block) = self.lsm.least_block() else {
             unreachable!();
         };
-        let Ok(item) = self.lsm.remove(block, 0) else {
-            unreachable!();
-        };
-        item
+        self.lsm.remove(block, 0)
     }
 
-    // Takes out what goes to a member that spies.
-    pub(crate) fn split_for_spy(&mut self) -> FixedRun<CAP>
-        requires some { 0 < length (content self.old.blocks) }
-        ensures given { spied self.old.blocks ≡ Some result }
-        ensures rest { self.new ≡ record { k = self.old.k; blocks = left_by_spy self.old.blocks } }
-    {
-        let Some(run) = self.lsm.split_for_spy() else {
-            unreachable!();
-        };
-        run
-    }
-
-    // Puts a run into the part, which is empty.
-    pub(crate) fn receive(&mut self, run: FixedRun<CAP>)
+    // Takes what goes to a member that spies from a victim.
+    pub(crate) fn spy_from(&mut self, victim: &mut Self) -> usize
+        requires same_k { self.old.k ≡ victim.old.k }
         requires empty { self.old.blocks ≡ [] }
-        requires some { 0 < length run }
-        requires room { length run ≤ self.old.k }
-        ensures { self.new ≡ record { k = self.old.k; blocks = run.entry ∷ [] } }
+        ensures own { self.new
+            ≡ record { k = self.old.k; blocks = option_to_list (spied victim.old.blocks) } }
+        ensures victim { victim.new
+            ≡ record { k = victim.old.k; blocks = left_by_spy victim.old.blocks } }
+        ensures count { result ≡ length (content self.new.blocks) }
     {
-        let Ok(()) = self.lsm.absorb(run) else {
-            unreachable!();
-        };
+        let _few = victim.len();
+        self.lsm.spy(&mut victim.lsm)
     }
 }
 

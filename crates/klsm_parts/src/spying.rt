@@ -6,12 +6,11 @@ ghost use Rattle.klsm_parts.specs.Parts.{items_in};
 ghost use Rattle.klsm_parts.specs.Events.{MaySpy, own_after_spy, victim_after_spy};
 
 use crate::Local;
-use klsm_run::Run;
 
 /// Moves the victim's largest block to the own part, which is empty, or its greatest half, rounded up, where it is the only
 /// block. The answer is the number of items that moved.
 ///
-/// It takes no memory, and costs one copy of that block.
+/// It takes no memory, and costs one copy of what moves.
 pub fn spy<const CAP: usize>(own: &mut Local<CAP>, victim: &mut Local<CAP>) -> usize
     requires same_k { own.old.k ≡ victim.old.k }
     requires empty { items_in own.old ≡ [] }
@@ -31,11 +30,5 @@ pub fn spy<const CAP: usize>(own: &mut Local<CAP>, victim: &mut Local<CAP>) -> u
 {
     // A look at the length tells the proof that the part is lawful: with no item it has no block.
     prove!(own.len() == 0);
-    if victim.len() == 0 {
-        return 0;
-    }
-    let moved = victim.split_for_spy();
-    let count = moved.len();
-    own.receive(moved);
-    count
+    own.spy_from(victim)
 }

@@ -1,65 +1,59 @@
 //! The deletion from an own part and the shared one.
-ghost use Rattle.std.specs.Prelude.{◌≡◌, ◌+◌, ◌<◌, ◌≤◌, ◌↔◌, ◌++◌, [], false, length, slice_get, slice_index_or, option_map, Some, None, Ok, IsTrue, IfOk, IfErr, OnErr, MatchResult, MatchOption, IfSome};
+ghost use Rattle.std.specs.Prelude.{◌≡◌, ◌+◌, ◌<◌, ◌≤◌, ◌↔◌, ◌++◌, [], false, length, slice_get, slice_index_or, option_map, Some, None, IsTrue, MatchOption, IfSome};
 ghost use Rattle.std.specs.List.{Contains};
 ghost use Rattle.klsm_run.specs.Content.{ShareNone, skipped};
 ghost use Rattle.klsm_run.specs.ItemOrder.{is_smaller};
 ghost use Rattle.klsm_lsm.specs.Lsm.{content};
 ghost use Rattle.klsm_parts.specs.Parts.{items_in, least_in, candidates_of};
 ghost use Rattle.klsm_parts.specs.Events.{MayTake, MayFindNothing, own_after_take, shared_after_take};
-ghost use Rattle.klsm_parts.specs.Taking.{picks, lesser_of, unless_smaller, IsPicked, IsMergingCut, Leaves};
+ghost use Rattle.klsm_parts.specs.Taking.{picks, lesser_of, unless_smaller, IsPicked, Leaves};
 
 use crate::ranks::Place;
 use crate::{Local, Picker, Shared};
-use klsm_lsm::LsmError;
 use klsm_run::Item;
 use std::alloc::Allocator;
 
 /// Takes an item out of the two parts: the least own one where it is the least of both parts, else the lesser of the least
 /// own one and the candidate that the picker answers. `None` where both parts are empty.
 ///
-/// What it takes skips at most k items of the two parts. It costs as many comparisons a block of the shared part as
+/// What it takes skips at most k items of the two parts. It takes no memory, and costs as many comparisons a block of the shared part as
 /// candidates are counted, from the nearer end, and one where a shared item goes.
 pub fn take<const CAP: usize, const LEVELS: usize, A: Allocator + Copy, P: Picker>(
     own: &mut Local<CAP>,
     shared: &mut Shared<LEVELS, A>,
     picker: &mut P,
-) -> Result<Option<Item>, LsmError>
+) -> Option<Item>
     requires same_k { own.old.k ≡ shared.old.k }
     requires apart { ShareNone (content own.old.blocks) (content shared.old.blocks) }
 
     // The picker is asked, once, exactly where the least of both parts is a shared item.
     ensures unasked { picks (least_in own.old) (least_in shared.old) ≡ false
-        → (picker.new ≡ picker.old) × (result ≡ Ok (least_in own.old)) }
+        → (picker.new ≡ picker.old) × (result ≡ least_in own.old) }
     ensures asked { IsTrue (picks (least_in own.old) (least_in shared.old))
         → IsPicked P.may_pick picker.old picker.new (candidates_of shared.old)
-        (λ candidate. MatchResult result
-        (λ answer. answer ≡ Some (lesser_of candidate (least_in own.old)))
-        (λ why. IsMergingCut candidate shared.old.blocks)) }
+        (λ candidate. result ≡ Some (lesser_of candidate (least_in own.old))) }
 
-    // The item leaves its part. A refusal changes nothing. It is for want of memory, and only where the candidate was to
-    // be cut out of its block and two blocks were to become one.
-    ensures left { IfOk result (λ answer. MatchOption answer
+    // The item leaves its part.
+    ensures left { MatchOption result
         ((own.new ≡ own.old) × (shared.new ≡ shared.old))
-        (λ item. Leaves item own.old own.new shared.old shared.new)) }
-    ensures memory { IfErr result (λ why. why ≡ LsmError.NoMemory) }
-    ensures unchanged { OnErr result ((own.new ≡ own.old) × (shared.new ≡ shared.old)) }
+        (λ item. Leaves item own.old own.new shared.old shared.new) }
 
     // What takes effect on the contents.
-    ensures nothing { (result ≡ Ok None) ↔ MayFindNothing (items_in own.old) (items_in shared.old) }
-    ensures event { IfOk result (λ answer. IfSome answer (λ item.
+    ensures nothing { (result ≡ None) ↔ MayFindNothing (items_in own.old) (items_in shared.old) }
+    ensures event { IfSome result (λ item.
         MayTake own.old.k (items_in own.old) (items_in shared.old) item
         × (items_in own.new ≡ own_after_take (items_in own.old) item)
-        × (items_in shared.new ≡ shared_after_take (items_in own.old) (items_in shared.old) item))) }
-    ensures skips { IfOk result (λ answer. IfSome answer (λ item.
-        skipped (items_in own.old ++ items_in shared.old) item ≤ own.old.k)) }
+        × (items_in shared.new ≡ shared_after_take (items_in own.old) (items_in shared.old) item)) }
+    ensures skips { IfSome result (λ item.
+        skipped (items_in own.old ++ items_in shared.old) item ≤ own.old.k) }
 {
     match choose(own, shared, picker) {
-        Some(place) => match shared.remove(place) {
-            Ok(()) => Ok(Some(place.item)),
-            Err(why) => Err(why),
-        },
-        None if own.len() == 0 => Ok(None),
-        None => Ok(Some(own.take_least())),
+        Some(place) => {
+            shared.remove(place);
+            Some(place.item)
+        }
+        None if own.len() == 0 => None,
+        None => Some(own.take_least()),
     }
 }
 

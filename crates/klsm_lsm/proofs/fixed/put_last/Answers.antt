@@ -1,8 +1,3 @@
-use Rattle.std.proofs.Common.{◌≡◌, ◌+◌, ◌++◌, ◌∷◌, [], length, take, set, sym, ap, ◌∙◌}
-use Rattle.std.specs.List.{take-map}
-use Rattle.std.proofs.lemmas.List.{length-map, take_more_set, map-set}
-use Rattle.klsm_run.specs.declared.item.Item.{Item}
-use Rattle.klsm_lsm.specs.Slots.{block_in, blocks_in}
 use Rattle.klsm_lsm.proofs.StoredLemmas.{last_put}
 use Rattle.klsm_lsm.proofs.fixed.put_last.Goals as goal
 

@@ -1,5 +1,4 @@
 use Rattle.std.proofs.Common.{remove, sym, ap, ◌∙◌}
-use Rattle.klsm_run.specs.declared.item.Item.{Item}
 use Rattle.klsm_lsm.proofs.TwoSlotLemmas.{run_in_slot, set_in_slot}
 use Rattle.klsm_lsm.proofs.slots.take_out.Goals as goal
 

@@ -1,5 +1,4 @@
-use Rattle.std.proofs.Common.{◌≡◌, ◌+◌, ◌++◌, [], get_or, remove, sym, ap, ◌∙◌}
-use Rattle.klsm_run.specs.Content.{sorted}
+use Rattle.std.proofs.Common.{◌≡◌, ◌+◌, [], get_or, ap, ◌∙◌}
 use Rattle.klsm_lsm.specs.Slots.{block_in, blocks_in}
 use Rattle.klsm_lsm.proofs.TwoSlotLemmas.{last_of_front, first_of_back, front_set}
 use Rattle.klsm_lsm.proofs.slots.take_out_and_unite.Goals as goal

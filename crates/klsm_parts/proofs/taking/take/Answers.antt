@@ -3,51 +3,38 @@ use Rattle.std.specs.List.{Contains, slice_get}
 use Rattle.klsm_run.specs.Content.{sorted}
 use Rattle.klsm_lsm.specs.Lsm.{content}
 use Rattle.klsm_parts.specs.Parts.{PartState, items_in}
-use Rattle.klsm_parts.specs.Taking.{picks, IsMergingCut, IsCutFrom}
+use Rattle.klsm_parts.specs.Taking.{picks, IsCutFrom}
 use Rattle.klsm_parts.proofs.EventLemmas.{cut_is_taken, not_taken, shared_taken, shared_stays, contains_cut, may_take_sorted, may_find_nothing, no_items, take_skips_few}
 use Rattle.klsm_parts.proofs.TakeLemmas.{chosen_may_go, own_may_go, candidate_is, lesser_is_candidate, lesser_is_own, none_is_smaller, none_shared, some_cut}
 use Rattle.klsm_parts.proofs.taking.take.Goals as goal
 
-pub returns-in-Err-clause-asked : goal.returns-in-Err-clause-asked
-returns-in-Err-clause-asked g c asked =
-    let chosen = c.in-Some.ensures.asked asked in
-    record { index = chosen.index; picked = chosen.picked; candidate = chosen.candidate; found = chosen.found; follows = subst (λ x. IsMergingCut x c.args.shared.now.blocks) (candidate_is chosen.candidate c.in-Some.place.item _ chosen.follows) c.in-Err.ensures.merging }
+pub returns-in-Some-clause-unasked : goal.returns-in-Some-clause-unasked
+returns-in-Some-clause-unasked g c unasked = let bad = (c.in-Some.ensures.unasked unasked).1 in cc
 
-pub returns-in-Err-clause-unasked : goal.returns-in-Err-clause-unasked
-returns-in-Err-clause-unasked g c unasked = let bad = (c.in-Some.ensures.unasked unasked).1 in cc
-
-pub returns-in-Err-clause-nothing : goal.returns-in-Err-clause-nothing
-returns-in-Err-clause-nothing g c =
-    let cut : IsCutFrom c.in-Some.place.item c.args.shared.now.blocks _ = (c.in-Some.place.block, c.in-Some.place.index, c.in-Some.ensures.place.1, refl) in
-    (λ bad. cc, λ none. absurd (some_cut c.args.shared.now.blocks _ c.in-Some.place.item cut none.shared_empty))
-
-pub returns-in-Ok-clause-unasked : goal.returns-in-Ok-clause-unasked
-returns-in-Ok-clause-unasked g c unasked = let bad = (c.in-Some.ensures.unasked unasked).1 in cc
-
-pub returns-in-Ok-clause-asked : goal.returns-in-Ok-clause-asked
-returns-in-Ok-clause-asked g c asked =
+pub returns-in-Some-clause-asked : goal.returns-in-Some-clause-asked
+returns-in-Some-clause-asked g c asked =
     let chosen = c.in-Some.ensures.asked asked in
     record { index = chosen.index; picked = chosen.picked; candidate = chosen.candidate; found = chosen.found; follows = lesser_is_candidate chosen.candidate c.in-Some.place.item _ chosen.follows }
 
-pub returns-in-Ok-clause-left : goal.returns-in-Ok-clause-left
-returns-in-Ok-clause-left g c =
-    let rest = c.in-Ok.ensures.rest in
+pub returns-in-Some-clause-left : goal.returns-in-Some-clause-left
+returns-in-Some-clause-left g c =
+    let rest = c.remove.ensures in
     (refl, ap (λ (p : PartState). p.k) rest, inr ((c.in-Some.place.block, c.in-Some.place.index, c.in-Some.ensures.place.1, ap (λ (p : PartState). p.blocks) rest), refl))
 
-pub returns-in-Ok-clause-nothing : goal.returns-in-Ok-clause-nothing
-returns-in-Ok-clause-nothing g c =
-    let cut : IsCutFrom c.in-Some.place.item c.args.shared.now.blocks c.remove.new.self.blocks = (c.in-Some.place.block, c.in-Some.place.index, c.in-Some.ensures.place.1, ap (λ (p : PartState). p.blocks) c.in-Ok.ensures.rest) in
+pub returns-in-Some-clause-nothing : goal.returns-in-Some-clause-nothing
+returns-in-Some-clause-nothing g c =
+    let cut : IsCutFrom c.in-Some.place.item c.args.shared.now.blocks c.remove.new.self.blocks = (c.in-Some.place.block, c.in-Some.place.index, c.in-Some.ensures.place.1, ap (λ (p : PartState). p.blocks) c.remove.ensures) in
     (λ bad. cc, λ none. absurd (some_cut c.args.shared.now.blocks c.remove.new.self.blocks c.in-Some.place.item cut none.shared_empty))
 
-pub returns-in-Ok-clause-event : goal.returns-in-Ok-clause-event
-returns-in-Ok-clause-event g c =
-    let cut : IsCutFrom c.in-Some.place.item c.args.shared.now.blocks c.remove.new.self.blocks = (c.in-Some.place.block, c.in-Some.place.index, c.in-Some.ensures.place.1, ap (λ (p : PartState). p.blocks) c.in-Ok.ensures.rest) in
+pub returns-in-Some-clause-event : goal.returns-in-Some-clause-event
+returns-in-Some-clause-event g c =
+    let cut : IsCutFrom c.in-Some.place.item c.args.shared.now.blocks c.remove.new.self.blocks = (c.in-Some.place.block, c.in-Some.place.index, c.in-Some.ensures.place.1, ap (λ (p : PartState). p.blocks) c.remove.ensures) in
     let taken = chosen_may_go g.P.Picker.may_pick c.args.picker.now c.choose.new.picker c.args.shared.now.k (content c.args.own.now.blocks) (content c.args.shared.now.blocks) c.in-Some.place.item (λ unasked. let bad = (c.in-Some.ensures.unasked unasked).1 in cc) c.in-Some.ensures.asked in
     let absent : Contains (content c.args.own.now.blocks) c.in-Some.place.item → ⊥ = λ in_own. c.requires.apart c.in-Some.place.item in_own (contains_cut c.args.shared.now.blocks c.remove.new.self.blocks c.in-Some.place.item cut) in
     (may_take_sorted c.args.own.now.k (content c.args.own.now.blocks) (content c.args.shared.now.blocks) c.in-Some.place.item (rw c.requires.same_k taken), not_taken c.args.own.now.blocks c.in-Some.place.item absent, shared_taken c.args.own.now.blocks c.args.shared.now.blocks c.remove.new.self.blocks c.in-Some.place.item absent cut)
 
-pub returns-in-Ok-clause-skips : goal.returns-in-Ok-clause-skips
-returns-in-Ok-clause-skips g c =
+pub returns-in-Some-clause-skips : goal.returns-in-Some-clause-skips
+returns-in-Some-clause-skips g c =
     let taken = chosen_may_go g.P.Picker.may_pick c.args.picker.now c.choose.new.picker c.args.shared.now.k (content c.args.own.now.blocks) (content c.args.shared.now.blocks) c.in-Some.place.item (λ unasked. let bad = (c.in-Some.ensures.unasked unasked).1 in cc) c.in-Some.ensures.asked in
     take_skips_few c.args.own.now.k (items_in c.args.own.now) (items_in c.args.shared.now) c.in-Some.place.item (may_take_sorted c.args.own.now.k (content c.args.own.now.blocks) (content c.args.shared.now.blocks) c.in-Some.place.item (rw c.requires.same_k taken))
 

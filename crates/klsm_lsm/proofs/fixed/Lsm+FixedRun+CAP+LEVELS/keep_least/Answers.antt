@@ -1,4 +1,4 @@
-use Rattle.std.proofs.Common.{◌≡◌, ◌<◌, ◌≤◌, [], length, get_or, take, set, refl, sym, ap, ◌∙◌, subst, arith}
+use Rattle.std.proofs.Common.{◌≡◌, ◌<◌, [], length, get_or, take, set, refl, sym, ap, ◌∙◌, subst, arith}
 use Rattle.std.specs.List.{refill}
 use Rattle.std.proofs.lemmas.List.{length-map, length-set}
 use Rattle.klsm_lsm.specs.Slots.{block_in, blocks_in, IsSlotted}

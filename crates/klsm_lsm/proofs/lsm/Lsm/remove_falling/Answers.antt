@@ -1,8 +1,6 @@
-use Rattle.std.proofs.Common.{◌≡◌, ◌+◌, ◌-◌, ◌<◌, ◌++◌, [], length, get_or, take, remove, refl, sym, ap, ◌∙◌, arith}
+use Rattle.std.proofs.Common.{◌≡◌, ◌+◌, ◌<◌, [], length, get_or, refl, ap, ◌∙◌, arith}
 use Rattle.std.proofs.lemmas.List.{length-map}
-use Rattle.klsm_run.specs.Content.{sorted}
 use Rattle.klsm_lsm.specs.Lsm.{content}
-use Rattle.klsm_lsm.specs.Adding.{cut}
 use Rattle.klsm_lsm.specs.Slots.{blocks_in}
 use Rattle.klsm_lsm.proofs.RemovingLemmas.{block_in_place, some_item, can_fall, fallen, cut_stored}
 use Rattle.klsm_lsm.proofs.StoredLemmas.{count_blocks, slots_back, view_back}

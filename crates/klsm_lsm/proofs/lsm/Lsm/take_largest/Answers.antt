@@ -1,4 +1,4 @@
-use Rattle.std.proofs.Common.{◌≡◌, ◌<◌, [], length, get_or, take, drop, Some, sym, ap, ◌∙◌, arith}
+use Rattle.std.proofs.Common.{◌<◌, [], length, take, drop, Some, sym, ap, ◌∙◌, arith}
 use Rattle.std.specs.Option.{option_map}
 use Rattle.std.specs.List.{slice_get}
 use Rattle.std.proofs.lemmas.Option.{slice_get-get_or}

@@ -21,14 +21,14 @@ remove-requires g c =
 
 pub invariant_of-self : goal.invariant_of-self
 invariant_of-self g c =
-    rw c.in-Ok.ensures.rest (own_cut g.row.CAP c.self.inside.k c.self.inside.lsm c.in-Some.block 0 c.in-Ok.item c.self.invariant c.in-Ok.ensures.item)
+    rw c.remove.ensures.rest (own_cut g.row.CAP c.self.inside.k c.self.inside.lsm c.in-Some.block 0 c.remove.result c.self.invariant c.remove.ensures.item)
 
 pub returns-clause-event : goal.returns-clause-event
 returns-clause-event g c =
     let bs = c.self.inside.lsm in
-    let first : slice_get (sorted (content bs)) 0 ≡ Some c.in-Ok.item = sym c.in-Some.ensures.1 ∙ c.in-Ok.ensures.item in
-    let cut : IsCutFrom c.in-Ok.item bs c.remove.new.self = (c.in-Some.block, 0, c.in-Ok.ensures.item, c.in-Ok.ensures.rest) in
-    subst (λ (p : PartState). MayTake p.k (items_in p) [] c.in-Ok.item × (sorted (content c.remove.new.self) ≡ own_after_take (items_in p) c.in-Ok.item)) c.self.view_is (
-      may_take_sorted c.self.inside.k (content bs) [] c.in-Ok.item (may_take_own c.self.inside.k (content bs) [] c.in-Ok.item first (inl refl)),
-      cut_is_taken bs c.remove.new.self c.in-Ok.item cut,
+    let first : slice_get (sorted (content bs)) 0 ≡ Some c.remove.result = sym c.in-Some.ensures.1 ∙ c.remove.ensures.item in
+    let cut : IsCutFrom c.remove.result bs c.remove.new.self = (c.in-Some.block, 0, c.remove.ensures.item, c.remove.ensures.rest) in
+    subst (λ (p : PartState). MayTake p.k (items_in p) [] c.remove.result × (sorted (content c.remove.new.self) ≡ own_after_take (items_in p) c.remove.result)) c.self.view_is (
+      may_take_sorted c.self.inside.k (content bs) [] c.remove.result (may_take_own c.self.inside.k (content bs) [] c.remove.result first (inl refl)),
+      cut_is_taken bs c.remove.new.self c.remove.result cut,
     )

@@ -7,8 +7,8 @@ use Rattle.klsm_parts.specs.Mending.{IsCutMendable}
 use Rattle.klsm_parts.proofs.AddedLemmas.{cut_mendable}
 use Rattle.klsm_parts.proofs.shared.Shared.remove.Goals as goal
 
-pub remove-requires : goal.remove-requires
-remove-requires g c =
+pub remove-item-requires : goal.remove-item-requires
+remove-item-requires g c =
     let block = subst (λ (p : PartState). c.args.place.block < length p.blocks) (sym c.self.view_is) c.requires.block in
     let index = subst (λ (p : PartState). slice_get (get_or p.blocks c.args.place.block []) c.args.place.index ≡ Some c.args.place.item) (sym c.self.view_is) c.requires.index in
     (search rules, (block, slice_get_within (get_or c.self.inside.lsm c.args.place.block []) c.args.place.index c.args.place.item index))
@@ -24,7 +24,7 @@ mend_cut-requires g c =
     let block = get_or_from_slice_get bs at _ [] c.block.ensures.block in
     let only = ap (λ n. n == 1) (c.len-is_only.ensures.len ∙ ap length (sym block)) in
     let can = cut_mendable c.self.inside.k at c.args.place.index rank.0 c.args.place.item _ _ bs c.self.inside.pivots.items c.self.invariant.lawful c.self.invariant.pivots_exact here found rank.1 c.partner-partner.ensures only in
-    (search rules, (search rules, (subst (λ cs. IsCutMendable c.self.inside.k cs at (c.len-is_only.result == 1) c.partner-partner.result c.self.inside.pivots.items) (sym c.in-Ok.ensures.rest) can, c.self.invariant.k_in_range)))
+    (search rules, (search rules, (subst (λ cs. IsCutMendable c.self.inside.k cs at (c.len-is_only.result == 1) c.partner-partner.result c.self.inside.pivots.items) (sym c.remove-item.ensures.rest) can, c.self.invariant.k_in_range)))
 
 pub invariant_of-self : goal.invariant_of-self
 invariant_of-self g c = search rules
