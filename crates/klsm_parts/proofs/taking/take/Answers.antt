@@ -41,7 +41,7 @@ returns-in-Some-clause-skips g c =
 pub returns-in-None-clause-unasked : goal.returns-in-None-clause-unasked
 returns-in-None-clause-unasked g c unasked =
     let none = no_items c.args.own.now.blocks c.len.ensures.lawful (sym c.len.ensures.len ∙ c.if-len-eq0.true) in
-    ((c.in-None.ensures.unasked unasked).0, ap (λ bs. Ok (slice_get (sorted (content bs)) 0)) (sym none))
+    ((c.in-None.ensures.unasked unasked).0, ap (λ bs. slice_get (sorted (content bs)) 0) (sym none))
 
 pub returns-in-None-clause-asked : goal.returns-in-None-clause-asked
 returns-in-None-clause-asked g c asked =
@@ -58,7 +58,7 @@ returns-in-None-clause-nothing g c =
     (λ same. may_find_nothing (content c.args.own.now.blocks) (content c.args.shared.now.blocks) none_own (none_shared _ _ none_own unasked), λ none. refl)
 
 pub returns-in-None-2-clause-unasked : goal.returns-in-None-2-clause-unasked
-returns-in-None-2-clause-unasked g c unasked = ((c.in-None-2.ensures.unasked unasked).0, ap Ok (sym c.take_least.ensures.least))
+returns-in-None-2-clause-unasked g c unasked = ((c.in-None-2.ensures.unasked unasked).0, sym c.take_least.ensures.least)
 
 pub returns-in-None-2-clause-asked : goal.returns-in-None-2-clause-asked
 returns-in-None-2-clause-asked g c asked =
