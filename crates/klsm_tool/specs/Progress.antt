@@ -1,5 +1,5 @@
 -- How far a replay has come. Rows and lines are listed the latest first.
-use Rattle.std.specs.Prelude.{ℕ, ⊤, true, ◌≡◌, ◌≢◌, ◌+◌, ◌<◌, List, length, take, reverse, Option, Some, None}
+use Rattle.std.specs.Prelude.{ℕ, ⊤, Bool, true, ◌≡◌, ◌≢◌, ◌+◌, ◌<◌, List, length, take, reverse, Option, Some, None}
 use Rattle.std.specs.Io.KnownBytes.{Appends}
 use Rattle.csv.specs.declared.reader.Reader.{Reader}
 use Rattle.csv.specs.declared.reader.Trim.TheVariants as trim
@@ -29,12 +29,12 @@ pub record HasRead {R : Type 0} (rem : R → Option (List ℕ)) (input : Option 
   pub ready : Ready reader
   pub left : HasLeft rem input rows reader
 
--- why no row could be read
-abbrev pub ReadStops : Option (List ℕ) → List Row → Stop → Type 0
-ReadStops input rows stop.AtEnd = AreAllRows input rows
-ReadStops input rows stop.NoMemory = AreFirstRows input rows
-ReadStops input rows stop.ReadFault = AreFirstRows input rows
-ReadStops input rows why = ⊥
+-- why no row could be read: the input is at its end, or the reader has failed
+abbrev pub ReadStops : Bool → Option (List ℕ) → List Row → Stop → Type 0
+ReadStops failed input rows stop.AtEnd = AreAllRows input rows
+ReadStops failed input rows stop.NoMemory = AreFirstRows input rows × (failed ≡ true)
+ReadStops failed input rows stop.ReadFault = AreFirstRows input rows × (failed ≡ true)
+ReadStops failed input rows why = ⊥
 
 -- all lines went out
 pub record IsTold (before now : Option (List ℕ)) (lines : List Line) (written : ℕ) : Type 0 where

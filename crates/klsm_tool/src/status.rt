@@ -2,8 +2,8 @@
 
 use std::process::{ExitCode, Termination};
 
-/// The status of a run of the program. Nothing outside this crate makes one, so a program that returns it from `main`
-/// ends with that of a run.
+/// The status of a run of the program. Nothing outside this crate makes one, so a program that
+/// returns it from `main` ends with that of a run.
 #[derive(Clone, Copy, Debug, PartialEq, Eq)]
 pub struct Status {
     code: u8,
@@ -27,7 +27,12 @@ impl Status {
 }
 
 impl Termination for Status {
-    fn report<R: Eprint>(self, _rt: &R) -> ExitCode {
+    ghost use Rattle.std.specs.Prelude.{◌≡◌};
+    ghost use Rattle.std.specs.Process.{exit_status};
+
+    fn report<R: Eprint>(self, _rt: &R) -> ExitCode
+        ensures { exit_status result ≡ self.code }
+    {
         ExitCode::from(self.code)
     }
 }

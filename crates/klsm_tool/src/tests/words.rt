@@ -7,7 +7,7 @@ use std::test::Fail;
 
 const NOT_TEXT: &[u8] = b"error: a word is not UTF-8\n\nFor more information, try '--help'.\n";
 
-/// Sees to it that the words are answered with a text and this status, and that the script is not read.
+/// Sees to it that the words are answered with a text and this status, and that no script is read.
 fn answers_words(rt: &(impl Abort + AllocGlobal), line: &[u8], status: u8) -> Result<(), Fail> {
     let mut out = Vec::new(rt.alloc());
     assert_eq!(rt; run(rt, line, b"0,d,,\n".as_slice(), &mut out)?, status);
