@@ -1,7 +1,7 @@
 use Rattle.std.proofs.Common.{◌≡◌, ℕ, List, true, ap, ap₂, map, refl, sym, ◌∙◌, subst, inl, inr}
 use Rattle.std.specs.Prelude.{◌⊎◌, IsUtf8}
 use Rattle.std.specs.List.{All}
-use Rattle.clap.specs.Words.{App, FailsBy, HasKind, IsAmong, fault_of, is_simple_and_free}
+use Rattle.clap.specs.Words.{App, IsAmong, fault_of, is_simple_and_free}
 use Rattle.clap.specs.declared.error.kind.ErrorKind.{ErrorKind}
 use Rattle.clap.specs.declared.error.kind.ErrorKind.TheVariants as kind
 use Rattle.clap.proofs.OnLiterals.{clap_on_literals}

@@ -1,5 +1,4 @@
-use Rattle.std.proofs.Common.{◌≡◌, ℕ, ◌<◌, ◌+◌, ◌++◌, ◌∷◌, List, [], length, take, arith, map, refl, sym, ap, ap₂, ◌∙◌, subst, get_or}
-use Rattle.std.proofs.lemmas.Grind.{common_steps}
+use Rattle.std.proofs.Common.{◌≡◌, ℕ, ◌<◌, ◌+◌, ◌++◌, ◌∷◌, List, [], length, take, arith, map, sym, ap, ap₂, ◌∙◌, subst, get_or}
 use Rattle.std.specs.Prelude.{IsUtf8, is_ok, not, true}
 use Rattle.std.specs.List.{All}
 use Rattle.std.proofs.lemmas.List.{get_or-map, length-map, map-append, map_more, take_all}

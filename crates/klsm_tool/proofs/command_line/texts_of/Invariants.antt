@@ -1,4 +1,4 @@
-use Rattle.std.specs.Prelude.{◌≡◌, List, IsUtf8, map, take}
+use Rattle.std.specs.Prelude.{◌≡◌, IsUtf8, map, take}
 use Rattle.std.specs.List.{All}
 use Rattle.klsm_tool.proofs.command_line.texts_of.Given as goal
 
