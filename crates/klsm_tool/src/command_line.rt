@@ -125,11 +125,19 @@ fn fault_of(alloc: Global, error: &Error) -> Fault
 fn command<'a>(alloc: Global) -> Result<Command<'a>, AllocError>
     ensures { IfOk result (λ command. app_of command ≡ klsm_command) }
 {
+    let command = unnamed_command(alloc)?;
+    command.bin_name("klsm")
+}
+
+// Without its own name for the texts, which `clap` takes from the first word where it is told none.
+fn unnamed_command<'a>(alloc: Global) -> Result<Command<'a>, AllocError>
+    ensures { IfOk result (λ command. app_of command ≡ klsm_command) }
+{
     let replay = Command::new(alloc, "replay")
         .about("Answers a script of insertions and deletions, row by row")
         .after_help(REPLAY_HELP);
     Command::new(alloc, "klsm")
-        .about("A priority queue that answers scripts, in Rattle, with a proof of what it answers")
+        .about("A priority queue that answers scripts, with a proof of its answers")
         .no_binary_name(true)
         .subcommand_required(true)
         .arg_required_else_help(true)
@@ -186,16 +194,16 @@ Answers:
 A STAMP is the inserting thread, a dot, and how many items that thread had inserted before.
 SKIP is always 0 today.
 
-Last lines, and the status of the program:
+The last line, and the status of the program:
   max skip SKIP bound BOUND  0  All rows are answered; the greatest SKIP, and what it may be
-  refused row ROW: WHAT      1  This row is refused; WHAT is rows, fields, thread, operation,
+  refused row ROW: WHAT      1  The row is refused; WHAT is rows, fields, thread, operation,
                                 key or load
-  full row ROW               3  This row's insertion finds 64 items
-  no memory                  3  Memory is wanted
+  full row ROW               3  The row's insertion finds no room
+  no memory                  3  A growth of memory was refused
   read fault                 4  Reading failed
-                             4  Writing failed: the text stops where it did
+  (nothing more)             4  Writing failed
 
-Status 2, with a text on the words: they are no command.
+Words that are no command are answered with a text on them, status 2.
 
 Example:
   printf '0,i,5,50\\n0,i,3,30\\n0,d,,\\n' | klsm replay";
