@@ -1,4 +1,5 @@
--- The command line, as the library clap reads it. Words are the bytes of those after the program's name.
+-- The command line, as the library clap reads it. Words are the bytes of those after the program's
+-- name.
 use Rattle.std.specs.Prelude.{ℕ, ◌≡◌, true, List, [], ◌∷◌, codes, IsUtf8}
 use Rattle.std.specs.List.{All}
 use Rattle.clap.specs.Words.{App, IsAmong, Kinds, fault_of, new_app, with_subcommand}
@@ -10,7 +11,11 @@ abbrev pub klsm_command : App
 klsm_command =
     let name = new_app (codes "klsm") in
     let replay = new_app (codes "replay") in
-    let top = record (name.top) { no_binary_name = true; subcommand_required = true; arg_required_else_help = true } in
+    let top = record (name.top) {
+      no_binary_name = true;
+      subcommand_required = true;
+      arg_required_else_help = true;
+    } in
     with_subcommand (record name { top = top }) replay.top
 
 -- the words that ask for a replay
@@ -32,4 +37,6 @@ status_of_text _ = 2
 
 -- the words are text, in which the parser may find what has this status
 abbrev pub HasStatus : List (List ℕ) → ℕ → Type 0
-HasStatus words status = All IsUtf8 words × ((what : ErrorKind) × IsAmong what (found_in words) × (status ≡ status_of_text what))
+HasStatus words status =
+    All IsUtf8 words
+    × ((what : ErrorKind) × IsAmong what (found_in words) × (status ≡ status_of_text what))

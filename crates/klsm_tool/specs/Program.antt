@@ -20,7 +20,8 @@ status_of end.NoMemory = 3
 status_of end.ReadFault = 4
 status_of end.WriteFault = 4
 
--- why words ask for no run: the parser has a text on them, one of them is not UTF-8, or memory is wanted
+-- why words ask for no run: the parser has a text on them, one of them is not UTF-8, or memory is
+-- wanted
 abbrev pub IsFaultIn : List (List ℕ) → Fault → Type 0
 IsFaultIn words (Said text status) = HasStatus words status
 IsFaultIn words NotText = ¬ (All IsUtf8 words)
@@ -35,7 +36,8 @@ Explains what NoMemory = ⊤
 -- a text goes out and the program ends with its status, or the writer fails before the text's end
 abbrev pub Says : Option (List ℕ) → Option (List ℕ) → List ℕ → ℕ → ℕ → Type 0
 Says before after text status result =
-    (Appends before after text × (result ≡ status)) ⊎ ((n : ℕ) × (n < length text) × Appends before after (take n text) × (result ≡ 4))
+    (Appends before after text × (result ≡ status))
+    ⊎ ((n : ℕ) × (n < length text) × Appends before after (take n text) × (result ≡ 4))
 
 -- memory is wanted
 abbrev pub LacksMemory : Option (List ℕ) → Option (List ℕ) → ℕ → Type 0
@@ -43,9 +45,12 @@ LacksMemory before after result = Says before after (codes "no memory\n") 3 resu
 
 -- a word is not UTF-8
 abbrev pub RefusesBytes : Option (List ℕ) → Option (List ℕ) → ℕ → Type 0
-RefusesBytes before after result = Says before after (codes "error: a word is not UTF-8\n\nFor more information, try '--help'.\n") 2 result
+RefusesBytes before after result =
+    let text = codes "error: a word is not UTF-8\n\nFor more information, try '--help'.\n" in
+    Says before after text 2 result
 
--- the words are answered, and no input is read: with a text of the parser and the status of what it found
+-- the words are answered, and no input is read: with a text of the parser and the status of what it
+-- found
 abbrev pub AnswersWords : List (List ℕ) → Option (List ℕ) → Option (List ℕ) → ℕ → Type 0
 AnswersWords words before after result =
     ((text : List ℕ) × (status : ℕ) × HasStatus words status × Says before after text status result)
@@ -54,15 +59,20 @@ AnswersWords words before after result =
 
 -- the input is replayed, and the status is that of the replay's end
 abbrev pub RunsReplay : Option (List ℕ) → Option (List ℕ) → Option (List ℕ) → ℕ → Type 0
-RunsReplay input before after result = (report : Report) × Replays 1 64 input before after report × (result ≡ status_of report.end)
+RunsReplay input before after result =
+    (report : Report) × Replays 1 64 input before after report × (result ≡ status_of report.end)
 
 -- words that are a command are a replay of the input; others are answered
 abbrev pub Runs : List (List ℕ) → Option (List ℕ) → Option (List ℕ) → Option (List ℕ) → ℕ → Type 0
-Runs words input before after result = (IsCommand words × RunsReplay input before after result) ⊎ AnswersWords words before after result
+Runs words input before after result =
+    (IsCommand words × RunsReplay input before after result)
+    ⊎ AnswersWords words before after result
 
 -- a replay, unless there was no memory to read the words
-abbrev pub RunsReplayOrLacksMemory : Option (List ℕ) → Option (List ℕ) → Option (List ℕ) → ℕ → Type 0
-RunsReplayOrLacksMemory input before after result = RunsReplay input before after result ⊎ LacksMemory before after result
+abbrev pub RunsReplayOrLacksMemory : Option (List ℕ) → Option (List ℕ) → Option (List ℕ) → ℕ
+    → Type 0
+RunsReplayOrLacksMemory input before after result =
+    RunsReplay input before after result ⊎ LacksMemory before after result
 
 -- what the program does on some words
 abbrev pub RunsSome : Option (List ℕ) → Option (List ℕ) → Option (List ℕ) → ℕ → Type 0
