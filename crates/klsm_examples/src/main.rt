@@ -1,5 +1,5 @@
-//! Runs each script of the folder that it is started in, `data`, through the program, and compares its answer with the
-//! text beside it.
+//! Runs each script of the folder that it is started in, `data`, through the program, and compares
+//! its answer with the text beside it.
 #![tactic(auto)]
 
 use klsm_tool::run_words;
@@ -25,18 +25,16 @@ fn main(rt: HostRuntime) -> io::Result<ExitCode> {
     Ok(ExitCode::SUCCESS)
 }
 
-/// Whether the program answers the script of this name as the text beside it says, and with its status.
+/// Whether the program answers the script of this name as the text beside it says, and with its
+/// status.
 fn agrees<R: Files + AllocGlobal>(rt: &R, stem: &str) -> io::Result<bool> {
     let script = read(rt, format!(in rt.alloc(); "{stem}.csv")?)?;
     let wanted = read(rt, format!(in rt.alloc(); "{stem}.txt")?)?;
-    let words = ["klsm", "replay"];
-    let mut all = Vec::new(rt.alloc());
-    for word in words {
-        all.push(String::from_str(rt.alloc(), word)?)?;
-    }
+    let mut words = Vec::new(rt.alloc());
+    words.push(String::from_str(rt.alloc(), "replay")?.into_bytes())?;
     let mut answer = Vec::new(rt.alloc());
-    let status = run_words(rt, all.as_slice(), script.as_slice(), &mut answer);
-    Ok(status == status_of(stem) && answer.as_slice() == wanted.as_slice())
+    let status = run_words(rt, words.as_slice(), script.as_slice(), &mut answer);
+    Ok(status.code() == status_of(stem) && answer.as_slice() == wanted.as_slice())
 }
 
 /// An example's name says how its run ends.

@@ -26,13 +26,13 @@ use Rattle.klsm_tool.specs.Progress.{HasRead, ReadStops, Stands}
 use Rattle.klsm_tool.proofs.RowLemmas.{first_rows}
 
 -- where no row could be read, no further row is answered
-pub read_stops : (threads : ℕ) (input : Option (List ℕ)) (rows : List Row) (lines : List Line) (why : Stop) → ReadStops input rows why → Stopped threads input rows lines why × (why ≢ stop.WriteFault)
-read_stops threads input rows lines stop.AtEnd h = (h, λ e. cc)
-read_stops threads input rows lines (stop.Refused why) h = absurd h
-read_stops threads input rows lines stop.Full h = absurd h
-read_stops threads input rows lines stop.NoMemory h = (h, λ e. cc)
-read_stops threads input rows lines stop.ReadFault h = (h, λ e. cc)
-read_stops threads input rows lines stop.WriteFault h = absurd h
+pub read_stops : (failed : Bool) (threads : ℕ) (input : Option (List ℕ)) (rows : List Row) (lines : List Line) (why : Stop) → ReadStops failed input rows why → Stopped threads input rows lines why × (why ≢ stop.WriteFault)
+read_stops failed threads input rows lines stop.AtEnd h = (h, λ e. cc)
+read_stops failed threads input rows lines (stop.Refused why) h = absurd h
+read_stops failed threads input rows lines stop.Full h = absurd h
+read_stops failed threads input rows lines stop.NoMemory h = (h.0, λ e. cc)
+read_stops failed threads input rows lines stop.ReadFault h = (h.0, λ e. cc)
+read_stops failed threads input rows lines stop.WriteFault h = absurd h
 
 -- below the limit a row is judged by its fields
 pub judged : (threads : ℕ) (rows : List Row) (row : Row) → length rows < row_limit → request_after threads rows row ≡ request_of threads row

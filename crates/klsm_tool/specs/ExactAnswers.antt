@@ -1,5 +1,7 @@
--- The answers of a queue of at most 64 items that always gives its least one. Lines are listed the latest first.
-use Rattle.std.specs.Prelude.{ℕ, ◌+◌, List, [], ◌∷◌, length, Option, Some, None, if◌then◌else◌, ◌==◌}
+-- The answers of a queue of at most 64 items that always gives its least one. Lines are listed the
+-- latest first.
+use Rattle.std.specs.Prelude.{ℕ, ◌+◌, List, [], ◌∷◌, length, Option, Some, None, if◌then◌else◌}
+use Rattle.std.specs.Prelude.{◌==◌}
 use Rattle.klsm_run.specs.declared.item.Item.{Item}
 use Rattle.klsm_run.specs.Content.{sorted}
 use Rattle.klsm_tool.specs.declared.answer.Line.{Line}
@@ -25,13 +27,19 @@ abbrev pub least_of : List Item → Answer
 least_of [] = Nothing
 least_of (x ∷ rest) = Deleted x
 
--- what is answered where these items live, ascending, and so many were inserted: nothing where there is no room
+-- what is answered where these items live, ascending, and so many were inserted: nothing where
+-- there is no room
 abbrev pub answer_to : List Item → ℕ → ℕ → Operation → Option Answer
 answer_to live count thread (Insert key load) =
     if length live == 64 then None
-    else Some (Inserted (record { key = key; stamp = record { owner = thread; number = count }; load = load }))
+    else Some (Inserted (record {
+      key = key;
+      stamp = record { owner = thread; number = count };
+      load = load;
+    }))
 answer_to live count thread Delete = Some (least_of live)
 
 -- the answer after some lines
 abbrev pub exact_answer : List Line → Request → Option Answer
-exact_answer earlier request = answer_to (sorted (live earlier)) (inserted earlier) request.thread request.operation
+exact_answer earlier request =
+    answer_to (sorted (live earlier)) (inserted earlier) request.thread request.operation

@@ -1,4 +1,5 @@
--- The numbers of an item and of an answer are numbers of 64 bits, so that a line has a bounded length.
+-- The numbers of an item and of an answer are numbers of 64 bits, so that a line has a bounded
+-- length.
 use Rattle.std.specs.Prelude.{◌^◌, ◌<◌}
 use Rattle.klsm_run.specs.declared.item.Item.{Item}
 use Rattle.klsm_tool.specs.declared.answer.Answer.{Answer}

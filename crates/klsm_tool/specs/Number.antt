@@ -1,5 +1,6 @@
 -- The numbers of a script.
-use Rattle.std.specs.Prelude.{ℕ, ◌^◌, Bool, false, ◌&&◌, List, [], ◌∷◌, Option, Some, None, if◌then◌else◌, nat_lt}
+use Rattle.std.specs.Prelude.{ℕ, ◌^◌, Bool, false, ◌&&◌, List, [], ◌∷◌, Option, Some, None}
+use Rattle.std.specs.Prelude.{if◌then◌else◌, nat_lt}
 use Rattle.std.specs.Str.{all_ascii_digits}
 use Rattle.std.specs.Str.Parse.{digits_value}
 
@@ -10,4 +11,6 @@ is_numeral (c ∷ cs) = all_ascii_digits (c ∷ cs)
 
 -- the number that a field spells: a numeral with a value below 2^64
 abbrev pub number_of : List ℕ → Option ℕ
-number_of field = if is_numeral field && nat_lt (digits_value 10 field) (2 ^ 64) then Some (digits_value 10 field) else None
+number_of field =
+    if is_numeral field && nat_lt (digits_value 10 field) (2 ^ 64) then Some (digits_value 10 field)
+    else None

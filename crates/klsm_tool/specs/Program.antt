@@ -1,11 +1,14 @@
 -- What the program does on its words.
-use Rattle.std.specs.Prelude.{ℕ, ◌≡◌, ◌<◌, ◌⊎◌, List, length, take, Option, codes}
+use Rattle.std.specs.Prelude.{ℕ, ⊤, ◌≡◌, ◌<◌, ◌⊎◌, List, length, take, Option, codes, IsUtf8}
+use Rattle.std.specs.List.{All}
 use Rattle.std.specs.Io.KnownBytes.{Appends}
+use Rattle.clap.specs.declared.error.kind.ErrorKind.{ErrorKind}
 use Rattle.klsm_tool.specs.declared.command_line.Fault.{Fault}
-use Rattle.klsm_tool.specs.declared.command_line.Fault.TheVariants.{Said, NoMemory}
+use Rattle.klsm_tool.specs.declared.command_line.Fault.TheVariants.{Said, NotText, NoMemory}
 use Rattle.klsm_tool.specs.declared.settings.End.{End}
 use Rattle.klsm_tool.specs.declared.settings.End.TheVariants as end
 use Rattle.klsm_tool.specs.declared.settings.Report.{Report}
+use Rattle.klsm_tool.specs.CommandLine.{HasStatus, IsCommand, status_of_text}
 use Rattle.klsm_tool.specs.Replay.{Replays}
 
 -- the status of a run
@@ -17,29 +20,60 @@ status_of end.NoMemory = 3
 status_of end.ReadFault = 4
 status_of end.WriteFault = 4
 
--- a text that answers the words is of help or of a fault in them
-abbrev pub IsFault : Fault → Type 0
-IsFault (Said text status) = (status ≡ 0) ⊎ (status ≡ 2)
-IsFault NoMemory = Unit {0}
+-- why words ask for no run: the parser has a text on them, one of them is not UTF-8, or memory is
+-- wanted
+abbrev pub IsFaultIn : List (List ℕ) → Fault → Type 0
+IsFaultIn words (Said text status) = HasStatus words status
+IsFaultIn words NotText = ¬ (All IsUtf8 words)
+IsFaultIn words NoMemory = ⊤
+
+-- what an error of the parser leads to
+abbrev pub Explains : ErrorKind → Fault → Type 0
+Explains what (Said text status) = status ≡ status_of_text what
+Explains what NotText = ⊥
+Explains what NoMemory = ⊤
 
 -- a text goes out and the program ends with its status, or the writer fails before the text's end
 abbrev pub Says : Option (List ℕ) → Option (List ℕ) → List ℕ → ℕ → ℕ → Type 0
 Says before after text status result =
-    (Appends before after text × (result ≡ status)) ⊎ ((n : ℕ) × (n < length text) × Appends before after (take n text) × (result ≡ 4))
+    (Appends before after text × (result ≡ status))
+    ⊎ ((n : ℕ) × (n < length text) × Appends before after (take n text) × (result ≡ 4))
 
--- the words are answered: with a text of help, status 0, or of a fault in them, status 2, or for want of memory
-abbrev pub AnswersWords : Option (List ℕ) → Option (List ℕ) → ℕ → Type 0
-AnswersWords before after result =
-    ((text : List ℕ) × (Says before after text 0 result ⊎ Says before after text 2 result)) ⊎ Says before after (codes "no memory\n") 3 result
+-- memory is wanted
+abbrev pub LacksMemory : Option (List ℕ) → Option (List ℕ) → ℕ → Type 0
+LacksMemory before after result = Says before after (codes "no memory\n") 3 result
+
+-- a word is not UTF-8
+abbrev pub RefusesBytes : Option (List ℕ) → Option (List ℕ) → ℕ → Type 0
+RefusesBytes before after result =
+    let text = codes "error: a word is not UTF-8\n\nFor more information, try '--help'.\n" in
+    Says before after text 2 result
+
+-- the words are answered, and no input is read: with a text of the parser and the status of what it
+-- found
+abbrev pub AnswersWords : List (List ℕ) → Option (List ℕ) → Option (List ℕ) → ℕ → Type 0
+AnswersWords words before after result =
+    ((text : List ℕ) × (status : ℕ) × HasStatus words status × Says before after text status result)
+    ⊎ ((¬ (All IsUtf8 words) × RefusesBytes before after result)
+    ⊎ LacksMemory before after result)
 
 -- the input is replayed, and the status is that of the replay's end
 abbrev pub RunsReplay : Option (List ℕ) → Option (List ℕ) → Option (List ℕ) → ℕ → Type 0
-RunsReplay input before after result = (report : Report) × Replays 1 64 input before after report × (result ≡ status_of report.end)
+RunsReplay input before after result =
+    (report : Report) × Replays 1 64 input before after report × (result ≡ status_of report.end)
 
--- a replay, or an answer to the words before which nothing is read
-abbrev pub Runs : Option (List ℕ) → Option (List ℕ) → Option (List ℕ) → ℕ → Type 0
-Runs input before after result = RunsReplay input before after result ⊎ AnswersWords before after result
+-- words that are a command are a replay of the input; others are answered
+abbrev pub Runs : List (List ℕ) → Option (List ℕ) → Option (List ℕ) → Option (List ℕ) → ℕ → Type 0
+Runs words input before after result =
+    (IsCommand words × RunsReplay input before after result)
+    ⊎ AnswersWords words before after result
 
 -- a replay, unless there was no memory to read the words
-abbrev pub RunsReplayOrLacksMemory : Option (List ℕ) → Option (List ℕ) → Option (List ℕ) → ℕ → Type 0
-RunsReplayOrLacksMemory input before after result = RunsReplay input before after result ⊎ Says before after (codes "no memory\n") 3 result
+abbrev pub RunsReplayOrLacksMemory : Option (List ℕ) → Option (List ℕ) → Option (List ℕ) → ℕ
+    → Type 0
+RunsReplayOrLacksMemory input before after result =
+    RunsReplay input before after result ⊎ LacksMemory before after result
+
+-- what the program does on some words
+abbrev pub RunsSome : Option (List ℕ) → Option (List ℕ) → Option (List ℕ) → ℕ → Type 0
+RunsSome input before after result = (words : List (List ℕ)) × Runs words input before after result

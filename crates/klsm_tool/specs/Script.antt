@@ -1,5 +1,6 @@
 -- What a row of a script asks for, and the first thing that is wrong with it.
-use Rattle.std.specs.Prelude.{ℕ, List, [], ◌∷◌, length, Option, Some, None, Result, Ok, Err, codes, if◌then◌else◌, nat_lt, ◌==◌}
+use Rattle.std.specs.Prelude.{ℕ, List, [], ◌∷◌, length, Option, Some, None, Result, Ok, Err, codes}
+use Rattle.std.specs.Prelude.{if◌then◌else◌, nat_lt, ◌==◌}
 use Rattle.std.specs.Str.{bytes_eq}
 use Rattle.klsm_tool.specs.declared.request.Request.{Request}
 use Rattle.klsm_tool.specs.declared.request.Operation.{Operation}
@@ -37,11 +38,13 @@ asked thread (Err why) = Err why
 -- of the threads below a number
 abbrev pub asked_below : ℕ → Option ℕ → Result Operation Refusal → Result Request Refusal
 asked_below threads None operation = Err refusal.Thread
-asked_below threads (Some thread) operation = if nat_lt thread threads then asked thread operation else Err refusal.Thread
+asked_below threads (Some thread) operation =
+    if nat_lt thread threads then asked thread operation else Err refusal.Thread
 
 -- what a row asks for
 abbrev pub request_of : ℕ → Row → Result Request Refusal
-request_of threads (thread ∷ operation ∷ key ∷ load ∷ []) = asked_below threads (number_of thread) (operation_of operation key load)
+request_of threads (thread ∷ operation ∷ key ∷ load ∷ []) =
+    asked_below threads (number_of thread) (operation_of operation key load)
 request_of threads row = Err refusal.Fields
 
 -- the most rows of a script
@@ -50,4 +53,5 @@ row_limit = 1000000
 
 -- what a row asks for after these rows, of which there may be too many
 abbrev pub request_after : ℕ → List Row → Row → Result Request Refusal
-request_after threads earlier row = if length earlier == row_limit then Err refusal.Rows else request_of threads row
+request_after threads earlier row =
+    if length earlier == row_limit then Err refusal.Rows else request_of threads row

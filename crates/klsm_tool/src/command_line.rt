@@ -1,39 +1,52 @@
 //! The program on its words.
-ghost use Rattle.std.specs.Prelude.{◌≡◌, ◌≢◌, ℕ, List, [], IfErr, IfOk, OnOk, map, string_bytes};
-ghost use Rattle.clap.specs.Faults.{fault_of as fault_of_words};
+ghost use Rattle.std.specs.Prelude.{◌≡◌, IfErr, IfOk, OnOk, IsUtf8, map};
+ghost use Rattle.std.specs.List.{All};
 ghost use Rattle.clap.specs.Words.{app_of, kind_of};
-ghost use Rattle.klsm_tool.specs.CommandLine.{klsm_command, replay_words};
-ghost use Rattle.klsm_tool.specs.Program.{AnswersWords, IsFault, Runs, RunsReplayOrLacksMemory, Says, status_of as status_of_end};
+ghost use Rattle.klsm_tool.specs.CommandLine.{IsCommand, klsm_command, replay_words};
+ghost use Rattle.klsm_tool.specs.Program.{Explains, IsFaultIn, Runs, RunsReplayOrLacksMemory};
+ghost use Rattle.klsm_tool.specs.Program.{RunsSome, Says, status_of as status_of_end};
 
 use crate::output::{NO_MEMORY, write_text};
+use crate::process_words::process_words;
 use crate::replay::replay_over;
 use crate::settings::{End, Pick, Settings};
+use crate::status::Status;
 use clap::error::ErrorKind;
 use clap::{Command, Error};
 use std::alloc::{AllocError, Global};
 use std::io::{Read, Write};
+use std::rt::Env;
+use std::str;
 
-const REFUSED: u8 = 1;
+/// Runs the program on the words that its process was given.
+pub fn run_program<P: Env + AllocGlobal, R: Read + Drop, W: Write>(
+    rt: &P,
+    reader: R,
+    writer: &mut W,
+) -> Status
+    ensures { RunsSome (R.remaining reader) (W.contents writer.old) (W.contents writer.new)
+        result.code }
+{
+    match process_words(rt) {
+        Ok(words) => run_words(rt, words.as_slice(), reader, writer),
+        Err(_) => say(writer, NO_MEMORY, EXHAUSTED),
+    }
+}
 
-const USAGE: u8 = 2;
-
-const EXHAUSTED: u8 = 3;
-
-const FAULT: u8 = 4;
-
-/// Runs the program on its words, of which the first is its own name, and answers its status:
+/// Runs the program on its words, which are those after its own name, and answers its status:
 /// 0 where all is done, 1 where a row is refused, 2 for a fault of the command line,
 /// 3 where room or memory is wanted, and 4 where reading or writing failed.
 pub fn run_words<R: Read + Drop, W: Write>(
     rt: &impl AllocGlobal,
-    words: &[String],
+    words: &[Vec<u8>],
     reader: R,
     writer: &mut W,
-) -> u8
-    ensures runs { Runs (R.remaining reader) (W.contents writer.old) (W.contents writer.new) result }
-    ensures replays { (name : List ℕ) → map string_bytes words.now ≡ replay_words name
-        → RunsReplayOrLacksMemory (R.remaining reader) (W.contents writer.old) (W.contents writer.new) result }
-    ensures answers { fault_of_words klsm_command (map string_bytes words.now) ≢ [] → AnswersWords (W.contents writer.old) (W.contents writer.new) result }
+) -> Status
+    ensures runs { Runs (map (λ word. word.items) words.now) (R.remaining reader)
+        (W.contents writer.old) (W.contents writer.new) result.code }
+    ensures replays { map (λ word. word.items) words.now ≡ replay_words
+        → RunsReplayOrLacksMemory (R.remaining reader)
+        (W.contents writer.old) (W.contents writer.new) result.code }
 {
     match parse(rt.alloc(), words) {
         Ok(()) => {
@@ -45,37 +58,57 @@ pub fn run_words<R: Read + Drop, W: Write>(
             };
             status_of(replay_over(rt, reader, writer, &settings).end)
         }
-        Err(Fault::Said { text, status }) => put(writer, text.as_bytes(), status),
-        Err(Fault::NoMemory) => put(writer, NO_MEMORY, EXHAUSTED),
+        Err(Fault::Said { text, status }) => say(writer, text.as_bytes(), status),
+        Err(Fault::NotText) => say(writer, NOT_TEXT, USAGE),
+        Err(Fault::NoMemory) => say(writer, NO_MEMORY, EXHAUSTED),
     }
 }
 
 /// Why the words ask for no run.
 #[derive(Drop)]
 enum Fault {
-    /// This text answers them, and the program ends with this status.
+    /// This text of the parser answers them, and the program ends with this status.
     Said { text: String, status: u8 },
+    /// One of them is not UTF-8.
+    NotText,
     /// A growth was refused.
     NoMemory,
 }
 
-fn parse(alloc: Global, words: &[String]) -> Result<(), Fault>
-    ensures fault { IfErr result IsFault }
-    ensures replay { (name : List ℕ) → map string_bytes words.now ≡ replay_words name → IfErr result (λ fault. fault ≡ Fault.NoMemory) }
-    ensures asked { OnOk result (fault_of_words klsm_command (map string_bytes words.now) ≡ []) }
+fn parse(alloc: Global, words: &[Vec<u8>]) -> Result<(), Fault>
+    ensures fault { IfErr result (IsFaultIn (map (λ word. word.items) words.now)) }
+    ensures asked { OnOk result (IsCommand (map (λ word. word.items) words.now)) }
 {
-    let command = match command(alloc) {
-        Ok(command) => command,
-        Err(_) => return Err(Fault::NoMemory),
+    let texts = texts_of(alloc, words)?;
+    let Ok(command) = command(alloc) else {
+        return Err(Fault::NoMemory);
     };
-    match command.try_get_matches_from(words) {
+    match command.try_get_matches_from(texts.as_slice()) {
         Ok(_) => Ok(()),
         Err(error) => Err(fault_of(alloc, &error)),
     }
 }
 
+fn texts_of(alloc: Global, words: &[Vec<u8>]) -> Result<Vec<&str>, Fault>
+    ensures texts { IfOk result (λ texts. map (λ text. text.now) texts.items
+        ≡ map (λ word. word.items) words.now) }
+    ensures readable { OnOk result (All IsUtf8 (map (λ word. word.items) words.now)) }
+    ensures fault { IfErr result (IsFaultIn (map (λ word. word.items) words.now)) }
+{
+    let mut texts = Vec::new(alloc);
+    for word in words {
+        let Ok(text) = str::from_utf8(word.as_slice()) else {
+            return Err(Fault::NotText);
+        };
+        if texts.push(text).is_err() {
+            return Err(Fault::NoMemory);
+        }
+    }
+    Ok(texts)
+}
+
 fn fault_of(alloc: Global, error: &Error) -> Fault
-    ensures fault { IsFault result }
+    ensures fault { Explains (kind_of error.now) result }
     ensures memory { kind_of error.now ≡ ErrorKind.OutOfMemory → result ≡ Fault.NoMemory }
 {
     let status = match error.kind() {
@@ -92,15 +125,55 @@ fn fault_of(alloc: Global, error: &Error) -> Fault
 fn command<'a>(alloc: Global) -> Result<Command<'a>, AllocError>
     ensures { IfOk result (λ command. app_of command ≡ klsm_command) }
 {
+    let command = unnamed_command(alloc)?;
+    command.bin_name("klsm")
+}
+
+// Without its own name for the texts, which `clap` takes from the first word where it is told none.
+fn unnamed_command<'a>(alloc: Global) -> Result<Command<'a>, AllocError>
+    ensures { IfOk result (λ command. app_of command ≡ klsm_command) }
+{
     let replay = Command::new(alloc, "replay")
         .about("Answers a script of insertions and deletions, row by row")
         .after_help(REPLAY_HELP);
     Command::new(alloc, "klsm")
-        .about("The k-LSM relaxed priority queue, proved")
+        .about("A priority queue that answers scripts, with a proof of its answers")
+        .no_binary_name(true)
         .subcommand_required(true)
         .arg_required_else_help(true)
         .subcommand(replay)
 }
+
+fn say<W: Write>(writer: &mut W, text: &[u8], status: u8) -> Status
+    ensures { Says (W.contents writer.old) (W.contents writer.new) text.now status result.code }
+{
+    if write_text(writer, text) < text.len() {
+        Status::new(FAULT)
+    } else {
+        Status::new(status)
+    }
+}
+
+fn status_of(end: End) -> Status
+    ensures { result.code ≡ status_of_end end }
+{
+    Status::new(match end {
+        End::Done => 0,
+        End::Refused => REFUSED,
+        End::Full | End::NoMemory => EXHAUSTED,
+        End::ReadFault | End::WriteFault => FAULT,
+    })
+}
+
+const REFUSED: u8 = 1;
+
+const USAGE: u8 = 2;
+
+const EXHAUSTED: u8 = 3;
+
+const FAULT: u8 = 4;
+
+const NOT_TEXT: &[u8] = b"error: a word is not UTF-8\n\nFor more information, try '--help'.\n";
 
 const REPLAY_HELP: &str = "\
 The script comes on standard input, one row a line. Each row is answered on standard output
@@ -117,33 +190,20 @@ Answers:
   THREAD i KEY STAMP                      The item was inserted
   THREAD d KEY STAMP load LOAD skip SKIP  This item was deleted; SKIP smaller ones live
   THREAD d none                           There was no item to delete
-  max skip SKIP bound BOUND               The end: the greatest SKIP, and its bound
 
 A STAMP is the inserting thread, a dot, and how many items that thread had inserted before.
+SKIP is always 0 today.
 
-Status: 0 all answered, 1 a row was refused, 2 wrong words, 3 no room or no memory, 4 a fault of
-reading or writing.
+The last line, and the status of the program:
+  max skip SKIP bound BOUND  0  All rows are answered; the greatest SKIP, and what it may be
+  refused row ROW: WHAT      1  The row is refused; WHAT is rows, fields, thread, operation,
+                                key or load
+  full row ROW               3  The row's insertion finds no room
+  no memory                  3  A growth of memory was refused
+  read fault                 4  Reading failed
+  (nothing more)             4  Writing failed
+
+Words that are no command are answered with a text on them, status 2.
 
 Example:
   printf '0,i,5,50\\n0,i,3,30\\n0,d,,\\n' | klsm replay";
-
-fn put<W: Write>(writer: &mut W, text: &[u8], status: u8) -> u8
-    ensures { Says (W.contents writer.old) (W.contents writer.new) text.now status result }
-{
-    if write_text(writer, text) < text.len() {
-        FAULT
-    } else {
-        status
-    }
-}
-
-fn status_of(end: End) -> u8
-    ensures { result ≡ status_of_end end }
-{
-    match end {
-        End::Done => 0,
-        End::Refused => REFUSED,
-        End::Full | End::NoMemory => EXHAUSTED,
-        End::ReadFault | End::WriteFault => FAULT,
-    }
-}

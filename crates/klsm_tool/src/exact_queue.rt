@@ -1,5 +1,7 @@
 //! The queue of one thread over one LSM, which never skips an item.
-ghost use Rattle.std.specs.Prelude.{◌≡◌, ◌+◌, ◌<◌, ◌^◌, ◌==◌, ◌∷◌, [], length, slice_get, slice_index_or, Some, None, IfSome, IfNone, option_map, if◌then◌else◌};
+ghost use Rattle.std.specs.Prelude.{◌≡◌, ◌+◌, ◌<◌, ◌^◌, ◌==◌, ◌∷◌, [], length, slice_get};
+ghost use Rattle.std.specs.Prelude.{slice_index_or, Some, None, IfSome, IfNone, option_map};
+ghost use Rattle.std.specs.Prelude.{if◌then◌else◌};
 ghost use Rattle.std.specs.List.{All};
 ghost use Rattle.klsm_run.specs.Content.{sorted, IsAscending};
 ghost use Rattle.klsm_lsm.specs.Lsm.{content, IsLsm};
@@ -12,7 +14,8 @@ use crate::request::{Operation, Request};
 use klsm_lsm::Lsm;
 use klsm_run::{FixedRun, Item, Run, Stamp};
 
-/// The live items, and how many were inserted so far. Their stamps' numbers are below that, so the next stamp is new.
+/// The live items, and how many were inserted so far. Their stamps' numbers are below that, so the
+/// next stamp is new.
 #[derive(Drop)]
 pub(crate) struct ExactQueue {
     live: Lsm<FixedRun<64>, 8>,
@@ -35,10 +38,14 @@ impl ExactQueue {
     /// Does what a row asks, and answers `None` where an insertion finds no room.
     pub(crate) fn answer(&mut self, request: Request) -> Option<Line>
         requires { self.old.inserted < 2 ^ 63 }
-        ensures answer { option_map (λ line. line.answer) result ≡ answer_to (sorted (content self.old.live)) self.old.inserted request.thread request.operation }
+        ensures answer { option_map (λ line. line.answer) result
+            ≡ answer_to (sorted (content self.old.live)) self.old.inserted
+            request.thread request.operation }
         ensures thread { IfSome result (λ line. line.thread ≡ request.thread) }
-        ensures live { IfSome result (λ line. sorted (content self.new.live) ≡ sorted (live_after (sorted (content self.old.live)) line.answer)) }
-        ensures inserted { IfSome result (λ line. self.new.inserted ≡ inserted_after self.old.inserted line.answer) }
+        ensures live { IfSome result (λ line. sorted (content self.new.live)
+            ≡ sorted (live_after (sorted (content self.old.live)) line.answer)) }
+        ensures inserted { IfSome result (λ line.
+            self.new.inserted ≡ inserted_after self.old.inserted line.answer) }
         ensures full { IfNone result (self.new ≡ self.old) }
         ensures ascending { IsAscending (sorted (content self.old.live)) }
         ensures fits { IfSome result (λ line. (line.thread < 2 ^ 64) × FitsAnswer line.answer) }
@@ -54,8 +61,13 @@ impl ExactQueue {
     fn insert(&mut self, owner: u32, key: u64, load: u64) -> Option<Item>
         requires { self.old.inserted < 2 ^ 63 }
         ensures item { result ≡ (if length (sorted (content self.old.live)) == 64 then None
-            else Some (record { key = key; stamp = record { owner = owner; number = self.old.inserted }; load = load })) }
-        ensures live { IfSome result (λ x. sorted (content self.new.live) ≡ sorted (x ∷ sorted (content self.old.live))) }
+            else Some (record {
+              key = key;
+              load = load;
+              stamp = record { owner = owner; number = self.old.inserted };
+            })) }
+        ensures live { IfSome result (λ x.
+            sorted (content self.new.live) ≡ sorted (x ∷ sorted (content self.old.live))) }
         ensures inserted { IfSome result (λ x. self.new.inserted ≡ self.old.inserted + 1) }
         ensures full { IfNone result (self.new ≡ self.old) }
         ensures ascending { IsAscending (sorted (content self.old.live)) }
@@ -78,7 +90,8 @@ impl ExactQueue {
 
     fn delete(&mut self) -> Answer
         ensures answer { result ≡ least_of (sorted (content self.old.live)) }
-        ensures live { sorted (content self.new.live) ≡ sorted (live_after (sorted (content self.old.live)) result) }
+        ensures live { sorted (content self.new.live)
+            ≡ sorted (live_after (sorted (content self.old.live)) result) }
         ensures inserted { self.new.inserted ≡ self.old.inserted }
         ensures ascending { IsAscending (sorted (content self.old.live)) }
         ensures fits { FitsAnswer result }
@@ -98,7 +111,8 @@ impl ExactQueue {
         requires lawful { IsLsm self.now.live }
         requires some { 0 < length (content self.now.live) }
         ensures within { result < length self.now.live }
-        ensures least { slice_get (slice_index_or self.now.live result []) 0 ≡ slice_get (sorted (content self.now.live)) 0 }
+        ensures least { slice_get (slice_index_or self.now.live result []) 0
+            ≡ slice_get (sorted (content self.now.live)) 0 }
     {
         let Some(least) = self.live.least() else {
             unreachable!();

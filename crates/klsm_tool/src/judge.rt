@@ -2,7 +2,8 @@
 ghost use Rattle.std.specs.Prelude.{◌≡◌, ◌≤◌, ◌^◌};
 ghost use Rattle.csv.specs.Records.{fields_of};
 ghost use Rattle.klsm_tool.specs.Number.{number_of};
-ghost use Rattle.klsm_tool.specs.Script.{insertion_of, deletion_of, operation_of, asked_below, request_of as request_of_row};
+ghost use Rattle.klsm_tool.specs.Script.{insertion_of, deletion_of, operation_of, asked_below};
+ghost use Rattle.klsm_tool.specs.Script.{request_of as request_of_row};
 
 use crate::number::number;
 use crate::request::{Operation, Refusal, Request};
@@ -15,7 +16,8 @@ const INSERT: &[u8] = b"i";
 
 const DELETE: &[u8] = b"d";
 
-/// What `row` asks for, where the threads are numbered below `threads`, or the first thing that is wrong with it.
+/// What `row` asks for, where the threads are numbered below `threads`, or the first thing that is
+/// wrong with it.
 pub(crate) fn request_of(row: &ByteRecord, threads: usize) -> Result<Request, Refusal>
     requires { threads ≤ 2 ^ 32 }
     ensures { result ≡ request_of_row threads (fields_of row.now) }
@@ -42,7 +44,8 @@ fn request(
     load: &[u8],
 ) -> Result<Request, Refusal>
     requires { threads ≤ 2 ^ 32 }
-    ensures { result ≡ asked_below threads (number_of thread.now) (operation_of operation.now key.now load.now) }
+    ensures { result ≡ asked_below threads (number_of thread.now)
+        (operation_of operation.now key.now load.now) }
 {
     let thread = match number(thread) {
         Some(thread) if thread < threads as u64 => thread as u32,

@@ -4,7 +4,8 @@ ghost use Rattle.klsm_tool.specs.Number.{number_of};
 
 use std::str;
 
-/// The number that `field` spells, with one or more of the digits 0 to 9 and nothing else, where it fits.
+/// The number that `field` spells, with one or more of the digits 0 to 9 and nothing else, where it
+/// fits.
 pub(crate) fn number(field: &[u8]) -> Option<u64>
     ensures { result ≡ number_of field.now }
 {

@@ -1,5 +1,6 @@
 //! The text that goes out, line by line.
-ghost use Rattle.std.specs.Prelude.{◌≡◌, ◌+◌, ◌<◌, ◌≤◌, ◌^◌, length, take, IfSome, IsSomeAnd, IfOk, codes};
+ghost use Rattle.std.specs.Prelude.{◌≡◌, ◌+◌, ◌<◌, ◌≤◌, ◌^◌, length, take};
+ghost use Rattle.std.specs.Prelude.{IfSome, IsSomeAnd, IfOk, codes};
 ghost use Rattle.std.specs.Io.KnownBytes.{Appends};
 ghost use Rattle.klsm_tool.specs.AnswerText.{closing_text};
 ghost use Rattle.klsm_tool.specs.Output.{Puts, Closes, GoesOrFails};
@@ -39,7 +40,8 @@ impl Output {
         line: D,
     ) -> Result<(), Stop>
         requires { IsSomeAnd (D.output line) (λ text. self.old.written + length text < 2 ^ 64) }
-        ensures { IfSome (D.output line) (λ text. Puts (W.contents writer.old) (W.contents writer.new) text self.old.written self.new.written result) }
+        ensures { IfSome (D.output line) (λ text. Puts (W.contents writer.old)
+            (W.contents writer.new) text self.old.written self.new.written result) }
     {
         self.line.clear();
         if write!(self.line, "{line}").is_err() {
@@ -53,11 +55,14 @@ impl Output {
         Ok(())
     }
 
-    /// Writes the last line, and answers how the run ended. After a write fault nothing more is written.
+    /// Writes the last line, and answers how the run ended. After a write fault nothing more is
+    /// written.
     pub(crate) fn close<W: Write>(&mut self, writer: &mut W, closing: Closing) -> End
         requires room { self.old.written < 2 ^ 63 }
-        requires short { length (closing_text closing.row closing.most closing.bound closing.stop) ≤ 160 }
-        ensures { Closes (W.contents writer.old) (W.contents writer.new) closing self.old.written self.new.written result }
+        requires short { length (closing_text closing.row closing.most closing.bound
+            closing.stop) ≤ 160 }
+        ensures { Closes (W.contents writer.old) (W.contents writer.new) closing
+            self.old.written self.new.written result }
     {
         if closing.stop == Stop::WriteFault {
             return End::WriteFault;
@@ -71,7 +76,8 @@ impl Output {
 
     fn close_without_memory<W: Write>(&mut self, writer: &mut W) -> End
         requires { self.old.written < 2 ^ 63 }
-        ensures { GoesOrFails (W.contents writer.old) (W.contents writer.new) (codes "no memory\n") self.old.written self.new.written end.NoMemory result }
+        ensures { GoesOrFails (W.contents writer.old) (W.contents writer.new)
+            (codes "no memory\n") self.old.written self.new.written end.NoMemory result }
     {
         let out = write_text(writer, NO_MEMORY);
         self.written += out as u64;
@@ -86,7 +92,8 @@ impl Output {
 /// The line that says that memory is wanted.
 pub(crate) const NO_MEMORY: &[u8] = b"no memory\n";
 
-/// Writes all of `text`, or stops at the first write that fails or takes nothing. Answers how many bytes went out.
+/// Writes all of `text`, or stops at the first write that fails or takes nothing. Answers how many
+/// bytes went out.
 pub(crate) fn write_text<W: Write>(writer: &mut W, text: &[u8]) -> usize
     ensures within { result ≤ length text.now }
     ensures bytes { Appends (W.contents writer.old) (W.contents writer.new) (take result text.now) }

@@ -1,5 +1,6 @@
 //! `klsm replay`: a script, answered row by row.
-ghost use Rattle.std.specs.Prelude.{◌≡◌, ◌≢◌, ℕ, ◌+◌, ◌*◌, ◌<◌, ◌≤◌, ◌^◌, List, [], ◌∷◌, length, Option, IfOk, MatchResult, codes};
+ghost use Rattle.std.specs.Prelude.{◌≡◌, ◌≢◌, ℕ, ◌+◌, ◌*◌, ◌<◌, ◌≤◌, ◌^◌, List, [], ◌∷◌};
+ghost use Rattle.std.specs.Prelude.{length, Option, IfOk, MatchResult, codes};
 ghost use Rattle.klsm_run.specs.Content.{sorted};
 ghost use Rattle.klsm_lsm.specs.Lsm.{content};
 ghost use Rattle.klsm_tool.specs.declared.settings.End.TheVariants as end;
@@ -33,7 +34,8 @@ pub fn replay_over<R: Read + Drop, W: Write>(
 ) -> Report
     requires threads { settings.now.threads ≡ 1 }
     requires k { settings.now.k ≡ 64 }
-    ensures { Replays settings.now.threads (settings.now.threads * settings.now.k) (R.remaining reader) (W.contents writer.old) (W.contents writer.new) result }
+    ensures { Replays settings.now.threads (settings.now.threads * settings.now.k)
+        (R.remaining reader) (W.contents writer.old) (W.contents writer.new) result }
 {
     let Ok(mut output) = Output::new(rt.alloc()) else {
         return report_no_memory(writer);
@@ -50,7 +52,8 @@ pub fn replay_over<R: Read + Drop, W: Write>(
 
 // Where there is not even memory for a line.
 fn report_no_memory<W: Write>(writer: &mut W) -> Report
-    ensures { GoesOrFails (W.contents writer.old) (W.contents writer.new) (codes "no memory\n") 0 result.written end.NoMemory result.end }
+    ensures { GoesOrFails (W.contents writer.old) (W.contents writer.new)
+        (codes "no memory\n") 0 result.written end.NoMemory result.end }
 {
     let written = write_text(writer, NO_MEMORY);
     let end = if written < NO_MEMORY.len() {
@@ -81,9 +84,11 @@ fn answer_rows<R: Read + Drop, W: Write>(
     ensures most { result.most ≡ 0 }
     ensures bound { result.bound ≡ settings.now.threads * settings.now.k }
     ensures stops { (input before : Option (List ℕ)) →
-        Stands R.remaining settings.now.threads input [] [] script.old.rows (sorted (content queue.old.live)) queue.old.inserted
+        Stands R.remaining settings.now.threads input [] [] script.old.rows
+        (sorted (content queue.old.live)) queue.old.inserted
         → IsTold before (W.contents writer.old) [] output.old.written
-        → HasStopped settings.now.threads input before (W.contents writer.new) result.row output.new.written result.stop }
+        → HasStopped settings.now.threads input before (W.contents writer.new) result.row
+        output.new.written result.stop }
 {
     let bound = settings.threads * settings.k;
     for answered in 0..ROW_LIMIT {
@@ -122,12 +127,16 @@ fn answer_row<R: Read + Drop, W: Write>(
     ensures inserted { queue.new.inserted ≤ queue.old.inserted + 1 }
     ensures written { output.new.written ≤ output.old.written + 160 }
     ensures step { (input before : Option (List ℕ)) (rows : List Row) (lines : List Line) →
-        Stands R.remaining threads input rows lines script.old.rows (sorted (content queue.old.live)) queue.old.inserted
+        Stands R.remaining threads input rows lines script.old.rows
+        (sorted (content queue.old.live)) queue.old.inserted
         → length rows < row_limit → IsTold before (W.contents writer.old) lines output.old.written
         → MatchResult result
-        (λ _. (row : Row) × (line : Line) × Stands R.remaining threads input (row ∷ rows) (line ∷ lines) script.new.rows (sorted (content queue.new.live)) queue.new.inserted
+        (λ _. (row : Row) × (line : Line)
+        × Stands R.remaining threads input (row ∷ rows) (line ∷ lines) script.new.rows
+        (sorted (content queue.new.live)) queue.new.inserted
         × IsTold before (W.contents writer.new) (line ∷ lines) output.new.written)
-        (λ why. HasStopped threads input before (W.contents writer.new) (length rows + 1) output.new.written why) }
+        (λ why. HasStopped threads input before (W.contents writer.new) (length rows + 1)
+        output.new.written why) }
 {
     let line = next_line(script, queue, threads)?;
     output.put(writer, Printed { line, skip: 0 })
@@ -143,10 +152,13 @@ fn next_line<R: Read + Drop>(
     requires inserted { queue.old.inserted < 2 ^ 63 }
     ensures inserted { queue.new.inserted ≤ queue.old.inserted + 1 }
     ensures step { (input : Option (List ℕ)) (rows : List Row) (lines : List Line) →
-        Stands R.remaining threads input rows lines script.old.rows (sorted (content queue.old.live)) queue.old.inserted
+        Stands R.remaining threads input rows lines script.old.rows
+        (sorted (content queue.old.live)) queue.old.inserted
         → length rows < row_limit
         → MatchResult result
-        (λ line. (row : Row) × Stands R.remaining threads input (row ∷ rows) (line ∷ lines) script.new.rows (sorted (content queue.new.live)) queue.new.inserted)
+        (λ line. (row : Row)
+        × Stands R.remaining threads input (row ∷ rows) (line ∷ lines) script.new.rows
+        (sorted (content queue.new.live)) queue.new.inserted)
         (λ why. Stopped threads input rows lines why × (why ≢ stop.WriteFault)) }
     ensures short { IfOk result (λ line. length (answer_text line.thread line.answer 0) ≤ 160) }
 {

@@ -1,5 +1,6 @@
 //! The rows of a script, read one at a time.
 ghost use Rattle.std.specs.Prelude.{ℕ, List, [], ◌∷◌, Option, MatchResult};
+ghost use Rattle.csv.specs.Reading.{has_failed};
 ghost use Rattle.csv.specs.Records.{fields_of};
 ghost use Rattle.klsm_tool.specs.Script.{Row};
 ghost use Rattle.klsm_tool.specs.Progress.{HasRead, ReadStops};
@@ -31,8 +32,11 @@ impl<R: Read + Drop> Script<R> {
 
     /// Reads the next row into `row`, and answers why not where there is none.
     pub(crate) fn advance(&mut self) -> Result<(), Stop>
-        ensures { (input : Option (List ℕ)) (rows : List Row) → HasRead R.remaining input rows self.old.rows
-            → MatchResult result (λ _. HasRead R.remaining input (fields_of self.new.row ∷ rows) self.new.rows) (ReadStops input rows) }
+        ensures { (input : Option (List ℕ)) (rows : List Row)
+            → HasRead R.remaining input rows self.old.rows
+            → MatchResult result
+            (λ _. HasRead R.remaining input (fields_of self.new.row ∷ rows) self.new.rows)
+            (ReadStops (has_failed self.new.rows) input rows) }
     {
         match self.rows.read_byte_record(&mut self.row) {
             Ok(true) => Ok(()),

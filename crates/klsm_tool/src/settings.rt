@@ -46,6 +46,7 @@ pub enum End {
 pub struct Report {
     /// Why it ended.
     pub end: End,
-    /// How many bytes of the text went out, which are its first ones: all of it unless `end` is `WriteFault`.
+    /// How many bytes of the text went out, which are its first ones: all of it unless `end` is
+    /// `WriteFault`.
     pub written: u64,
 }

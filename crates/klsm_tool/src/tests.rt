@@ -1,6 +1,7 @@
 //! What no contract says: texts and statuses of the whole program, and faults in mid-stream.
 
 mod faults;
+mod process;
 mod rows;
 mod streams;
 mod words;
@@ -23,13 +24,33 @@ const FIRST_ANSWERS: &str = "\
 max skip 0 bound 64
 ";
 
-/// The program's words.
-fn words_of(alloc: Global, words: &[&str]) -> Result<Vec<String>, AllocError> {
-    let mut all = Vec::new(alloc);
-    for word in words {
-        all.push(String::from_str(alloc, word)?)?;
+/// The words of a line, between single spaces; none of an empty line.
+fn words_of(alloc: Global, line: &[u8]) -> Result<Vec<Vec<u8>>, AllocError> {
+    let mut words = Vec::new(alloc);
+    let mut word = Vec::new(alloc);
+    for byte in line {
+        if *byte == b' ' {
+            words.push(word)?;
+            word = Vec::new(alloc);
+        } else {
+            word.push(*byte)?;
+        }
     }
-    Ok(all)
+    if !line.is_empty() {
+        words.push(word)?;
+    }
+    Ok(words)
+}
+
+/// The status of the program on the words of a line.
+fn run<R: Read + Drop, W: Write>(
+    rt: &impl AllocGlobal,
+    line: &[u8],
+    reader: R,
+    writer: &mut W,
+) -> Result<u8, AllocError> {
+    let words = words_of(rt.alloc(), line)?;
+    Ok(run_words(rt, words.as_slice(), reader, writer).code())
 }
 
 /// The status of `klsm replay` over a reader and a writer.
@@ -38,6 +59,5 @@ fn replay<R: Read + Drop, W: Write>(
     reader: R,
     writer: &mut W,
 ) -> Result<u8, AllocError> {
-    let words = words_of(rt.alloc(), &["klsm", "replay"])?;
-    Ok(run_words(rt, words.as_slice(), reader, writer))
+    run(rt, b"replay", reader, writer)
 }

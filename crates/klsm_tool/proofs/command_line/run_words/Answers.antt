@@ -1,17 +1,30 @@
-use Rattle.std.proofs.Common.{◌≡◌, ℕ, ◌⊎◌, inl, inr, List, Option, subst}
-use Rattle.klsm_tool.specs.Program.{AnswersWords, Says}
+use Rattle.std.proofs.Common.{◌≡◌, ℕ, zero, suc, List, [], codes, arith, refl, sym, subst}
+use Rattle.std.specs.Prelude.{IsUtf8}
+use Rattle.std.specs.List.{All}
+use Rattle.clap.specs.Words.{IsAmong, Kinds}
+use Rattle.clap.specs.declared.error.kind.ErrorKind.{ErrorKind}
+use Rattle.clap.proofs.OnLiterals.{clap_on_literals}
+use Rattle.klsm_tool.specs.CommandLine.{HasStatus, found_in, replay_words}
 use Rattle.klsm_tool.proofs.command_line.run_words.Goals as goal
 
--- a text with the status 0 or 2 answers the words
-answered : (before after : Option (List ℕ)) (text : List ℕ) (status result : ℕ) → (status ≡ 0) ⊎ (status ≡ 2) → Says before after text status result → AnswersWords before after result
-answered before after text status result (inl help) said = inl (text, inl (subst (λ (s : ℕ). Says before after text s result) help said))
-answered before after text status result (inr fault) said = inl (text, inr (subst (λ (s : ℕ). Says before after text s result) fault said))
+-- the words that ask for a replay are text, and the parser finds nothing in them
+replay_is_found : found_in replay_words ≡ []
+unfolding clap_on_literals found_in
+replay_is_found = refl
 
-pub returns-in-Err-Said-clause-runs : goal.returns-in-Err-Said-clause-runs
-returns-in-Err-Said-clause-runs g c = inr (answered _ _ c.as_bytes.result.now c.in-Err-Said.status c.put.result (rw c.in-Err-Said.field-0-is at c.in-Err-Said.ensures.fault) c.put.ensures)
+replay_is_text : All IsUtf8 replay_words
+unfolding lib.Utf8.encode
+replay_is_text zero d within = (codes "replay", (refl, refl))
+replay_is_text (suc k) d within = absurd (omega (arith, within))
 
-pub returns-in-Err-Said-clause-answers : goal.returns-in-Err-Said-clause-answers
-returns-in-Err-Said-clause-answers g c _ = answered _ _ c.as_bytes.result.now c.in-Err-Said.status c.put.result (rw c.in-Err-Said.field-0-is at c.in-Err-Said.ensures.fault) c.put.ensures
+among_none : (what : ErrorKind) (kinds : Kinds) → kinds ≡ [] → IsAmong what kinds → ⊥
+among_none what kinds none among = subst (IsAmong what) none among
 
-pub returns-clause-answers : goal.returns-clause-answers
-returns-clause-answers g c _ = inr c.put-in-Err-NoMemory.ensures
+replay_has_no_status : (words : List (List ℕ)) (status : ℕ) → words ≡ replay_words → HasStatus words status → ⊥
+replay_has_no_status words status are has = among_none has.1.0 (found_in replay_words) replay_is_found (subst (λ (ws : _). IsAmong has.1.0 (found_in ws)) are has.1.1)
+
+pub returns-in-Err-Said-clause-replays : goal.returns-in-Err-Said-clause-replays
+returns-in-Err-Said-clause-replays g c are = absurd (replay_has_no_status _ c.in-Err-Said.status are (rw c.in-Err-Said.field-0-is at c.in-Err-Said.ensures.fault))
+
+pub returns-in-Err-NotText-clause-replays : goal.returns-in-Err-NotText-clause-replays
+returns-in-Err-NotText-clause-replays g c are = absurd ((rw c.in-Err-NotText.field-0-is at c.in-Err-NotText.ensures.fault) (subst (All IsUtf8) (sym are) replay_is_text))

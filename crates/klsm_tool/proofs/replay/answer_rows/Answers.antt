@@ -38,6 +38,6 @@ returns-clause-stops g c input before stands told =
           let h = too_many g.R.Read.remaining threads input k.0 k.1 c.advance.new.self.rows (fields_of c.advance.new.self.row) all (w.in-Ok.ensures input k.0 k.3.read) in
           number _ (stops_told threads input before contents k.0 k.1 _ _ k.3.answered h.0 h.1 k.3.exact k.4))
       | in-Err-advance w ↦ rw w.stop-is (
-          let h = read_stops threads input k.0 k.1 _ (w.in-Err-advance.ensures input k.0 k.3.read) in
+          let h = read_stops _ threads input k.0 k.1 _ (w.in-Err-advance.ensures input k.0 k.3.read) in
           number _ (stops_told threads input before contents k.0 k.1 _ _ k.3.answered h.0 h.1 k.3.exact k.4))
     ]
