@@ -47,7 +47,7 @@ pub absent_without_largest : (bs : List (List Item)) (x : Item) → (Contains (c
 absent_without_largest [] x new within = new within
 absent_without_largest (b ∷ bs) x new within = new (Contains-append_right b (content bs) x within)
 
--- whether there was a largest block to take
-pub some_taken : {R : Type 0} (items : R → List Item) (r : Option R) (largest : R) (bs : List (List Item)) → option_map items r ≡ slice_get bs 0 → r ≡ Some largest → IsLsm bs → 0 < length (content bs)
-some_taken items r largest [] taken is lsm = let bad : None ≡ Some (items largest) = sym taken ∙ ap (option_map items) is in cc
-some_taken items r largest (b ∷ bs) taken is lsm = omega (arith, length-append b (content bs), some_in_block (level b) b lsm.0)
+-- where there is a block there is an item
+pub some_if_block : (bs : List (List Item)) → IsLsm bs → 0 < length bs → 0 < length (content bs)
+some_if_block [] lsm some = absurd (omega (arith, some))
+some_if_block (b ∷ bs) lsm some = omega (arith, length-append b (content bs), some_in_block (level b) b lsm.0)

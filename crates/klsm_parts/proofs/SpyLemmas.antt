@@ -1,6 +1,7 @@
 -- A victim's part before and after a spy.
-use Rattle.std.proofs.Common.{◌≡◌, ◌<◌, ◌≤◌, ◌/◌, List, [], ◌∷◌, ◌++◌, length, take, drop, Some, cond, sym, ap, ◌∙◌, subst, arith, inl, inr}
+use Rattle.std.proofs.Common.{◌≡◌, ◌<◌, ◌≤◌, ◌/◌, List, [], ◌∷◌, ◌++◌, length, take, drop, Option, Some, None, IfSome, cond, refl, sym, ap, ◌∙◌, subst, arith, inl, inr}
 use Rattle.std.specs.List.{count_by}
+use Rattle.std.specs.Option.{option_to_list}
 use Rattle.std.proofs.lemmas.Bool.{cases_eq, eq-eqb, ne_eqb}
 use Rattle.std.proofs.lemmas.List.{append-nil, length-append, length-drop, take-append-drop}
 use Rattle.std.proofs.lemmas.List.Sums.{sum_by-append}
@@ -78,3 +79,27 @@ own_spied bs moved lsm is = ap sorted (append-nil moved) ∙ sorted_ascending mo
 
 pub victim_spied : (bs : List (List Item)) (moved : List Item) → spied bs ≡ Some moved → sorted (content (left_by_spy bs)) ≡ victim_after_spy (sorted (content bs)) moved
 victim_spied bs moved is = sym (minus_moved moved (content (left_by_spy bs)) (content bs) (moved_and_left bs moved is))
+
+-- nothing moves exactly where the victim has no item
+moved_by : (bs : List (List Item)) (given : Option (List Item)) → IsLsm bs → spied bs ≡ given → length (content (option_to_list given)) ≡ 0 → bs ≡ []
+moved_by [] given lsm is none = refl
+moved_by (b ∷ bs) None lsm is none = absurd (spied_some b bs is)
+  where
+    spied_some : (c : List Item) (cs : List (List Item)) → spied (c ∷ cs) ≡ None → ⊥
+    spied_some c [] same = none-some (drop (length c / 2) c) (sym same)
+    spied_some c (d ∷ ds) same = none-some c (sym same)
+moved_by (b ∷ bs) (Some moved) lsm is none = absurd (omega (arith, none, length-append moved [], some_moved (b ∷ bs) moved lsm is))
+
+pub none_moved : (bs : List (List Item)) → IsLsm bs → length (content (option_to_list (spied bs))) ≡ 0 → bs ≡ []
+none_moved bs lsm none = moved_by bs (spied bs) lsm refl none
+
+-- what a spy leaves, and that it may happen
+spy_by : (own : List Item) (bs own_after victim_after : List (List Item)) (given : Option (List Item)) → own ≡ [] → IsLsm bs → spied bs ≡ given → own_after ≡ option_to_list given → victim_after ≡ left_by_spy bs
+    → IfSome given (λ moved. MaySpy own (sorted (content bs)) moved × (sorted (content own_after) ≡ own_after_spy moved) × (sorted (content victim_after) ≡ victim_after_spy (sorted (content bs)) moved))
+spy_by own bs own_after victim_after None empty lsm is own_is victim_is = tt
+spy_by own bs own_after victim_after (Some moved) empty lsm is own_is victim_is =
+    (may_spy own bs moved empty lsm is, ap (λ cs. sorted (content cs)) own_is ∙ own_spied bs moved lsm is, ap (λ cs. sorted (content cs)) victim_is ∙ victim_spied bs moved is)
+
+pub spy_takes_effect : (own : List Item) (bs own_after victim_after : List (List Item)) → own ≡ [] → IsLsm bs → own_after ≡ option_to_list (spied bs) → victim_after ≡ left_by_spy bs
+    → IfSome (spied bs) (λ moved. MaySpy own (sorted (content bs)) moved × (sorted (content own_after) ≡ own_after_spy moved) × (sorted (content victim_after) ≡ victim_after_spy (sorted (content bs)) moved))
+spy_takes_effect own bs own_after victim_after empty lsm own_is victim_is = spy_by own bs own_after victim_after (spied bs) empty lsm refl own_is victim_is

@@ -30,5 +30,6 @@ pub fn spy<const CAP: usize>(own: &mut Local<CAP>, victim: &mut Local<CAP>) -> u
 {
     // A look at the length tells the proof that the part is lawful: with no item it has no block.
     prove!(own.len() == 0);
+    let _lawful = victim.len();
     own.spy_from(victim)
 }

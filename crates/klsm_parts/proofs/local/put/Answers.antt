@@ -9,7 +9,7 @@ pub unreachable-requires : goal.unreachable-requires
 unreachable-requires g c =
     let room = subst (λ (p : PartState). length (content p.blocks) < p.k) (sym c.own.view_is) c.requires.room in
     let few : length (content c.own.inside.lsm) < g.row.CAP = omega (arith, room, c.own.invariant.k_in_range) in
-    let bad = c.in_default.ensures.room.1 (has_room g.row.CAP (length (content c.own.inside.lsm)) few c.own.invariant.capacity_in_range) in
+    let bad = c.in_default.ensures.room.1 (has_room g.row.CAP (length (content c.own.inside.lsm)) few c.own.invariant.capacity_in_range.at_most) in
     cc
 
 pub invariant_of-own : goal.invariant_of-own

@@ -87,7 +87,7 @@ pub choose-requires : goal.choose-requires
 choose-requires g c = search rules
 
 pub remove-requires : goal.remove-requires
-remove-requires g c = search rules
+remove-requires g c = (search rules, (c.in-Some.ensures.place.0, (c.in-Some.ensures.place.1, c.in-Some.ensures.place.2)))
 
 pub len-requires : goal.len-requires
 len-requires g c = search rules

@@ -1,0 +1,29 @@
+use Rattle.std.proofs.Common.{◌<◌, length, drop, subst, sym, arith, rules}
+use Rattle.std.specs.List.{Contains}
+use Rattle.klsm_lsm.specs.Lsm.{content, IsLsm}
+use Rattle.klsm_parts.specs.Parts.{PartState}
+use Rattle.klsm_parts.proofs.OwnLemmas.{has_room, own_added, fewer_without_largest, absent_without_largest, some_if_block}
+use Rattle.klsm_parts.proofs.local.Local.replace_largest.Goals as goal
+
+pub insert-requires : goal.insert-requires
+insert-requires g c =
+    let absent = subst (λ (p : PartState). Contains (content p.blocks) c.args.item → ⊥) (sym c.self.view_is) c.requires.new in
+    (search rules, (search rules, (c.requires.capacity, rw c.discard_largest.ensures (absent_without_largest c.self.inside.lsm c.args.item absent))))
+
+pub unreachable-requires : goal.unreachable-requires
+unreachable-requires g c =
+    let lawful = subst (λ (p : PartState). IsLsm p.blocks) (sym c.self.view_is) c.requires.lawful in
+    let some = some_if_block c.self.inside.lsm lawful (omega (arith, c.blocks-2.ensures.blocks, c.if-blocks-eq0.false)) in
+    let few : length (content (drop 1 c.self.inside.lsm)) < g.row.CAP =
+    omega (arith, fewer_without_largest c.self.inside.lsm lawful some, c.self.invariant.few, c.self.invariant.k_in_range) in
+    let room = has_room g.row.CAP (length (content (drop 1 c.self.inside.lsm))) few c.self.invariant.capacity_in_range.at_most in
+    let bad = c.in_default.ensures.room.1 (rw c.discard_largest.ensures room) in
+    cc
+
+pub invariant_of-self : goal.invariant_of-self
+invariant_of-self g c =
+    let lawful = subst (λ (p : PartState). IsLsm p.blocks) (sym c.self.view_is) c.requires.lawful in
+    let some = some_if_block c.self.inside.lsm lawful (omega (arith, c.blocks-2.ensures.blocks, c.if-blocks-eq0.false)) in
+    let room : length (content (drop 1 c.self.inside.lsm)) < c.self.inside.k =
+    omega (arith, fewer_without_largest c.self.inside.lsm lawful some, c.self.invariant.few) in
+    rw (c.in-Ok.ensures.added, c.discard_largest.ensures) (own_added g.row.CAP c.self.inside.k c.self.inside.lsm (drop 1 c.self.inside.lsm) c.args.item c.self.invariant room)
