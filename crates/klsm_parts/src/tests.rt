@@ -1,5 +1,6 @@
 //! Worked examples, a comparison with a plain program, spies, and refused growths.
 mod compared;
+mod mended;
 mod pair;
 mod pickers;
 mod refused;
