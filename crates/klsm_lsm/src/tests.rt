@@ -5,7 +5,7 @@ ghost use Rattle.klsm_lsm.specs.Lsm.{content};
 
 mod refused;
 
-use crate::{Lsm, LsmError, Refused};
+use crate::{Cascade, Lsm, LsmError, Refused};
 use klsm_run::{FixedRun, HeapRun, Item, Run, RunError, Stamp};
 use std::alloc::{Allocator, Global};
 use std::process::Abort;
@@ -126,6 +126,14 @@ fn removal_merges<R: Stored<Alloc = Global>>(
     assert_eq!(rt; lsm.blocks(), 2);
     assert_eq!(rt; lsm.block(0).level(), 2);
     assert_eq!(rt; lsm.block(1).level(), 1);
+    let cascade = |first, count| Cascade { first, count };
+    assert_eq!(rt; lsm.cascade(0), cascade(2, 0));
+    assert_eq!(rt; lsm.cascade(1), cascade(0, 2));
+    assert_eq!(rt; lsm.cascade(2), cascade(0, 1));
+    assert_eq!(rt; lsm.cascade(3), cascade(0, 0));
+    assert_eq!(rt; lsm.partner(0), Some(1));
+    assert_eq!(rt; lsm.partner(1), None);
+    assert_eq!(rt; lsm.least_block(), Some(0));
     assert_eq!(rt; lsm.remove(0, 0)?, item(1));
     assert_eq!(rt; lsm.blocks(), 1);
     let whole = lsm.block(0);
