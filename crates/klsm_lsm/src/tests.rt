@@ -113,6 +113,20 @@ fn keys_in_turn(rt: HostRuntime) -> Result<(), Fail> {
     Ok(())
 }
 
+// What is told of a block of 3 items before one of 2.
+fn assert_looks<R: Run>(rt: &impl Abort, lsm: &Lsm<R, 8>)
+    requires { 1 < length lsm.now }
+{
+    let cascade = |first, count| Cascade { first, count };
+    assert_eq!(rt; lsm.cascade(0), cascade(2, 0));
+    assert_eq!(rt; lsm.cascade(1), cascade(0, 2));
+    assert_eq!(rt; lsm.cascade(2), cascade(0, 1));
+    assert_eq!(rt; lsm.cascade(3), cascade(0, 0));
+    assert_eq!(rt; lsm.partner(0), Some(1));
+    assert_eq!(rt; lsm.partner(1), None);
+    assert_eq!(rt; lsm.least_block(), Some(0));
+}
+
 // A block of 3 items loses one, and becomes one with a block of 2.
 fn removal_merges<R: Stored<Alloc = Global>>(
     rt: &impl Abort,
@@ -126,14 +140,7 @@ fn removal_merges<R: Stored<Alloc = Global>>(
     assert_eq!(rt; lsm.blocks(), 2);
     assert_eq!(rt; lsm.block(0).level(), 2);
     assert_eq!(rt; lsm.block(1).level(), 1);
-    let cascade = |first, count| Cascade { first, count };
-    assert_eq!(rt; lsm.cascade(0), cascade(2, 0));
-    assert_eq!(rt; lsm.cascade(1), cascade(0, 2));
-    assert_eq!(rt; lsm.cascade(2), cascade(0, 1));
-    assert_eq!(rt; lsm.cascade(3), cascade(0, 0));
-    assert_eq!(rt; lsm.partner(0), Some(1));
-    assert_eq!(rt; lsm.partner(1), None);
-    assert_eq!(rt; lsm.least_block(), Some(0));
+    assert_looks(rt, lsm);
     assert_eq!(rt; lsm.remove(0, 0)?, item(1));
     assert_eq!(rt; lsm.blocks(), 1);
     let whole = lsm.block(0);
