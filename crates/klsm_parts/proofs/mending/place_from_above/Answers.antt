@@ -1,5 +1,4 @@
-use Rattle.std.proofs.Common.{◌≡◌, ◌+◌, ◌<◌, ◌≤◌, length, subst, sym, ap, ◌∙◌, arith, rules, add-one}
-use Rattle.klsm_lsm.specs.Lsm.{content}
+use Rattle.std.proofs.Common.{◌+◌, ◌<◌, length, subst, sym, ◌∙◌, arith, rules, add-one}
 use Rattle.klsm_parts.specs.Pivots.{ArePivots, marked}
 use Rattle.klsm_parts.proofs.PivotLemmas.{length_marked}
 use Rattle.klsm_parts.proofs.FoundLemmas.{one_each}
