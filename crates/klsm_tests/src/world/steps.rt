@@ -1,8 +1,8 @@
 //! Steps and items, written shortly.
 
-use crate::{Event, Items, Step};
 use klsm_run::{Item, Stamp};
-use std::alloc::{AllocError, Global};
+use klsm_world::{Event, Items, Step, StepError, World};
+use std::alloc::{AllocError, Allocator, Global};
 
 /// The item `key@owner.number`.
 pub(super) fn item(key: u64, owner: u32, number: u64) -> Item {
@@ -74,4 +74,20 @@ pub(super) fn spy(
             moved: Items::new(moved.to_vec(alloc)?),
         },
     })
+}
+
+/// Takes all steps, each of which is to be legal.
+pub(super) fn take_all<A: Allocator + Copy>(
+    world: &mut World<A>,
+    steps: &[Step],
+) -> Result<(), StepError> {
+    for step in steps {
+        world.step(step)?;
+    }
+    Ok(())
+}
+
+/// Adds a step.
+pub(super) fn push(steps: &mut Vec<Step>, step: Step) -> Result<(), AllocError> {
+    Ok(steps.push(step)?)
 }

@@ -1,0 +1,10 @@
+//! The tests of the layers that use only what these show to their callers.
+//!
+//! A crate with tests is proved twice, with them and without, so they stand here, above all that they test. Each folder has
+//! the tests of one subject:
+//!
+//! - `world`: the pure world of threads and locked steps, beside a plain program written from its definitions.
+#![tactic(auto)]
+
+#[cfg(test)]
+mod world;
