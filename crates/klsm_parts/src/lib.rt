@@ -36,8 +36,6 @@ mod ranks;
 mod shared;
 mod spying;
 mod taking;
-#[cfg(test)]
-mod tests;
 
 pub use flushing::flush;
 pub use local::{Local, put};

@@ -1,5 +1,4 @@
 //! Random steps, legal ones and others, compared at each step with a plain program written from the definitions.
-ghost use Rattle.std.specs.Prelude.{◌≤◌};
 
 mod plain;
 mod proposed;
@@ -10,8 +9,7 @@ use plain::Plain;
 use proposed::proposed;
 use rand_core::SeedableRng;
 use rand_pcg::Pcg32;
-use std::alloc::{AllocError, Global};
-use std::test::Fail;
+use std::alloc::Global;
 
 // A world, the plain one beside it, and the steps that both took.
 #[derive(Drop)]
@@ -21,34 +19,30 @@ struct Both {
     taken: Vec<Step>,
 }
 
-impl Both {
-    fn new(alloc: Global, threads: u32, k: usize) -> Result<Self, Fail> {
-        Ok(Both {
-            world: World::new(alloc, threads, k)?,
-            plain: Plain::new(alloc, threads, k)?,
-            taken: Vec::new(alloc),
-        })
-    }
+fn both_of(alloc: Global, threads: u32, k: usize) -> Option<Both> {
+    Some(Both {
+        world: World::new(alloc, threads, k).ok()?,
+        plain: Plain::new(alloc, threads, k)?,
+        taken: Vec::new(alloc),
+    })
+}
 
-    // Takes a step, and answers whether both worlds gave the same answer.
-    fn take(&mut self, step: Step) -> Result<bool, AllocError> {
-        let refusal = self.plain.refusal(&step)?;
-        let answer = self.world.step(&step).err();
-        if refusal.is_none() {
-            self.plain.take_step(&step)?;
-            self.taken.push(step)?;
-        }
-        Ok(answer == refusal)
+// Takes a step in both worlds, and answers whether they gave the same answer.
+fn answer_same(both: &mut Both, step: Step) -> Option<bool> {
+    let refusal = both.plain.refusal(&step);
+    let answer = both.world.step(&step).err();
+    if refusal.is_none() {
+        both.plain.take_step(&step)?;
+        both.taken.push(step).ok()?;
     }
+    Some(answer == refusal)
+}
 
-    // Whether both show the same live items, with the same ranks.
-    fn are_same(&self, alloc: Global) -> Result<bool, WorldError> {
-        let Ok(want) = self.plain.live() else {
-            return Err(WorldError::NoMemory);
-        };
-        let live = self.world.live(alloc)?;
-        Ok(live.as_slice() == want.as_slice() && has_ranks(&self.world, want.as_slice()))
-    }
+// Whether both show the same live items, with the same ranks.
+fn show_same(alloc: Global, both: &Both) -> Option<bool> {
+    let want = both.plain.live(alloc)?;
+    let live = both.world.live(alloc).ok()?;
+    Some(live.as_slice() == want.as_slice() && has_ranks(&both.world, want.as_slice()))
 }
 
 // Whether each item has its index as its rank.
@@ -61,31 +55,24 @@ fn has_ranks(world: &World, items: &[Item]) -> bool {
     true
 }
 
-// Takes a random step in both worlds, and answers whether both gave the same answer and show the same.
-fn take_random(alloc: Global, mix: &mut Pcg32, both: &mut Both) -> Result<bool, Fail> {
-    let step = proposed(alloc, mix, &both.plain)?;
-    Ok(both.take(step)? && both.are_same(alloc)?)
-}
-
-// The first of 1,500 random steps at which the worlds differ.
-fn first_difference(alloc: Global, mix: &mut Pcg32, both: &mut Both) -> Result<Option<u32>, Fail> {
-    for number in 0..1500 {
-        if !take_random(alloc, mix, both)? {
-            return Ok(Some(number));
+// Whether both answer and show the same at each of 1,500 random steps.
+fn step_same(alloc: Global, mix: &mut Pcg32, both: &mut Both) -> Option<bool> {
+    for _ in 0..1500 {
+        let step = proposed(alloc, mix, &both.plain)?;
+        if !answer_same(both, step)? || !show_same(alloc, both)? {
+            return Some(false);
         }
     }
-    Ok(None)
+    Some(true)
 }
 
-// Whether all steps as one run tell what the plain world did.
-fn has_same_run(alloc: Global, both: &Both) -> Result<bool, Fail> {
-    let trace = run(
-        alloc,
-        both.plain.threads,
-        both.plain.k,
-        both.taken.as_slice(),
-    )?;
-    Ok(tells_same(&trace, &both.plain) && trace.live.as_slice() == both.plain.live()?.as_slice())
+// Whether all steps as one run tell what the plain world did. They are not all of one kind.
+fn run_same(alloc: Global, both: &Both) -> Option<bool> {
+    let (threads, k) = (both.plain.threads, both.plain.k);
+    let trace = run(alloc, threads, k, both.taken.as_slice()).ok()?;
+    let live = both.plain.live(alloc)?;
+    let are_many = both.taken.len() > 300 && both.plain.deleted.len() > 20;
+    Some(are_many && tells_same(&trace, &both.plain) && trace.live.as_slice() == live.as_slice())
 }
 
 fn tells_same(trace: &Trace, plain: &Plain) -> bool {
@@ -95,99 +82,55 @@ fn tells_same(trace: &Trace, plain: &Plain) -> bool {
 }
 
 // Adds a step that is refused to those taken, and answers why it is.
-fn push_wrong(
-    alloc: Global,
-    mix: &mut Pcg32,
-    both: &mut Both,
-) -> Result<Option<StepError>, AllocError> {
+fn add_wrong(alloc: Global, mix: &mut Pcg32, both: &mut Both) -> Option<StepError> {
     for _ in 0..1000 {
         let step = proposed(alloc, mix, &both.plain)?;
-        let refusal = both.plain.refusal(&step)?;
-        if refusal.is_some() {
-            both.taken.push(step)?;
-            return Ok(refusal);
+        if let Some(why) = both.plain.refusal(&step) {
+            both.taken.push(step).ok()?;
+            return Some(why);
         }
     }
-    Ok(None)
+    None
 }
 
 // Whether all steps and a wrong one behind them, as one run, are refused for that one.
-fn has_wrong_run(alloc: Global, mix: &mut Pcg32, both: &mut Both) -> Result<bool, AllocError> {
+fn refuse_same(alloc: Global, mix: &mut Pcg32, both: &mut Both) -> Option<bool> {
     let at = both.taken.len();
-    let Some(why) = push_wrong(alloc, mix, both)? else {
-        return Ok(false);
-    };
-    let steps = both.taken.as_slice();
-    let answer = run(alloc, both.plain.threads, both.plain.k, steps).err();
-    Ok(answer == Some(WorldError::At(at, why)))
+    let why = add_wrong(alloc, mix, both)?;
+    let (threads, k) = (both.plain.threads, both.plain.k);
+    let answer = run(alloc, threads, k, both.taken.as_slice()).err();
+    Some(answer == Some(WorldError::At(at, why)))
 }
 
-// How the worlds compare.
-#[derive(Clone, Copy, Debug, PartialEq, Eq)]
-enum Verdict {
-    Same,
-    StepDiffers(u32),
-    FewSteps,
-    RunDiffers,
-    WrongRunDiffers,
-}
-
-// The steps of both are not all of one kind.
-fn are_many(both: &Both) -> bool {
-    both.taken.len() > 300 && both.plain.deleted.len() > 20
-}
-
-// Random steps at this number of threads and this k, and then all that were taken as one run.
-fn compare(alloc: Global, threads: u32, k: usize) -> Result<Verdict, Fail> {
+// Whether the worlds of so many threads and this k are the same.
+fn are_same(alloc: Global, threads: u32, k: usize) -> Option<bool> {
     let mut mix = Pcg32::seed_from_u64(11);
-    let mut both = Both::new(alloc, threads, k)?;
-    if let Some(number) = first_difference(alloc, &mut mix, &mut both)? {
-        return Ok(Verdict::StepDiffers(number));
-    }
-    compare_runs(alloc, &mut mix, &mut both)
+    let mut both = both_of(alloc, threads, k)?;
+    Some(
+        step_same(alloc, &mut mix, &mut both)?
+            && run_same(alloc, &both)?
+            && refuse_same(alloc, &mut mix, &mut both)?,
+    )
 }
 
-fn compare_runs(alloc: Global, mix: &mut Pcg32, both: &mut Both) -> Result<Verdict, Fail> {
-    if !are_many(both) {
-        return Ok(Verdict::FewSteps);
+// The first k of these at which the worlds differ.
+fn first_difference(alloc: Global, threads: u32) -> Option<usize> {
+    for k in 0..=3 {
+        if are_same(alloc, threads, k) != Some(true) {
+            return Some(k);
+        }
     }
-    if !has_same_run(alloc, both)? {
-        return Ok(Verdict::RunDiffers);
-    }
-    if !has_wrong_run(alloc, mix, both)? {
-        return Ok(Verdict::WrongRunDiffers);
-    }
-    Ok(Verdict::Same)
+    None
 }
 
 #[test]
-fn one_thread(rt: HostRuntime) -> Result<(), Fail> {
-    for k in 0..=3 {
-        assert_eq!(rt; compare(rt.alloc(), 1, k)?, Verdict::Same, "k {k}");
-    }
-    Ok(())
+fn one_or_two_threads(rt: HostRuntime) {
+    assert!(rt; first_difference(rt.alloc(), 1).is_none());
+    assert!(rt; first_difference(rt.alloc(), 2).is_none());
 }
 
 #[test]
-fn two_threads(rt: HostRuntime) -> Result<(), Fail> {
-    for k in 0..=3 {
-        assert_eq!(rt; compare(rt.alloc(), 2, k)?, Verdict::Same, "k {k}");
-    }
-    Ok(())
-}
-
-#[test]
-fn three_threads(rt: HostRuntime) -> Result<(), Fail> {
-    for k in 0..=3 {
-        assert_eq!(rt; compare(rt.alloc(), 3, k)?, Verdict::Same, "k {k}");
-    }
-    Ok(())
-}
-
-#[test]
-fn four_threads(rt: HostRuntime) -> Result<(), Fail> {
-    for k in 0..=3 {
-        assert_eq!(rt; compare(rt.alloc(), 4, k)?, Verdict::Same, "k {k}");
-    }
-    Ok(())
+fn three_or_four_threads(rt: HostRuntime) {
+    assert!(rt; first_difference(rt.alloc(), 3).is_none());
+    assert!(rt; first_difference(rt.alloc(), 4).is_none());
 }

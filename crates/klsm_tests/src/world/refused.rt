@@ -1,53 +1,53 @@
 //! Each growth refused in turn: nothing changes, and the same call goes through later.
 
-use super::steps::{acquire, flush, item, miss, nothing, push, put, release, spy, take};
+use super::steps::{Row, item, steps_of, world_after};
+use klsm_run::Item;
 use klsm_testing::Rationed;
 use klsm_world::{Items, Step, StepError, World, WorldError, run};
-use std::alloc::{AllocError, Global};
-use std::test::Fail;
+use std::alloc::Global;
 
 // A schedule with each kind of step and each event.
-fn all_kinds(alloc: Global) -> Result<Vec<Step>, AllocError> {
-    let mut steps = Vec::new(alloc);
-    push_insertions(alloc, &mut steps)?;
-    push_deletions(&mut steps)?;
-    push_spying(alloc, &mut steps)?;
-    Ok(steps)
+fn all_kinds<'a>(five_moves: &'a [Item], nine_moves: &'a [Item]) -> [Row<'a>; 16] {
+    let (five, two, nine) = (item(5, 1, 0), item(2, 1, 1), item(9, 1, 2));
+    [
+        Row::Acquire(1, 2),
+        Row::Put(1, five),
+        Row::Miss(0, 2),
+        Row::Acquire(1, 0),
+        Row::Flush(1, two, five_moves),
+        Row::Put(1, nine),
+        Row::Take(1, two),
+        Row::Take(1, five),
+        Row::Release(1, 2),
+        Row::Release(1, 0),
+        Row::Acquire(0, 1),
+        Row::Acquire(0, 0),
+        Row::Nothing(0),
+        Row::Acquire(0, 2),
+        Row::Spy(0, 1, nine_moves),
+        Row::Take(0, nine),
+    ]
 }
 
-fn push_insertions(alloc: Global, steps: &mut Vec<Step>) -> Result<(), AllocError> {
-    let five = item(5, 1, 0);
-    push(steps, acquire(1, 2))?;
-    push(steps, put(1, five))?;
-    push(steps, miss(0, 2))?;
-    push(steps, acquire(1, 0))?;
-    push(steps, flush(alloc, 1, item(2, 1, 1), &[five])?)?;
-    push(steps, put(1, item(9, 1, 2)))
+fn schedule(alloc: Global) -> Option<Vec<Step>> {
+    steps_of(alloc, &all_kinds(&[item(5, 1, 0)], &[item(9, 1, 2)]))
 }
 
-fn push_deletions(steps: &mut Vec<Step>) -> Result<(), AllocError> {
-    push(steps, take(1, item(2, 1, 1)))?;
-    push(steps, take(1, item(5, 1, 0)))?;
-    push(steps, release(1, 2))?;
-    push(steps, release(1, 0))
-}
-
-fn push_spying(alloc: Global, steps: &mut Vec<Step>) -> Result<(), AllocError> {
-    let nine = item(9, 1, 2);
-    push(steps, acquire(0, 1))?;
-    push(steps, acquire(0, 0))?;
-    push(steps, nothing(0))?;
-    push(steps, acquire(0, 2))?;
-    push(steps, spy(alloc, 0, 1, &[nine])?)?;
-    push(steps, take(0, nine))
-}
-
-// A call with so many growths granted: it went through as none was refused, or was refused and changed nothing, or else.
-#[derive(Clone, Copy, Debug, PartialEq, Eq)]
-enum Outcome {
+// What came of a call with so many growths granted: it went through and none was refused, or it was refused for want of memory
+// and nothing changed, or else.
+enum Attempt {
     Through,
-    Unchanged,
+    Refused,
     Wrong,
+}
+
+// The attempt of a call that was refused a growth or none, with this answer, after which all was the same or not.
+fn attempt_of(has_refused: bool, answer: Result<(), StepError>, is_same: bool) -> Attempt {
+    match (has_refused, answer) {
+        (false, Ok(())) => Attempt::Through,
+        (true, Err(StepError::NoMemory)) if is_same => Attempt::Refused,
+        _ => Attempt::Wrong,
+    }
 }
 
 // Takes a step with so many growths granted.
@@ -57,121 +57,123 @@ fn step_within(
     world: &mut World<&Rationed<Global>>,
     step: &Step,
     growths: u64,
-) -> Result<Outcome, WorldError> {
-    let before = world.live(alloc)?;
+) -> Attempt {
+    let Ok(before) = world.live(alloc) else {
+        return Attempt::Wrong;
+    };
     heap.allow(growths);
-    let answer = world.step(step).err();
-    outcome_of(alloc, heap, world, &before, answer)
+    let answer = world.step(step);
+    attempt_of(heap.has_refused(), answer, shows(alloc, world, &before))
 }
 
-// What came of a step that gave this answer.
-fn outcome_of(
-    alloc: Global,
-    heap: &Rationed<Global>,
-    world: &World<&Rationed<Global>>,
-    before: &Items,
-    answer: Option<StepError>,
-) -> Result<Outcome, WorldError> {
-    Ok(match answer {
-        None if !heap.has_refused() => Outcome::Through,
-        Some(StepError::NoMemory) if heap.has_refused() && world.live(alloc)? == *before => {
-            Outcome::Unchanged
-        }
-        _ => Outcome::Wrong,
-    })
+// Whether these items live.
+fn shows(alloc: Global, world: &World<&Rationed<Global>>, items: &Items) -> bool {
+    match world.live(alloc) {
+        Ok(live) => live == *items,
+        Err(_) => false,
+    }
 }
 
-// Takes a step with each number of growths in turn, until it goes through or something is wrong.
-fn step_at_last(
+// Takes a step with each number of growths in turn, and answers whether it went through at last.
+fn goes_through(
     alloc: Global,
     heap: &Rationed<Global>,
     world: &mut World<&Rationed<Global>>,
     step: &Step,
-) -> Result<Outcome, WorldError> {
+) -> bool {
     for growths in 0..u64::MAX {
-        let outcome = step_within(alloc, heap, world, step, growths)?;
-        if outcome != Outcome::Unchanged {
-            return Ok(outcome);
+        match step_within(alloc, heap, world, step, growths) {
+            Attempt::Through => return true,
+            Attempt::Refused => {}
+            Attempt::Wrong => return false,
         }
     }
-    Ok(Outcome::Unchanged)
+    false
 }
 
-// Before each step of the schedule, each growth of that step is refused in turn.
-#[test]
-fn steps_refused(rt: HostRuntime) -> Result<(), Fail> {
-    let heap = Rationed::new(rt.alloc());
-    let steps = all_kinds(rt.alloc())?;
-    let mut world = World::new(&heap, 2, 2)?;
+// Takes each step of the schedule so, and answers whether all went through and no item is left.
+fn all_go_through(alloc: Global, heap: &Rationed<Global>) -> Option<bool> {
+    let steps = schedule(alloc)?;
+    let mut world = World::new(heap, 2, 2).ok()?;
     for step in &steps {
-        let outcome = step_at_last(rt.alloc(), &heap, &mut world, step)?;
-        assert_eq!(rt; outcome, Outcome::Through, "at {step:?}");
+        if !goes_through(alloc, heap, &mut world, step) {
+            return Some(false);
+        }
     }
-    assert!(rt; world.live(rt.alloc())?.as_slice().is_empty());
-    Ok(())
+    Some(world.live(alloc).ok()?.as_slice().is_empty())
+}
+
+#[test]
+fn steps_refused(rt: HostRuntime) {
+    let heap = Rationed::new(rt.alloc());
+    assert!(rt; all_go_through(rt.alloc(), &heap) == Some(true));
 }
 
 // Why there is no world with so many growths granted.
-fn made_within(heap: &Rationed<Global>, growths: u64) -> Option<WorldError> {
+fn refusal_within(heap: &Rationed<Global>, growths: u64) -> Option<WorldError> {
     heap.allow(growths);
     World::new(heap, 2, 2).err()
 }
 
 #[test]
-fn making_refused(rt: HostRuntime) -> Result<(), Fail> {
+fn making_refused(rt: HostRuntime) {
     let heap = Rationed::new(rt.alloc());
     for growths in 0..3 {
-        assert_eq!(rt; made_within(&heap, growths), Some(WorldError::NoMemory));
-        assert!(rt; heap.has_refused());
+        assert!(rt; refusal_within(&heap, growths) == Some(WorldError::NoMemory));
     }
-    assert_eq!(rt; made_within(&heap, 3), None);
-    assert!(rt; !heap.has_refused());
-    Ok(())
+    assert!(rt; refusal_within(&heap, 3).is_none());
 }
 
-// A world with one item.
-fn with_one(alloc: Global) -> Result<World, Fail> {
-    let mut world = World::new(alloc, 1, 1)?;
-    world.step(&acquire(0, 1))?;
-    world.step(&put(0, item(1, 0, 0)))?;
-    Ok(world)
+// Whether the live items, which are one, are shown with one growth, and refused without.
+fn is_live_refused(alloc: Global, heap: &Rationed<Global>) -> Option<bool> {
+    let one = item(1, 0, 0);
+    let world = world_after(alloc, 1, 1, &[Row::Acquire(0, 1), Row::Put(0, one)])?;
+    heap.allow(0);
+    let refusal = world.live(heap).err();
+    heap.allow(1);
+    let live = world.live(heap).ok()?;
+    Some(refusal == Some(WorldError::NoMemory) && live.as_slice() == [one].as_slice())
 }
 
 #[test]
-fn live_refused(rt: HostRuntime) -> Result<(), Fail> {
+fn live_refused(rt: HostRuntime) {
     let heap = Rationed::new(rt.alloc());
-    let world = with_one(rt.alloc())?;
-    heap.allow(0);
-    assert_eq!(rt; world.live(&heap).err(), Some(WorldError::NoMemory));
-    heap.allow(1);
-    let one = [item(1, 0, 0)];
-    assert!(rt; world.live(&heap)?.as_slice() == one.as_slice());
-    Ok(())
+    assert!(rt; is_live_refused(rt.alloc(), &heap) == Some(true));
 }
 
-// How many items a run deletes, and its greatest skip, with so many growths granted.
-fn run_within(
-    heap: &Rationed<Global>,
-    steps: &[Step],
-    growths: u64,
-) -> Result<(usize, usize), WorldError> {
+// Runs steps with so many growths granted. A run that goes through deletes three items and skips none.
+fn run_within(heap: &Rationed<Global>, steps: &[Step], growths: u64) -> Attempt {
     heap.allow(growths);
-    let trace = run(heap, 2, 2, steps)?;
-    Ok((trace.deleted.as_slice().len(), trace.most))
+    match run(heap, 2, 2, steps) {
+        Ok(trace) => {
+            let is_right = trace.deleted.as_slice().len() == 3 && trace.most == 0;
+            attempt_of(heap.has_refused() || !is_right, Ok(()), true)
+        }
+        Err(WorldError::NoMemory) => attempt_of(heap.has_refused(), Err(StepError::NoMemory), true),
+        Err(_) => Attempt::Wrong,
+    }
+}
+
+// Runs steps with each number of growths in turn, and answers whether they went through at last.
+fn run_goes_through(heap: &Rationed<Global>, steps: &[Step]) -> bool {
+    for growths in 0..u64::MAX {
+        match run_within(heap, steps, growths) {
+            Attempt::Through => return true,
+            Attempt::Refused => {}
+            Attempt::Wrong => return false,
+        }
+    }
+    false
 }
 
 // A refused growth is want of memory, and never a fault of the steps.
+fn schedule_goes_through(alloc: Global, heap: &Rationed<Global>) -> Option<bool> {
+    let steps = schedule(alloc)?;
+    Some(run_goes_through(heap, steps.as_slice()))
+}
+
 #[test]
-fn runs_refused(rt: HostRuntime) -> Result<(), Fail> {
+fn runs_refused(rt: HostRuntime) {
     let heap = Rationed::new(rt.alloc());
-    let steps = all_kinds(rt.alloc())?;
-    for growths in 0..u64::MAX {
-        let answer = run_within(&heap, steps.as_slice(), growths);
-        if !heap.has_refused() {
-            assert_eq!(rt; answer, Ok((3, 0)));
-            return Ok(());
-        }
-        assert_eq!(rt; answer, Err(WorldError::NoMemory));
-    }
-    Err("each run was refused".into())
+    assert!(rt; schedule_goes_through(rt.alloc(), &heap) == Some(true));
 }

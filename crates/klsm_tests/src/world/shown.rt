@@ -1,69 +1,89 @@
 //! Steps, entries and traces, compared and printed.
 
-use super::steps::{acquire, flush, item, put};
+use super::steps::{Row, item, items_of, step_of, steps_of};
 use klsm_run::Item;
-use klsm_world::{Entry, Event, Items, Trace, WorldError, run};
-use std::alloc::{AllocError, Global};
-use std::test::Fail;
+use klsm_world::{Entry, Event, Trace, run};
+use std::alloc::Global;
 
 fn two_three() -> (Item, Item) {
     (item(2, 0, 0), item(3, 0, 1))
 }
 
-// Whether two flushes of one item are equal: one of thread 0 that moves 2, and another.
-fn are_equal_flushes(alloc: Global, thread: u32, moved: &[Item]) -> Result<bool, AllocError> {
-    let (two, three) = two_three();
-    let step = flush(alloc, 0, three, &[two])?;
-    Ok(step == flush(alloc, thread, three, moved)?)
+// Whether the steps of two rows are equal.
+fn are_equal_steps(alloc: Global, one: Row, other: Row) -> Option<bool> {
+    Some(step_of(alloc, one)? == step_of(alloc, other)?)
 }
 
 #[test]
-fn equal_steps(rt: HostRuntime) -> Result<(), Fail> {
+fn equal_steps(rt: HostRuntime) {
     let (two, three) = two_three();
-    assert!(rt; are_equal_flushes(rt.alloc(), 0, &[two])?);
-    assert!(rt; !are_equal_flushes(rt.alloc(), 0, &[two, three])?);
-    assert!(rt; !are_equal_flushes(rt.alloc(), 1, &[two])?);
-    assert!(rt; flush(rt.alloc(), 0, three, &[two])? != put(0, three));
-    Ok(())
+    let flush = Row::Flush(0, three, &[two]);
+    for (other, are_equal) in [
+        (Row::Flush(0, three, [two].as_slice()), true),
+        (Row::Flush(0, three, [two, three].as_slice()), false),
+        (Row::Flush(1, three, [two].as_slice()), false),
+        (Row::Put(0, three), false),
+    ] {
+        assert!(rt; are_equal_steps(rt.alloc(), flush, other) == Some(are_equal));
+    }
 }
 
 // An acquire of part 1 that found items.
-fn found(alloc: Global, items: &[Item]) -> Result<Entry, AllocError> {
-    let found = Items::new(items.to_vec(alloc)?);
-    Ok(Entry::Acquired { part: 1, found })
+fn found(alloc: Global, items: &[Item]) -> Option<Entry> {
+    let found = items_of(alloc, items)?;
+    Some(Entry::Acquired { part: 1, found })
+}
+
+// Whether entries that found these items are equal.
+fn are_equal_found(alloc: Global, one: &[Item], other: &[Item]) -> Option<bool> {
+    Some(found(alloc, one)? == found(alloc, other)?)
+}
+
+// Whether an entry that found these items is a put.
+fn is_put(alloc: Global, items: &[Item], put: Item) -> Option<bool> {
+    Some(found(alloc, items)? == Entry::Committed(Event::Put(put)))
 }
 
 #[test]
-fn equal_entries(rt: HostRuntime) -> Result<(), Fail> {
+fn equal_entries(rt: HostRuntime) {
     let (two, three) = two_three();
-    let entry = found(rt.alloc(), &[two, three])?;
-    assert!(rt; entry == found(rt.alloc(), &[two, three])?);
-    assert!(rt; entry != found(rt.alloc(), &[three, two])?);
-    assert!(rt; entry != Entry::Committed(Event::Put(two)));
-    Ok(())
+    let alloc = rt.alloc();
+    assert!(rt; are_equal_found(alloc, &[two, three], &[two, three]) == Some(true));
+    assert!(rt; are_equal_found(alloc, &[two, three], &[three, two]) == Some(false));
+    assert!(rt; is_put(alloc, &[two], two) == Some(false));
 }
 
 // The trace of one insertion.
-fn after_put(alloc: Global, item: Item) -> Result<Trace, WorldError> {
-    let steps = [acquire(0, 1), put(0, item)];
-    run(alloc, 1, 1, steps.as_slice())
+fn after_put(alloc: Global, item: Item) -> Option<Trace> {
+    let steps = steps_of(alloc, &[Row::Acquire(0, 1), Row::Put(0, item)])?;
+    run(alloc, 1, 1, steps.as_slice()).ok()
+}
+
+// Whether the traces of two insertions are equal.
+fn are_equal_traces(alloc: Global, one: Item, other: Item) -> Option<bool> {
+    Some(after_put(alloc, one)? == after_put(alloc, other)?)
 }
 
 #[test]
-fn equal_traces(rt: HostRuntime) -> Result<(), Fail> {
-    let trace = after_put(rt.alloc(), item(2, 0, 0))?;
-    assert!(rt; trace == after_put(rt.alloc(), item(2, 0, 0))?);
-    assert!(rt; trace != after_put(rt.alloc(), item(3, 0, 0))?);
-    Ok(())
+fn equal_traces(rt: HostRuntime) {
+    let alloc = rt.alloc();
+    let (two, three) = (item(2, 0, 0), item(3, 0, 0));
+    assert!(rt; are_equal_traces(alloc, two, two) == Some(true));
+    assert!(rt; are_equal_traces(alloc, two, three) == Some(false));
+}
+
+// Whether the step of a row prints so.
+fn prints(alloc: Global, row: Row, want: &str) -> Option<bool> {
+    let step = step_of(alloc, row)?;
+    let text = format!(in alloc; "{step:?}").ok()?;
+    Some(text.as_str() == want)
 }
 
 #[test]
-fn printed(rt: HostRuntime) -> Result<(), Fail> {
+fn printed(rt: HostRuntime) {
     let (two, three) = two_three();
-    let step = flush(rt.alloc(), 0, three, &[two])?;
     let want = "Commit { thread: 0, event: Flush { \
         item: Item { key: 3, stamp: Stamp { owner: 0, number: 1 }, load: 0 }, \
         moved: [Item { key: 2, stamp: Stamp { owner: 0, number: 0 }, load: 0 }] } }";
-    assert_eq!(rt; format!(in rt.alloc(); "{step:?}")?.as_str(), want);
-    Ok(())
+    assert!(rt; prints(rt.alloc(), Row::Flush(0, three, &[two]), want) == Some(true));
 }

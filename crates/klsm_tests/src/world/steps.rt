@@ -1,8 +1,8 @@
-//! Steps and items, written shortly.
+//! Items, and steps as tables have them. A helper of these tests answers `None` where a call was refused that should not be.
 
 use klsm_run::{Item, Stamp};
-use klsm_world::{Event, Items, Step, StepError, World};
-use std::alloc::{AllocError, Allocator, Global};
+use klsm_world::{Event, Items, Step, World};
+use std::alloc::Global;
 
 /// The item `key@owner.number`.
 pub(super) fn item(key: u64, owner: u32, number: u64) -> Item {
@@ -13,81 +13,62 @@ pub(super) fn item(key: u64, owner: u32, number: u64) -> Item {
     }
 }
 
-pub(super) fn acquire(thread: u32, part: u32) -> Step {
-    Step::Acquire { thread, part }
+/// A step: its thread, and then the part, the items or the victim.
+#[derive(Clone, Copy)]
+pub(super) enum Row<'a> {
+    Acquire(u32, u32),
+    Release(u32, u32),
+    Miss(u32, u32),
+    Put(u32, Item),
+    Flush(u32, Item, &'a [Item]),
+    Take(u32, Item),
+    Nothing(u32),
+    Spy(u32, u32, &'a [Item]),
 }
 
-pub(super) fn release(thread: u32, part: u32) -> Step {
-    Step::Release { thread, part }
-}
-
-pub(super) fn miss(thread: u32, part: u32) -> Step {
-    Step::Miss { thread, part }
-}
-
-pub(super) fn put(thread: u32, item: Item) -> Step {
-    Step::Commit {
-        thread,
-        event: Event::Put(item),
-    }
-}
-
-pub(super) fn flush(
-    alloc: Global,
-    thread: u32,
-    item: Item,
-    moved: &[Item],
-) -> Result<Step, AllocError> {
-    Ok(Step::Commit {
-        thread,
-        event: Event::Flush {
-            item,
-            moved: Items::new(moved.to_vec(alloc)?),
-        },
+/// The step of a row.
+pub(super) fn step_of(alloc: Global, row: Row) -> Option<Step> {
+    Some(match row {
+        Row::Acquire(thread, part) => Step::Acquire { thread, part },
+        Row::Release(thread, part) => Step::Release { thread, part },
+        Row::Miss(thread, part) => Step::Miss { thread, part },
+        Row::Put(thread, item) => commit(thread, Event::Put(item)),
+        Row::Flush(thread, item, moved) => {
+            let moved = items_of(alloc, moved)?;
+            commit(thread, Event::Flush { item, moved })
+        }
+        Row::Take(thread, item) => commit(thread, Event::Take(item)),
+        Row::Nothing(thread) => commit(thread, Event::Nothing),
+        Row::Spy(thread, victim, moved) => {
+            let moved = items_of(alloc, moved)?;
+            commit(thread, Event::Spy { victim, moved })
+        }
     })
 }
 
-pub(super) fn take(thread: u32, item: Item) -> Step {
-    Step::Commit {
-        thread,
-        event: Event::Take(item),
+fn commit(thread: u32, event: Event) -> Step {
+    Step::Commit { thread, event }
+}
+
+/// A list of items.
+pub(super) fn items_of(alloc: Global, items: &[Item]) -> Option<Items> {
+    Some(Items::new(items.to_vec(alloc).ok()?))
+}
+
+/// The steps of a table.
+pub(super) fn steps_of(alloc: Global, rows: &[Row]) -> Option<Vec<Step>> {
+    let mut steps = Vec::new(alloc);
+    for row in rows {
+        steps.push(step_of(alloc, *row)?).ok()?;
     }
+    Some(steps)
 }
 
-pub(super) fn nothing(thread: u32) -> Step {
-    Step::Commit {
-        thread,
-        event: Event::Nothing,
+/// The world of so many threads and this k, after the steps of a table.
+pub(super) fn world_after(alloc: Global, threads: u32, k: usize, rows: &[Row]) -> Option<World> {
+    let mut world = World::new(alloc, threads, k).ok()?;
+    for row in rows {
+        world.step(&step_of(alloc, *row)?).ok()?;
     }
-}
-
-pub(super) fn spy(
-    alloc: Global,
-    thread: u32,
-    victim: u32,
-    moved: &[Item],
-) -> Result<Step, AllocError> {
-    Ok(Step::Commit {
-        thread,
-        event: Event::Spy {
-            victim,
-            moved: Items::new(moved.to_vec(alloc)?),
-        },
-    })
-}
-
-/// Takes all steps, each of which is to be legal.
-pub(super) fn take_all<A: Allocator + Copy>(
-    world: &mut World<A>,
-    steps: &[Step],
-) -> Result<(), StepError> {
-    for step in steps {
-        world.step(step)?;
-    }
-    Ok(())
-}
-
-/// Adds a step.
-pub(super) fn push(steps: &mut Vec<Step>, step: Step) -> Result<(), AllocError> {
-    Ok(steps.push(step)?)
+    Some(world)
 }

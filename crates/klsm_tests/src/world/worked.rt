@@ -1,152 +1,135 @@
 //! Schedules written out, with what they answer.
 
-use super::steps::{acquire, flush, item, miss, nothing, push, put, release, take, take_all};
+use super::steps::{Row, item, steps_of, world_after};
 use klsm_run::Item;
-use klsm_world::{Step, StepError, World, WorldError, run};
-use std::alloc::{AllocError, Global};
-use std::test::Fail;
+use klsm_world::{StepError, Trace, WorldError, run};
+use std::alloc::Global;
 
-// Why a run is refused.
-fn refusal(alloc: Global, threads: u32, k: usize, steps: &[Step]) -> Option<WorldError> {
-    run(alloc, threads, k, steps).err()
+// What a run of these steps answers.
+fn traced(alloc: Global, threads: u32, k: usize, rows: &[Row]) -> Result<Trace, WorldError> {
+    match steps_of(alloc, rows) {
+        Some(steps) => run(alloc, threads, k, steps.as_slice()),
+        None => Err(WorldError::NoMemory),
+    }
+}
+
+// Why such a run is refused, where it is.
+fn refusal(alloc: Global, threads: u32, k: usize, rows: &[Row]) -> Option<WorldError> {
+    traced(alloc, threads, k, rows).err()
 }
 
 #[test]
-fn limits(rt: HostRuntime) -> Result<(), Fail> {
-    for (threads, k, why) in [
-        (0, 129, Some(WorldError::BadThreads)),
-        (17, 0, Some(WorldError::BadThreads)),
-        (1, 129, Some(WorldError::BadK)),
-        (16, 128, None),
-    ] {
-        assert_eq!(rt; refusal(rt.alloc(), threads, k, &[]), why);
-    }
-    Ok(())
+fn limits(rt: HostRuntime) {
+    let alloc = rt.alloc();
+    assert!(rt; refusal(alloc, 0, 129, &[]) == Some(WorldError::BadThreads));
+    assert!(rt; refusal(alloc, 17, 0, &[]) == Some(WorldError::BadThreads));
+    assert!(rt; refusal(alloc, 1, 129, &[]) == Some(WorldError::BadK));
+    assert!(rt; refusal(alloc, 16, 128, &[]).is_none());
 }
 
-// Thread 1 inserts 3 and is done, and thread 0 has taken its own part.
-fn push_opening(steps: &mut Vec<Step>) -> Result<(), AllocError> {
-    push(steps, acquire(1, 2))?;
-    push(steps, put(1, item(3, 1, 0)))?;
-    push(steps, release(1, 2))?;
-    push(steps, acquire(0, 1))
+// Thread 1 inserts 3 and is done, thread 0 takes its own part and the shared one and finds nothing, and then comes a last step.
+fn emptied(last: Row) -> [Row; 7] {
+    [
+        Row::Acquire(1, 2),
+        Row::Put(1, item(3, 1, 0)),
+        Row::Release(1, 2),
+        Row::Acquire(0, 1),
+        Row::Acquire(0, 0),
+        Row::Nothing(0),
+        last,
+    ]
 }
 
 // A thread may answer nothing while another's part has an item, but not without the shared part in hand.
 #[test]
-fn nothing_needs_the_shared_part(rt: HostRuntime) -> Result<(), Fail> {
-    let mut steps = Vec::new(rt.alloc());
-    push_opening(&mut steps)?;
-    push(&mut steps, nothing(0))?;
-    let why = Some(WorldError::At(4, StepError::NotHeld));
-    assert_eq!(rt; refusal(rt.alloc(), 2, 1, steps.as_slice()), why);
-    Ok(())
+fn nothing_needs_the_shared_part(rt: HostRuntime) {
+    let [first, second, third, fourth, _, nothing, _] = emptied(Row::Nothing(0));
+    let rows = [first, second, third, fourth, nothing];
+    let why = WorldError::At(4, StepError::NotHeld);
+    assert!(rt; refusal(rt.alloc(), 2, 1, &rows) == Some(why));
 }
 
-// The opening, and then thread 0 finds nothing.
-fn push_emptied(steps: &mut Vec<Step>) -> Result<(), AllocError> {
-    push_opening(steps)?;
-    push(steps, acquire(0, 0))?;
-    push(steps, nothing(0))
+// Whether a trace has these items inserted, deleted and left, and this greatest skip.
+fn tells(trace: &Trace, inserted: &[Item], deleted: &[Item], most: usize, live: &[Item]) -> bool {
+    trace.inserted.as_slice() == inserted
+        && trace.deleted.as_slice() == deleted
+        && trace.most == most
+        && trace.live.as_slice() == live
 }
 
-#[test]
-fn nothing_while_another_part_has_an_item(rt: HostRuntime) -> Result<(), Fail> {
-    let mut steps = Vec::new(rt.alloc());
-    push_emptied(&mut steps)?;
-    let trace = run(rt.alloc(), 2, 1, steps.as_slice())?;
+// A miss changes nothing.
+fn leaves_three(alloc: Global) -> Option<bool> {
+    let trace = traced(alloc, 2, 1, &emptied(Row::Miss(1, 1))).ok()?;
     let three = [item(3, 1, 0)];
-    assert!(rt; trace.inserted.as_slice() == three.as_slice());
-    assert!(rt; trace.deleted.as_slice().is_empty());
-    assert_eq!(rt; trace.most, 0);
-    assert!(rt; trace.live.as_slice() == three.as_slice());
-    Ok(())
-}
-
-// Why a step is refused after these.
-fn refusal_after_emptied(alloc: Global, step: Step) -> Result<Option<WorldError>, AllocError> {
-    let mut steps = Vec::new(alloc);
-    push_emptied(&mut steps)?;
-    push(&mut steps, step)?;
-    Ok(refusal(alloc, 2, 1, steps.as_slice()))
+    Some(tells(&trace, &three, &[], 0, &three))
 }
 
 #[test]
-fn one_acquire_more(rt: HostRuntime) -> Result<(), Fail> {
-    for (thread, part, why) in [(1, 1, StepError::Held(0)), (0, 3, StepError::NoSuchPart)] {
-        let refusal = refusal_after_emptied(rt.alloc(), acquire(thread, part))?;
-        assert_eq!(rt; refusal, Some(WorldError::At(6, why)));
+fn nothing_while_another_part_has_an_item(rt: HostRuntime) {
+    assert!(rt; leaves_three(rt.alloc()) == Some(true));
+}
+
+// Whether each step after these is refused for its reason.
+fn are_refused_last(alloc: Global, table: &[(Row, StepError)]) -> bool {
+    for (row, why) in table {
+        if refusal(alloc, 2, 1, &emptied(*row)) != Some(WorldError::At(6, *why)) {
+            return false;
+        }
     }
-    Ok(())
+    true
 }
 
 #[test]
-fn one_miss_more(rt: HostRuntime) -> Result<(), Fail> {
-    let wrong = Some(WorldError::At(6, StepError::WrongEvent));
-    assert_eq!(rt; refusal_after_emptied(rt.alloc(), miss(1, 1))?, None);
-    assert_eq!(rt; refusal_after_emptied(rt.alloc(), miss(1, 2))?, wrong);
-    Ok(())
+fn one_step_more(rt: HostRuntime) {
+    let table = [
+        (Row::Take(0, item(3, 1, 0)), StepError::WrongEvent),
+        (Row::Acquire(1, 1), StepError::Held(0)),
+        (Row::Acquire(0, 3), StepError::NoSuchPart),
+        (Row::Miss(1, 2), StepError::WrongEvent),
+    ];
+    assert!(rt; are_refused_last(rt.alloc(), &table));
+}
+
+// The items of the schedule below.
+fn items() -> [Item; 4] {
+    [item(1, 0, 0), item(2, 1, 1), item(3, 1, 0), item(9, 1, 2)]
+}
+
+// Thread 1 fills the shared part, thread 0 keeps an item in a part that it holds, and a deletion skips both smaller items.
+fn skipping<'a>(three_moves: &'a [Item], two_moves: &'a [Item]) -> [Row<'a>; 12] {
+    let [one, two, three, nine] = items();
+    [
+        Row::Acquire(1, 2),
+        Row::Acquire(1, 0),
+        Row::Put(1, three),
+        Row::Flush(1, two, three_moves),
+        Row::Flush(1, nine, two_moves),
+        Row::Release(1, 2),
+        Row::Release(1, 0),
+        Row::Acquire(0, 1),
+        Row::Put(0, one),
+        Row::Acquire(1, 2),
+        Row::Acquire(1, 0),
+        Row::Take(1, three),
+    ]
+}
+
+fn skips_two(alloc: Global) -> Option<bool> {
+    let [one, two, three, nine] = items();
+    let trace = traced(alloc, 2, 1, &skipping(&[three], &[two])).ok()?;
+    let inserted = [three, two, nine, one];
+    Some(tells(&trace, &inserted, &[three], 2, &[one, two, nine]))
+}
+
+fn leaves_the_others(alloc: Global) -> Option<bool> {
+    let [one, two, three, nine] = items();
+    let world = world_after(alloc, 2, 1, &skipping(&[three], &[two]))?;
+    let live = world.live(alloc).ok()?;
+    Some(live.as_slice() == [one, two, nine].as_slice() && world.skipped(nine) == 2)
 }
 
 #[test]
-fn one_take_more(rt: HostRuntime) -> Result<(), Fail> {
-    let wrong = Some(WorldError::At(6, StepError::WrongEvent));
-    let refusal = refusal_after_emptied(rt.alloc(), take(0, item(3, 1, 0)))?;
-    assert_eq!(rt; refusal, wrong);
-    Ok(())
-}
-
-// Thread 1 fills the shared part.
-fn push_filling(alloc: Global, steps: &mut Vec<Step>) -> Result<(), AllocError> {
-    let (three, two, nine) = (item(3, 1, 0), item(2, 1, 1), item(9, 1, 2));
-    push(steps, acquire(1, 2))?;
-    push(steps, acquire(1, 0))?;
-    push(steps, put(1, three))?;
-    push(steps, flush(alloc, 1, two, &[three])?)?;
-    push(steps, flush(alloc, 1, nine, &[two])?)?;
-    push(steps, release(1, 2))?;
-    push(steps, release(1, 0))
-}
-
-// Thread 0 keeps an item in a part that it holds, and a deletion skips both smaller items.
-fn push_skipping(steps: &mut Vec<Step>) -> Result<(), AllocError> {
-    push(steps, acquire(0, 1))?;
-    push(steps, put(0, item(1, 0, 0)))?;
-    push(steps, acquire(1, 2))?;
-    push(steps, acquire(1, 0))?;
-    push(steps, take(1, item(3, 1, 0)))
-}
-
-// Both in turn.
-fn skipping(alloc: Global) -> Result<Vec<Step>, AllocError> {
-    let mut steps = Vec::new(alloc);
-    push_filling(alloc, &mut steps)?;
-    push_skipping(&mut steps)?;
-    Ok(steps)
-}
-
-// What they leave.
-fn left() -> [Item; 3] {
-    [item(1, 0, 0), item(2, 1, 1), item(9, 1, 2)]
-}
-
-#[test]
-fn a_deletion_skips_two(rt: HostRuntime) -> Result<(), Fail> {
-    let steps = skipping(rt.alloc())?;
-    let trace = run(rt.alloc(), 2, 1, steps.as_slice())?;
-    let three = [item(3, 1, 0)];
-    assert!(rt; trace.deleted.as_slice() == three.as_slice());
-    assert_eq!(rt; trace.most, 2);
-    assert!(rt; trace.live.as_slice() == left().as_slice());
-    Ok(())
-}
-
-#[test]
-fn a_deletion_by_steps(rt: HostRuntime) -> Result<(), Fail> {
-    let steps = skipping(rt.alloc())?;
-    let mut world = World::new(rt.alloc(), 2, 1)?;
-    take_all(&mut world, steps.as_slice())?;
-    assert!(rt; world.live(rt.alloc())?.as_slice() == left().as_slice());
-    assert_eq!(rt; world.skipped(item(9, 1, 2)), 2);
-    Ok(())
+fn a_deletion_skips_two(rt: HostRuntime) {
+    assert!(rt; skips_two(rt.alloc()) == Some(true));
+    assert!(rt; leaves_the_others(rt.alloc()) == Some(true));
 }

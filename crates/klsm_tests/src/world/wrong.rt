@@ -1,10 +1,9 @@
 //! Wrong steps of each kind, with each reason for which it can be refused.
 
-use super::steps::{acquire, flush, item, miss, nothing, push, put, release, spy, take, take_all};
+use super::steps::{Row, item, step_of, world_after};
 use klsm_run::Item;
-use klsm_world::{Items, Step, StepError, World, WorldError};
-use std::alloc::{AllocError, Global};
-use std::test::Fail;
+use klsm_world::{Items, StepError, World};
+use std::alloc::Global;
 
 fn two_four_seven() -> (Item, Item, Item) {
     (item(2, 1, 0), item(4, 1, 1), item(7, 1, 2))
@@ -12,218 +11,154 @@ fn two_four_seven() -> (Item, Item, Item) {
 
 // Three threads with at most one item in an own part. Thread 0 holds its own part, which is empty, and the shared part with the
 // items 2 and 4; thread 1 holds its own part with 7, and has inserted three items; thread 2 holds nothing.
-fn opened(alloc: Global) -> Result<World, Fail> {
-    let mut steps = Vec::new(alloc);
-    push_opening(alloc, &mut steps)?;
-    let mut world = World::new(alloc, 3, 1)?;
-    take_all(&mut world, steps.as_slice())?;
-    Ok(world)
-}
-
-fn push_opening(alloc: Global, steps: &mut Vec<Step>) -> Result<(), AllocError> {
+fn opened(alloc: Global) -> Option<World> {
     let (two, four, seven) = two_four_seven();
-    push(steps, acquire(1, 2))?;
-    push(steps, acquire(1, 0))?;
-    push(steps, put(1, two))?;
-    push(steps, flush(alloc, 1, four, &[two])?)?;
-    push(steps, flush(alloc, 1, seven, &[four])?)?;
-    push(steps, release(1, 0))?;
-    push(steps, acquire(0, 1))?;
-    push(steps, acquire(0, 0))
+    let rows = [
+        Row::Acquire(1, 2),
+        Row::Acquire(1, 0),
+        Row::Put(1, two),
+        Row::Flush(1, four, &[two]),
+        Row::Flush(1, seven, &[four]),
+        Row::Release(1, 0),
+        Row::Acquire(0, 1),
+        Row::Acquire(0, 0),
+    ];
+    world_after(alloc, 3, 1, &rows)
 }
 
 // Whether the step, after the opening, is refused for this reason, and nothing changes.
-fn is_refused(alloc: Global, step: &Step, why: StepError) -> Result<bool, Fail> {
+fn is_refused(alloc: Global, row: Row, why: StepError) -> Option<bool> {
     let mut world = opened(alloc)?;
-    let before = world.live(alloc)?;
-    Ok(world.step(step) == Err(why) && is_unchanged(alloc, &mut world, &before)?)
+    let before = world.live(alloc).ok()?;
+    let step = step_of(alloc, row)?;
+    Some(world.step(&step) == Err(why) && is_unchanged(alloc, &mut world, &before)?)
 }
 
 // Whether these items live, and thread 0 still has its own part in hand.
-fn is_unchanged(alloc: Global, world: &mut World, before: &Items) -> Result<bool, WorldError> {
-    Ok(world.live(alloc)? == *before && world.step(&release(0, 1)).is_ok())
+fn is_unchanged(alloc: Global, world: &mut World, before: &Items) -> Option<bool> {
+    let live = world.live(alloc).ok()?;
+    let release = step_of(alloc, Row::Release(0, 1))?;
+    Some(live == *before && world.step(&release) == Ok(()))
 }
 
-#[test]
-fn acquires(rt: HostRuntime) -> Result<(), Fail> {
-    for (thread, part, why) in [
-        (3, 0, StepError::NoSuchPart),
-        (0, 4, StepError::NoSuchPart),
-        (u32::MAX, u32::MAX, StepError::NoSuchPart),
-        (0, 0, StepError::Held(0)),
-        (1, 1, StepError::Held(0)),
-        (0, 2, StepError::Held(1)),
-    ] {
-        let refused = is_refused(rt.alloc(), &acquire(thread, part), why)?;
-        assert!(rt; refused, "thread {thread}, part {part}");
+// Whether each step, after the opening, is refused for its reason.
+fn are_refused(alloc: Global, table: &[(Row, StepError)]) -> bool {
+    for (row, why) in table {
+        if is_refused(alloc, *row, *why) != Some(true) {
+            return false;
+        }
     }
-    Ok(())
+    true
 }
 
 #[test]
-fn releases(rt: HostRuntime) -> Result<(), Fail> {
-    for (thread, part, why) in [
-        (3, 0, StepError::NoSuchPart),
-        (0, 4, StepError::NoSuchPart),
-        (0, 2, StepError::NotHeld),
-        (1, 0, StepError::NotHeld),
-    ] {
-        let refused = is_refused(rt.alloc(), &release(thread, part), why)?;
-        assert!(rt; refused, "thread {thread}, part {part}");
-    }
-    Ok(())
+fn acquires(rt: HostRuntime) {
+    let table = [
+        (Row::Acquire(3, 0), StepError::NoSuchPart),
+        (Row::Acquire(0, 4), StepError::NoSuchPart),
+        (Row::Acquire(u32::MAX, u32::MAX), StepError::NoSuchPart),
+        (Row::Acquire(0, 0), StepError::Held(0)),
+        (Row::Acquire(1, 1), StepError::Held(0)),
+        (Row::Acquire(0, 2), StepError::Held(1)),
+    ];
+    assert!(rt; are_refused(rt.alloc(), &table));
 }
 
 #[test]
-fn misses(rt: HostRuntime) -> Result<(), Fail> {
-    for (thread, part, why) in [
-        (3, 0, StepError::NoSuchPart),
-        (1, 4, StepError::NoSuchPart),
-        (0, 0, StepError::WrongEvent),
-        (1, 2, StepError::WrongEvent),
-    ] {
-        let refused = is_refused(rt.alloc(), &miss(thread, part), why)?;
-        assert!(rt; refused, "thread {thread}, part {part}");
-    }
-    Ok(())
+fn releases_and_misses(rt: HostRuntime) {
+    let table = [
+        (Row::Release(3, 0), StepError::NoSuchPart),
+        (Row::Release(0, 4), StepError::NoSuchPart),
+        (Row::Release(0, 2), StepError::NotHeld),
+        (Row::Release(1, 0), StepError::NotHeld),
+        (Row::Miss(3, 0), StepError::NoSuchPart),
+        (Row::Miss(1, 4), StepError::NoSuchPart),
+        (Row::Miss(0, 0), StepError::WrongEvent),
+        (Row::Miss(1, 2), StepError::WrongEvent),
+    ];
+    assert!(rt; are_refused(rt.alloc(), &table));
 }
 
 #[test]
-fn puts(rt: HostRuntime) -> Result<(), Fail> {
-    for (thread, item, why) in [
-        (3, item(1, 3, 0), StepError::NoSuchPart),
-        (2, item(1, 2, 0), StepError::NotHeld),
-        (1, item(1, 1, 3), StepError::WrongEvent),
-        (0, item(1, 1, 0), StepError::WrongEvent),
-        (0, item(1, 0, 1), StepError::WrongEvent),
-    ] {
-        let refused = is_refused(rt.alloc(), &put(thread, item), why)?;
-        assert!(rt; refused, "thread {thread}, item {item:?}");
-    }
-    Ok(())
-}
-
-// Whether a flush is refused.
-fn is_flush_refused(
-    alloc: Global,
-    thread: u32,
-    item: Item,
-    moved: &[Item],
-    why: StepError,
-) -> Result<bool, Fail> {
-    let step = flush(alloc, thread, item, moved)?;
-    is_refused(alloc, &step, why)
+fn puts(rt: HostRuntime) {
+    let table = [
+        (Row::Put(3, item(1, 3, 0)), StepError::NoSuchPart),
+        (Row::Put(2, item(1, 2, 0)), StepError::NotHeld),
+        (Row::Put(1, item(1, 1, 3)), StepError::WrongEvent),
+        (Row::Put(0, item(1, 1, 0)), StepError::WrongEvent),
+        (Row::Put(0, item(1, 0, 1)), StepError::WrongEvent),
+    ];
+    assert!(rt; are_refused(rt.alloc(), &table));
 }
 
 #[test]
-fn flushes_of_wrong_parts(rt: HostRuntime) -> Result<(), Fail> {
-    for (thread, item, why) in [
-        (3, item(1, 3, 0), StepError::NoSuchPart),
-        (2, item(1, 2, 0), StepError::NotHeld),
-        (1, item(1, 1, 3), StepError::NotHeld),
-    ] {
-        let refused = is_flush_refused(rt.alloc(), thread, item, &[item], why)?;
-        assert!(rt; refused, "thread {thread}");
-    }
-    Ok(())
+fn flushes(rt: HostRuntime) {
+    let (one, late) = (item(1, 0, 0), item(1, 0, 1));
+    let by_another = item(1, 1, 3);
+    let table = [
+        (Row::Flush(3, item(1, 3, 0), &[]), StepError::NoSuchPart),
+        (Row::Flush(2, item(1, 2, 0), &[]), StepError::NotHeld),
+        (Row::Flush(1, by_another, &[by_another]), StepError::NotHeld),
+        (Row::Flush(0, late, &[late]), StepError::WrongEvent),
+        (Row::Flush(0, one, &[item(2, 1, 0)]), StepError::WrongEvent),
+        (Row::Flush(0, one, &[one, one]), StepError::WrongEvent),
+    ];
+    assert!(rt; are_refused(rt.alloc(), &table));
 }
 
 #[test]
-fn flushes_of_wrong_items(rt: HostRuntime) -> Result<(), Fail> {
-    let one = item(1, 0, 0);
-    let late = item(1, 0, 1);
-    for (item, moved) in [
-        (late, [late].as_slice()),
-        (one, [item(2, 1, 0)].as_slice()),
-        (one, [one, one].as_slice()),
-    ] {
-        let refused = is_flush_refused(rt.alloc(), 0, item, moved, StepError::WrongEvent)?;
-        assert!(rt; refused, "items {moved:?}");
-    }
-    Ok(())
-}
-
-#[test]
-fn takes(rt: HostRuntime) -> Result<(), Fail> {
+fn takes_and_nothings(rt: HostRuntime) {
     let (_, _, seven) = two_four_seven();
-    for (thread, item, why) in [
-        (3, seven, StepError::NoSuchPart),
-        (2, seven, StepError::NotHeld),
-        (1, seven, StepError::NotHeld),
-        (0, seven, StepError::WrongEvent),
-        (0, item(2, 1, 1), StepError::WrongEvent),
-    ] {
-        let refused = is_refused(rt.alloc(), &take(thread, item), why)?;
-        assert!(rt; refused, "thread {thread}, item {item:?}");
-    }
-    Ok(())
+    let table = [
+        (Row::Take(3, seven), StepError::NoSuchPart),
+        (Row::Take(2, seven), StepError::NotHeld),
+        (Row::Take(1, seven), StepError::NotHeld),
+        (Row::Take(0, seven), StepError::WrongEvent),
+        (Row::Take(0, item(2, 1, 1)), StepError::WrongEvent),
+        (Row::Nothing(3), StepError::NoSuchPart),
+        (Row::Nothing(2), StepError::NotHeld),
+        (Row::Nothing(1), StepError::NotHeld),
+        (Row::Nothing(0), StepError::WrongEvent),
+    ];
+    assert!(rt; are_refused(rt.alloc(), &table));
 }
 
 #[test]
-fn nothings(rt: HostRuntime) -> Result<(), Fail> {
-    for (thread, why) in [
-        (3, StepError::NoSuchPart),
-        (2, StepError::NotHeld),
-        (1, StepError::NotHeld),
-        (0, StepError::WrongEvent),
-    ] {
-        let refused = is_refused(rt.alloc(), &nothing(thread), why)?;
-        assert!(rt; refused, "thread {thread}");
-    }
-    Ok(())
-}
-
-// Whether a spy for the item 7 is refused.
-fn is_spy_refused(alloc: Global, thread: u32, victim: u32, why: StepError) -> Result<bool, Fail> {
+fn spies(rt: HostRuntime) {
     let (_, _, seven) = two_four_seven();
-    let step = spy(alloc, thread, victim, &[seven])?;
-    is_refused(alloc, &step, why)
+    let table = [
+        (Row::Spy(3, 0, &[seven]), StepError::NoSuchPart),
+        (Row::Spy(0, 3, &[seven]), StepError::NoSuchPart),
+        (Row::Spy(0, 0, &[seven]), StepError::NoSuchPart),
+        (Row::Spy(0, 1, &[seven]), StepError::NotHeld),
+        (Row::Spy(1, 0, &[seven]), StepError::NotHeld),
+    ];
+    assert!(rt; are_refused(rt.alloc(), &table));
 }
 
-#[test]
-fn spies(rt: HostRuntime) -> Result<(), Fail> {
-    for (thread, victim, why) in [
-        (3, 0, StepError::NoSuchPart),
-        (0, 3, StepError::NoSuchPart),
-        (0, 0, StepError::NoSuchPart),
-        (0, 1, StepError::NotHeld),
-        (1, 0, StepError::NotHeld),
-    ] {
-        let refused = is_spy_refused(rt.alloc(), thread, victim, why)?;
-        assert!(rt; refused, "thread {thread}, victim {victim}");
-    }
-    Ok(())
+// What the step of a row answers.
+fn answer(alloc: Global, world: &mut World, row: Row) -> Option<Result<(), StepError>> {
+    Some(world.step(&step_of(alloc, row)?))
 }
 
-// After the opening, with thread 1's part in thread 0's hand.
-fn opened_to_spy(alloc: Global) -> Result<World, Fail> {
+// Whether thread 0, with both parts in hand, may not spy on thread 1 for these items, but for 7, and that only while its own
+// part is empty.
+fn spies_for_seven_alone(alloc: Global, moved: &[Item]) -> Option<bool> {
+    let (_, _, seven) = two_four_seven();
     let mut world = opened(alloc)?;
-    world.step(&release(1, 2))?;
-    world.step(&acquire(0, 2))?;
-    Ok(world)
+    answer(alloc, &mut world, Row::Release(1, 2))?.ok()?;
+    answer(alloc, &mut world, Row::Acquire(0, 2))?.ok()?;
+    let wrong = answer(alloc, &mut world, Row::Spy(0, 1, moved))?;
+    let right = answer(alloc, &mut world, Row::Spy(0, 1, &[seven]))?;
+    let late = answer(alloc, &mut world, Row::Spy(0, 1, &[seven]))?;
+    let refused = Err(StepError::WrongEvent);
+    Some(wrong == refused && right == Ok(()) && late == refused)
 }
 
-// What a spy of thread 0 on thread 1 answers.
-fn spied(
-    alloc: Global,
-    world: &mut World,
-    moved: &[Item],
-) -> Result<Option<StepError>, AllocError> {
-    let step = spy(alloc, 0, 1, moved)?;
-    Ok(world.step(&step).err())
-}
-
-// A spy by a thread that holds both parts, of the items that it must not name.
 #[test]
-fn spies_of_wrong_items(rt: HostRuntime) -> Result<(), Fail> {
+fn spies_of_wrong_items(rt: HostRuntime) {
     let (two, _, seven) = two_four_seven();
-    let wrong = Some(StepError::WrongEvent);
     for moved in [[].as_slice(), [two].as_slice(), [seven, seven].as_slice()] {
-        let mut world = opened_to_spy(rt.alloc())?;
-        assert_eq!(rt; spied(rt.alloc(), &mut world, moved)?, wrong);
-        assert_eq!(rt; spied(rt.alloc(), &mut world, &[seven])?, None);
-        // The own part is no longer empty.
-        assert_eq!(rt; spied(rt.alloc(), &mut world, &[seven])?, wrong);
+        assert!(rt; spies_for_seven_alone(rt.alloc(), moved) == Some(true));
     }
-    Ok(())
 }

@@ -1,12 +1,12 @@
 //! Random steps, legal ones and others.
 
-use super::super::steps::{acquire, flush, miss, nothing, put, release, spy, take};
+use super::super::steps::{Row, step_of};
 use super::plain::Plain;
 use klsm_run::{Item, Stamp};
 use klsm_world::Step;
 use rand_core::Rng;
 use rand_pcg::Pcg32;
-use std::alloc::{AllocError, Global};
+use std::alloc::Global;
 
 // A number below `bound`, or 0.
 fn below(mix: &mut Pcg32, bound: usize) -> usize {
@@ -18,25 +18,15 @@ fn any_of(mix: &mut Pcg32, threads: u32) -> u32 {
     mix.next_u32() % threads.max(1)
 }
 
-// Some of the items, in their order, each or none of them more often than not.
-fn some_of(alloc: Global, mix: &mut Pcg32, items: &[Item]) -> Result<Vec<Item>, AllocError> {
-    let eighths = below(mix, 9);
-    let mut some = Vec::new(alloc);
-    for item in items {
-        if below(mix, 8) < eighths {
-            some.push(*item)?;
-        }
-    }
-    Ok(some)
-}
-
-/// A step that is often legal in this world, and as often as not has something wrong.
-pub(super) fn proposed(alloc: Global, mix: &mut Pcg32, plain: &Plain) -> Result<Step, AllocError> {
+/// A step that is often legal in this world, and sometimes has something wrong.
+pub(super) fn proposed(alloc: Global, mix: &mut Pcg32, plain: &Plain) -> Option<Step> {
     let thread = proposed_thread(mix, plain);
-    let step = proposed_step(alloc, mix, plain, thread)?;
-    match below(mix, 40) {
-        wrong @ 0..=7 => spoilt(alloc, wrong, plain.threads),
-        _ => Ok(step),
+    if below(mix, 5) == 0 {
+        return spoilt(alloc, mix, plain.threads);
+    }
+    match proposed_row(mix, plain, thread) {
+        Some(row) => step_of(alloc, row),
+        None => proposed_event(alloc, mix, plain, thread),
     }
 }
 
@@ -49,46 +39,39 @@ fn proposed_thread(mix: &mut Pcg32, plain: &Plain) -> u32 {
     }
 }
 
-// A step of the thread.
-fn proposed_step(
-    alloc: Global,
-    mix: &mut Pcg32,
-    plain: &Plain,
-    thread: u32,
-) -> Result<Step, AllocError> {
+// A step that takes a part, gives one back or tries one in vain. `None` stands for an event.
+fn proposed_row(mix: &mut Pcg32, plain: &Plain, thread: u32) -> Option<Row<'static>> {
     let own_part = thread.saturating_add(1);
     let any_part = any_of(mix, plain.threads.saturating_add(1));
     let has_own = plain.holder(own_part) == Some(thread);
     let has_shared = plain.holder(0) == Some(thread);
     match below(mix, 10) {
-        0 => Ok(release(thread, own_part)),
-        1 => Ok(release(thread, any_part)),
-        2 => Ok(miss(thread, any_part)),
-        3 => Ok(acquire(thread, any_part)),
-        _ if !has_own => Ok(acquire(thread, own_part)),
-        4 | 5 if !has_shared => Ok(acquire(thread, 0)),
-        _ => proposed_event(alloc, mix, plain, thread),
+        0 => Some(Row::Release(thread, own_part)),
+        1 => Some(Row::Release(thread, any_part)),
+        2 => Some(Row::Miss(thread, any_part)),
+        3 => Some(Row::Acquire(thread, any_part)),
+        _ if !has_own => Some(Row::Acquire(thread, own_part)),
+        4 | 5 if !has_shared => Some(Row::Acquire(thread, 0)),
+        _ => None,
     }
 }
 
 // An event that is often legal where the thread holds its own part and the shared one.
-fn proposed_event(
-    alloc: Global,
-    mix: &mut Pcg32,
-    plain: &Plain,
-    thread: u32,
-) -> Result<Step, AllocError> {
+fn proposed_event(alloc: Global, mix: &mut Pcg32, plain: &Plain, thread: u32) -> Option<Step> {
     let item = Item {
         key: below(mix, 20) as u64,
         stamp: plain.next_stamp(thread),
         load: 0,
     };
     match below(mix, 12) {
-        0..=2 => Ok(put(thread, item)),
+        0..=2 => step_of(alloc, Row::Put(thread, item)),
         3..=5 => proposed_flush(alloc, mix, plain, thread, item),
-        6 => Ok(nothing(thread)),
-        7 => proposed_spy(alloc, mix, plain, thread),
-        _ => proposed_take(mix, plain, thread, item),
+        6 => step_of(alloc, Row::Nothing(thread)),
+        7 => proposed_spy(alloc, mix, plain, thread, item),
+        _ => step_of(
+            alloc,
+            Row::Take(thread, proposed_take(mix, plain, thread, item)),
+        ),
     }
 }
 
@@ -99,12 +82,13 @@ fn proposed_flush(
     plain: &Plain,
     thread: u32,
     item: Item,
-) -> Result<Step, AllocError> {
-    let mut joined = plain.items(thread.saturating_add(1))?;
-    joined.push(item)?;
-    joined.sort_unstable();
-    let moved = some_of(alloc, mix, joined.as_slice())?;
-    flush(alloc, thread, item, moved.as_slice())
+) -> Option<Step> {
+    let mut items = plain.live(alloc)?;
+    items.push(item).ok()?;
+    items.sort_unstable();
+    let own_part = thread.saturating_add(1);
+    let moved = some_of(alloc, mix, plain, own_part, item, items.as_slice())?;
+    step_of(alloc, Row::Flush(thread, item, moved.as_slice()))
 }
 
 // A spy that moves some of another's items.
@@ -113,45 +97,65 @@ fn proposed_spy(
     mix: &mut Pcg32,
     plain: &Plain,
     thread: u32,
-) -> Result<Step, AllocError> {
+    item: Item,
+) -> Option<Step> {
     let victim = any_of(mix, plain.threads);
-    let among = plain.items(victim.saturating_add(1))?;
-    let moved = some_of(alloc, mix, among.as_slice())?;
-    spy(alloc, thread, victim, moved.as_slice())
+    let items = plain.live(alloc)?;
+    let part = victim.saturating_add(1);
+    let moved = some_of(alloc, mix, plain, part, item, items.as_slice())?;
+    step_of(alloc, Row::Spy(thread, victim, moved.as_slice()))
 }
 
-// A take of the lesser of the least own item and a shared one, which is mostly a candidate, or of `item` where there is none.
-fn proposed_take(
+// Some of those items, in their order, that are in a part or are this item: each or none of them more often than not.
+fn some_of(
+    alloc: Global,
     mix: &mut Pcg32,
     plain: &Plain,
-    thread: u32,
+    part: u32,
     item: Item,
-) -> Result<Step, AllocError> {
-    let least = plain.items(thread.saturating_add(1))?.first().copied();
-    let shared = plain.items(0)?;
-    let at = below(mix, shared.len().min(plain.k.saturating_add(2)));
-    let candidate = shared.get(at).copied().unwrap_or(item);
-    Ok(take(thread, candidate.min(least.unwrap_or(candidate))))
+    items: &[Item],
+) -> Option<Vec<Item>> {
+    let eighths = below(mix, 9);
+    let mut some = Vec::new(alloc);
+    for one in items {
+        if (*one == item || plain.has(part, *one)) && below(mix, 8) < eighths {
+            some.push(*one).ok()?;
+        }
+    }
+    Some(some)
 }
 
-// A step with something wrong, of the eight kinds below.
-fn spoilt(alloc: Global, kind: usize, threads: u32) -> Result<Step, AllocError> {
+// The item of a take: the lesser of the least own item and a shared one, which is mostly a candidate, or `item` where there is
+// none.
+fn proposed_take(mix: &mut Pcg32, plain: &Plain, thread: u32, item: Item) -> Item {
+    let at = below(mix, plain.count(0).min(plain.k.saturating_add(2)));
+    let candidate = plain.nth(0, at).unwrap_or(item);
+    match plain.nth(thread.saturating_add(1), 0) {
+        Some(least) => candidate.min(least),
+        None => candidate,
+    }
+}
+
+// A step with something wrong.
+fn spoilt(alloc: Global, mix: &mut Pcg32, threads: u32) -> Option<Step> {
+    let stamp = Stamp {
+        owner: 0,
+        number: 99,
+    };
     let wrong = Item {
         key: 3,
-        stamp: Stamp {
-            owner: 0,
-            number: 99,
-        },
+        stamp,
         load: 0,
     };
-    match kind {
-        0 => Ok(acquire(threads, 0)),
-        1 => Ok(release(0, threads.saturating_add(1))),
-        2 => Ok(put(0, wrong)),
-        3 => flush(alloc, 0, wrong, &[wrong]),
-        4 => Ok(take(0, wrong)),
-        5 => spy(alloc, 0, 0, &[wrong]),
-        6 => spy(alloc, 0, threads, &[wrong]),
-        _ => Ok(nothing(threads)),
-    }
+    let row = match below(mix, 8) {
+        0 => Row::Acquire(threads, 0),
+        1 => Row::Release(0, threads.saturating_add(1)),
+        2 => Row::Put(0, wrong),
+        3 => Row::Flush(0, wrong, &[wrong]),
+        4 => Row::Take(0, wrong),
+        5 => Row::Spy(0, 0, &[wrong]),
+        6 => Row::Spy(0, threads, &[wrong]),
+        _ => Row::Nothing(threads),
+    };
+    step_of(alloc, row)
 }
