@@ -40,9 +40,8 @@ fn answer_same(both: &mut Both, step: Step) -> Option<bool> {
 
 // Whether both show the same live items, with the same ranks.
 fn show_same(alloc: Global, both: &Both) -> Option<bool> {
-    let want = both.plain.live(alloc)?;
     let live = both.world.live(alloc).ok()?;
-    Some(live.as_slice() == want.as_slice() && has_ranks(&both.world, want.as_slice()))
+    Some(both.plain.shows(live.as_slice()) && has_ranks(&both.world, live.as_slice()))
 }
 
 // Whether each item has its index as its rank.
@@ -70,9 +69,8 @@ fn step_same(alloc: Global, mix: &mut Pcg32, both: &mut Both) -> Option<bool> {
 fn run_same(alloc: Global, both: &Both) -> Option<bool> {
     let (threads, k) = (both.plain.threads, both.plain.k);
     let trace = run(alloc, threads, k, both.taken.as_slice()).ok()?;
-    let live = both.plain.live(alloc)?;
     let are_many = both.taken.len() > 300 && both.plain.deleted.len() > 20;
-    Some(are_many && tells_same(&trace, &both.plain) && trace.live.as_slice() == live.as_slice())
+    Some(are_many && tells_same(&trace, &both.plain) && both.plain.shows(trace.live.as_slice()))
 }
 
 fn tells_same(trace: &Trace, plain: &Plain) -> bool {
@@ -106,11 +104,10 @@ fn refuse_same(alloc: Global, mix: &mut Pcg32, both: &mut Both) -> Option<bool> 
 fn are_same(alloc: Global, threads: u32, k: usize) -> Option<bool> {
     let mut mix = Pcg32::seed_from_u64(11);
     let mut both = both_of(alloc, threads, k)?;
-    Some(
-        step_same(alloc, &mut mix, &mut both)?
-            && run_same(alloc, &both)?
-            && refuse_same(alloc, &mut mix, &mut both)?,
-    )
+    let are_steps = step_same(alloc, &mut mix, &mut both)?;
+    let are_runs = run_same(alloc, &both)?;
+    let are_refusals = refuse_same(alloc, &mut mix, &mut both)?;
+    Some(are_steps && are_runs && are_refusals)
 }
 
 // The first k of these at which the worlds differ.

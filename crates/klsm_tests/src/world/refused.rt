@@ -94,19 +94,14 @@ fn goes_through(
 // Takes each step of the schedule so, and answers whether all went through and no item is left.
 fn all_go_through(alloc: Global, heap: &Rationed<Global>) -> Option<bool> {
     let steps = schedule(alloc)?;
+    heap.allow(u64::MAX);
     let mut world = World::new(heap, 2, 2).ok()?;
     for step in &steps {
         if !goes_through(alloc, heap, &mut world, step) {
             return Some(false);
         }
     }
-    Some(world.live(alloc).ok()?.as_slice().is_empty())
-}
-
-#[test]
-fn steps_refused(rt: HostRuntime) {
-    let heap = Rationed::new(rt.alloc());
-    assert!(rt; all_go_through(rt.alloc(), &heap) == Some(true));
+    Some(shows(alloc, &world, &Items::new(Vec::new(alloc))))
 }
 
 // Why there is no world with so many growths granted.
@@ -115,30 +110,14 @@ fn refusal_within(heap: &Rationed<Global>, growths: u64) -> Option<WorldError> {
     World::new(heap, 2, 2).err()
 }
 
-#[test]
-fn making_refused(rt: HostRuntime) {
-    let heap = Rationed::new(rt.alloc());
-    for growths in 0..3 {
-        assert!(rt; refusal_within(&heap, growths) == Some(WorldError::NoMemory));
-    }
-    assert!(rt; refusal_within(&heap, 3).is_none());
-}
-
-// Whether the live items, which are one, are shown with one growth, and refused without.
+// Whether the live items, which are one, are given with one growth, and refused without.
 fn is_live_refused(alloc: Global, heap: &Rationed<Global>) -> Option<bool> {
     let one = item(1, 0, 0);
     let world = world_after(alloc, 1, 1, &[Row::Acquire(0, 1), Row::Put(0, one)])?;
     heap.allow(0);
     let refusal = world.live(heap).err();
     heap.allow(1);
-    let live = world.live(heap).ok()?;
-    Some(refusal == Some(WorldError::NoMemory) && live.as_slice() == [one].as_slice())
-}
-
-#[test]
-fn live_refused(rt: HostRuntime) {
-    let heap = Rationed::new(rt.alloc());
-    assert!(rt; is_live_refused(rt.alloc(), &heap) == Some(true));
+    Some(refusal == Some(WorldError::NoMemory) && world.live(heap).is_ok())
 }
 
 // Runs steps with so many growths granted. A run that goes through deletes three items and skips none.
@@ -173,7 +152,13 @@ fn schedule_goes_through(alloc: Global, heap: &Rationed<Global>) -> Option<bool>
 }
 
 #[test]
-fn runs_refused(rt: HostRuntime) {
+fn each_growth(rt: HostRuntime) {
     let heap = Rationed::new(rt.alloc());
+    for growths in 0..3 {
+        assert!(rt; refusal_within(&heap, growths) == Some(WorldError::NoMemory));
+    }
+    assert!(rt; refusal_within(&heap, 3).is_none());
+    assert!(rt; all_go_through(rt.alloc(), &heap) == Some(true));
+    assert!(rt; is_live_refused(rt.alloc(), &heap) == Some(true));
     assert!(rt; schedule_goes_through(rt.alloc(), &heap) == Some(true));
 }

@@ -2,7 +2,7 @@
 
 use super::steps::{Row, item, items_of, step_of, steps_of};
 use klsm_run::Item;
-use klsm_world::{Entry, Event, Trace, run};
+use klsm_world::{Entry, Event, Step, Trace, run};
 use std::alloc::Global;
 
 fn two_three() -> (Item, Item) {
@@ -12,20 +12,6 @@ fn two_three() -> (Item, Item) {
 // Whether the steps of two rows are equal.
 fn are_equal_steps(alloc: Global, one: Row, other: Row) -> Option<bool> {
     Some(step_of(alloc, one)? == step_of(alloc, other)?)
-}
-
-#[test]
-fn equal_steps(rt: HostRuntime) {
-    let (two, three) = two_three();
-    let flush = Row::Flush(0, three, &[two]);
-    for (other, are_equal) in [
-        (Row::Flush(0, three, [two].as_slice()), true),
-        (Row::Flush(0, three, [two, three].as_slice()), false),
-        (Row::Flush(1, three, [two].as_slice()), false),
-        (Row::Put(0, three), false),
-    ] {
-        assert!(rt; are_equal_steps(rt.alloc(), flush, other) == Some(are_equal));
-    }
 }
 
 // An acquire of part 1 that found items.
@@ -44,15 +30,6 @@ fn is_put(alloc: Global, items: &[Item], put: Item) -> Option<bool> {
     Some(found(alloc, items)? == Entry::Committed(Event::Put(put)))
 }
 
-#[test]
-fn equal_entries(rt: HostRuntime) {
-    let (two, three) = two_three();
-    let alloc = rt.alloc();
-    assert!(rt; are_equal_found(alloc, &[two, three], &[two, three]) == Some(true));
-    assert!(rt; are_equal_found(alloc, &[two, three], &[three, two]) == Some(false));
-    assert!(rt; is_put(alloc, &[two], two) == Some(false));
-}
-
 // The trace of one insertion.
 fn after_put(alloc: Global, item: Item) -> Option<Trace> {
     let steps = steps_of(alloc, &[Row::Acquire(0, 1), Row::Put(0, item)])?;
@@ -65,25 +42,40 @@ fn are_equal_traces(alloc: Global, one: Item, other: Item) -> Option<bool> {
 }
 
 #[test]
-fn equal_traces(rt: HostRuntime) {
+fn compared(rt: HostRuntime) {
+    let (two, three) = two_three();
     let alloc = rt.alloc();
-    let (two, three) = (item(2, 0, 0), item(3, 0, 0));
+    let flush = Row::Flush(0, three, &[two]);
+    assert!(rt; are_equal_steps(alloc, flush, flush) == Some(true));
+    assert!(rt; are_equal_steps(alloc, flush, Row::Flush(0, three, &[two, three])) == Some(false));
+    assert!(rt; are_equal_steps(alloc, flush, Row::Flush(1, three, &[two])) == Some(false));
+    assert!(rt; are_equal_steps(alloc, flush, Row::Put(0, three)) == Some(false));
+    assert!(rt; are_equal_found(alloc, &[two, three], &[two, three]) == Some(true));
+    assert!(rt; are_equal_found(alloc, &[two, three], &[three, two]) == Some(false));
+    assert!(rt; is_put(alloc, &[two], two) == Some(false));
     assert!(rt; are_equal_traces(alloc, two, two) == Some(true));
-    assert!(rt; are_equal_traces(alloc, two, three) == Some(false));
+    assert!(rt; are_equal_traces(alloc, two, item(3, 0, 0)) == Some(false));
 }
 
-// Whether the step of a row prints so.
-fn prints(alloc: Global, row: Row, want: &str) -> Option<bool> {
-    let step = step_of(alloc, row)?;
+// Whether a step prints so.
+fn prints(alloc: Global, step: &Step, want: &str) -> Option<bool> {
     let text = format!(in alloc; "{step:?}").ok()?;
     Some(text.as_str() == want)
 }
 
+fn flush_prints(alloc: Global) -> Option<bool> {
+    let (two, three) = two_three();
+    let step = step_of(alloc, Row::Flush(0, three, &[two]))?;
+    prints(
+        alloc,
+        &step,
+        "Commit { thread: 0, event: Flush { \
+        item: Item { key: 3, stamp: Stamp { owner: 0, number: 1 }, load: 0 }, \
+        moved: [Item { key: 2, stamp: Stamp { owner: 0, number: 0 }, load: 0 }] } }",
+    )
+}
+
 #[test]
 fn printed(rt: HostRuntime) {
-    let (two, three) = two_three();
-    let want = "Commit { thread: 0, event: Flush { \
-        item: Item { key: 3, stamp: Stamp { owner: 0, number: 1 }, load: 0 }, \
-        moved: [Item { key: 2, stamp: Stamp { owner: 0, number: 0 }, load: 0 }] } }";
-    assert!(rt; prints(rt.alloc(), Row::Flush(0, three, &[two]), want) == Some(true));
+    assert!(rt; flush_prints(rt.alloc()) == Some(true));
 }

@@ -68,7 +68,12 @@ pub(super) fn steps_of(alloc: Global, rows: &[Row]) -> Option<Vec<Step>> {
 pub(super) fn world_after(alloc: Global, threads: u32, k: usize, rows: &[Row]) -> Option<World> {
     let mut world = World::new(alloc, threads, k).ok()?;
     for row in rows {
-        world.step(&step_of(alloc, *row)?).ok()?;
+        take_row(alloc, &mut world, *row)?;
     }
     Some(world)
+}
+
+fn take_row(alloc: Global, world: &mut World, row: Row) -> Option<()> {
+    let step = step_of(alloc, row)?;
+    world.step(&step).ok()
 }

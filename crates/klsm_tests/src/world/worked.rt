@@ -2,7 +2,7 @@
 
 use super::steps::{Row, item, steps_of, world_after};
 use klsm_run::Item;
-use klsm_world::{StepError, Trace, WorldError, run};
+use klsm_world::{StepError, Trace, World, WorldError, run};
 use std::alloc::Global;
 
 // What a run of these steps answers.
@@ -18,15 +18,6 @@ fn refusal(alloc: Global, threads: u32, k: usize, rows: &[Row]) -> Option<WorldE
     traced(alloc, threads, k, rows).err()
 }
 
-#[test]
-fn limits(rt: HostRuntime) {
-    let alloc = rt.alloc();
-    assert!(rt; refusal(alloc, 0, 129, &[]) == Some(WorldError::BadThreads));
-    assert!(rt; refusal(alloc, 17, 0, &[]) == Some(WorldError::BadThreads));
-    assert!(rt; refusal(alloc, 1, 129, &[]) == Some(WorldError::BadK));
-    assert!(rt; refusal(alloc, 16, 128, &[]).is_none());
-}
-
 // Thread 1 inserts 3 and is done, thread 0 takes its own part and the shared one and finds nothing, and then comes a last step.
 fn emptied(last: Row) -> [Row; 7] {
     [
@@ -40,13 +31,33 @@ fn emptied(last: Row) -> [Row; 7] {
     ]
 }
 
-// A thread may answer nothing while another's part has an item, but not without the shared part in hand.
-#[test]
-fn nothing_needs_the_shared_part(rt: HostRuntime) {
+// Why a step after these is refused.
+fn last_refusal(alloc: Global, last: Row) -> Option<WorldError> {
+    refusal(alloc, 2, 1, &emptied(last))
+}
+
+// Why the empty answer is refused without the shared part in hand.
+fn early_refusal(alloc: Global) -> Option<WorldError> {
     let [first, second, third, fourth, _, nothing, _] = emptied(Row::Nothing(0));
-    let rows = [first, second, third, fourth, nothing];
-    let why = WorldError::At(4, StepError::NotHeld);
-    assert!(rt; refusal(rt.alloc(), 2, 1, &rows) == Some(why));
+    refusal(alloc, 2, 1, &[first, second, third, fourth, nothing])
+}
+
+#[test]
+fn refusals(rt: HostRuntime) {
+    let alloc = rt.alloc();
+    assert!(rt; refusal(alloc, 0, 129, &[]) == Some(WorldError::BadThreads));
+    assert!(rt; refusal(alloc, 17, 0, &[]) == Some(WorldError::BadThreads));
+    assert!(rt; refusal(alloc, 1, 129, &[]) == Some(WorldError::BadK));
+    assert!(rt; refusal(alloc, 16, 128, &[]).is_none());
+    assert!(rt; early_refusal(alloc) == Some(WorldError::At(4, StepError::NotHeld)));
+    for (last, why) in [
+        (Row::Take(0, item(3, 1, 0)), StepError::WrongEvent),
+        (Row::Acquire(1, 1), StepError::Held(0)),
+        (Row::Acquire(0, 3), StepError::NoSuchPart),
+        (Row::Miss(1, 2), StepError::WrongEvent),
+    ] {
+        assert!(rt; last_refusal(alloc, last) == Some(WorldError::At(6, why)));
+    }
 }
 
 // Whether a trace has these items inserted, deleted and left, and this greatest skip.
@@ -57,37 +68,11 @@ fn tells(trace: &Trace, inserted: &[Item], deleted: &[Item], most: usize, live: 
         && trace.live.as_slice() == live
 }
 
-// A miss changes nothing.
+// A thread may answer nothing while another's part has an item. A miss changes nothing.
 fn leaves_three(alloc: Global) -> Option<bool> {
     let trace = traced(alloc, 2, 1, &emptied(Row::Miss(1, 1))).ok()?;
     let three = [item(3, 1, 0)];
     Some(tells(&trace, &three, &[], 0, &three))
-}
-
-#[test]
-fn nothing_while_another_part_has_an_item(rt: HostRuntime) {
-    assert!(rt; leaves_three(rt.alloc()) == Some(true));
-}
-
-// Whether each step after these is refused for its reason.
-fn are_refused_last(alloc: Global, table: &[(Row, StepError)]) -> bool {
-    for (row, why) in table {
-        if refusal(alloc, 2, 1, &emptied(*row)) != Some(WorldError::At(6, *why)) {
-            return false;
-        }
-    }
-    true
-}
-
-#[test]
-fn one_step_more(rt: HostRuntime) {
-    let table = [
-        (Row::Take(0, item(3, 1, 0)), StepError::WrongEvent),
-        (Row::Acquire(1, 1), StepError::Held(0)),
-        (Row::Acquire(0, 3), StepError::NoSuchPart),
-        (Row::Miss(1, 2), StepError::WrongEvent),
-    ];
-    assert!(rt; are_refused_last(rt.alloc(), &table));
 }
 
 // The items of the schedule below.
@@ -122,14 +107,21 @@ fn skips_two(alloc: Global) -> Option<bool> {
 }
 
 fn leaves_the_others(alloc: Global) -> Option<bool> {
-    let [one, two, three, nine] = items();
+    let [_, two, three, _] = items();
     let world = world_after(alloc, 2, 1, &skipping(&[three], &[two]))?;
+    shows_the_others(alloc, &world)
+}
+
+fn shows_the_others(alloc: Global, world: &World) -> Option<bool> {
+    let [one, two, _, nine] = items();
     let live = world.live(alloc).ok()?;
     Some(live.as_slice() == [one, two, nine].as_slice() && world.skipped(nine) == 2)
 }
 
 #[test]
-fn a_deletion_skips_two(rt: HostRuntime) {
-    assert!(rt; skips_two(rt.alloc()) == Some(true));
-    assert!(rt; leaves_the_others(rt.alloc()) == Some(true));
+fn schedules(rt: HostRuntime) {
+    let alloc = rt.alloc();
+    assert!(rt; leaves_three(alloc) == Some(true));
+    assert!(rt; skips_two(alloc) == Some(true));
+    assert!(rt; leaves_the_others(alloc) == Some(true));
 }

@@ -13,32 +13,48 @@ fn two_four_seven() -> (Item, Item, Item) {
 // items 2 and 4; thread 1 holds its own part with 7, and has inserted three items; thread 2 holds nothing.
 fn opened(alloc: Global) -> Option<World> {
     let (two, four, seven) = two_four_seven();
-    let rows = [
-        Row::Acquire(1, 2),
-        Row::Acquire(1, 0),
-        Row::Put(1, two),
-        Row::Flush(1, four, &[two]),
-        Row::Flush(1, seven, &[four]),
-        Row::Release(1, 0),
-        Row::Acquire(0, 1),
-        Row::Acquire(0, 0),
-    ];
-    world_after(alloc, 3, 1, &rows)
+    world_after(
+        alloc,
+        3,
+        1,
+        &[
+            Row::Acquire(1, 2),
+            Row::Acquire(1, 0),
+            Row::Put(1, two),
+            Row::Flush(1, four, &[two]),
+            Row::Flush(1, seven, &[four]),
+            Row::Release(1, 0),
+            Row::Acquire(0, 1),
+            Row::Acquire(0, 0),
+        ],
+    )
 }
 
 // Whether the step, after the opening, is refused for this reason, and nothing changes.
 fn is_refused(alloc: Global, row: Row, why: StepError) -> Option<bool> {
     let mut world = opened(alloc)?;
     let before = world.live(alloc).ok()?;
-    let step = step_of(alloc, row)?;
-    Some(world.step(&step) == Err(why) && is_unchanged(alloc, &mut world, &before)?)
+    let is_wrong = answer(alloc, &mut world, row)? == Err(why);
+    Some(is_wrong && shows(alloc, &world, &before) && holds_own_part(alloc, &mut world))
 }
 
-// Whether these items live, and thread 0 still has its own part in hand.
-fn is_unchanged(alloc: Global, world: &mut World, before: &Items) -> Option<bool> {
-    let live = world.live(alloc).ok()?;
-    let release = step_of(alloc, Row::Release(0, 1))?;
-    Some(live == *before && world.step(&release) == Ok(()))
+// What the step of a row answers.
+fn answer(alloc: Global, world: &mut World, row: Row) -> Option<Result<(), StepError>> {
+    let step = step_of(alloc, row)?;
+    Some(world.step(&step))
+}
+
+// Whether these items live.
+fn shows(alloc: Global, world: &World, items: &Items) -> bool {
+    match world.live(alloc) {
+        Ok(live) => live == *items,
+        Err(_) => false,
+    }
+}
+
+// Whether thread 0 had its own part in hand.
+fn holds_own_part(alloc: Global, world: &mut World) -> bool {
+    answer(alloc, world, Row::Release(0, 1)) == Some(Ok(()))
 }
 
 // Whether each step, after the opening, is refused for its reason.
@@ -52,7 +68,7 @@ fn are_refused(alloc: Global, table: &[(Row, StepError)]) -> bool {
 }
 
 #[test]
-fn acquires(rt: HostRuntime) {
+fn acquires_releases_and_misses(rt: HostRuntime) {
     let table = [
         (Row::Acquire(3, 0), StepError::NoSuchPart),
         (Row::Acquire(0, 4), StepError::NoSuchPart),
@@ -60,13 +76,6 @@ fn acquires(rt: HostRuntime) {
         (Row::Acquire(0, 0), StepError::Held(0)),
         (Row::Acquire(1, 1), StepError::Held(0)),
         (Row::Acquire(0, 2), StepError::Held(1)),
-    ];
-    assert!(rt; are_refused(rt.alloc(), &table));
-}
-
-#[test]
-fn releases_and_misses(rt: HostRuntime) {
-    let table = [
         (Row::Release(3, 0), StepError::NoSuchPart),
         (Row::Release(0, 4), StepError::NoSuchPart),
         (Row::Release(0, 2), StepError::NotHeld),
@@ -79,75 +88,65 @@ fn releases_and_misses(rt: HostRuntime) {
     assert!(rt; are_refused(rt.alloc(), &table));
 }
 
-#[test]
-fn puts(rt: HostRuntime) {
-    let table = [
-        (Row::Put(3, item(1, 3, 0)), StepError::NoSuchPart),
-        (Row::Put(2, item(1, 2, 0)), StepError::NotHeld),
-        (Row::Put(1, item(1, 1, 3)), StepError::WrongEvent),
-        (Row::Put(0, item(1, 1, 0)), StepError::WrongEvent),
-        (Row::Put(0, item(1, 0, 1)), StepError::WrongEvent),
-    ];
-    assert!(rt; are_refused(rt.alloc(), &table));
-}
-
-#[test]
-fn flushes(rt: HostRuntime) {
+// Whether puts and flushes are refused.
+fn are_insertions_refused(alloc: Global) -> bool {
     let (one, late) = (item(1, 0, 0), item(1, 0, 1));
     let by_another = item(1, 1, 3);
-    let table = [
-        (Row::Flush(3, item(1, 3, 0), &[]), StepError::NoSuchPart),
-        (Row::Flush(2, item(1, 2, 0), &[]), StepError::NotHeld),
-        (Row::Flush(1, by_another, &[by_another]), StepError::NotHeld),
-        (Row::Flush(0, late, &[late]), StepError::WrongEvent),
-        (Row::Flush(0, one, &[item(2, 1, 0)]), StepError::WrongEvent),
-        (Row::Flush(0, one, &[one, one]), StepError::WrongEvent),
-    ];
-    assert!(rt; are_refused(rt.alloc(), &table));
+    are_refused(
+        alloc,
+        &[
+            (Row::Put(3, item(1, 3, 0)), StepError::NoSuchPart),
+            (Row::Put(2, item(1, 2, 0)), StepError::NotHeld),
+            (Row::Put(1, by_another), StepError::WrongEvent),
+            (Row::Put(0, item(1, 1, 0)), StepError::WrongEvent),
+            (Row::Put(0, late), StepError::WrongEvent),
+            (Row::Flush(3, item(1, 3, 0), &[]), StepError::NoSuchPart),
+            (Row::Flush(2, item(1, 2, 0), &[]), StepError::NotHeld),
+            (Row::Flush(1, by_another, &[by_another]), StepError::NotHeld),
+            (Row::Flush(0, late, &[late]), StepError::WrongEvent),
+            (Row::Flush(0, one, &[item(2, 1, 0)]), StepError::WrongEvent),
+            (Row::Flush(0, one, &[one, one]), StepError::WrongEvent),
+        ],
+    )
 }
 
-#[test]
-fn takes_and_nothings(rt: HostRuntime) {
+// Whether takes, empty answers and spies are refused.
+fn are_deletions_refused(alloc: Global) -> bool {
     let (_, _, seven) = two_four_seven();
-    let table = [
-        (Row::Take(3, seven), StepError::NoSuchPart),
-        (Row::Take(2, seven), StepError::NotHeld),
-        (Row::Take(1, seven), StepError::NotHeld),
-        (Row::Take(0, seven), StepError::WrongEvent),
-        (Row::Take(0, item(2, 1, 1)), StepError::WrongEvent),
-        (Row::Nothing(3), StepError::NoSuchPart),
-        (Row::Nothing(2), StepError::NotHeld),
-        (Row::Nothing(1), StepError::NotHeld),
-        (Row::Nothing(0), StepError::WrongEvent),
-    ];
-    assert!(rt; are_refused(rt.alloc(), &table));
+    let moved = [seven];
+    are_refused(
+        alloc,
+        &[
+            (Row::Take(3, seven), StepError::NoSuchPart),
+            (Row::Take(2, seven), StepError::NotHeld),
+            (Row::Take(1, seven), StepError::NotHeld),
+            (Row::Take(0, seven), StepError::WrongEvent),
+            (Row::Take(0, item(2, 1, 1)), StepError::WrongEvent),
+            (Row::Nothing(3), StepError::NoSuchPart),
+            (Row::Nothing(2), StepError::NotHeld),
+            (Row::Nothing(1), StepError::NotHeld),
+            (Row::Nothing(0), StepError::WrongEvent),
+            (Row::Spy(3, 0, &moved), StepError::NoSuchPart),
+            (Row::Spy(0, 3, &moved), StepError::NoSuchPart),
+            (Row::Spy(0, 0, &moved), StepError::NoSuchPart),
+            (Row::Spy(0, 1, &moved), StepError::NotHeld),
+            (Row::Spy(1, 0, &moved), StepError::NotHeld),
+        ],
+    )
 }
 
-#[test]
-fn spies(rt: HostRuntime) {
-    let (_, _, seven) = two_four_seven();
-    let table = [
-        (Row::Spy(3, 0, &[seven]), StepError::NoSuchPart),
-        (Row::Spy(0, 3, &[seven]), StepError::NoSuchPart),
-        (Row::Spy(0, 0, &[seven]), StepError::NoSuchPart),
-        (Row::Spy(0, 1, &[seven]), StepError::NotHeld),
-        (Row::Spy(1, 0, &[seven]), StepError::NotHeld),
-    ];
-    assert!(rt; are_refused(rt.alloc(), &table));
-}
-
-// What the step of a row answers.
-fn answer(alloc: Global, world: &mut World, row: Row) -> Option<Result<(), StepError>> {
-    Some(world.step(&step_of(alloc, row)?))
-}
-
-// Whether thread 0, with both parts in hand, may not spy on thread 1 for these items, but for 7, and that only while its own
-// part is empty.
-fn spies_for_seven_alone(alloc: Global, moved: &[Item]) -> Option<bool> {
-    let (_, _, seven) = two_four_seven();
+// After the opening, with thread 1's part in thread 0's hand.
+fn opened_to_spy(alloc: Global) -> Option<World> {
     let mut world = opened(alloc)?;
     answer(alloc, &mut world, Row::Release(1, 2))?.ok()?;
     answer(alloc, &mut world, Row::Acquire(0, 2))?.ok()?;
+    Some(world)
+}
+
+// Whether thread 0 then may not spy for these items, but for 7, and that only while its own part is empty.
+fn spies_for_seven_alone(alloc: Global, moved: &[Item]) -> Option<bool> {
+    let (_, _, seven) = two_four_seven();
+    let mut world = opened_to_spy(alloc)?;
     let wrong = answer(alloc, &mut world, Row::Spy(0, 1, moved))?;
     let right = answer(alloc, &mut world, Row::Spy(0, 1, &[seven]))?;
     let late = answer(alloc, &mut world, Row::Spy(0, 1, &[seven]))?;
@@ -156,9 +155,12 @@ fn spies_for_seven_alone(alloc: Global, moved: &[Item]) -> Option<bool> {
 }
 
 #[test]
-fn spies_of_wrong_items(rt: HostRuntime) {
+fn events(rt: HostRuntime) {
     let (two, _, seven) = two_four_seven();
-    for moved in [[].as_slice(), [two].as_slice(), [seven, seven].as_slice()] {
-        assert!(rt; spies_for_seven_alone(rt.alloc(), moved) == Some(true));
-    }
+    let alloc = rt.alloc();
+    assert!(rt; are_insertions_refused(alloc));
+    assert!(rt; are_deletions_refused(alloc));
+    assert!(rt; spies_for_seven_alone(alloc, &[]) == Some(true));
+    assert!(rt; spies_for_seven_alone(alloc, &[two]) == Some(true));
+    assert!(rt; spies_for_seven_alone(alloc, &[seven, seven]) == Some(true));
 }

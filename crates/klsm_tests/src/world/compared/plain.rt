@@ -1,4 +1,4 @@
-//! The plain world: the definitions over one unordered list of items, as slow as they read. It calls nothing of the code under
+//! The plain world: the definitions over one list of items, as slow as they read. It calls nothing of the code under
 //! test.
 
 use klsm_run::{Item, Stamp};
@@ -17,6 +17,7 @@ struct Placed {
 pub(super) struct Plain {
     pub threads: u32,
     pub k: usize,
+    // Ascending.
     placed: Vec<Placed>,
     holders: Vec<Option<u32>>,
     pub inserted: Vec<Item>,
@@ -39,18 +40,28 @@ impl Plain {
         })
     }
 
-    /// The live items, ascending.
-    pub(super) fn live(&self, alloc: Global) -> Option<Vec<Item>> {
-        let mut items = Vec::new(alloc);
-        for placed in &self.placed {
-            items.push(placed.item).ok()?;
+    /// Whether these are the live items, ascending.
+    pub(super) fn shows(&self, items: &[Item]) -> bool {
+        for (placed, item) in self.placed.iter().zip(items) {
+            if placed.item != *item {
+                return false;
+            }
         }
-        items.sort_unstable();
-        Some(items)
+        items.len() == self.placed.len()
     }
 
-    /// Whether an item is in a part.
-    pub(super) fn has(&self, part: u32, item: Item) -> bool {
+    // Whether items ascend and are all in a part.
+    fn has_all(&self, part: u32, items: &[Item]) -> bool {
+        for item in items {
+            if !self.has(part, *item) {
+                return false;
+            }
+        }
+        ascends(items)
+    }
+
+    // Whether an item is in a part.
+    fn has(&self, part: u32, item: Item) -> bool {
         for placed in &self.placed {
             if placed.part == part && placed.item == item {
                 return true;
@@ -59,11 +70,11 @@ impl Plain {
         false
     }
 
-    /// How many items of a part are smaller than an item.
-    pub(super) fn rank(&self, part: u32, item: Item) -> usize {
+    // How many live items are smaller than an item.
+    fn rank(&self, item: Item) -> usize {
         let mut rank: usize = 0;
         for placed in &self.placed {
-            if placed.part == part && placed.item < item {
+            if placed.item < item {
                 rank = rank.saturating_add(1);
             }
         }
@@ -81,11 +92,15 @@ impl Plain {
         count
     }
 
-    /// The item of a part that so many of its items are smaller than.
-    pub(super) fn nth(&self, part: u32, rank: usize) -> Option<Item> {
+    /// The item of a part at an index.
+    pub(super) fn nth(&self, part: u32, index: usize) -> Option<Item> {
+        let mut left = index;
         for placed in &self.placed {
-            if placed.part == part && self.rank(part, placed.item) == rank {
-                return Some(placed.item);
+            if placed.part == part {
+                if left == 0 {
+                    return Some(placed.item);
+                }
+                left = left.saturating_sub(1);
             }
         }
         None
@@ -185,7 +200,9 @@ impl Plain {
             Event::Take(item) => self.may_take(part, *item),
             Event::Nothing => self.count(part) == 0 && self.count(0) == 0,
             Event::Spy { victim, moved } => {
-                self.count(part) == 0 && self.may_be_spied(own(*victim), moved.as_slice())
+                self.count(part) == 0
+                    && !moved.as_slice().is_empty()
+                    && self.has_all(own(*victim), moved.as_slice())
             }
         }
     }
@@ -200,21 +217,13 @@ impl Plain {
         ascends(moved) && self.count(part) < self.k.saturating_add(moved.len())
     }
 
-    fn may_be_spied(&self, part: u32, moved: &[Item]) -> bool {
-        for one in moved {
-            if !self.has(part, *one) {
-                return false;
-            }
-        }
-        ascends(moved) && !moved.is_empty()
-    }
-
     // Some candidate gives the item as the lesser of it and the least own item.
     fn may_take(&self, part: u32, item: Item) -> bool {
         let least = self.nth(part, 0);
-        for placed in &self.placed {
-            let is_candidate = placed.part == 0 && self.rank(0, placed.item) <= self.k;
-            if is_candidate && lesser(placed.item, least) == item {
+        for index in 0..self.count(0).min(self.k.saturating_add(1)) {
+            if let Some(candidate) = self.nth(0, index)
+                && lesser(candidate, least) == item
+            {
                 return true;
             }
         }
@@ -254,24 +263,14 @@ impl Plain {
 
     fn insert(&mut self, part: u32, item: Item) -> Option<()> {
         self.inserted.push(item).ok()?;
-        self.placed.push(Placed { part, item }).ok()
+        let at = self.rank(item).min(self.placed.len());
+        self.placed.insert(at, Placed { part, item }).ok()
     }
 
     fn delete(&mut self, item: Item) -> Option<()> {
-        self.most = self.most.max(self.skip_of(item));
+        self.most = self.most.max(self.rank(item));
         self.placed.retain(|placed| placed.item != item);
         self.deleted.push(item).ok()
-    }
-
-    // How many live items are smaller.
-    fn skip_of(&self, item: Item) -> usize {
-        let mut skip: usize = 0;
-        for placed in &self.placed {
-            if placed.item < item {
-                skip = skip.saturating_add(1);
-            }
-        }
-        skip
     }
 
     // Moves live items to a part.

@@ -67,7 +67,7 @@ fn proposed_event(alloc: Global, mix: &mut Pcg32, plain: &Plain, thread: u32) ->
         0..=2 => step_of(alloc, Row::Put(thread, item)),
         3..=5 => proposed_flush(alloc, mix, plain, thread, item),
         6 => step_of(alloc, Row::Nothing(thread)),
-        7 => proposed_spy(alloc, mix, plain, thread, item),
+        7 => proposed_spy(alloc, mix, plain, thread),
         _ => step_of(
             alloc,
             Row::Take(thread, proposed_take(mix, plain, thread, item)),
@@ -75,7 +75,7 @@ fn proposed_event(alloc: Global, mix: &mut Pcg32, plain: &Plain, thread: u32) ->
     }
 }
 
-// A flush of the item that moves some of the own items and of it.
+// A flush of the item that moves some of the own items, and it as often as not.
 fn proposed_flush(
     alloc: Global,
     mix: &mut Pcg32,
@@ -83,43 +83,28 @@ fn proposed_flush(
     thread: u32,
     item: Item,
 ) -> Option<Step> {
-    let mut items = plain.live(alloc)?;
-    items.push(item).ok()?;
-    items.sort_unstable();
-    let own_part = thread.saturating_add(1);
-    let moved = some_of(alloc, mix, plain, own_part, item, items.as_slice())?;
+    let mut moved = some_of(alloc, mix, plain, thread.saturating_add(1))?;
+    if below(mix, 2) == 0 {
+        moved.push(item).ok()?;
+        moved.sort_unstable();
+    }
     step_of(alloc, Row::Flush(thread, item, moved.as_slice()))
 }
 
 // A spy that moves some of another's items.
-fn proposed_spy(
-    alloc: Global,
-    mix: &mut Pcg32,
-    plain: &Plain,
-    thread: u32,
-    item: Item,
-) -> Option<Step> {
+fn proposed_spy(alloc: Global, mix: &mut Pcg32, plain: &Plain, thread: u32) -> Option<Step> {
     let victim = any_of(mix, plain.threads);
-    let items = plain.live(alloc)?;
-    let part = victim.saturating_add(1);
-    let moved = some_of(alloc, mix, plain, part, item, items.as_slice())?;
+    let moved = some_of(alloc, mix, plain, victim.saturating_add(1))?;
     step_of(alloc, Row::Spy(thread, victim, moved.as_slice()))
 }
 
-// Some of those items, in their order, that are in a part or are this item: each or none of them more often than not.
-fn some_of(
-    alloc: Global,
-    mix: &mut Pcg32,
-    plain: &Plain,
-    part: u32,
-    item: Item,
-    items: &[Item],
-) -> Option<Vec<Item>> {
+// Some items of a part, ascending: each or none of them more often than not.
+fn some_of(alloc: Global, mix: &mut Pcg32, plain: &Plain, part: u32) -> Option<Vec<Item>> {
     let eighths = below(mix, 9);
     let mut some = Vec::new(alloc);
-    for one in items {
-        if (*one == item || plain.has(part, *one)) && below(mix, 8) < eighths {
-            some.push(*one).ok()?;
+    for index in 0..plain.count(part) {
+        if below(mix, 8) < eighths {
+            some.push(plain.nth(part, index)?).ok()?;
         }
     }
     Some(some)
@@ -147,14 +132,15 @@ fn spoilt(alloc: Global, mix: &mut Pcg32, threads: u32) -> Option<Step> {
         stamp,
         load: 0,
     };
+    let moved = [wrong];
     let row = match below(mix, 8) {
         0 => Row::Acquire(threads, 0),
         1 => Row::Release(0, threads.saturating_add(1)),
         2 => Row::Put(0, wrong),
-        3 => Row::Flush(0, wrong, &[wrong]),
+        3 => Row::Flush(0, wrong, &moved),
         4 => Row::Take(0, wrong),
-        5 => Row::Spy(0, 0, &[wrong]),
-        6 => Row::Spy(0, threads, &[wrong]),
+        5 => Row::Spy(0, 0, &moved),
+        6 => Row::Spy(0, threads, &moved),
         _ => Row::Nothing(threads),
     };
     step_of(alloc, row)
