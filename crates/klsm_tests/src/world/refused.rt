@@ -1,20 +1,19 @@
 //! Each growth refused in turn: nothing changes, and the same call goes through later.
 
-use super::steps::{Row, item, steps_of, world_after};
-use klsm_run::Item;
+use super::steps::{Moved, Row, item, steps_of, world_after};
 use klsm_testing::Rationed;
 use klsm_world::{Items, Step, StepError, World, WorldError, run};
 use std::alloc::Global;
 
 // A schedule with each kind of step and each event.
-fn all_kinds<'a>(five_moves: &'a [Item], nine_moves: &'a [Item]) -> [Row<'a>; 16] {
+fn all_kinds() -> [Row; 16] {
     let (five, two, nine) = (item(5, 1, 0), item(2, 1, 1), item(9, 1, 2));
     [
         Row::Acquire(1, 2),
         Row::Put(1, five),
         Row::Miss(0, 2),
         Row::Acquire(1, 0),
-        Row::Flush(1, two, five_moves),
+        Row::Flush(1, two, Moved::One(five)),
         Row::Put(1, nine),
         Row::Take(1, two),
         Row::Take(1, five),
@@ -24,13 +23,13 @@ fn all_kinds<'a>(five_moves: &'a [Item], nine_moves: &'a [Item]) -> [Row<'a>; 16
         Row::Acquire(0, 0),
         Row::Nothing(0),
         Row::Acquire(0, 2),
-        Row::Spy(0, 1, nine_moves),
+        Row::Spy(0, 1, Moved::One(nine)),
         Row::Take(0, nine),
     ]
 }
 
 fn schedule(alloc: Global) -> Option<Vec<Step>> {
-    steps_of(alloc, &all_kinds(&[item(5, 1, 0)], &[item(9, 1, 2)]))
+    steps_of(alloc, &all_kinds())
 }
 
 // What came of a call with so many growths granted: it went through and none was refused, or it was refused for want of memory

@@ -1,6 +1,6 @@
 //! Steps, entries and traces, compared and printed.
 
-use super::steps::{Row, item, items_of, step_of, steps_of};
+use super::steps::{Moved, Row, item, items_of, step_of, steps_of};
 use klsm_run::Item;
 use klsm_world::{Entry, Event, Step, Trace, run};
 use std::alloc::Global;
@@ -45,10 +45,14 @@ fn are_equal_traces(alloc: Global, one: Item, other: Item) -> Option<bool> {
 fn compared(rt: HostRuntime) {
     let (two, three) = two_three();
     let alloc = rt.alloc();
-    let flush = Row::Flush(0, three, &[two]);
+    let flush = Row::Flush(0, three, Moved::One(two));
     assert!(rt; are_equal_steps(alloc, flush, flush) == Some(true));
-    assert!(rt; are_equal_steps(alloc, flush, Row::Flush(0, three, &[two, three])) == Some(false));
-    assert!(rt; are_equal_steps(alloc, flush, Row::Flush(1, three, &[two])) == Some(false));
+    assert!(rt;
+        are_equal_steps(alloc, flush, Row::Flush(0, three, Moved::Two(two, three))) == Some(false)
+    );
+    assert!(rt;
+        are_equal_steps(alloc, flush, Row::Flush(1, three, Moved::One(two))) == Some(false)
+    );
     assert!(rt; are_equal_steps(alloc, flush, Row::Put(0, three)) == Some(false));
     assert!(rt; are_equal_found(alloc, &[two, three], &[two, three]) == Some(true));
     assert!(rt; are_equal_found(alloc, &[two, three], &[three, two]) == Some(false));
@@ -65,7 +69,7 @@ fn prints(alloc: Global, step: &Step, want: &str) -> Option<bool> {
 
 fn flush_prints(alloc: Global) -> Option<bool> {
     let (two, three) = two_three();
-    let step = step_of(alloc, Row::Flush(0, three, &[two]))?;
+    let step = step_of(alloc, Row::Flush(0, three, Moved::One(two)))?;
     prints(
         alloc,
         &step,

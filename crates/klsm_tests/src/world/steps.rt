@@ -13,17 +13,25 @@ pub(super) fn item(key: u64, owner: u32, number: u64) -> Item {
     }
 }
 
+/// The items that move at a flush or a spy.
+#[derive(Clone, Copy)]
+pub(super) enum Moved {
+    None,
+    One(Item),
+    Two(Item, Item),
+}
+
 /// A step: its thread, and then the part, the items or the victim.
 #[derive(Clone, Copy)]
-pub(super) enum Row<'a> {
+pub(super) enum Row {
     Acquire(u32, u32),
     Release(u32, u32),
     Miss(u32, u32),
     Put(u32, Item),
-    Flush(u32, Item, &'a [Item]),
+    Flush(u32, Item, Moved),
     Take(u32, Item),
     Nothing(u32),
-    Spy(u32, u32, &'a [Item]),
+    Spy(u32, u32, Moved),
 }
 
 /// The step of a row.
@@ -33,21 +41,33 @@ pub(super) fn step_of(alloc: Global, row: Row) -> Option<Step> {
         Row::Release(thread, part) => Step::Release { thread, part },
         Row::Miss(thread, part) => Step::Miss { thread, part },
         Row::Put(thread, item) => commit(thread, Event::Put(item)),
-        Row::Flush(thread, item, moved) => {
-            let moved = items_of(alloc, moved)?;
-            commit(thread, Event::Flush { item, moved })
-        }
+        Row::Flush(thread, item, moved) => flush(thread, item, moved_items(alloc, moved)?),
         Row::Take(thread, item) => commit(thread, Event::Take(item)),
         Row::Nothing(thread) => commit(thread, Event::Nothing),
-        Row::Spy(thread, victim, moved) => {
-            let moved = items_of(alloc, moved)?;
-            commit(thread, Event::Spy { victim, moved })
-        }
+        Row::Spy(thread, victim, moved) => spy(thread, victim, moved_items(alloc, moved)?),
     })
 }
 
 fn commit(thread: u32, event: Event) -> Step {
     Step::Commit { thread, event }
+}
+
+/// A flush of the item.
+pub(super) fn flush(thread: u32, item: Item, moved: Items) -> Step {
+    commit(thread, Event::Flush { item, moved })
+}
+
+/// A spy on the victim.
+pub(super) fn spy(thread: u32, victim: u32, moved: Items) -> Step {
+    commit(thread, Event::Spy { victim, moved })
+}
+
+fn moved_items(alloc: Global, moved: Moved) -> Option<Items> {
+    match moved {
+        Moved::None => items_of(alloc, &[]),
+        Moved::One(item) => items_of(alloc, &[item]),
+        Moved::Two(item, other) => items_of(alloc, &[item, other]),
+    }
 }
 
 /// A list of items.

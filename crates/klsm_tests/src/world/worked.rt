@@ -1,6 +1,6 @@
 //! Schedules written out, with what they answer.
 
-use super::steps::{Row, item, steps_of, world_after};
+use super::steps::{Moved, Row, item, steps_of, world_after};
 use klsm_run::Item;
 use klsm_world::{StepError, Trace, World, WorldError, run};
 use std::alloc::Global;
@@ -81,14 +81,14 @@ fn items() -> [Item; 4] {
 }
 
 // Thread 1 fills the shared part, thread 0 keeps an item in a part that it holds, and a deletion skips both smaller items.
-fn skipping<'a>(three_moves: &'a [Item], two_moves: &'a [Item]) -> [Row<'a>; 12] {
+fn skipping() -> [Row; 12] {
     let [one, two, three, nine] = items();
     [
         Row::Acquire(1, 2),
         Row::Acquire(1, 0),
         Row::Put(1, three),
-        Row::Flush(1, two, three_moves),
-        Row::Flush(1, nine, two_moves),
+        Row::Flush(1, two, Moved::One(three)),
+        Row::Flush(1, nine, Moved::One(two)),
         Row::Release(1, 2),
         Row::Release(1, 0),
         Row::Acquire(0, 1),
@@ -101,14 +101,13 @@ fn skipping<'a>(three_moves: &'a [Item], two_moves: &'a [Item]) -> [Row<'a>; 12]
 
 fn skips_two(alloc: Global) -> Option<bool> {
     let [one, two, three, nine] = items();
-    let trace = traced(alloc, 2, 1, &skipping(&[three], &[two])).ok()?;
+    let trace = traced(alloc, 2, 1, &skipping()).ok()?;
     let inserted = [three, two, nine, one];
     Some(tells(&trace, &inserted, &[three], 2, &[one, two, nine]))
 }
 
 fn leaves_the_others(alloc: Global) -> Option<bool> {
-    let [_, two, three, _] = items();
-    let world = world_after(alloc, 2, 1, &skipping(&[three], &[two]))?;
+    let world = world_after(alloc, 2, 1, &skipping())?;
     shows_the_others(alloc, &world)
 }
 

@@ -1,6 +1,6 @@
 //! Wrong steps of each kind, with each reason for which it can be refused.
 
-use super::steps::{Row, item, step_of, world_after};
+use super::steps::{Moved, Row, item, step_of, world_after};
 use klsm_run::Item;
 use klsm_world::{Items, StepError, World};
 use std::alloc::Global;
@@ -21,8 +21,8 @@ fn opened(alloc: Global) -> Option<World> {
             Row::Acquire(1, 2),
             Row::Acquire(1, 0),
             Row::Put(1, two),
-            Row::Flush(1, four, &[two]),
-            Row::Flush(1, seven, &[four]),
+            Row::Flush(1, four, Moved::One(two)),
+            Row::Flush(1, seven, Moved::One(four)),
             Row::Release(1, 0),
             Row::Acquire(0, 1),
             Row::Acquire(0, 0),
@@ -100,12 +100,27 @@ fn are_insertions_refused(alloc: Global) -> bool {
             (Row::Put(1, by_another), StepError::WrongEvent),
             (Row::Put(0, item(1, 1, 0)), StepError::WrongEvent),
             (Row::Put(0, late), StepError::WrongEvent),
-            (Row::Flush(3, item(1, 3, 0), &[]), StepError::NoSuchPart),
-            (Row::Flush(2, item(1, 2, 0), &[]), StepError::NotHeld),
-            (Row::Flush(1, by_another, &[by_another]), StepError::NotHeld),
-            (Row::Flush(0, late, &[late]), StepError::WrongEvent),
-            (Row::Flush(0, one, &[item(2, 1, 0)]), StepError::WrongEvent),
-            (Row::Flush(0, one, &[one, one]), StepError::WrongEvent),
+            (
+                Row::Flush(3, item(1, 3, 0), Moved::None),
+                StepError::NoSuchPart,
+            ),
+            (
+                Row::Flush(2, item(1, 2, 0), Moved::None),
+                StepError::NotHeld,
+            ),
+            (
+                Row::Flush(1, by_another, Moved::One(by_another)),
+                StepError::NotHeld,
+            ),
+            (Row::Flush(0, late, Moved::One(late)), StepError::WrongEvent),
+            (
+                Row::Flush(0, one, Moved::One(item(2, 1, 0))),
+                StepError::WrongEvent,
+            ),
+            (
+                Row::Flush(0, one, Moved::Two(one, one)),
+                StepError::WrongEvent,
+            ),
         ],
     )
 }
@@ -113,7 +128,7 @@ fn are_insertions_refused(alloc: Global) -> bool {
 // Whether takes, empty answers and spies are refused.
 fn are_deletions_refused(alloc: Global) -> bool {
     let (_, _, seven) = two_four_seven();
-    let moved = [seven];
+    let moved = Moved::One(seven);
     are_refused(
         alloc,
         &[
@@ -126,11 +141,11 @@ fn are_deletions_refused(alloc: Global) -> bool {
             (Row::Nothing(2), StepError::NotHeld),
             (Row::Nothing(1), StepError::NotHeld),
             (Row::Nothing(0), StepError::WrongEvent),
-            (Row::Spy(3, 0, &moved), StepError::NoSuchPart),
-            (Row::Spy(0, 3, &moved), StepError::NoSuchPart),
-            (Row::Spy(0, 0, &moved), StepError::NoSuchPart),
-            (Row::Spy(0, 1, &moved), StepError::NotHeld),
-            (Row::Spy(1, 0, &moved), StepError::NotHeld),
+            (Row::Spy(3, 0, moved), StepError::NoSuchPart),
+            (Row::Spy(0, 3, moved), StepError::NoSuchPart),
+            (Row::Spy(0, 0, moved), StepError::NoSuchPart),
+            (Row::Spy(0, 1, moved), StepError::NotHeld),
+            (Row::Spy(1, 0, moved), StepError::NotHeld),
         ],
     )
 }
@@ -144,12 +159,12 @@ fn opened_to_spy(alloc: Global) -> Option<World> {
 }
 
 // Whether thread 0 then may not spy for these items, but for 7, and that only while its own part is empty.
-fn spies_for_seven_alone(alloc: Global, moved: &[Item]) -> Option<bool> {
+fn spies_for_seven_alone(alloc: Global, moved: Moved) -> Option<bool> {
     let (_, _, seven) = two_four_seven();
     let mut world = opened_to_spy(alloc)?;
     let wrong = answer(alloc, &mut world, Row::Spy(0, 1, moved))?;
-    let right = answer(alloc, &mut world, Row::Spy(0, 1, &[seven]))?;
-    let late = answer(alloc, &mut world, Row::Spy(0, 1, &[seven]))?;
+    let right = answer(alloc, &mut world, Row::Spy(0, 1, Moved::One(seven)))?;
+    let late = answer(alloc, &mut world, Row::Spy(0, 1, Moved::One(seven)))?;
     let refused = Err(StepError::WrongEvent);
     Some(wrong == refused && right == Ok(()) && late == refused)
 }
@@ -160,7 +175,7 @@ fn events(rt: HostRuntime) {
     let alloc = rt.alloc();
     assert!(rt; are_insertions_refused(alloc));
     assert!(rt; are_deletions_refused(alloc));
-    assert!(rt; spies_for_seven_alone(alloc, &[]) == Some(true));
-    assert!(rt; spies_for_seven_alone(alloc, &[two]) == Some(true));
-    assert!(rt; spies_for_seven_alone(alloc, &[seven, seven]) == Some(true));
+    assert!(rt; spies_for_seven_alone(alloc, Moved::None) == Some(true));
+    assert!(rt; spies_for_seven_alone(alloc, Moved::One(two)) == Some(true));
+    assert!(rt; spies_for_seven_alone(alloc, Moved::Two(seven, seven)) == Some(true));
 }

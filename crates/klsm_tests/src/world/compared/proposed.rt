@@ -1,9 +1,9 @@
 //! Random steps, legal ones and others.
 
-use super::super::steps::{Row, step_of};
+use super::super::steps::{Moved, Row, flush, spy, step_of};
 use super::plain::Plain;
 use klsm_run::{Item, Stamp};
-use klsm_world::Step;
+use klsm_world::{Items, Step};
 use rand_core::Rng;
 use rand_pcg::Pcg32;
 use std::alloc::Global;
@@ -40,7 +40,7 @@ fn proposed_thread(mix: &mut Pcg32, plain: &Plain) -> u32 {
 }
 
 // A step that takes a part, gives one back or tries one in vain. `None` stands for an event.
-fn proposed_row(mix: &mut Pcg32, plain: &Plain, thread: u32) -> Option<Row<'static>> {
+fn proposed_row(mix: &mut Pcg32, plain: &Plain, thread: u32) -> Option<Row> {
     let own_part = thread.saturating_add(1);
     let any_part = any_of(mix, plain.threads.saturating_add(1));
     let has_own = plain.holder(own_part) == Some(thread);
@@ -88,14 +88,14 @@ fn proposed_flush(
         moved.push(item).ok()?;
         moved.sort_unstable();
     }
-    step_of(alloc, Row::Flush(thread, item, moved.as_slice()))
+    Some(flush(thread, item, Items::new(moved)))
 }
 
 // A spy that moves some of another's items.
 fn proposed_spy(alloc: Global, mix: &mut Pcg32, plain: &Plain, thread: u32) -> Option<Step> {
     let victim = any_of(mix, plain.threads);
     let moved = some_of(alloc, mix, plain, victim.saturating_add(1))?;
-    step_of(alloc, Row::Spy(thread, victim, moved.as_slice()))
+    Some(spy(thread, victim, Items::new(moved)))
 }
 
 // Some items of a part, ascending: each or none of them more often than not.
@@ -132,15 +132,15 @@ fn spoilt(alloc: Global, mix: &mut Pcg32, threads: u32) -> Option<Step> {
         stamp,
         load: 0,
     };
-    let moved = [wrong];
+    let moved = Moved::One(wrong);
     let row = match below(mix, 8) {
         0 => Row::Acquire(threads, 0),
         1 => Row::Release(0, threads.saturating_add(1)),
         2 => Row::Put(0, wrong),
-        3 => Row::Flush(0, wrong, &moved),
+        3 => Row::Flush(0, wrong, moved),
         4 => Row::Take(0, wrong),
-        5 => Row::Spy(0, 0, &moved),
-        6 => Row::Spy(0, threads, &moved),
+        5 => Row::Spy(0, 0, moved),
+        6 => Row::Spy(0, threads, moved),
         _ => Row::Nothing(threads),
     };
     step_of(alloc, row)
