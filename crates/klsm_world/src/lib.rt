@@ -36,8 +36,6 @@ pub mod laws;
 mod own_steps;
 mod running;
 mod step;
-#[cfg(test)]
-mod tests;
 mod world;
 
 pub use errors::{StepError, WorldError};

@@ -1,0 +1,13 @@
+//! The tests of the layers that use only what these show to their callers.
+//!
+//! A crate with tests is proved twice, with them and without, so they stand here, above all that they test. Each folder has
+//! the tests of one subject:
+//!
+//! - `parts`: the own part and the shared one, their events and pickers, beside a plain program written from the rules;
+//! - `world`: the pure world of threads and locked steps, beside a plain program written from its definitions.
+#![tactic(auto)]
+
+#[cfg(test)]
+mod parts;
+#[cfg(test)]
+mod world;

@@ -1,0 +1,238 @@
+//! A worked run at k = 2, and each public call once.
+
+use super::pair::{Pair, item};
+use klsm_lsm::{Lsm, LsmError};
+use klsm_parts::{First, Last, Local, Part, Picker, Shared, flush};
+use klsm_run::{Item, Run};
+use klsm_testing::Rationed;
+use std::alloc::{Allocator, Global};
+
+// Whether a run has these keys.
+fn has_keys<R: Run>(run: &R, keys: &[u64]) -> bool {
+    if run.len() != keys.len() {
+        return false;
+    }
+    for (index, key) in keys.iter().enumerate() {
+        if run.item_at(index).key != *key {
+            return false;
+        }
+    }
+    true
+}
+
+// Whether the blocks of an LSM have these keys.
+fn has_blocks<R: Run, const LEVELS: usize>(lsm: &Lsm<R, LEVELS>, blocks: &[&[u64]]) -> bool {
+    if lsm.blocks() != blocks.len() {
+        return false;
+    }
+    for (index, keys) in blocks.iter().enumerate() {
+        if !has_keys(lsm.block(index), keys) {
+            return false;
+        }
+    }
+    true
+}
+
+// Whether a shared part has these pivots.
+fn has_pivots<const LEVELS: usize, A: Allocator + Copy>(
+    shared: &Shared<LEVELS, A>,
+    pivots: &[usize],
+) -> bool {
+    if shared.lsm().blocks() != pivots.len() {
+        return false;
+    }
+    for (block, pivot) in pivots.iter().enumerate() {
+        if shared.pivot(block) != *pivot {
+            return false;
+        }
+    }
+    true
+}
+
+// Whether the candidates of a shared part have these keys.
+fn has_candidates<const LEVELS: usize, A: Allocator + Copy>(
+    shared: &Shared<LEVELS, A>,
+    keys: &[u64],
+) -> bool {
+    if shared.candidates() != keys.len() {
+        return false;
+    }
+    for (index, key) in keys.iter().enumerate() {
+        if shared.candidate(index).key != *key {
+            return false;
+        }
+    }
+    true
+}
+
+// Whether two parts show these keys and pivots.
+fn shows<const LEVELS: usize>(
+    pair: &Pair<LEVELS>,
+    own: &[&[u64]],
+    shared: &[&[u64]],
+    pivots: &[usize],
+    candidates: &[u64],
+) -> bool {
+    has_blocks(pair.own.lsm(), own)
+        && has_blocks(pair.shared.lsm(), shared)
+        && has_pivots(&pair.shared, pivots)
+        && has_candidates(&pair.shared, candidates)
+}
+
+// Whether deletions answer these in turn.
+fn deletes<P: Picker>(pair: &mut Pair<21>, picker: &mut P, want: &[Option<Item>]) -> bool {
+    for want in want {
+        if pair.delete(picker) != Ok(*want) {
+            return false;
+        }
+    }
+    true
+}
+
+// Whether an own part has this k, this number of items and this least one.
+fn is_own(own: &Local<64>, k: usize, len: usize, least: Item) -> bool {
+    own.k() == k && own.len() == len && own.least() == Some(least)
+}
+
+// The same of a shared part.
+fn is_shared(pair: &Pair<21>, k: usize, len: usize, least: Item) -> bool {
+    pair.shared.k() == k && pair.shared.len() == len && pair.shared.least() == Some(least)
+}
+
+// After seven insertions at k = 2.
+fn shows_seven(pair: &Pair<21>) -> bool {
+    shows(
+        pair,
+        &[&[8]],
+        &[&[1, 2, 4, 5], &[3, 9]],
+        &[2, 1],
+        &[1, 2, 3],
+    ) && is_own(&pair.own, 2, 1, item(8, 6))
+        && is_shared(pair, 2, 6, item(1, 1))
+}
+
+// After the deletion of the greatest candidate.
+fn shows_six(pair: &Pair<21>) -> bool {
+    shows(pair, &[&[8]], &[&[1, 2, 4, 5], &[9]], &[3, 0], &[1, 2, 4])
+}
+
+// Seven insertions at k = 2, and the deletion of the greatest candidate.
+fn seven(heap: &Rationed<Global>) -> Option<bool> {
+    let mut pair: Pair<21> = Pair::new(heap, 2);
+    pair.insert_all(&[5, 1, 4, 2, 3, 9, 8]).ok()?;
+    Some(
+        shows_seven(&pair)
+            && deletes(&mut pair, &mut Last, &[Some(item(3, 4))])
+            && shows_six(&pair),
+    )
+}
+
+#[test]
+fn blocks_pivots_and_candidates(rt: HostRuntime) {
+    let heap = Rationed::new(rt.alloc());
+    assert!(rt; seven(&heap) == Some(true));
+}
+
+// The least item of both parts is an own one, and then the candidate is greater than the least own one.
+fn own_then_greatest(pair: &mut Pair<21>) -> bool {
+    pair.own.least() == Some(item(5, 2))
+        && deletes(pair, &mut Last, &[Some(item(5, 2)), Some(item(7, 0))])
+}
+
+// Own items go that are the least of both parts, or less than the candidate.
+fn own_items_go(heap: &Rationed<Global>) -> Option<bool> {
+    let mut pair: Pair<21> = Pair::new(heap, 1);
+    let none = deletes(&mut pair, &mut Last, &[None]);
+    pair.insert_all(&[7, 2, 5]).ok()?;
+    let two = own_then_greatest(&mut pair);
+    pair.insert(1).ok()?;
+    let one = deletes(&mut pair, &mut Last, &[Some(item(1, 3))]);
+    let last = deletes(&mut pair, &mut First, &[Some(item(2, 1)), None]);
+    Some(none && two && one && last)
+}
+
+#[test]
+fn own_items(rt: HostRuntime) {
+    let heap = Rationed::new(rt.alloc());
+    assert!(rt; own_items_go(&heap) == Some(true));
+}
+
+// One own item, and one block of four.
+fn shows_full(pair: &Pair<3>) -> bool {
+    shows(pair, &[&[5]], &[&[1, 2, 3, 4]], &[2], &[1, 2])
+}
+
+// A shared part of three levels holds at most 4 items. What comes then is refused, and nothing changes.
+fn full(heap: &Rationed<Global>) -> Option<bool> {
+    let mut pair: Pair<3> = Pair::new(heap, 1);
+    pair.insert_all(&[1, 2, 3, 4, 5]).ok()?;
+    let before = shows_full(&pair);
+    let answer = pair.insert(6);
+    Some(before && answer == Err(LsmError::Full) && shows_full(&pair))
+}
+
+#[test]
+fn full_shared_part(rt: HostRuntime) {
+    let heap = Rationed::new(rt.alloc());
+    assert!(rt; full(&heap) == Some(true));
+}
+
+// With k = 0 each item goes to the shared part, and the least one is the only candidate.
+fn all_shared(heap: &Rationed<Global>) -> Option<bool> {
+    let mut pair: Pair<21> = Pair::new(heap, 0);
+    pair.insert_all(&[3, 1, 2]).ok()?;
+    let shows_three = shows(&pair, &[], &[&[1, 3], &[2]], &[1, 0], &[1]);
+    Some(shows_three && deletes(&mut pair, &mut Last, &[Some(item(1, 1))]))
+}
+
+#[test]
+fn no_own_items(rt: HostRuntime) {
+    let heap = Rationed::new(rt.alloc());
+    assert!(rt; all_shared(&heap) == Some(true));
+}
+
+// Whether a part of either kind tells these of its items.
+fn is_part(part: &Part<64, 21>, least: Option<Item>, items: &[Item]) -> bool {
+    if part.len() != items.len() || part.least() != least {
+        return false;
+    }
+    for (index, item) in items.iter().enumerate() {
+        if part.item_at(index) != *item {
+            return false;
+        }
+    }
+    true
+}
+
+// The own part after three insertions.
+fn own_part(heap: &Rationed<Global>) -> Option<Part<64, 21>> {
+    let mut pair: Pair<21> = Pair::new(heap, 3);
+    pair.insert_all(&[4, 6, 5]).ok()?;
+    let Pair { own, .. } = pair;
+    Some(Part::Own(own))
+}
+
+// The shared part after one insertion at k = 0.
+fn shared_part(alloc: Global) -> Option<Part<64, 21>> {
+    let mut none: Local<64> = Local::new(0);
+    let mut shared: Shared<21> = Shared::new(alloc, 0);
+    flush(&mut none, &mut shared, item(7, 0)).ok()?;
+    Some(Part::Common(shared))
+}
+
+fn parts_tell(alloc: Global, heap: &Rationed<Global>) -> Option<bool> {
+    let (four, six, five) = (item(4, 0), item(6, 1), item(5, 2));
+    let seven = item(7, 0);
+    let none = Part::Own(Local::new(0));
+    Some(
+        is_part(&own_part(heap)?, Some(four), &[four, six, five])
+            && is_part(&none, None, &[])
+            && is_part(&shared_part(alloc)?, Some(seven), &[seven]),
+    )
+}
+
+#[test]
+fn parts_of_either_kind(rt: HostRuntime) {
+    let heap = Rationed::new(rt.alloc());
+    assert!(rt; parts_tell(rt.alloc(), &heap) == Some(true));
+}

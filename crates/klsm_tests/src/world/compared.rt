@@ -1,0 +1,133 @@
+//! Random steps, legal ones and others, compared at each step with a plain program written from the definitions.
+
+mod plain;
+mod proposed;
+
+use klsm_run::Item;
+use klsm_world::{Step, StepError, Trace, World, WorldError, run};
+use plain::Plain;
+use proposed::proposed;
+use rand_core::SeedableRng;
+use rand_pcg::Pcg32;
+use std::alloc::Global;
+
+// A world, the plain one beside it, and the steps that both took.
+#[derive(Drop)]
+struct Both {
+    world: World,
+    plain: Plain,
+    taken: Vec<Step>,
+}
+
+fn both_of(alloc: Global, threads: u32, k: usize) -> Option<Both> {
+    Some(Both {
+        world: World::new(alloc, threads, k).ok()?,
+        plain: Plain::new(alloc, threads, k)?,
+        taken: Vec::new(alloc),
+    })
+}
+
+// Takes a step in both worlds, and answers whether they gave the same answer.
+fn answer_same(both: &mut Both, step: Step) -> Option<bool> {
+    let refusal = both.plain.refusal(&step);
+    let answer = both.world.step(&step).err();
+    if refusal.is_none() {
+        both.plain.take_step(&step)?;
+        both.taken.push(step).ok()?;
+    }
+    Some(answer == refusal)
+}
+
+// Whether both show the same live items, with the same ranks.
+fn show_same(alloc: Global, both: &Both) -> Option<bool> {
+    let live = both.world.live(alloc).ok()?;
+    Some(both.plain.shows(live.as_slice()) && has_ranks(&both.world, live.as_slice()))
+}
+
+// Whether each item has its index as its rank.
+fn has_ranks(world: &World, items: &[Item]) -> bool {
+    for (rank, item) in items.iter().enumerate() {
+        if world.skipped(*item) != rank {
+            return false;
+        }
+    }
+    true
+}
+
+// Whether both answer and show the same at each of 1,500 random steps.
+fn step_same(alloc: Global, mix: &mut Pcg32, both: &mut Both) -> Option<bool> {
+    for _ in 0..1500 {
+        let step = proposed(alloc, mix, &both.plain)?;
+        if !answer_same(both, step)? || !show_same(alloc, both)? {
+            return Some(false);
+        }
+    }
+    Some(true)
+}
+
+// Whether all steps as one run tell what the plain world did. They are not all of one kind.
+fn run_same(alloc: Global, both: &Both) -> Option<bool> {
+    let (threads, k) = (both.plain.threads, both.plain.k);
+    let trace = run(alloc, threads, k, both.taken.as_slice()).ok()?;
+    let are_many = both.taken.len() > 300 && both.plain.deleted.len() > 20;
+    Some(are_many && tells_same(&trace, &both.plain) && both.plain.shows(trace.live.as_slice()))
+}
+
+fn tells_same(trace: &Trace, plain: &Plain) -> bool {
+    trace.inserted.as_slice() == plain.inserted.as_slice()
+        && trace.deleted.as_slice() == plain.deleted.as_slice()
+        && trace.most == plain.most
+}
+
+// Adds a step that is refused to those taken, and answers why it is.
+fn add_wrong(alloc: Global, mix: &mut Pcg32, both: &mut Both) -> Option<StepError> {
+    for _ in 0..1000 {
+        let step = proposed(alloc, mix, &both.plain)?;
+        if let Some(why) = both.plain.refusal(&step) {
+            both.taken.push(step).ok()?;
+            return Some(why);
+        }
+    }
+    None
+}
+
+// Whether all steps and a wrong one behind them, as one run, are refused for that one.
+fn refuse_same(alloc: Global, mix: &mut Pcg32, both: &mut Both) -> Option<bool> {
+    let at = both.taken.len();
+    let why = add_wrong(alloc, mix, both)?;
+    let (threads, k) = (both.plain.threads, both.plain.k);
+    let answer = run(alloc, threads, k, both.taken.as_slice()).err();
+    Some(answer == Some(WorldError::At(at, why)))
+}
+
+// Whether the worlds of so many threads and this k are the same.
+fn are_same(alloc: Global, threads: u32, k: usize) -> Option<bool> {
+    let mut mix = Pcg32::seed_from_u64(11);
+    let mut both = both_of(alloc, threads, k)?;
+    let are_steps = step_same(alloc, &mut mix, &mut both)?;
+    let are_runs = run_same(alloc, &both)?;
+    let are_refusals = refuse_same(alloc, &mut mix, &mut both)?;
+    Some(are_steps && are_runs && are_refusals)
+}
+
+// The first k of these at which the worlds differ.
+fn first_difference(alloc: Global, threads: u32) -> Option<usize> {
+    for k in 0..=3 {
+        if are_same(alloc, threads, k) != Some(true) {
+            return Some(k);
+        }
+    }
+    None
+}
+
+#[test]
+fn one_or_two_threads(rt: HostRuntime) {
+    assert!(rt; first_difference(rt.alloc(), 1).is_none());
+    assert!(rt; first_difference(rt.alloc(), 2).is_none());
+}
+
+#[test]
+fn three_or_four_threads(rt: HostRuntime) {
+    assert!(rt; first_difference(rt.alloc(), 3).is_none());
+    assert!(rt; first_difference(rt.alloc(), 4).is_none());
+}

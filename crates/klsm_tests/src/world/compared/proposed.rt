@@ -1,0 +1,147 @@
+//! Random steps, legal ones and others.
+
+use super::super::steps::{Moved, Row, flush, spy, step_of};
+use super::plain::Plain;
+use klsm_run::{Item, Stamp};
+use klsm_world::{Items, Step};
+use rand_core::Rng;
+use rand_pcg::Pcg32;
+use std::alloc::Global;
+
+// A number below `bound`, or 0.
+fn below(mix: &mut Pcg32, bound: usize) -> usize {
+    mix.next_u32() as usize % bound.max(1)
+}
+
+// A thread, of so many.
+fn any_of(mix: &mut Pcg32, threads: u32) -> u32 {
+    mix.next_u32() % threads.max(1)
+}
+
+/// A step that is often legal in this world, and sometimes has something wrong.
+pub(super) fn proposed(alloc: Global, mix: &mut Pcg32, plain: &Plain) -> Option<Step> {
+    let thread = proposed_thread(mix, plain);
+    if below(mix, 5) == 0 {
+        return spoilt(alloc, mix, plain.threads);
+    }
+    match proposed_row(mix, plain, thread) {
+        Some(row) => step_of(alloc, row),
+        None => proposed_event(alloc, mix, plain, thread),
+    }
+}
+
+// A thread: as often as not the one that holds the shared part, which can do most.
+fn proposed_thread(mix: &mut Pcg32, plain: &Plain) -> u32 {
+    let anyone = any_of(mix, plain.threads);
+    match plain.holder(0) {
+        Some(holder) if below(mix, 2) == 0 => holder,
+        _ => anyone,
+    }
+}
+
+// A step that takes a part, gives one back or tries one in vain. `None` stands for an event.
+fn proposed_row(mix: &mut Pcg32, plain: &Plain, thread: u32) -> Option<Row> {
+    let own_part = thread.saturating_add(1);
+    let any_part = any_of(mix, plain.threads.saturating_add(1));
+    let has_own = plain.holder(own_part) == Some(thread);
+    let has_shared = plain.holder(0) == Some(thread);
+    match below(mix, 10) {
+        0 => Some(Row::Release(thread, own_part)),
+        1 => Some(Row::Release(thread, any_part)),
+        2 => Some(Row::Miss(thread, any_part)),
+        3 => Some(Row::Acquire(thread, any_part)),
+        _ if !has_own => Some(Row::Acquire(thread, own_part)),
+        4 | 5 if !has_shared => Some(Row::Acquire(thread, 0)),
+        _ => None,
+    }
+}
+
+// An event that is often legal where the thread holds its own part and the shared one.
+fn proposed_event(alloc: Global, mix: &mut Pcg32, plain: &Plain, thread: u32) -> Option<Step> {
+    let item = Item {
+        key: below(mix, 20) as u64,
+        stamp: plain.next_stamp(thread),
+        load: 0,
+    };
+    match below(mix, 12) {
+        0..=2 => step_of(alloc, Row::Put(thread, item)),
+        3..=5 => proposed_flush(alloc, mix, plain, thread, item),
+        6 => step_of(alloc, Row::Nothing(thread)),
+        7 => proposed_spy(alloc, mix, plain, thread),
+        _ => step_of(
+            alloc,
+            Row::Take(thread, proposed_take(mix, plain, thread, item)),
+        ),
+    }
+}
+
+// A flush of the item that moves some of the own items, and it as often as not.
+fn proposed_flush(
+    alloc: Global,
+    mix: &mut Pcg32,
+    plain: &Plain,
+    thread: u32,
+    item: Item,
+) -> Option<Step> {
+    let mut moved = some_of(alloc, mix, plain, thread.saturating_add(1))?;
+    if below(mix, 2) == 0 {
+        moved.push(item).ok()?;
+        moved.sort_unstable();
+    }
+    Some(flush(thread, item, Items::new(moved)))
+}
+
+// A spy that moves some of another's items.
+fn proposed_spy(alloc: Global, mix: &mut Pcg32, plain: &Plain, thread: u32) -> Option<Step> {
+    let victim = any_of(mix, plain.threads);
+    let moved = some_of(alloc, mix, plain, victim.saturating_add(1))?;
+    Some(spy(thread, victim, Items::new(moved)))
+}
+
+// Some items of a part, ascending: each or none of them more often than not.
+fn some_of(alloc: Global, mix: &mut Pcg32, plain: &Plain, part: u32) -> Option<Vec<Item>> {
+    let eighths = below(mix, 9);
+    let mut some = Vec::new(alloc);
+    for index in 0..plain.count(part) {
+        if below(mix, 8) < eighths {
+            some.push(plain.nth(part, index)?).ok()?;
+        }
+    }
+    Some(some)
+}
+
+// The item of a take: the lesser of the least own item and a shared one, which is mostly a candidate, or `item` where there is
+// none.
+fn proposed_take(mix: &mut Pcg32, plain: &Plain, thread: u32, item: Item) -> Item {
+    let at = below(mix, plain.count(0).min(plain.k.saturating_add(2)));
+    let candidate = plain.nth(0, at).unwrap_or(item);
+    match plain.nth(thread.saturating_add(1), 0) {
+        Some(least) => candidate.min(least),
+        None => candidate,
+    }
+}
+
+// A step with something wrong.
+fn spoilt(alloc: Global, mix: &mut Pcg32, threads: u32) -> Option<Step> {
+    let stamp = Stamp {
+        owner: 0,
+        number: 99,
+    };
+    let wrong = Item {
+        key: 3,
+        stamp,
+        load: 0,
+    };
+    let moved = Moved::One(wrong);
+    let row = match below(mix, 8) {
+        0 => Row::Acquire(threads, 0),
+        1 => Row::Release(0, threads.saturating_add(1)),
+        2 => Row::Put(0, wrong),
+        3 => Row::Flush(0, wrong, moved),
+        4 => Row::Take(0, wrong),
+        5 => Row::Spy(0, 0, moved),
+        6 => Row::Spy(0, threads, moved),
+        _ => Row::Nothing(threads),
+    };
+    step_of(alloc, row)
+}

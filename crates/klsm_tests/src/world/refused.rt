@@ -1,0 +1,163 @@
+//! Each growth refused in turn: nothing changes, and the same call goes through later.
+
+use super::steps::{Moved, Row, item, steps_of, world_after};
+use klsm_testing::Rationed;
+use klsm_world::{Items, Step, StepError, World, WorldError, run};
+use std::alloc::Global;
+
+// A schedule with each kind of step and each event.
+fn all_kinds() -> [Row; 16] {
+    let (five, two, nine) = (item(5, 1, 0), item(2, 1, 1), item(9, 1, 2));
+    [
+        Row::Acquire(1, 2),
+        Row::Put(1, five),
+        Row::Miss(0, 2),
+        Row::Acquire(1, 0),
+        Row::Flush(1, two, Moved::One(five)),
+        Row::Put(1, nine),
+        Row::Take(1, two),
+        Row::Take(1, five),
+        Row::Release(1, 2),
+        Row::Release(1, 0),
+        Row::Acquire(0, 1),
+        Row::Acquire(0, 0),
+        Row::Nothing(0),
+        Row::Acquire(0, 2),
+        Row::Spy(0, 1, Moved::One(nine)),
+        Row::Take(0, nine),
+    ]
+}
+
+fn schedule(alloc: Global) -> Option<Vec<Step>> {
+    steps_of(alloc, &all_kinds())
+}
+
+// What came of a call with so many growths granted: it went through and none was refused, or it was refused for want of memory
+// and nothing changed, or else.
+enum Attempt {
+    Through,
+    Refused,
+    Wrong,
+}
+
+// The attempt of a call that was refused a growth or none, with this answer, after which all was the same or not.
+fn attempt_of(has_refused: bool, answer: Result<(), StepError>, is_same: bool) -> Attempt {
+    match (has_refused, answer) {
+        (false, Ok(())) => Attempt::Through,
+        (true, Err(StepError::NoMemory)) if is_same => Attempt::Refused,
+        _ => Attempt::Wrong,
+    }
+}
+
+// Takes a step with so many growths granted.
+fn step_within(
+    alloc: Global,
+    heap: &Rationed<Global>,
+    world: &mut World<&Rationed<Global>>,
+    step: &Step,
+    growths: u64,
+) -> Attempt {
+    let Ok(before) = world.live(alloc) else {
+        return Attempt::Wrong;
+    };
+    heap.allow(growths);
+    let answer = world.step(step);
+    attempt_of(heap.has_refused(), answer, shows(alloc, world, &before))
+}
+
+// Whether these items live.
+fn shows(alloc: Global, world: &World<&Rationed<Global>>, items: &Items) -> bool {
+    match world.live(alloc) {
+        Ok(live) => live == *items,
+        Err(_) => false,
+    }
+}
+
+// Takes a step with each number of growths in turn, and answers whether it went through at last.
+fn goes_through(
+    alloc: Global,
+    heap: &Rationed<Global>,
+    world: &mut World<&Rationed<Global>>,
+    step: &Step,
+) -> bool {
+    for growths in 0..u64::MAX {
+        match step_within(alloc, heap, world, step, growths) {
+            Attempt::Through => return true,
+            Attempt::Refused => {}
+            Attempt::Wrong => return false,
+        }
+    }
+    false
+}
+
+// Takes each step of the schedule so, and answers whether all went through and no item is left.
+fn all_go_through(alloc: Global, heap: &Rationed<Global>) -> Option<bool> {
+    let steps = schedule(alloc)?;
+    heap.allow(u64::MAX);
+    let mut world = World::new(heap, 2, 2).ok()?;
+    for step in &steps {
+        if !goes_through(alloc, heap, &mut world, step) {
+            return Some(false);
+        }
+    }
+    Some(shows(alloc, &world, &Items::new(Vec::new(alloc))))
+}
+
+// Why there is no world with so many growths granted.
+fn refusal_within(heap: &Rationed<Global>, growths: u64) -> Option<WorldError> {
+    heap.allow(growths);
+    World::new(heap, 2, 2).err()
+}
+
+// Whether the live items, which are one, are given with one growth, and refused without.
+fn is_live_refused(alloc: Global, heap: &Rationed<Global>) -> Option<bool> {
+    let one = item(1, 0, 0);
+    let world = world_after(alloc, 1, 1, &[Row::Acquire(0, 1), Row::Put(0, one)])?;
+    heap.allow(0);
+    let refusal = world.live(heap).err();
+    heap.allow(1);
+    Some(refusal == Some(WorldError::NoMemory) && world.live(heap).is_ok())
+}
+
+// Runs steps with so many growths granted. A run that goes through deletes three items and skips none.
+fn run_within(heap: &Rationed<Global>, steps: &[Step], growths: u64) -> Attempt {
+    heap.allow(growths);
+    match run(heap, 2, 2, steps) {
+        Ok(trace) => {
+            let is_right = trace.deleted.as_slice().len() == 3 && trace.most == 0;
+            attempt_of(heap.has_refused() || !is_right, Ok(()), true)
+        }
+        Err(WorldError::NoMemory) => attempt_of(heap.has_refused(), Err(StepError::NoMemory), true),
+        Err(_) => Attempt::Wrong,
+    }
+}
+
+// Runs steps with each number of growths in turn, and answers whether they went through at last.
+fn run_goes_through(heap: &Rationed<Global>, steps: &[Step]) -> bool {
+    for growths in 0..u64::MAX {
+        match run_within(heap, steps, growths) {
+            Attempt::Through => return true,
+            Attempt::Refused => {}
+            Attempt::Wrong => return false,
+        }
+    }
+    false
+}
+
+// A refused growth is want of memory, and never a fault of the steps.
+fn schedule_goes_through(alloc: Global, heap: &Rationed<Global>) -> Option<bool> {
+    let steps = schedule(alloc)?;
+    Some(run_goes_through(heap, steps.as_slice()))
+}
+
+#[test]
+fn each_growth(rt: HostRuntime) {
+    let heap = Rationed::new(rt.alloc());
+    for growths in 0..3 {
+        assert!(rt; refusal_within(&heap, growths) == Some(WorldError::NoMemory));
+    }
+    assert!(rt; refusal_within(&heap, 3).is_none());
+    assert!(rt; all_go_through(rt.alloc(), &heap) == Some(true));
+    assert!(rt; is_live_refused(rt.alloc(), &heap) == Some(true));
+    assert!(rt; schedule_goes_through(rt.alloc(), &heap) == Some(true));
+}

@@ -1,0 +1,99 @@
+//! Items, and steps as tables have them. A helper of these tests answers `None` where a call was refused that should not be.
+
+use klsm_run::{Item, Stamp};
+use klsm_world::{Event, Items, Step, World};
+use std::alloc::Global;
+
+/// The item `key@owner.number`.
+pub(super) fn item(key: u64, owner: u32, number: u64) -> Item {
+    Item {
+        key,
+        stamp: Stamp { owner, number },
+        load: 0,
+    }
+}
+
+/// The items that move at a flush or a spy.
+#[derive(Clone, Copy)]
+pub(super) enum Moved {
+    None,
+    One(Item),
+    Two(Item, Item),
+}
+
+/// A step: its thread, and then the part, the items or the victim.
+#[derive(Clone, Copy)]
+pub(super) enum Row {
+    Acquire(u32, u32),
+    Release(u32, u32),
+    Miss(u32, u32),
+    Put(u32, Item),
+    Flush(u32, Item, Moved),
+    Take(u32, Item),
+    Nothing(u32),
+    Spy(u32, u32, Moved),
+}
+
+/// The step of a row.
+pub(super) fn step_of(alloc: Global, row: Row) -> Option<Step> {
+    Some(match row {
+        Row::Acquire(thread, part) => Step::Acquire { thread, part },
+        Row::Release(thread, part) => Step::Release { thread, part },
+        Row::Miss(thread, part) => Step::Miss { thread, part },
+        Row::Put(thread, item) => commit(thread, Event::Put(item)),
+        Row::Flush(thread, item, moved) => flush(thread, item, moved_items(alloc, moved)?),
+        Row::Take(thread, item) => commit(thread, Event::Take(item)),
+        Row::Nothing(thread) => commit(thread, Event::Nothing),
+        Row::Spy(thread, victim, moved) => spy(thread, victim, moved_items(alloc, moved)?),
+    })
+}
+
+fn commit(thread: u32, event: Event) -> Step {
+    Step::Commit { thread, event }
+}
+
+/// A flush of the item.
+pub(super) fn flush(thread: u32, item: Item, moved: Items) -> Step {
+    commit(thread, Event::Flush { item, moved })
+}
+
+/// A spy on the victim.
+pub(super) fn spy(thread: u32, victim: u32, moved: Items) -> Step {
+    commit(thread, Event::Spy { victim, moved })
+}
+
+fn moved_items(alloc: Global, moved: Moved) -> Option<Items> {
+    match moved {
+        Moved::None => items_of(alloc, &[]),
+        Moved::One(item) => items_of(alloc, &[item]),
+        Moved::Two(item, other) => items_of(alloc, &[item, other]),
+    }
+}
+
+/// A list of items.
+pub(super) fn items_of(alloc: Global, items: &[Item]) -> Option<Items> {
+    Some(Items::new(items.to_vec(alloc).ok()?))
+}
+
+/// The steps of a table.
+pub(super) fn steps_of(alloc: Global, rows: &[Row]) -> Option<Vec<Step>> {
+    let mut steps = Vec::new(alloc);
+    for row in rows {
+        steps.push(step_of(alloc, *row)?).ok()?;
+    }
+    Some(steps)
+}
+
+/// The world of so many threads and this k, after the steps of a table.
+pub(super) fn world_after(alloc: Global, threads: u32, k: usize, rows: &[Row]) -> Option<World> {
+    let mut world = World::new(alloc, threads, k).ok()?;
+    for row in rows {
+        take_row(alloc, &mut world, *row)?;
+    }
+    Some(world)
+}
+
+fn take_row(alloc: Global, world: &mut World, row: Row) -> Option<()> {
+    let step = step_of(alloc, row)?;
+    world.step(&step).ok()
+}
