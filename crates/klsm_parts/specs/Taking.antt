@@ -1,5 +1,5 @@
 -- How a deletion chooses its item, and how the item leaves the blocks of its part.
-use Rattle.std.specs.Prelude.{◌≡◌, ◌⊎◌, ℕ, ◌<◌, Bool, false, true, not, List, [], length, slice_get, slice_index_or, if◌then◌else◌, Option, Some, None}
+use Rattle.std.specs.Prelude.{◌≡◌, ◌⊎◌, ℕ, Bool, false, true, not, List, [], length, slice_get, slice_index_or, if◌then◌else◌, Option, Some, None}
 use Rattle.klsm_run.specs.declared.item.Item.{Item}
 use Rattle.klsm_run.specs.ItemOrder.{is_smaller}
 use Rattle.klsm_lsm.specs.Adding.{cut}

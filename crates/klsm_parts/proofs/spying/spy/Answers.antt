@@ -1,4 +1,4 @@
-use Rattle.std.proofs.Common.{◌≡◌, [], length, refl, sym, ap, ◌∙◌, arith, rules}
+use Rattle.std.proofs.Common.{◌≡◌, [], length, sym, ap, ◌∙◌, arith, rules}
 use Rattle.std.specs.Option.{option_to_list}
 use Rattle.klsm_run.specs.Content.{sorted}
 use Rattle.klsm_run.proofs.SortedLemmas.{length_sorted}

@@ -1,11 +1,11 @@
-use Rattle.std.proofs.Common.{◌≡◌, true, None, Ok, refl, sym, ap, ◌∙◌, subst, inl, inr, rules}
+use Rattle.std.proofs.Common.{◌≡◌, true, None, refl, sym, ap, ◌∙◌, inl, inr, rules}
 use Rattle.std.specs.List.{Contains, slice_get}
 use Rattle.klsm_run.specs.Content.{sorted}
 use Rattle.klsm_lsm.specs.Lsm.{content}
 use Rattle.klsm_parts.specs.Parts.{PartState, items_in}
 use Rattle.klsm_parts.specs.Taking.{picks, IsCutFrom}
 use Rattle.klsm_parts.proofs.EventLemmas.{cut_is_taken, not_taken, shared_taken, shared_stays, contains_cut, may_take_sorted, may_find_nothing, no_items, take_skips_few}
-use Rattle.klsm_parts.proofs.TakeLemmas.{chosen_may_go, own_may_go, candidate_is, lesser_is_candidate, lesser_is_own, none_is_smaller, none_shared, some_cut}
+use Rattle.klsm_parts.proofs.TakeLemmas.{chosen_may_go, own_may_go, lesser_is_candidate, lesser_is_own, none_is_smaller, none_shared, some_cut}
 use Rattle.klsm_parts.proofs.taking.take.Goals as goal
 
 pub returns-in-Some-clause-unasked : goal.returns-in-Some-clause-unasked

@@ -1,4 +1,4 @@
-use Rattle.std.proofs.Common.{◌≡◌, ◌+◌, ◌<◌, ◌^◌, length, subst, sym, arith, rules}
+use Rattle.std.proofs.Common.{◌+◌, ◌<◌, ◌^◌, length, subst, sym, arith, rules}
 use Rattle.klsm_run.specs.Content.{ShareNone}
 use Rattle.klsm_lsm.specs.Lsm.{content}
 use Rattle.klsm_parts.specs.Parts.{PartState}
