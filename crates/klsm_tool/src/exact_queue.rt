@@ -1,10 +1,9 @@
 //! The queue of one thread over one LSM, which never skips an item.
-ghost use Rattle.std.specs.Prelude.{◌≡◌, ◌+◌, ◌<◌, ◌^◌, ◌==◌, ◌∷◌, [], length, slice_get};
-ghost use Rattle.std.specs.Prelude.{slice_index_or, Some, None, IfSome, IfNone, option_map};
-ghost use Rattle.std.specs.Prelude.{if◌then◌else◌};
+ghost use Rattle.std.specs.Prelude.{◌≡◌, ◌+◌, ◌<◌, ◌^◌, ◌==◌, ◌∷◌, [], length, if◌then◌else◌};
+ghost use Rattle.std.specs.Prelude.{Some, None, IfSome, IfNone, option_map};
 ghost use Rattle.std.specs.List.{All};
 ghost use Rattle.klsm_run.specs.Content.{sorted, IsAscending};
-ghost use Rattle.klsm_lsm.specs.Lsm.{content, IsLsm};
+ghost use Rattle.klsm_lsm.specs.Lsm.{content};
 ghost use Rattle.klsm_tool.specs.AnswerText.{live_after};
 ghost use Rattle.klsm_tool.specs.Fits.{FitsItem, FitsAnswer};
 ghost use Rattle.klsm_tool.specs.ExactAnswers.{answer_to, inserted_after, least_of};
@@ -12,7 +11,7 @@ ghost use Rattle.klsm_tool.specs.ExactAnswers.{answer_to, inserted_after, least_
 use crate::answer::{Answer, Line};
 use crate::request::{Operation, Request};
 use klsm_lsm::Lsm;
-use klsm_run::{FixedRun, Item, Run, Stamp};
+use klsm_run::{FixedRun, Item, Stamp};
 
 /// The live items, and how many were inserted so far. Their stamps' numbers are below that, so the
 /// next stamp is new.
@@ -96,32 +95,11 @@ impl ExactQueue {
         ensures ascending { IsAscending (sorted (content self.old.live)) }
         ensures fits { FitsAnswer result }
     {
-        if self.live.len() == 0 {
-            return Answer::Nothing;
+        // A look at the number of items tells that the LSM is lawful.
+        let _lawful = self.live.len();
+        match self.live.least_block() {
+            Some(block) => Answer::Deleted(self.live.remove(block, 0)),
+            None => Answer::Nothing,
         }
-        let block = self.least_block();
-        let Ok(item) = self.live.remove(block, 0) else {
-            unreachable!();
-        };
-        Answer::Deleted(item)
-    }
-
-    // The block that begins with the least item.
-    fn least_block(&self) -> usize
-        requires lawful { IsLsm self.now.live }
-        requires some { 0 < length (content self.now.live) }
-        ensures within { result < length self.now.live }
-        ensures least { slice_get (slice_index_or self.now.live result []) 0
-            ≡ slice_get (sorted (content self.now.live)) 0 }
-    {
-        let Some(least) = self.live.least() else {
-            unreachable!();
-        };
-        for block in 0..self.live.blocks() {
-            if self.live.block(block).item_at(0).cmp(&least).is_le() {
-                return block;
-            }
-        }
-        unreachable!();
     }
 }
