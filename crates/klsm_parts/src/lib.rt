@@ -22,8 +22,10 @@
 //!   it leaves of the contents; the other clauses say which blocks move, and which item goes.
 //! - **A deletion skips at most k items** of the two parts: clause `skips` of `take`. `laws::takes_skip_few` says the same of
 //!   the event, however the candidate was picked.
-//! - **A refusal changes nothing.** `flush` tests for room first, then makes all its growths on borrowed blocks, and changes both
-//!   parts last: clauses `unchanged`.
+//! - **A deletion takes no memory** and is never refused. `flush` makes one growth, before anything changes; refused, it has
+//!   changed nothing: clauses `unchanged`.
+//! - **Pivots are mended, not counted anew.** A change of the shared part costs about one comparison a block for them.
+//!   `Shared::pivot_anew` counts, and its contract is that of `pivot`.
 #![tactic(auto)]
 
 mod flushing;
