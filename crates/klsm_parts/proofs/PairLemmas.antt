@@ -1,5 +1,5 @@
 -- Two parts that share no item, and whose items' numbers are below a count, for the tests.
-use Rattle.std.proofs.Common.{◌≡◌, ◌≢◌, ℕ, ◌+◌, ◌<◌, List, [], ◌∷◌, sym, ap, ◌∙◌, arith, inl, inr, Result, Ok, Err, Option, Some, None, IfOk, OnErr, MatchOption}
+use Rattle.std.proofs.Common.{◌≡◌, ◌≢◌, ℕ, ◌+◌, ◌<◌, List, [], ◌∷◌, sym, ap, ◌∙◌, arith, inl, inr, Option, Some, None, MatchOption}
 use Rattle.std.specs.List.{All, AllByRecursion, Contains}
 use Rattle.std.proofs.lemmas.List.Elements.{All-from_recursion, recursion_from_All}
 use Rattle.klsm_run.specs.declared.item.Item.{Item}
@@ -127,7 +127,6 @@ pair_left n x own own_after shared shared_after leaves pair =
     ]
 
 -- after a take
-pub pair_taken : {E : Type 0} (r : Result (Option Item) E) (n : ℕ) (own own_after shared shared_after : PartState) → IfOk r (λ answer. MatchOption answer (AreSame own own_after shared shared_after) (λ x. Leaves x own own_after shared shared_after)) → OnErr r (AreSame own own_after shared shared_after) → ArePair n own shared → ArePair n own_after shared_after
-pair_taken (Ok None) n own own_after shared shared_after left unchanged pair = pair_same n own own_after shared shared_after left pair
-pair_taken (Ok (Some x)) n own own_after shared shared_after left unchanged pair = pair_left n x own own_after shared shared_after left pair
-pair_taken (Err why) n own own_after shared shared_after left unchanged pair = pair_same n own own_after shared shared_after unchanged pair
+pub pair_taken : (answer : Option Item) (n : ℕ) (own own_after shared shared_after : PartState) → MatchOption answer (AreSame own own_after shared shared_after) (λ x. Leaves x own own_after shared shared_after) → ArePair n own shared → ArePair n own_after shared_after
+pair_taken None n own own_after shared shared_after left pair = pair_same n own own_after shared shared_after left pair
+pair_taken (Some x) n own own_after shared shared_after left pair = pair_left n x own own_after shared shared_after left pair

@@ -73,7 +73,7 @@ impl<'a, const LEVELS: usize> Pair<'a, LEVELS> {
     }
 
     /// Deletes an item.
-    pub fn delete<P: Picker>(&mut self, picker: &mut P) -> Result<Option<Item>, LsmError> {
+    pub fn delete<P: Picker>(&mut self, picker: &mut P) -> Option<Item> {
         take(&mut self.own, &mut self.shared, picker)
     }
 }

@@ -82,7 +82,7 @@ fn shows<const LEVELS: usize>(
 // Whether deletions answer these in turn.
 fn deletes<P: Picker>(pair: &mut Pair<21>, picker: &mut P, want: &[Option<Item>]) -> bool {
     for want in want {
-        if pair.delete(picker) != Ok(*want) {
+        if pair.delete(picker) != *want {
             return false;
         }
     }

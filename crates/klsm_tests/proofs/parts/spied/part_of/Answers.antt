@@ -3,16 +3,14 @@ use Rattle.klsm_run.specs.declared.item.Item.{Item}
 use Rattle.klsm_run.proofs.AllLemmas.{all_weaker}
 use Rattle.klsm_run.proofs.ContentLemmas.{absent_if_new}
 use Rattle.klsm_run.proofs.KeyLemmas.{KeysBelow, below_weaker}
-use Rattle.klsm_run.proofs.SortedLemmas.{length_sorted}
 use Rattle.klsm_lsm.specs.Lsm.{content}
 use Rattle.klsm_lsm.specs.Adding.{add}
 use Rattle.klsm_lsm.proofs.AddLemmas.{all_add, length_add}
-use Rattle.klsm_parts.specs.Parts.{items_in}
 use Rattle.klsm_tests.proofs.parts.spied.part_of.Goals as goal
 
 pub put-requires : goal.put-requires
 put-requires c =
-    let room : length (items_in c.loop-key.part) < c.loop-key.part.k = omega (arith, length_sorted (content c.loop-key.part.blocks), c.loop-key.invariant.count, c.loop-key.invariant.k, c.requires, c.loop-key-test.true) in
+    let room : length (content c.loop-key.part.blocks) < c.loop-key.part.k = omega (arith, c.loop-key.invariant.count, c.loop-key.invariant.k, c.requires, c.loop-key-test.true) in
     let new =
     all_weaker (λ y. y.key < c.loop-key.key) (λ y. y ≢ c.item.result) (λ y less same. omega (arith, less, ap (λ (z : Item). z.key) same, c.item.ensures))
     (content c.loop-key.part.blocks) c.loop-key.invariant.below in
