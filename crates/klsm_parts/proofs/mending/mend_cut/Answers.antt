@@ -21,3 +21,10 @@ pub cut_pivot-requires : goal.cut_pivot-requires
 cut_pivot-requires g c =
     let can = c.requires.mendable in
     (search rules, (can.block, (can.some, (can.next, omega (arith, can.few, c.requires.k)))))
+
+pub returns-then-len-k-clause-pivots : goal.returns-then-len-k-clause-pivots
+returns-then-len-k-clause-pivots g c =
+    let after = c.args.lsm.now in
+    let marks = subst (ArePivots (min (c.args.k + 1) (length (content after) + 1) - 1) after) (sym c.cut_pivot.ensures) c.requires.mendable.marks in
+    let count : min (c.args.k + 1) (length (content after) + 1) - 1 ≡ c.args.k = omega (arith, c.len.ensures.len, c.if-len-k.true) in
+    c.mark_least.ensures c.args.k (omega (arith, c.len.ensures.len, c.if-len-k.true)) (subst (λ n. ArePivots n after c.cut_pivot.new.pivots.items) count marks)

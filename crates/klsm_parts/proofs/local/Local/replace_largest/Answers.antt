@@ -27,3 +27,6 @@ invariant_of-self g c =
     let room : length (content (drop 1 c.self.inside.lsm)) < c.self.inside.k =
     omega (arith, fewer_without_largest c.self.inside.lsm lawful some, c.self.invariant.few) in
     rw (c.in-Ok.ensures.added, c.discard_largest.ensures) (own_added g.row.CAP c.self.inside.k c.self.inside.lsm (drop 1 c.self.inside.lsm) c.args.item c.self.invariant room)
+
+pub returns : goal.returns
+returns g c = search rules
