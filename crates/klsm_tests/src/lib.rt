@@ -3,11 +3,16 @@
 //! A crate with tests is proved twice, with them and without, so they stand here, above all that they test. Each folder has
 //! the tests of one subject:
 //!
+//! - `runs`: fixed runs and runs on the heap;
 //! - `parts`: the own part and the shared one, their events and pickers, beside a plain program written from the rules;
 //! - `world`: the pure world of threads and locked steps, beside a plain program written from its definitions.
 #![tactic(auto)]
 
 #[cfg(test)]
+mod owned;
+#[cfg(test)]
 mod parts;
+#[cfg(test)]
+mod runs;
 #[cfg(test)]
 mod world;

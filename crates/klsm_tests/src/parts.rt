@@ -1,6 +1,8 @@
-//! Worked examples, a comparison with a plain program, spies, and refused growths.
+//! Worked examples, a comparison with a plain program, mended pivots, spies, refused growths, and deletions without memory.
 
 mod compared;
+mod emptied;
+mod mended;
 mod pair;
 mod pickers;
 mod refused;

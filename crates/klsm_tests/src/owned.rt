@@ -1,0 +1,77 @@
+//! Items that are told apart by their owners and numbers, runs of them, and what the tests ask of runs and LSMs.
+ghost use Rattle.std.specs.Prelude.{◌≡◌, ◌<◌, ◌≤◌, length, IfSome};
+ghost use Rattle.std.specs.List.{AllByRecursion};
+
+use klsm_lsm::Lsm;
+use klsm_run::{FixedRun, HeapRun, Item, Run, Stamp};
+use std::alloc::Allocator;
+
+/// An owner's item of a key, inserted after `number` others.
+pub(crate) fn item(owner: u32, number: u64, key: u64) -> Item
+    ensures owner { result.stamp.owner ≡ owner }
+    ensures number { result.stamp.number ≡ number }
+{
+    Item {
+        key,
+        stamp: Stamp { owner, number },
+        load: 0,
+    }
+}
+
+/// The run of an owner's items of these keys, inserted in turn.
+pub(crate) fn run_of(owner: u32, keys: &[u64]) -> FixedRun<64>
+    requires { length keys.now ≤ 64 }
+    ensures len { length result ≡ length keys.now }
+    ensures owner { AllByRecursion (λ x. x.stamp.owner ≡ owner) result }
+{
+    let mut run = FixedRun::empty();
+    for index in 0..keys.len() {
+        run.insert(item(owner, index as u64, keys[index]));
+    }
+    run
+}
+
+/// The same run on the heap.
+pub(crate) fn heap_run_of<A: Allocator + Copy>(
+    alloc: A,
+    owner: u32,
+    keys: &[u64],
+) -> Option<HeapRun<A>>
+    requires { length keys.now ≤ 64 }
+    ensures len { IfSome result (λ run. length run.items ≡ length keys.now) }
+    ensures owner { IfSome result (λ run. AllByRecursion (λ x. x.stamp.owner ≡ owner) run.items) }
+{
+    let Ok(run) = HeapRun::copy_of(alloc, &run_of(owner, keys)) else {
+        return None;
+    };
+    Some(run)
+}
+
+/// Whether a run has these keys.
+pub(crate) fn has_keys<R: Run>(run: &R, keys: &[u64]) -> bool {
+    if run.len() != keys.len() {
+        return false;
+    }
+    for (index, key) in keys.iter().enumerate() {
+        if run.item_at(index).key != *key {
+            return false;
+        }
+    }
+    true
+}
+
+/// Whether the blocks of an LSM have these keys.
+pub(crate) fn has_blocks<R: Run, const LEVELS: usize>(
+    lsm: &Lsm<R, LEVELS>,
+    blocks: &[&[u64]],
+) -> bool {
+    if lsm.blocks() != blocks.len() {
+        return false;
+    }
+    for (index, keys) in blocks.iter().enumerate() {
+        if !has_keys(lsm.block(index), keys) {
+            return false;
+        }
+    }
+    true
+}

@@ -1,0 +1,53 @@
+//! Pivots that were mended, beside those counted anew, after each of 500 mixed insertions and deletions.
+ghost use Rattle.std.specs.Prelude.{◌≤◌};
+
+use super::pair::Pair;
+use klsm_parts::{Random, random_of};
+use klsm_testing::Rationed;
+use rand_core::{Rng, SeedableRng};
+use rand_pcg::Pcg32;
+use std::alloc::Global;
+
+// Whether each pivot is the one counted anew.
+fn are_mended(pair: &Pair<21>) -> bool {
+    for block in 0..pair.shared.lsm().blocks() {
+        if pair.shared.pivot(block) != pair.shared.pivot_anew(block) {
+            return false;
+        }
+    }
+    true
+}
+
+// Inserts or deletes an item. Keys are few, so that equal ones occur, and insertions somewhat more than deletions.
+fn step(pair: &mut Pair<21>, picker: &mut Random<Pcg32>, mix: &mut Pcg32) -> Option<()> {
+    if mix.next_u32() % 9 < 5 {
+        pair.insert(mix.next_u64() % 100).ok()?;
+    } else {
+        let _item = pair.delete(picker);
+    }
+    Some(())
+}
+
+// Whether all pivots are right after each of 500 steps at this k.
+fn mends(alloc: Global, k: usize) -> Option<bool>
+    requires { k ≤ 64 }
+{
+    let heap = Rationed::new(alloc);
+    let mut pair: Pair<21> = Pair::new(&heap, k);
+    let mut picker = random_of(3);
+    let mut mix = Pcg32::seed_from_u64(4);
+    for _ in 0..500 {
+        step(&mut pair, &mut picker, &mut mix)?;
+        if !are_mended(&pair) {
+            return Some(false);
+        }
+    }
+    Some(true)
+}
+
+#[test]
+fn mended_at_any_k(rt: HostRuntime) {
+    for k in [0, 3, 16] {
+        assert!(rt; mends(rt.alloc(), k) == Some(true));
+    }
+}
