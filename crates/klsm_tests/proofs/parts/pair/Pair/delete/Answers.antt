@@ -1,4 +1,4 @@
-use Rattle.klsm_parts.proofs.PairLemmas.{ArePair, pair_taken}
+use Rattle.klsm_parts.proofs.PairLemmas.{pair_taken}
 use Rattle.klsm_tests.proofs.parts.pair.Pair.delete.Goals as goal
 
 pub invariant_of-self : goal.invariant_of-self

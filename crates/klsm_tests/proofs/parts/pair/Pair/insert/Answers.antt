@@ -1,4 +1,4 @@
-use Rattle.std.proofs.Common.{◌≡◌, ◌+◌, length, ◌∙◌, sym, arith, rules}
+use Rattle.std.proofs.Common.{◌≡◌, ◌+◌, length, arith, rules}
 use Rattle.klsm_run.proofs.SortedLemmas.{length_sorted}
 use Rattle.klsm_lsm.specs.Lsm.{content}
 use Rattle.klsm_parts.specs.Parts.{items_in}
