@@ -43,11 +43,21 @@ impl<R: Run, const LEVELS: usize> Lsm<R, LEVELS> {
         requires { block < length self.now }
         ensures { IsPartner self.now block result }
     {
-        let last = self.blocks() - 1;
-        if block < last && self.falls_to_next(block) {
+        let _within = self.blocks();
+        if self.falls(block) {
             return Some(block + 1);
         }
         None
+    }
+
+    // Whether a removal makes a block one with the next.
+    #[inline]
+    pub(crate) fn falls(&self, block: usize) -> bool
+        requires { block < length self.now }
+        ensures { IsTrue result
+            ↔ ((1 < length (slice_index_or self.now block [])) × FallsToNext self.now block) }
+    {
+        block < self.blocks() - 1 && self.falls_to_next(block)
     }
 
     /// The block that begins with the least item, if there is one. It costs one comparison a block.
@@ -83,7 +93,7 @@ impl<R: Run, const LEVELS: usize> Lsm<R, LEVELS> {
     }
 
     // Whether a block with others beside an item is of the level of the next block without it.
-    pub(crate) fn falls_to_next(&self, block: usize) -> bool
+    fn falls_to_next(&self, block: usize) -> bool
         requires { block + 1 < length self.now }
         ensures { IsTrue result ↔ ((1 < length (slice_index_or self.now block [])) × FallsToNext self.now block) }
     {

@@ -1,5 +1,5 @@
 //! How items and blocks leave an LSM. No call takes memory.
-ghost use Rattle.std.specs.Prelude.{◌≡◌, ◌<◌, ◌↔◌, [], length, drop, slice_get, slice_index_or, Some, IsTrue};
+ghost use Rattle.std.specs.Prelude.{◌≡◌, ◌<◌, [], length, drop, slice_get, slice_index_or, Some};
 ghost use Rattle.std.specs.Option.{option_map};
 ghost use Rattle.klsm_lsm.specs.Adding.{cut};
 ghost use Rattle.klsm_lsm.specs.Slots.{FallsToNext};
@@ -22,16 +22,6 @@ impl<R: Run, const LEVELS: usize> Lsm<R, LEVELS> {
         } else {
             self.remove_alone(block, index)
         }
-    }
-
-    // Whether a removal makes a block one with the next.
-    #[inline]
-    fn falls(&self, block: usize) -> bool
-        requires { block < length self.now }
-        ensures { IsTrue result
-            ↔ ((1 < length (slice_index_or self.now block [])) × FallsToNext self.now block) }
-    {
-        block < self.blocks() - 1 && self.falls_to_next(block)
     }
 
     // Takes an item out of a block that becomes one with the next.

@@ -286,16 +286,8 @@ fn count_up_to<R: Run>(run: &R, greatest: Item) -> usize
     ensures beyond { AllByRecursion (λ x. is_smaller greatest x ≡ true) (drop result (R.items run.now)) }
 {
     let mut count = 0;
-    while count < run.len() && !comes_before(greatest, run.item_at(count)) {
+    while count < run.len() && !greatest.is_before(&run.item_at(count)) {
         count += 1;
     }
     count
-}
-
-// Whether an item is smaller than another.
-#[inline]
-fn comes_before(item: Item, other: Item) -> bool
-    ensures { result ≡ is_smaller item other }
-{
-    item < other
 }
