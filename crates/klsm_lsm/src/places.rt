@@ -109,5 +109,5 @@ impl<R: Run, const LEVELS: usize> Lsm<R, LEVELS> {
 fn comes_before(item: Item, found: Option<(usize, Item)>) -> bool
     ensures { MatchOption found (IsTrue result) (λ f. result ≡ is_smaller item f.1) }
 {
-    found.is_none_or(|(_, least)| item < least)
+    found.is_none_or(|(_, least)| item.is_before(&least))
 }

@@ -25,26 +25,6 @@ pub(crate) fn held<R: Run>(slots: &[Option<R>], index: usize) -> &R
     run
 }
 
-// The least of all first items.
-pub(crate) fn least_item<R: Run>(slots: &[Option<R>]) -> Option<Item>
-    requires { IsLsm (blocks_in R.items slots.now) }
-    ensures { result ≡ slice_get (sorted (content (blocks_in R.items slots.now))) 0 }
-{
-    let mut least: Option<Item> = None;
-    for index in 0..slots.len() {
-        let first = held(slots, index).item_at(0);
-        least = Some(lesser(least, first));
-    }
-    least
-}
-
-// The lesser of two items, where there are two.
-fn lesser(found: Option<Item>, item: Item) -> Item
-    ensures { MatchOption found (result ≡ item) (λ other. result ≡ ord_min item_cmp other item) }
-{
-    found.map_or(item, |other| other.min(item))
-}
-
 // Puts a run in the place of the blocks from `start` up to `end`.
 pub(crate) fn replace<R: Run, const LEVELS: usize>(
     slots: &mut ArrayVec<Option<R>, LEVELS>,

@@ -1,16 +1,18 @@
 -- The choice of a deletion: whether the picker is asked, and which of the candidate and the least own item goes.
 use Rattle.std.proofs.Common.{◌≡◌, ℕ, ◌+◌, ◌<◌, Bool, true, false, not, List, [], ◌∷◌, length, inl, inr, Option, Some, None, MatchOption, refl, sym, ap, ◌∙◌, subst, arith, if◌then◌else◌}
 use Rattle.std.specs.List.{Contains, slice_get}
+use Rattle.std.specs.Option.{option_map}
 use Rattle.std.proofs.lemmas.List.{length-take}
 use Rattle.std.proofs.lemmas.Option.{slice_get_within, same_Some}
 use Rattle.klsm_run.specs.declared.item.Item.{Item}
 use Rattle.klsm_run.specs.ItemOrder.{is_smaller}
 use Rattle.klsm_run.specs.Content.{sorted}
 use Rattle.klsm_run.proofs.ContainsLemmas.{contains_sorted}
-use Rattle.klsm_run.proofs.IndexLemmas.{taken_at}
+use Rattle.klsm_run.proofs.IndexLemmas.{taken_at, slice_get-take}
 use Rattle.klsm_run.proofs.LesserLemmas.{less_if_smaller}
 use Rattle.klsm_run.proofs.RankLemmas.{empty_if_no_least}
 use Rattle.klsm_lsm.specs.Lsm.{content}
+use Rattle.klsm_parts.specs.declared.ranks.Place.{Place}
 use Rattle.klsm_parts.specs.Least.{least, IsLeast}
 use Rattle.klsm_parts.specs.Events.{MayTake}
 use Rattle.klsm_parts.specs.Taking.{picks, lesser_of, unless_smaller, IsPicked, IsCutFrom}
@@ -19,6 +21,11 @@ use Rattle.klsm_parts.proofs.EventLemmas.{contains_cut, least_alone, least_candi
 -- what is said of the least own item, where there is one, by a test against another item
 abbrev pub IsTested : Option Item → Item → Bool → Type 0
 IsTested least_own y r = MatchOption least_own (r ≡ false) (λ x. r ≡ is_smaller x y)
+
+-- the same, where the least own item comes with its place
+pub tested_at : (o : Option Place) (y : Item) (r : Bool) → MatchOption o (r ≡ false) (λ own. r ≡ is_smaller own.item y) → IsTested (option_map (λ place. place.item) o) y r
+tested_at None y r is = is
+tested_at (Some place) y r is = is
 
 pub not_asked : (o p : Option Item) (y : Item) (r : Bool) → p ≡ Some y → IsTested o y r → r ≡ true → picks o p ≡ false
 not_asked None p y r is tested smaller = let bad : false ≡ true = sym tested ∙ smaller in cc
@@ -39,6 +46,10 @@ candidate_goes (Some x) candidate r tested not_smaller = let is : is_smaller x c
 -- where there is a least item there is a candidate
 pub some_candidate : (k : ℕ) (c : List Item) (y : Item) → slice_get (sorted c) 0 ≡ Some y → 0 < length (least (k + 1) c)
 some_candidate k c y first = omega (arith, slice_get_within (sorted c) 0 y first, length-take (k + 1) (sorted c))
+
+-- the least item is the first candidate
+pub least_is_candidate : (k : ℕ) (c : List Item) (y : Item) → slice_get (sorted c) 0 ≡ Some y → slice_get (least (k + 1) c) 0 ≡ Some y
+least_is_candidate k c y first = slice_get-take (k + 1) (sorted c) 0 (omega arith) ∙ first
 
 -- where the candidate goes, and where the least own item does, that is what may be taken
 go_candidate : (k : ℕ) (own shared : List Item) (c x : Item) (index : ℕ) (o : Option Item) → slice_get (sorted own) 0 ≡ o → slice_get (least (k + 1) shared) index ≡ Some c → Some x ≡ unless_smaller c o → MayTake k own shared x
@@ -86,6 +97,12 @@ own_may_go may_pick before after k own shared x first asked = by_test (picks (sl
     by_test : (b : Bool) → picks (slice_get (sorted own) 0) (slice_get (sorted shared) 0) ≡ b → MayTake k own shared x
     by_test true is = let chosen = asked is in own_may_go_asked k own shared chosen.candidate x chosen.index first chosen.found chosen.follows
     by_test false is = own_may_go_unasked k own shared x (slice_get (sorted shared) 0) first refl (ap (λ o. picks o (slice_get (sorted shared) 0)) (sym first) ∙ is)
+
+-- what is said of the picker, by another word for the least own item
+pub asked_of : {P : Type 0} (may_pick : P → ℕ → ℕ → P → Type 0) (before after : P) (cs : List Item) (p goes o own : Option Item) → o ≡ own
+    → (picks o p ≡ true → IsPicked may_pick before after cs (λ c. goes ≡ unless_smaller c o))
+    → picks own p ≡ true → IsPicked may_pick before after cs (λ c. goes ≡ unless_smaller c own)
+asked_of may_pick before after cs p goes o own is asked = subst (λ o. picks o p ≡ true → IsPicked may_pick before after cs (λ c. goes ≡ unless_smaller c o)) is asked
 
 -- what goes is the lesser of the candidate and the least own item
 pub lesser_is_candidate : (c x : Item) (o : Option Item) → Some x ≡ unless_smaller c o → Some x ≡ Some (lesser_of c o)

@@ -1,5 +1,5 @@
 //! The part of one member.
-ghost use Rattle.std.specs.Prelude.{◌≡◌, ◌<◌, ◌≤◌, ◌∷◌, [], length};
+ghost use Rattle.std.specs.Prelude.{◌≡◌, ◌<◌, ◌≤◌, ◌∷◌, [], length, slice_get, slice_index_or, Some};
 ghost use Rattle.std.specs.List.{Contains};
 ghost use Rattle.std.specs.Option.{option_to_list};
 ghost use Rattle.klsm_run.specs.Capacity.{IsCapacity};
@@ -13,6 +13,7 @@ ghost use Rattle.klsm_parts.specs.Events.{MayPut, MayTake, own_after_put, own_af
 ghost use Rattle.klsm_parts.specs.Flushing.{kept};
 ghost use Rattle.klsm_parts.specs.Taking.{IsCutFrom};
 
+use crate::ranks::{Place, least_place};
 use klsm_lsm::Lsm;
 use klsm_run::{FixedRun, Item};
 use std::marker::Model;
@@ -104,10 +105,24 @@ impl<const CAP: usize> Local<CAP> {
         ensures event { MayTake self.old.k (items_in self.old) [] result
             × (items_in self.new ≡ own_after_take (items_in self.old) result) }
     {
-        let Some(block) = self.lsm.least_block() else {
+        let Some(place) = least_place(&self.lsm) else {
             unreachable!();
         };
-        self.lsm.remove(block, 0)
+        self.remove(place)
+    }
+
+    // Takes the least item out of its place.
+    pub(crate) fn remove(&mut self, place: Place) -> Item
+        requires block { place.block < length self.old.blocks }
+        requires index { slice_get (slice_index_or self.old.blocks place.block []) place.index ≡ Some place.item }
+        requires least { IsLeast place.item (content self.old.blocks) }
+        ensures least { IsLeast result (content self.old.blocks) }
+        ensures cut { IsCutFrom result self.old.blocks self.new.blocks }
+        ensures k { self.new.k ≡ self.old.k }
+        ensures event { MayTake self.old.k (items_in self.old) [] result
+            × (items_in self.new ≡ own_after_take (items_in self.old) result) }
+    {
+        self.lsm.remove(place.block, place.index)
     }
 
     // Takes what goes to a member that spies from a victim.

@@ -230,7 +230,7 @@ fn greatest_marked<R: Run, const LEVELS: usize>(lsm: &Lsm<R, LEVELS>, pivots: &[
 fn comes_after(item: Item, found: Option<(usize, Item)>) -> bool
     ensures { MatchOption found (IsTrue result) (λ f. result ≡ is_smaller f.1 item) }
 {
-    found.is_none_or(|(_, greatest)| greatest < item)
+    found.is_none_or(|(_, greatest)| greatest.is_before(&item))
 }
 
 /// What a run that is to be put in will change. It costs one comparison for each of its items that will be marked, and

@@ -1,5 +1,5 @@
 //! The items of an LSM by rank: item i is the i-th least, counted from 0.
-ghost use Rattle.std.specs.Prelude.{◌≡◌, ℕ, ◌+◌, ◌<◌, ◌≤◌, [], length, replicate, Some, slice_get, slice_index, slice_index_or, IsTrue, MatchOption};
+ghost use Rattle.std.specs.Prelude.{◌≡◌, ℕ, ◌+◌, ◌<◌, ◌≤◌, [], length, replicate, Some, slice_get, slice_index, slice_index_or, option_map, IsTrue, IfSome, MatchOption};
 ghost use Rattle.klsm_run.specs.Content.{sorted};
 ghost use Rattle.klsm_run.specs.ItemOrder.{is_smaller};
 ghost use Rattle.klsm_lsm.specs.Lsm.{content, IsLsm};
@@ -16,6 +16,22 @@ pub(crate) struct Place {
     pub(crate) block: usize,
     pub(crate) index: usize,
     pub(crate) item: Item,
+}
+
+/// The least item, and where it stands, if there is one. It costs one comparison a block.
+pub(crate) fn least_place<R: Run, const LEVELS: usize>(lsm: &Lsm<R, LEVELS>) -> Option<Place>
+    ensures item { option_map (λ place. place.item) result ≡ slice_get (sorted (content lsm.now)) 0 }
+    ensures place { IfSome result (λ place. (place.block < length lsm.now)
+        × (slice_get (slice_index_or lsm.now place.block []) place.index ≡ Some place.item)) }
+    ensures first { IfSome result (λ place. place.index ≡ 0) }
+{
+    let block = lsm.least_block()?;
+    let item = lsm.block(block).item_at(0);
+    Some(Place {
+        block,
+        index: 0,
+        item,
+    })
 }
 
 /// How many of each block's first items are among the least `count`. It costs `count` comparisons a block.
@@ -109,5 +125,5 @@ fn least_unmarked<R: Run, const LEVELS: usize>(lsm: &Lsm<R, LEVELS>, pivots: &[u
 fn comes_before(item: Item, found: Option<(usize, Item)>) -> bool
     ensures { MatchOption found (IsTrue result) (λ f. result ≡ is_smaller item f.1) }
 {
-    found.is_none_or(|(_, least)| item < least)
+    found.is_none_or(|(_, least)| item.is_before(&least))
 }

@@ -121,8 +121,25 @@ impl<const LEVELS: usize, A: Allocator + Copy> Shared<LEVELS, A> {
         self.place_of_candidate(index).item
     }
 
+    // A candidate, and where it stands, by the place of the least one.
+    #[inline]
+    pub(crate) fn place_from_least(&self, index: usize, least: Place) -> Place
+        requires block { least.block < length self.now.blocks }
+        requires index { slice_get (slice_index_or self.now.blocks least.block []) least.index ≡ Some least.item }
+        requires least { slice_get (candidates_of self.now) 0 ≡ Some least.item }
+        requires among { index < length (candidates_of self.now) }
+        ensures block { result.block < length self.now.blocks }
+        ensures index { slice_get (slice_index_or self.now.blocks result.block []) result.index ≡ Some result.item }
+        ensures candidate { slice_get (candidates_of self.now) index ≡ Some result.item }
+    {
+        if index == 0 {
+            return least;
+        }
+        self.place_of_candidate(index)
+    }
+
     // A candidate, and where it stands.
-    pub(crate) fn place_of_candidate(&self, index: usize) -> Place
+    fn place_of_candidate(&self, index: usize) -> Place
         requires { index < length (candidates_of self.now) }
         ensures block { result.block < length self.now.blocks }
         ensures index { slice_get (slice_index_or self.now.blocks result.block []) result.index ≡ Some result.item }

@@ -8,7 +8,7 @@ ghost use Rattle.klsm_parts.specs.Parts.{items_in, least_in, candidates_of};
 ghost use Rattle.klsm_parts.specs.Events.{MayTake, MayFindNothing, own_after_take, shared_after_take};
 ghost use Rattle.klsm_parts.specs.Taking.{picks, lesser_of, unless_smaller, IsPicked, Leaves};
 
-use crate::ranks::Place;
+use crate::ranks::{Place, least_place};
 use crate::{Local, Picker, Shared};
 use klsm_run::Item;
 use std::alloc::Allocator;
@@ -47,39 +47,39 @@ pub fn take<const CAP: usize, const LEVELS: usize, A: Allocator + Copy, P: Picke
     ensures skips { IfSome result (λ item.
         skipped (items_in own.old ++ items_in shared.old) item ≤ own.old.k) }
 {
-    match choose(own, shared, picker) {
+    // Each part is searched once.
+    let least_own = least_place(own.lsm());
+    match choose(least_own, shared, picker) {
         Some(place) => {
             shared.remove(place);
             Some(place.item)
         }
-        None if own.len() == 0 => None,
-        None => Some(own.take_least()),
+        None => Some(own.remove(least_own?)),
     }
 }
 
 // The candidate to take. `None` where the least own item is to be taken, if there is one.
-fn choose<const CAP: usize, const LEVELS: usize, A: Allocator + Copy, P: Picker>(
-    own: &Local<CAP>,
+fn choose<const LEVELS: usize, A: Allocator + Copy, P: Picker>(
+    least_own: Option<Place>,
     shared: &Shared<LEVELS, A>,
     picker: &mut P,
 ) -> Option<Place>
-    ensures unasked { picks (least_in own.now) (least_in shared.now) ≡ false
+    ensures unasked { picks (option_map (λ place. place.item) least_own) (least_in shared.now) ≡ false
         → (picker.new ≡ picker.old) × (result ≡ None) }
-    ensures asked { IsTrue (picks (least_in own.now) (least_in shared.now))
+    ensures asked { IsTrue (picks (option_map (λ place. place.item) least_own) (least_in shared.now))
         → IsPicked P.may_pick picker.old picker.new (candidates_of shared.now)
         (λ candidate. option_map (λ place. place.item) result
-        ≡ unless_smaller candidate (least_in own.now)) }
+        ≡ unless_smaller candidate (option_map (λ place. place.item) least_own)) }
     ensures place { IfSome result (λ place. (place.block < length shared.now.blocks)
         × (slice_get (slice_index_or shared.now.blocks place.block []) place.index ≡ Some place.item)
         × Contains (candidates_of shared.now) place.item) }
 {
-    let least_own = own.least();
-    let least_shared = shared.least()?;
-    if is_smaller_own(least_own, least_shared) {
+    let least = least_place(shared.lsm())?;
+    if is_smaller_own(least_own, least.item) {
         return None;
     }
     let index = picker.pick(shared.candidates());
-    let candidate = shared.place_of_candidate(index);
+    let candidate = shared.place_from_least(index, least);
     if is_smaller_own(least_own, candidate.item) {
         return None;
     }
@@ -87,8 +87,8 @@ fn choose<const CAP: usize, const LEVELS: usize, A: Allocator + Copy, P: Picker>
 }
 
 // Whether the least own item, if there is one, is smaller than another item.
-fn is_smaller_own(least_own: Option<Item>, item: Item) -> bool
-    ensures { MatchOption least_own (result ≡ false) (λ x. result ≡ is_smaller x item) }
+fn is_smaller_own(least_own: Option<Place>, item: Item) -> bool
+    ensures { MatchOption least_own (result ≡ false) (λ own. result ≡ is_smaller own.item item) }
 {
-    least_own.is_some_and(|own| own < item)
+    least_own.is_some_and(|own| own.item.is_before(&item))
 }

@@ -1,25 +1,32 @@
-use Rattle.std.proofs.Common.{◌≡◌, true, false, sym, ◌∙◌, subst, rules}
+use Rattle.std.proofs.Common.{◌≡◌, true, false, sym, ap, ◌∙◌, rules}
+use Rattle.std.specs.List.{slice_get}
 use Rattle.klsm_run.proofs.IndexLemmas.{contains_at}
+use Rattle.klsm_run.specs.Content.{sorted}
 use Rattle.klsm_lsm.specs.Lsm.{content}
-use Rattle.klsm_parts.proofs.TakeLemmas.{IsTested, not_asked, is_asked, own_goes, candidate_goes, some_candidate}
+use Rattle.klsm_parts.proofs.TakeLemmas.{tested_at, not_asked, is_asked, own_goes, candidate_goes, some_candidate, least_is_candidate}
 use Rattle.klsm_parts.proofs.taking.choose.Goals as goal
 
 pub returns-then-is_smaller_own-clause-asked : goal.returns-then-is_smaller_own-clause-asked
 returns-then-is_smaller_own-clause-asked g c asked =
-    let tested = subst (λ o. IsTested o c.in_ok-least_shared.least_shared c.is_smaller_own.result) c.least-least_own.ensures c.is_smaller_own.ensures in
-    let unasked = not_asked _ _ c.in_ok-least_shared.least_shared c.is_smaller_own.result (sym c.least.ensures ∙ c.in_ok-least_shared.was) tested c.if-is_smaller_own.true in
+    let tested = tested_at c.args.least_own c.in_ok-least.least.item c.is_smaller_own.result c.is_smaller_own.ensures in
+    let unasked = not_asked _ _ c.in_ok-least.least.item c.is_smaller_own.result (ap (λ bs. slice_get (sorted (content bs)) 0) (sym c.lsm.ensures) ∙ sym c.in_ok-least.ensures.item) tested c.if-is_smaller_own.true in
     let bad : false ≡ true = sym unasked ∙ asked in
     cc
 
 pub pick-index-requires : goal.pick-index-requires
 pick-index-requires g c = record {
-  some = rw c.candidates.ensures (some_candidate c.args.shared.now.k (content c.args.shared.now.blocks) c.in_ok-least_shared.least_shared (sym c.least.ensures ∙ c.in_ok-least_shared.was));
+  some = rw c.candidates.ensures (some_candidate c.args.shared.now.k (content c.args.shared.now.blocks) c.in_ok-least.least.item (ap (λ bs. slice_get (sorted (content bs)) 0) (sym c.lsm.ensures) ∙ sym c.in_ok-least.ensures.item));
 }
+
+pub place_from_least-candidate-requires : goal.place_from_least-candidate-requires
+place_from_least-candidate-requires g c =
+    let first = least_is_candidate c.args.shared.now.k (content c.args.shared.now.blocks) c.in_ok-least.least.item (ap (λ bs. slice_get (sorted (content bs)) 0) (sym c.lsm.ensures) ∙ sym c.in_ok-least.ensures.item) in
+    (search rules, (rw (← c.lsm.ensures) c.in_ok-least.ensures.place.0, (rw (← c.lsm.ensures) c.in_ok-least.ensures.place.1, (first, rw (← c.candidates.ensures) c.pick-index.ensures.below))))
 
 pub returns-then-is_smaller_own-2-clause-unasked : goal.returns-then-is_smaller_own-2-clause-unasked
 returns-then-is_smaller_own-2-clause-unasked g c unasked =
-    let tested = subst (λ o. IsTested o c.in_ok-least_shared.least_shared c.is_smaller_own.result) c.least-least_own.ensures c.is_smaller_own.ensures in
-    let asked = is_asked _ _ c.in_ok-least_shared.least_shared c.is_smaller_own.result (sym c.least.ensures ∙ c.in_ok-least_shared.was) tested c.if-is_smaller_own.false in
+    let tested = tested_at c.args.least_own c.in_ok-least.least.item c.is_smaller_own.result c.is_smaller_own.ensures in
+    let asked = is_asked _ _ c.in_ok-least.least.item c.is_smaller_own.result (ap (λ bs. slice_get (sorted (content bs)) 0) (sym c.lsm.ensures) ∙ sym c.in_ok-least.ensures.item) tested c.if-is_smaller_own.false in
     let bad : true ≡ false = sym asked ∙ unasked in
     cc
 
@@ -27,15 +34,15 @@ pub returns-then-is_smaller_own-2-clause-asked : goal.returns-then-is_smaller_ow
 returns-then-is_smaller_own-2-clause-asked g c asked = record {
   index = c.pick-index.result;
   picked = rw (← c.candidates.ensures) c.pick-index.ensures.picked;
-  candidate = c.place_of_candidate-candidate.result.item;
-  found = c.place_of_candidate-candidate.ensures.candidate;
-  follows = own_goes _ c.place_of_candidate-candidate.result.item c.is_smaller_own-2.result (subst (λ o. IsTested o c.place_of_candidate-candidate.result.item c.is_smaller_own-2.result) c.least-least_own.ensures c.is_smaller_own-2.ensures) c.if-is_smaller_own-2.true;
+  candidate = c.place_from_least-candidate.result.item;
+  found = c.place_from_least-candidate.ensures.candidate;
+  follows = own_goes _ c.place_from_least-candidate.result.item c.is_smaller_own-2.result (tested_at c.args.least_own c.place_from_least-candidate.result.item c.is_smaller_own-2.result c.is_smaller_own-2.ensures) c.if-is_smaller_own-2.true;
 }
 
 pub returns-clause-unasked : goal.returns-clause-unasked
 returns-clause-unasked g c unasked =
-    let tested = subst (λ o. IsTested o c.in_ok-least_shared.least_shared c.is_smaller_own.result) c.least-least_own.ensures c.is_smaller_own.ensures in
-    let asked = is_asked _ _ c.in_ok-least_shared.least_shared c.is_smaller_own.result (sym c.least.ensures ∙ c.in_ok-least_shared.was) tested c.if-is_smaller_own.false in
+    let tested = tested_at c.args.least_own c.in_ok-least.least.item c.is_smaller_own.result c.is_smaller_own.ensures in
+    let asked = is_asked _ _ c.in_ok-least.least.item c.is_smaller_own.result (ap (λ bs. slice_get (sorted (content bs)) 0) (sym c.lsm.ensures) ∙ sym c.in_ok-least.ensures.item) tested c.if-is_smaller_own.false in
     let bad : true ≡ false = sym asked ∙ unasked in
     cc
 
@@ -43,23 +50,20 @@ pub returns-clause-asked : goal.returns-clause-asked
 returns-clause-asked g c asked = record {
   index = c.pick-index.result;
   picked = rw (← c.candidates.ensures) c.pick-index.ensures.picked;
-  candidate = c.place_of_candidate-candidate.result.item;
-  found = c.place_of_candidate-candidate.ensures.candidate;
-  follows = candidate_goes _ c.place_of_candidate-candidate.result.item c.is_smaller_own-2.result (subst (λ o. IsTested o c.place_of_candidate-candidate.result.item c.is_smaller_own-2.result) c.least-least_own.ensures c.is_smaller_own-2.ensures) c.if-is_smaller_own-2.false;
+  candidate = c.place_from_least-candidate.result.item;
+  found = c.place_from_least-candidate.ensures.candidate;
+  follows = candidate_goes _ c.place_from_least-candidate.result.item c.is_smaller_own-2.result (tested_at c.args.least_own c.place_from_least-candidate.result.item c.is_smaller_own-2.result c.is_smaller_own-2.ensures) c.if-is_smaller_own-2.false;
 }
 
 pub returns-clause-place : goal.returns-clause-place
 returns-clause-place g c =
-    (c.place_of_candidate-candidate.ensures.block, c.place_of_candidate-candidate.ensures.index, contains_at _ c.pick-index.result _ c.place_of_candidate-candidate.ensures.candidate)
+    (c.place_from_least-candidate.ensures.block, c.place_from_least-candidate.ensures.index, contains_at _ c.pick-index.result _ c.place_from_least-candidate.ensures.candidate)
 
-pub least-least_own-requires : goal.least-least_own-requires
-least-least_own-requires g c = search rules
+pub least_place-requires : goal.least_place-requires
+least_place-requires g c = search rules
 
-pub least-requires : goal.least-requires
-least-requires g c = search rules
-
-pub branch-least_shared-requires : goal.branch-least_shared-requires
-branch-least_shared-requires g c = search rules
+pub branch-least-requires : goal.branch-least-requires
+branch-least-requires g c = search rules
 
 pub from_residual-requires : goal.from_residual-requires
 from_residual-requires g c = search rules
@@ -69,9 +73,6 @@ is_smaller_own-requires g c = search rules
 
 pub candidates-requires : goal.candidates-requires
 candidates-requires g c = search rules
-
-pub place_of_candidate-candidate-requires : goal.place_of_candidate-candidate-requires
-place_of_candidate-candidate-requires g c = search rules
 
 pub is_smaller_own-requires-2 : goal.is_smaller_own-requires-2
 is_smaller_own-requires-2 g c = search rules

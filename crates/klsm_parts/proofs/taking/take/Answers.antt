@@ -1,19 +1,25 @@
 use Rattle.std.proofs.Common.{◌≡◌, true, None, refl, sym, ap, ◌∙◌, inl, inr, rules}
 use Rattle.std.specs.List.{Contains, slice_get}
+use Rattle.std.specs.Option.{option_map}
+use Rattle.klsm_parts.specs.declared.ranks.Place.{Place}
 use Rattle.klsm_run.specs.Content.{sorted}
 use Rattle.klsm_lsm.specs.Lsm.{content}
-use Rattle.klsm_parts.specs.Parts.{PartState, items_in}
+use Rattle.klsm_parts.specs.Parts.{PartState, items_in, least_in, candidates_of}
 use Rattle.klsm_parts.specs.Taking.{picks, IsCutFrom}
 use Rattle.klsm_parts.proofs.EventLemmas.{cut_is_taken, not_taken, shared_taken, shared_stays, contains_cut, may_take_sorted, may_find_nothing, no_items, take_skips_few}
-use Rattle.klsm_parts.proofs.TakeLemmas.{chosen_may_go, own_may_go, lesser_is_candidate, lesser_is_own, none_is_smaller, none_shared, some_cut}
+use Rattle.klsm_parts.proofs.TakeLemmas.{asked_of, chosen_may_go, own_may_go, lesser_is_candidate, lesser_is_own, none_is_smaller, none_shared, some_cut}
 use Rattle.klsm_parts.proofs.taking.take.Goals as goal
 
 pub returns-in-Some-clause-unasked : goal.returns-in-Some-clause-unasked
-returns-in-Some-clause-unasked g c unasked = let bad = (c.in-Some.ensures.unasked unasked).1 in cc
+returns-in-Some-clause-unasked g c unasked =
+    let own_is = c.least_place-least_own.ensures.item ∙ ap (λ bs. slice_get (sorted (content bs)) 0) c.lsm.ensures in
+    let bad = (c.in-Some.ensures.unasked (ap (λ o. picks o (least_in c.args.shared.now)) own_is ∙ unasked)).1 in cc
 
 pub returns-in-Some-clause-asked : goal.returns-in-Some-clause-asked
 returns-in-Some-clause-asked g c asked =
-    let chosen = c.in-Some.ensures.asked asked in
+    let own_is = c.least_place-least_own.ensures.item ∙ ap (λ bs. slice_get (sorted (content bs)) 0) c.lsm.ensures in
+    let own_asked = asked_of g.P.Picker.may_pick c.args.picker.now c.choose.new.picker (candidates_of c.args.shared.now) (least_in c.args.shared.now) _ _ (least_in c.args.own.now) own_is c.in-Some.ensures.asked in
+    let chosen = own_asked asked in
     record { index = chosen.index; picked = chosen.picked; candidate = chosen.candidate; found = chosen.found; follows = lesser_is_candidate chosen.candidate c.in-Some.place.item _ chosen.follows }
 
 pub returns-in-Some-clause-left : goal.returns-in-Some-clause-left
@@ -28,69 +34,82 @@ returns-in-Some-clause-nothing g c =
 
 pub returns-in-Some-clause-event : goal.returns-in-Some-clause-event
 returns-in-Some-clause-event g c =
+    let own_is = c.least_place-least_own.ensures.item ∙ ap (λ bs. slice_get (sorted (content bs)) 0) c.lsm.ensures in
+    let own_asked = asked_of g.P.Picker.may_pick c.args.picker.now c.choose.new.picker (candidates_of c.args.shared.now) (least_in c.args.shared.now) _ _ (least_in c.args.own.now) own_is c.in-Some.ensures.asked in
     let cut : IsCutFrom c.in-Some.place.item c.args.shared.now.blocks c.remove.new.self.blocks = (c.in-Some.place.block, c.in-Some.place.index, c.in-Some.ensures.place.1, ap (λ (p : PartState). p.blocks) c.remove.ensures) in
-    let taken = chosen_may_go g.P.Picker.may_pick c.args.picker.now c.choose.new.picker c.args.shared.now.k (content c.args.own.now.blocks) (content c.args.shared.now.blocks) c.in-Some.place.item (λ unasked. let bad = (c.in-Some.ensures.unasked unasked).1 in cc) c.in-Some.ensures.asked in
+    let taken = chosen_may_go g.P.Picker.may_pick c.args.picker.now c.choose.new.picker c.args.shared.now.k (content c.args.own.now.blocks) (content c.args.shared.now.blocks) c.in-Some.place.item (λ unasked. let bad = (c.in-Some.ensures.unasked (ap (λ o. picks o (least_in c.args.shared.now)) own_is ∙ unasked)).1 in cc) own_asked in
     let absent : Contains (content c.args.own.now.blocks) c.in-Some.place.item → ⊥ = λ in_own. c.requires.apart c.in-Some.place.item in_own (contains_cut c.args.shared.now.blocks c.remove.new.self.blocks c.in-Some.place.item cut) in
     (may_take_sorted c.args.own.now.k (content c.args.own.now.blocks) (content c.args.shared.now.blocks) c.in-Some.place.item (rw c.requires.same_k taken), not_taken c.args.own.now.blocks c.in-Some.place.item absent, shared_taken c.args.own.now.blocks c.args.shared.now.blocks c.remove.new.self.blocks c.in-Some.place.item absent cut)
 
 pub returns-in-Some-clause-skips : goal.returns-in-Some-clause-skips
 returns-in-Some-clause-skips g c =
-    let taken = chosen_may_go g.P.Picker.may_pick c.args.picker.now c.choose.new.picker c.args.shared.now.k (content c.args.own.now.blocks) (content c.args.shared.now.blocks) c.in-Some.place.item (λ unasked. let bad = (c.in-Some.ensures.unasked unasked).1 in cc) c.in-Some.ensures.asked in
+    let own_is = c.least_place-least_own.ensures.item ∙ ap (λ bs. slice_get (sorted (content bs)) 0) c.lsm.ensures in
+    let own_asked = asked_of g.P.Picker.may_pick c.args.picker.now c.choose.new.picker (candidates_of c.args.shared.now) (least_in c.args.shared.now) _ _ (least_in c.args.own.now) own_is c.in-Some.ensures.asked in
+    let taken = chosen_may_go g.P.Picker.may_pick c.args.picker.now c.choose.new.picker c.args.shared.now.k (content c.args.own.now.blocks) (content c.args.shared.now.blocks) c.in-Some.place.item (λ unasked. let bad = (c.in-Some.ensures.unasked (ap (λ o. picks o (least_in c.args.shared.now)) own_is ∙ unasked)).1 in cc) own_asked in
     take_skips_few c.args.own.now.k (items_in c.args.own.now) (items_in c.args.shared.now) c.in-Some.place.item (may_take_sorted c.args.own.now.k (content c.args.own.now.blocks) (content c.args.shared.now.blocks) c.in-Some.place.item (rw c.requires.same_k taken))
 
-pub returns-in-None-clause-unasked : goal.returns-in-None-clause-unasked
-returns-in-None-clause-unasked g c unasked =
-    let none = no_items c.args.own.now.blocks c.len.ensures.lawful (sym c.len.ensures.len ∙ c.if-len-eq0.true) in
-    ((c.in-None.ensures.unasked unasked).0, ap (λ bs. slice_get (sorted (content bs)) 0) (sym none))
+pub returns-in_err-least_own-in-None-clause-unasked : goal.returns-in_err-least_own-in-None-clause-unasked
+returns-in_err-least_own-in-None-clause-unasked g c unasked =
+    let own_is = c.least_place-least_own.ensures.item ∙ ap (λ bs. slice_get (sorted (content bs)) 0) c.lsm.ensures in
+    let none_own : slice_get (items_in c.args.own.now) 0 ≡ None = sym own_is ∙ ap (option_map (λ (place : Place). place.item)) c.in_err-least_own-in-None.was in
+    ((c.in-None.ensures.unasked (ap (λ o. picks o (least_in c.args.shared.now)) own_is ∙ unasked)).0, c.from_residual.ensures ∙ sym none_own)
 
-pub returns-in-None-clause-asked : goal.returns-in-None-clause-asked
-returns-in-None-clause-asked g c asked =
-    let none = no_items c.args.own.now.blocks c.len.ensures.lawful (sym c.len.ensures.len ∙ c.if-len-eq0.true) in
-    let chosen = c.in-None.ensures.asked asked in
-    absurd (none_is_smaller chosen.candidate _ (ap (λ bs. slice_get (sorted (content bs)) 0) none) chosen.follows)
+pub returns-in_err-least_own-in-None-clause-asked : goal.returns-in_err-least_own-in-None-clause-asked
+returns-in_err-least_own-in-None-clause-asked g c asked =
+    let own_is = c.least_place-least_own.ensures.item ∙ ap (λ bs. slice_get (sorted (content bs)) 0) c.lsm.ensures in
+    let none_own : slice_get (items_in c.args.own.now) 0 ≡ None = sym own_is ∙ ap (option_map (λ (place : Place). place.item)) c.in_err-least_own-in-None.was in
+    let own_asked = asked_of g.P.Picker.may_pick c.args.picker.now c.choose.new.picker (candidates_of c.args.shared.now) (least_in c.args.shared.now) _ _ (least_in c.args.own.now) own_is c.in-None.ensures.asked in
+    let chosen = own_asked asked in
+    absurd (none_is_smaller chosen.candidate _ none_own chosen.follows)
 
-pub returns-in-None-clause-nothing : goal.returns-in-None-clause-nothing
-returns-in-None-clause-nothing g c =
-    let none = no_items c.args.own.now.blocks c.len.ensures.lawful (sym c.len.ensures.len ∙ c.if-len-eq0.true) in
-    let none_own : slice_get (items_in c.args.own.now) 0 ≡ None = ap (λ bs. slice_get (sorted (content bs)) 0) none in
+pub returns-in_err-least_own-in-None-clause-nothing : goal.returns-in_err-least_own-in-None-clause-nothing
+returns-in_err-least_own-in-None-clause-nothing g c =
+    let own_is = c.least_place-least_own.ensures.item ∙ ap (λ bs. slice_get (sorted (content bs)) 0) c.lsm.ensures in
+    let none_own : slice_get (items_in c.args.own.now) 0 ≡ None = sym own_is ∙ ap (option_map (λ (place : Place). place.item)) c.in_err-least_own-in-None.was in
+    let own_asked = asked_of g.P.Picker.may_pick c.args.picker.now c.choose.new.picker (candidates_of c.args.shared.now) (least_in c.args.shared.now) _ _ (least_in c.args.own.now) own_is c.in-None.ensures.asked in
     let unasked : picks (slice_get (items_in c.args.own.now) 0) (slice_get (items_in c.args.shared.now) 0) ≡ true → ⊥ =
-    λ asked. let chosen = c.in-None.ensures.asked asked in none_is_smaller chosen.candidate _ none_own chosen.follows in
-    (λ same. may_find_nothing (content c.args.own.now.blocks) (content c.args.shared.now.blocks) none_own (none_shared _ _ none_own unasked), λ none. refl)
+    λ asked. let chosen = own_asked asked in none_is_smaller chosen.candidate _ none_own chosen.follows in
+    (λ same. may_find_nothing (content c.args.own.now.blocks) (content c.args.shared.now.blocks) none_own (none_shared _ _ none_own unasked), λ none. c.from_residual.ensures)
 
-pub returns-in-None-2-clause-unasked : goal.returns-in-None-2-clause-unasked
-returns-in-None-2-clause-unasked g c unasked = ((c.in-None-2.ensures.unasked unasked).0, sym c.take_least.ensures.least)
+pub returns-in_ok-least_own-in-None-clause-unasked : goal.returns-in_ok-least_own-in-None-clause-unasked
+returns-in_ok-least_own-in-None-clause-unasked g c unasked =
+    let own_is = c.least_place-least_own.ensures.item ∙ ap (λ bs. slice_get (sorted (content bs)) 0) c.lsm.ensures in
+    ((c.in-None.ensures.unasked (ap (λ o. picks o (least_in c.args.shared.now)) own_is ∙ unasked)).0, sym c.remove-in-None.ensures.least)
 
-pub returns-in-None-2-clause-asked : goal.returns-in-None-2-clause-asked
-returns-in-None-2-clause-asked g c asked =
-    let chosen = c.in-None-2.ensures.asked asked in
-    record { index = chosen.index; picked = chosen.picked; candidate = chosen.candidate; found = chosen.found; follows = lesser_is_own chosen.candidate c.take_least.result _ c.take_least.ensures.least chosen.follows }
+pub returns-in_ok-least_own-in-None-clause-asked : goal.returns-in_ok-least_own-in-None-clause-asked
+returns-in_ok-least_own-in-None-clause-asked g c asked =
+    let own_is = c.least_place-least_own.ensures.item ∙ ap (λ bs. slice_get (sorted (content bs)) 0) c.lsm.ensures in
+    let own_asked = asked_of g.P.Picker.may_pick c.args.picker.now c.choose.new.picker (candidates_of c.args.shared.now) (least_in c.args.shared.now) _ _ (least_in c.args.own.now) own_is c.in-None.ensures.asked in
+    let chosen = own_asked asked in
+    record { index = chosen.index; picked = chosen.picked; candidate = chosen.candidate; found = chosen.found; follows = lesser_is_own chosen.candidate c.remove-in-None.result _ c.remove-in-None.ensures.least chosen.follows }
 
-pub returns-in-None-2-clause-nothing : goal.returns-in-None-2-clause-nothing
-returns-in-None-2-clause-nothing g c =
-    (λ bad. cc, λ none. absurd (some_cut c.args.own.now.blocks c.take_least.new.self.blocks c.take_least.result c.take_least.ensures.cut none.own_empty))
+pub returns-in_ok-least_own-in-None-clause-nothing : goal.returns-in_ok-least_own-in-None-clause-nothing
+returns-in_ok-least_own-in-None-clause-nothing g c =
+    (λ bad. cc, λ none. absurd (some_cut c.args.own.now.blocks c.remove-in-None.new.self.blocks c.remove-in-None.result c.remove-in-None.ensures.cut none.own_empty))
 
-pub returns-in-None-2-clause-event : goal.returns-in-None-2-clause-event
-returns-in-None-2-clause-event g c =
-    let taken = own_may_go g.P.Picker.may_pick c.args.picker.now c.choose.new.picker c.args.shared.now.k (content c.args.own.now.blocks) (content c.args.shared.now.blocks) c.take_least.result c.take_least.ensures.least c.in-None-2.ensures.asked in
-    let within = contains_cut c.args.own.now.blocks c.take_least.new.self.blocks c.take_least.result c.take_least.ensures.cut in
-    (may_take_sorted c.args.own.now.k (content c.args.own.now.blocks) (content c.args.shared.now.blocks) c.take_least.result (rw c.requires.same_k taken), cut_is_taken c.args.own.now.blocks c.take_least.new.self.blocks c.take_least.result c.take_least.ensures.cut, shared_stays c.args.own.now.blocks c.args.shared.now.blocks c.take_least.result within)
+pub returns-in_ok-least_own-in-None-clause-event : goal.returns-in_ok-least_own-in-None-clause-event
+returns-in_ok-least_own-in-None-clause-event g c =
+    let own_is = c.least_place-least_own.ensures.item ∙ ap (λ bs. slice_get (sorted (content bs)) 0) c.lsm.ensures in
+    let own_asked = asked_of g.P.Picker.may_pick c.args.picker.now c.choose.new.picker (candidates_of c.args.shared.now) (least_in c.args.shared.now) _ _ (least_in c.args.own.now) own_is c.in-None.ensures.asked in
+    let taken = own_may_go g.P.Picker.may_pick c.args.picker.now c.choose.new.picker c.args.shared.now.k (content c.args.own.now.blocks) (content c.args.shared.now.blocks) c.remove-in-None.result c.remove-in-None.ensures.least own_asked in
+    let within = contains_cut c.args.own.now.blocks c.remove-in-None.new.self.blocks c.remove-in-None.result c.remove-in-None.ensures.cut in
+    (may_take_sorted c.args.own.now.k (content c.args.own.now.blocks) (content c.args.shared.now.blocks) c.remove-in-None.result (rw c.requires.same_k taken), cut_is_taken c.args.own.now.blocks c.remove-in-None.new.self.blocks c.remove-in-None.result c.remove-in-None.ensures.cut, shared_stays c.args.own.now.blocks c.args.shared.now.blocks c.remove-in-None.result within)
 
-pub returns-in-None-2-clause-skips : goal.returns-in-None-2-clause-skips
-returns-in-None-2-clause-skips g c =
-    let taken = own_may_go g.P.Picker.may_pick c.args.picker.now c.choose.new.picker c.args.shared.now.k (content c.args.own.now.blocks) (content c.args.shared.now.blocks) c.take_least.result c.take_least.ensures.least c.in-None-2.ensures.asked in
-    take_skips_few c.args.own.now.k (items_in c.args.own.now) (items_in c.args.shared.now) c.take_least.result (may_take_sorted c.args.own.now.k (content c.args.own.now.blocks) (content c.args.shared.now.blocks) c.take_least.result (rw c.requires.same_k taken))
+pub returns-in_ok-least_own-in-None-clause-skips : goal.returns-in_ok-least_own-in-None-clause-skips
+returns-in_ok-least_own-in-None-clause-skips g c =
+    let own_is = c.least_place-least_own.ensures.item ∙ ap (λ bs. slice_get (sorted (content bs)) 0) c.lsm.ensures in
+    let own_asked = asked_of g.P.Picker.may_pick c.args.picker.now c.choose.new.picker (candidates_of c.args.shared.now) (least_in c.args.shared.now) _ _ (least_in c.args.own.now) own_is c.in-None.ensures.asked in
+    let taken = own_may_go g.P.Picker.may_pick c.args.picker.now c.choose.new.picker c.args.shared.now.k (content c.args.own.now.blocks) (content c.args.shared.now.blocks) c.remove-in-None.result c.remove-in-None.ensures.least own_asked in
+    take_skips_few c.args.own.now.k (items_in c.args.own.now) (items_in c.args.shared.now) c.remove-in-None.result (may_take_sorted c.args.own.now.k (content c.args.own.now.blocks) (content c.args.shared.now.blocks) c.remove-in-None.result (rw c.requires.same_k taken))
 
-pub returns-in-None-2-clause-left : goal.returns-in-None-2-clause-left
-returns-in-None-2-clause-left g c = (c.take_least.ensures.k, refl, inl (c.take_least.ensures.cut, refl))
+pub returns-in_ok-least_own-in-None-clause-left : goal.returns-in_ok-least_own-in-None-clause-left
+returns-in_ok-least_own-in-None-clause-left g c = (c.remove-in-None.ensures.k, refl, inl (c.remove-in-None.ensures.cut, refl))
 
 pub choose-requires : goal.choose-requires
 choose-requires g c = search rules
 
+pub least_place-least_own-requires : goal.least_place-least_own-requires
+least_place-least_own-requires g c = search rules
+
 pub remove-requires : goal.remove-requires
 remove-requires g c = (search rules, (c.in-Some.ensures.place.0, (c.in-Some.ensures.place.1, c.in-Some.ensures.place.2)))
-
-pub len-requires : goal.len-requires
-len-requires g c = search rules
-
-pub take_least-requires : goal.take_least-requires
-take_least-requires g c = search rules
