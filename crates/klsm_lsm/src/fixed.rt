@@ -18,6 +18,7 @@ use klsm_run::{FixedRun, Item, Run};
 
 impl<const CAP: usize, const LEVELS: usize> Lsm<FixedRun<CAP>, LEVELS> {
     /// Puts an item in that the LSM does not hold.
+    #[inline(always)]
     pub fn insert(&mut self, item: Item) -> Result<(), LsmError>
         requires capacity { IsCapacity CAP }
         requires new { ¬ Contains (content self.old) item }

@@ -141,6 +141,7 @@ impl<const CAP: usize> Local<CAP> {
 }
 
 /// Puts an item into an own part that has room. It takes no memory.
+#[inline]
 pub fn put<const CAP: usize>(own: &mut Local<CAP>, item: Item)
     requires capacity { IsCapacity CAP }
     requires room { length (content own.old.blocks) < own.old.k }
