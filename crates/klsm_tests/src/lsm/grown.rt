@@ -145,6 +145,14 @@ pub(super) fn are_keys(keys: &[u64]) -> bool
     !keys.is_empty() && keys.len() <= 64
 }
 
+/// Why a run was refused, without it.
+pub(super) fn why_of<R: Run>(answer: Result<(), Refused<R>>) -> Result<(), LsmError> {
+    match answer {
+        Ok(()) => Ok(()),
+        Err(refused) => Err(refused.why),
+    }
+}
+
 /// The LSM over fixed runs that absorbed runs of these keys in turn.
 pub(super) fn fixed(runs: &[&[u64]]) -> Option<Lsm<FixedRun<64>, 8>> {
     let mut grown: Grown<FixedRun<64>, 8> = Grown::new();
