@@ -1,4 +1,4 @@
-//! Mixed additions and removals beside a plain sorted list: the same items each time, and as many blocks as were told before.
+//! Mixed additions and removals beside a plain sorted list: the same items each time, and as many blocks as was told.
 ghost use Rattle.std.specs.Prelude.{◌<◌, ◌≤◌, length};
 
 use super::super::owned::run_of;
@@ -120,7 +120,7 @@ fn begins_with<R: Run>(lsm: &Lsm<R, 7>, least: Option<Item>) -> bool {
     lsm.least() == least && Some(lsm.block(block).item_at(0)) == least
 }
 
-// From 1 to 4 keys. They are few, so that equal ones occur.
+// Keys below 100, so that equal ones occur.
 fn drawn_keys(mix: &mut Pcg32) -> [u64; 4] {
     [
         mix.next_u64() % 100,
@@ -130,16 +130,16 @@ fn drawn_keys(mix: &mut Pcg32) -> [u64; 4] {
     ]
 }
 
-// Adds from 1 to 4 items, or takes one out.
+// Adds from 1 to 4 items, which one step in so many does, or takes one out.
 fn fixed_step(
     grown: &mut Grown<FixedRun<64>, 7>,
     plain: &mut Vec<Item>,
     mix: &mut Pcg32,
-    of: u32,
+    one_in: u32,
 ) -> Option<bool>
-    requires { 0 < of }
+    requires { 0 < one_in }
 {
-    if mix.next_u32() % of > 0 {
+    if mix.next_u32() % one_in > 0 {
         return removes(grown, plain, mix);
     }
     let keys = drawn_keys(mix);
@@ -153,11 +153,11 @@ fn heap_step<'a>(
     grown: &mut Grown<HeapRun<&'a Rationed<Global>>, 7>,
     plain: &mut Vec<Item>,
     mix: &mut Pcg32,
-    of: u32,
+    one_in: u32,
 ) -> Option<bool>
-    requires { 0 < of }
+    requires { 0 < one_in }
 {
-    if mix.next_u32() % of > 0 {
+    if mix.next_u32() % one_in > 0 {
         return removes(grown, plain, mix);
     }
     let keys = drawn_keys(mix);
@@ -165,15 +165,15 @@ fn heap_step<'a>(
     heap_adds(heap, grown, plain, &keys[..count + 1])
 }
 
-// Whether an LSM over fixed runs is the same at each of 500 steps, one of so many an addition.
-fn fixed_same(alloc: Global, of: u32) -> Option<bool>
-    requires { 0 < of }
+// Whether an LSM over fixed runs has the items of the list after each of 500 steps, of which one in so many is an addition.
+fn fixed_same(alloc: Global, one_in: u32) -> Option<bool>
+    requires { 0 < one_in }
 {
     let mut grown: Grown<FixedRun<64>, 7> = Grown::new();
     let mut plain = Vec::new(alloc);
     let mut mix = Pcg32::seed_from_u64(6);
     for _ in 0..500 {
-        if !fixed_step(&mut grown, &mut plain, &mut mix, of)?
+        if !fixed_step(&mut grown, &mut plain, &mut mix, one_in)?
             || !shows(alloc, &grown.lsm, plain.as_slice())?
         {
             return Some(false);
@@ -183,15 +183,15 @@ fn fixed_same(alloc: Global, of: u32) -> Option<bool>
 }
 
 // The same over runs on the heap.
-fn heap_same(alloc: Global, of: u32) -> Option<bool>
-    requires { 0 < of }
+fn heap_same(alloc: Global, one_in: u32) -> Option<bool>
+    requires { 0 < one_in }
 {
     let heap = Rationed::new(alloc);
     let mut grown: Grown<HeapRun<&Rationed<Global>>, 7> = Grown::new();
     let mut plain = Vec::new(alloc);
     let mut mix = Pcg32::seed_from_u64(7);
     for _ in 0..500 {
-        if !heap_step(&heap, &mut grown, &mut plain, &mut mix, of)?
+        if !heap_step(&heap, &mut grown, &mut plain, &mut mix, one_in)?
             || !shows(alloc, &grown.lsm, plain.as_slice())?
         {
             return Some(false);
@@ -203,14 +203,14 @@ fn heap_same(alloc: Global, of: u32) -> Option<bool>
 // With one addition in two steps the LSM is often full, and with one in four it is often empty.
 #[test]
 fn fixed_runs_mixed(rt: HostRuntime) {
-    for of in [2, 4] {
-        assert!(rt; fixed_same(rt.alloc(), of) == Some(true));
+    for one_in in [2, 4] {
+        assert!(rt; fixed_same(rt.alloc(), one_in) == Some(true));
     }
 }
 
 #[test]
 fn heap_runs_mixed(rt: HostRuntime) {
-    for of in [2, 4] {
-        assert!(rt; heap_same(rt.alloc(), of) == Some(true));
+    for one_in in [2, 4] {
+        assert!(rt; heap_same(rt.alloc(), one_in) == Some(true));
     }
 }

@@ -71,6 +71,7 @@ fn copy_leaves(
     Some(answer.err() == refusal && has_blocks(&grown.lsm, blocks))
 }
 
+// The same of all three.
 fn all_leave(
     heap: &Rationed<Global>,
     runs: &[&[u64]],
@@ -140,7 +141,7 @@ fn three_blocks<'a>(heap: &'a Rationed<Global>) -> Option<Grown<HeapRun<&'a Rati
     Some(grown)
 }
 
-// Absorbs a run with no growth granted, and the run that was handed back with one. It answers what was shown each time.
+// Whether the run of 8 is refused and comes back where no growth is granted, and with one becomes one with all blocks.
 fn absorbs_at_last<'a>(
     heap: &'a Rationed<Global>,
     grown: Grown<HeapRun<&'a Rationed<Global>>, 8>,

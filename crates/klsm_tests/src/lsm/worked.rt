@@ -7,20 +7,23 @@ use klsm_run::{FixedRun, HeapRun, Run};
 use klsm_testing::Rationed;
 use std::alloc::Global;
 
-// Whether an LSM has these blocks where the items of these keys were inserted in turn.
-fn inserting_leaves(keys: &[u64], blocks: &[&[u64]]) -> Option<bool> {
+// Whether an LSM has these blocks, the first of this level, where the items of these keys were inserted in turn.
+fn inserting_leaves(keys: &[u64], blocks: &[&[u64]], level: usize) -> Option<bool> {
     let mut grown: Grown<FixedRun<64>, 8> = Grown::new();
     for key in keys {
         grown.insert(*key).ok()?;
     }
-    Some(has_blocks(&grown.lsm, blocks))
+    if grown.lsm.blocks() == 0 {
+        return None;
+    }
+    Some(has_blocks(&grown.lsm, blocks) && grown.lsm.block(0).level() == level)
 }
 
 #[test]
 fn keys_in_turn(rt: HostRuntime) {
     let keys = [1, 2, 3, 4, 5, 6, 7, 8];
-    assert!(rt; inserting_leaves(&keys[..7], &[&[1, 2, 3, 4], &[5, 6], &[7]]) == Some(true));
-    assert!(rt; inserting_leaves(&keys, &[&keys]) == Some(true));
+    assert!(rt; inserting_leaves(&keys[..7], &[&[1, 2, 3, 4], &[5, 6], &[7]], 2) == Some(true));
+    assert!(rt; inserting_leaves(&keys, &[&keys], 3) == Some(true));
 }
 
 // Whether LSMs that absorbed these runs in turn have these blocks.
@@ -223,6 +226,7 @@ fn loses_largest<R: Run>(giving: &mut Lsm<R, 8>, discarding: &mut Lsm<R, 8>) -> 
         && discards_largest(discarding, &[])
 }
 
+// The same of each kind of LSM that absorbed these runs.
 fn both_lose_largest(heap: &Rationed<Global>, runs: &[&[u64]]) -> Option<bool> {
     Some(
         loses_largest(&mut fixed(runs)?, &mut fixed(runs)?)
@@ -236,7 +240,7 @@ fn largest_blocks(rt: HostRuntime) {
     assert!(rt; both_lose_largest(&heap, &[&[1, 2, 3], &[4]]) == Some(true));
 }
 
-// Whether a spy, and a split for one, take a block of these keys from an LSM of these runs, and leave these blocks.
+// Whether a spy takes a block of these keys, or none where there are no keys, from an LSM of these runs, and leaves these.
 fn spies(runs: &[&[u64]], taken: &[u64], left: &[&[u64]]) -> Option<bool> {
     let mut lsm: Lsm<FixedRun<64>, 8> = Lsm::new();
     let mut victim = fixed(runs)?;
@@ -249,6 +253,7 @@ fn spies(runs: &[&[u64]], taken: &[u64], left: &[&[u64]]) -> Option<bool> {
     )
 }
 
+// The same of a split for a spy.
 fn splits(runs: &[&[u64]], taken: &[u64], left: &[&[u64]]) -> Option<bool> {
     let mut victim = fixed(runs)?;
     let given = victim.split_for_spy();
