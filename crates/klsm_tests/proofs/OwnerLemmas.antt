@@ -1,15 +1,17 @@
 -- Items that are told apart by their owners and numbers.
 use Rattle.std.proofs.Common.{◌≡◌, ◌≢◌, ℕ, ◌+◌, ◌<◌, ◌≤◌, List, [], ◌∷◌, ◌++◌, length, ap, arith, Result, Ok, Err, OnOk, OnErr}
-use Rattle.std.specs.List.{AllByRecursion, Contains}
+use Rattle.std.specs.List.{All, AllByRecursion, Contains}
 use Rattle.std.proofs.lemmas.List.{length-append}
+use Rattle.std.proofs.lemmas.List.Elements.{All-from_recursion, recursion_from_All}
 use Rattle.klsm_run.specs.declared.item.Item.{Item}
 use Rattle.klsm_run.specs.Content.{sorted, ShareNone}
 use Rattle.klsm_run.proofs.AllLemmas.{all_weaker, all_append}
 use Rattle.klsm_run.proofs.SortedLemmas.{IsNew, all_sorted, length_sorted}
 use Rattle.klsm_run.proofs.ContentLemmas.{absent_if_new, sharing_none_if_apart}
 use Rattle.klsm_lsm.specs.Lsm.{content}
-use Rattle.klsm_lsm.specs.Adding.{add}
+use Rattle.klsm_lsm.specs.Adding.{add, cut}
 use Rattle.klsm_lsm.proofs.AddLemmas.{all_add}
+use Rattle.klsm_lsm.proofs.CutLemmas.{all_cut}
 
 -- each item is an owner's
 abbrev pub AreOf : ℕ → List Item → Type 0
@@ -63,3 +65,20 @@ pub below_after : {T E : Type 0} (r : Result T E) (owner : ℕ) (old new : List 
 below_after (Ok t) owner old new run added same below of =
     rw added (all_add (λ x. x.stamp.owner < owner + 1) old run (below_weaker owner (owner + 1) (content old) (omega arith) below) (below_if_of owner (owner + 1) run (omega arith) of))
 below_after (Err e) owner old new run added same below of = rw same (below_weaker owner (owner + 1) (content old) (omega arith) below)
+
+-- the owners are below this one, item by item
+abbrev pub IsOwnedBelow : ℕ → Item → Type 0
+IsOwnedBelow owner x = x.stamp.owner < owner
+
+pub owned_after : {T E : Type 0} (r : Result T E) (owner next : ℕ) (old new : List (List Item)) (run : List Item) → OnOk r (new ≡ add old run) → OnErr r (new ≡ old) → next ≡ owner + 1 → All (IsOwnedBelow owner) (content old) → AreOf owner run → All (IsOwnedBelow next) (content new)
+owned_after r owner next old new run added same is below of =
+    rw is (All-from_recursion (IsOwnedBelow (owner + 1)) (content new) (below_after r owner old new run added same (recursion_from_All (IsOwnedBelow owner) (content old) below) of))
+
+-- blocks without an item
+pub owned_cut : (owner at index : ℕ) (old new : List (List Item)) → new ≡ cut old at index → All (IsOwnedBelow owner) (content old) → All (IsOwnedBelow owner) (content new)
+owned_cut owner at index old new is below =
+    rw is (All-from_recursion (IsOwnedBelow owner) (content (cut old at index)) (all_cut (IsOwnedBelow owner) old at index (recursion_from_All (IsOwnedBelow owner) (content old) below)))
+
+-- a run of the next owner shares no item with them
+pub owned_apart : (owner : ℕ) (blocks : List (List Item)) (run : List Item) → All (IsOwnedBelow owner) (content blocks) → AreOf owner run → ShareNone (content blocks) run
+owned_apart owner blocks run below of = apart_by_owner owner (content blocks) run (recursion_from_All (IsOwnedBelow owner) (content blocks) below) of

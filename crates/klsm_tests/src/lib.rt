@@ -4,10 +4,13 @@
 //! the tests of one subject:
 //!
 //! - `runs`: fixed runs and runs on the heap;
+//! - `lsm`: LSMs over both kinds of run, beside a sorted list;
 //! - `parts`: the own part and the shared one, their events and pickers, beside a plain program written from the rules;
 //! - `world`: the pure world of threads and locked steps, beside a plain program written from its definitions.
 #![tactic(auto)]
 
+#[cfg(test)]
+mod lsm;
 #[cfg(test)]
 mod owned;
 #[cfg(test)]

@@ -1,5 +1,6 @@
-//! Worked examples of runs: fixed ones, copies on the heap, and removals.
-ghost use Rattle.std.specs.Prelude.{◌≤◌, length};
+//! Worked examples of runs: fixed ones, copies on the heap, removals and unions.
+ghost use Rattle.std.specs.Prelude.{◌≡◌, ◌+◌, ◌≤◌, length};
+ghost use Rattle.std.specs.List.{AllByRecursion};
 
 mod refused;
 
@@ -80,4 +81,39 @@ fn halves(rt: HostRuntime) {
     assert!(rt; has_halves(&run_of(0, &[4]), &[], &[4]));
     assert!(rt; has_halves(&run_of(0, &[5, 4]), &[4], &[5]));
     assert!(rt; has_halves(&run_of(0, &[5, 4, 6, 8, 7]), &[4, 5], &[6, 7, 8]));
+}
+
+// Merges the runs 1, 3 and 2, takes the least item out, and unites the others with the run 4. All stay in the merged store,
+// of this capacity.
+fn unites<R: Run>(one: &R, two: &R, three: &R, capacity: usize) -> Option<bool>
+    requires one { AllByRecursion (λ x. x.stamp.owner ≡ 0) (R.items one.now) }
+    requires two { AllByRecursion (λ x. x.stamp.owner ≡ 1) (R.items two.now) }
+    requires three { AllByRecursion (λ x. x.stamp.owner ≡ 2) (R.items three.now) }
+    requires room { length (R.items one.now) + length (R.items two.now) ≤ R.ROOM }
+{
+    let mut run = one.merge(two).ok()?;
+    let merged = has_keys(&run, &[1, 2, 3]) && run.capacity() == capacity;
+    if run.len() == 0 || run.capacity() - run.len() < three.len() {
+        return None;
+    }
+    let least = run.remove_at(0);
+    run.unite(three);
+    Some(merged && least.key == 1 && has_keys(&run, &[2, 3, 4]) && run.capacity() == capacity)
+}
+
+fn heap_runs_unite(alloc: Global) -> Option<bool> {
+    let one = heap_run_of(alloc, 0, &[3, 1])?;
+    let two = heap_run_of(alloc, 1, &[2])?;
+    let three = heap_run_of(alloc, 2, &[4])?;
+    unites(&one, &two, &three, 4)
+}
+
+fn fixed_runs_unite() -> Option<bool> {
+    unites(&run_of(0, &[3, 1]), &run_of(1, &[2]), &run_of(2, &[4]), 64)
+}
+
+#[test]
+fn unions(rt: HostRuntime) {
+    assert!(rt; heap_runs_unite(rt.alloc()) == Some(true));
+    assert!(rt; fixed_runs_unite() == Some(true));
 }

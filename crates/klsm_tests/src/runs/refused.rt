@@ -1,6 +1,6 @@
-//! The one growth of a copy refused: the same call goes through with one growth.
+//! The one growth of a copy or a merge refused: the same call goes through with one growth.
 
-use super::super::owned::{has_keys, run_of};
+use super::super::owned::{has_keys, heap_run_of, run_of};
 use klsm_run::{HeapRun, Run, RunError};
 use klsm_testing::Rationed;
 use std::alloc::Global;
@@ -36,9 +36,27 @@ fn larger_copy_needs_one(heap: &Rationed<Global>) -> bool {
     refused && has_made(HeapRun::copy_of_for(heap, &run, 9), &[1, 2, 3])
 }
 
+// The same of a merge, which leaves both runs as they were.
+fn merge_needs_one(heap: &Rationed<Global>) -> Option<bool> {
+    heap.allow(u64::MAX);
+    let run = heap_run_of(heap, 0, &[3, 1])?;
+    let other = heap_run_of(heap, 1, &[2])?;
+    heap.allow(0);
+    let refused = is_refused(run.merge(&other));
+    let are_same = has_keys(&run, &[1, 3]) && has_keys(&other, &[2]);
+    heap.allow(1);
+    Some(refused && are_same && has_made(run.merge(&other), &[1, 2, 3]))
+}
+
 #[test]
 fn copies_refused(rt: HostRuntime) {
     let heap = Rationed::new(rt.alloc());
     assert!(rt; copy_needs_one(&heap));
     assert!(rt; larger_copy_needs_one(&heap));
+}
+
+#[test]
+fn merges_refused(rt: HostRuntime) {
+    let heap = Rationed::new(rt.alloc());
+    assert!(rt; merge_needs_one(&heap) == Some(true));
 }

@@ -1,0 +1,9 @@
+use Rattle.std.proofs.Common.{◌≡◌, ◌+◌, rules}
+use Rattle.klsm_tests.proofs.OwnerLemmas.{owned_after}
+use Rattle.klsm_tests.proofs.lsm.grown.Grown+HeapRun+ref+Rationed+Global+LEVELS.absorb_copy.Goals as goal
+
+pub invariant_of-self : goal.invariant_of-self
+invariant_of-self g c =
+    let grown = c.args.self.now in
+    let next : c.in-Some.next ≡ grown.owners + 1 = search rules in
+    record { owned = owned_after c.absorb_copy-answer.result grown.owners c.in-Some.next grown.lsm c.absorb_copy-answer.new.self c.run_of-run.result c.absorb_copy-answer.ensures.added c.absorb_copy-answer.ensures.unchanged next grown.owned c.run_of-run.ensures.owner }
