@@ -87,7 +87,7 @@ fn choose<const CAP: usize, const LEVELS: usize, A: Allocator + Copy, P: Picker>
 }
 
 // Whether the least own item, if there is one, is smaller than another item.
-fn is_smaller_own(least_own: Option<Item>, item: Item) -> bool
+pub(crate) fn is_smaller_own(least_own: Option<Item>, item: Item) -> bool
     ensures { MatchOption least_own (result ≡ false) (λ x. result ≡ is_smaller x item) }
 {
     least_own.is_some_and(|own| own < item)
