@@ -57,6 +57,7 @@ impl<const CAP: usize, const LEVELS: usize, A: Allocator + Copy> Queue<CAP, LEVE
     #[inline]
     pub fn k(&self) -> usize
         ensures k { result ≡ self.now.own.k }
+        ensures same { self.now.shared.k ≡ self.now.own.k }
         ensures within { self.now.own.k ≤ CAP }
     {
         self.own.k()
@@ -141,14 +142,7 @@ impl<const CAP: usize, const LEVELS: usize, A: Allocator + Copy> Queue<CAP, LEVE
         let Some(next) = self.inserted.checked_add(1) else {
             return Err(LsmError::Full);
         };
-        let item = Item {
-            key,
-            stamp: Stamp {
-                owner: 0,
-                number: self.inserted,
-            },
-            load,
-        };
+        let item = item_of(key, self.inserted, load);
         match put_or_flush(&mut self.own, &mut self.shared, item) {
             Ok(()) => {
                 self.inserted = next;
@@ -180,6 +174,18 @@ impl<const CAP: usize, const LEVELS: usize, A: Allocator + Copy> Queue<CAP, LEVE
         ensures inserted { self.new.inserted ≡ self.old.inserted }
     {
         take(&mut self.own, &mut self.shared, picker)
+    }
+}
+
+// The item of a key and a load that is inserted after `number` others.
+#[inline]
+fn item_of(key: u64, number: u64, load: u64) -> Item
+    ensures { result ≡ record { key = key; stamp = record { owner = 0; number = number }; load = load } }
+{
+    Item {
+        key,
+        stamp: Stamp { owner: 0, number },
+        load,
     }
 }
 
