@@ -99,6 +99,10 @@ joined_items x own own_after shared shared_after (inl put) =
 joined_items x own own_after shared shared_after (inr flushed) =
     rw (flushed.1, flushed.2) (one_more x (content own.blocks) (content shared.blocks) (content (kept own.blocks x)) (content (add shared.blocks (moved own.blocks x))) (flush_joins own.blocks shared.blocks x))
 
+pub count_joined : (x : Item) (own own_after shared shared_after : PartState) → Joins x own own_after shared shared_after → length (both own_after shared_after) ≡ length (both own shared) + 1
+count_joined x own own_after shared shared_after joins =
+    omega (arith, ap length (joined_items x own own_after shared shared_after joins), length_sorted (x ∷ both own shared))
+
 -- an item that was cut out, and the rest
 cut_and_rest : (x : Item) (bs rest : List (List Item)) → IsCutFrom x bs rest → sorted (content bs) ≡ sorted (x ∷ content rest)
 cut_and_rest x bs rest taken = sym (ap (λ cs. sorted (x ∷ content cs)) taken.3 ∙ sorted_cut bs taken.0 taken.1 x taken.2)
@@ -120,6 +124,11 @@ pub items_after : (answer : Option Item) (n : ℕ) (own own_after shared shared_
     → MatchOption answer (queue_of own_after shared_after n ≡ queue_of own shared n) (λ x. both own shared ≡ sorted (x ∷ both own_after shared_after))
 items_after None n own own_after shared shared_after left = rw (left.0, left.1) refl
 items_after (Some x) n own own_after shared shared_after left = left_items x own own_after shared shared_after left
+
+pub count_after : (answer : Option Item) (own own_after shared shared_after : PartState) → IsLeft answer own own_after shared shared_after → IfSome answer (λ _. length (both own shared) ≡ length (both own_after shared_after) + 1)
+count_after None own own_after shared shared_after left = tt
+count_after (Some x) own own_after shared shared_after left =
+    omega (arith, ap length (left_items x own own_after shared shared_after left), length_sorted (x ∷ both own_after shared_after))
 
 pub item_left : (answer : Option Item) (own own_after shared shared_after : PartState) → IsLeft answer own own_after shared shared_after → IfSome answer (λ x. Leaves x own own_after shared shared_after)
 item_left None own own_after shared shared_after left = tt

@@ -126,6 +126,7 @@ impl<const CAP: usize, const LEVELS: usize, A: Allocator + Copy> Queue<CAP, LEVE
     pub fn insert(&mut self, key: u64, load: u64) -> Result<Item, LsmError>
         ensures item { IfOk result (λ item. item ≡ next_item self.old key load) }
         ensures items { OnOk result (items_of self.new ≡ sorted (next_item self.old key load ∷ items_of self.old)) }
+        ensures count { OnOk result (length (items_of self.new) ≡ length (items_of self.old) + 1) }
         ensures inserted { OnOk result (self.new.inserted ≡ self.old.inserted + 1) }
         ensures k { self.new.own.k ≡ self.old.own.k }
         ensures parts { OnOk result
@@ -155,11 +156,12 @@ impl<const CAP: usize, const LEVELS: usize, A: Allocator + Copy> Queue<CAP, LEVE
     /// Deletes an item: the least own one where that is the least of all, else the lesser of it and the candidate that the
     /// picker answers. `None` where there is no item.
     ///
-    /// It skips at most k items, with `First` none. It takes no memory, and costs what `take` does.
+    /// It skips at most k items. It takes no memory, and costs what `take` does.
     pub fn delete_min<P: Picker>(&mut self, picker: &mut P) -> Option<Item>
         ensures nothing { (result ≡ None) ↔ (items_of self.old ≡ []) }
         ensures items { MatchOption result (self.new ≡ self.old)
             (λ item. items_of self.old ≡ sorted (item ∷ items_of self.new)) }
+        ensures count { IfSome result (λ _. length (items_of self.old) ≡ length (items_of self.new) + 1) }
         ensures skips { IfSome result (λ item. skipped (items_of self.old) item ≤ self.old.own.k) }
 
         // The picker is asked, once, exactly where the least item is a shared one.

@@ -1,9 +1,9 @@
-use Rattle.std.proofs.Common.{◌≡◌, ◌≤◌, ◌↔◌, ◌∷◌, [], false, Some, None, IsTrue, IfSome, MatchOption, rules, subst, sym, ◌∙◌}
+use Rattle.std.proofs.Common.{◌≡◌, ◌+◌, ◌≤◌, ◌↔◌, ◌∷◌, [], false, length, Some, None, IsTrue, IfSome, MatchOption, rules, subst, sym, ◌∙◌}
 use Rattle.klsm_run.specs.Content.{sorted, skipped}
 use Rattle.klsm_parts.specs.Parts.{least_in, candidates_of}
 use Rattle.klsm_parts.specs.Taking.{picks, lesser_of, IsPicked, Leaves}
 use Rattle.klsm_parts.specs.Queues.{QueueState, items_of, least_of}
-use Rattle.klsm_parts.proofs.QueueLemmas.{queue_of, shared_fits, queue_left, items_after, item_left, k_left, skips_both, none_if_nothing, nothing_if_none, least_both, unasked_is_least}
+use Rattle.klsm_parts.proofs.QueueLemmas.{queue_of, shared_fits, queue_left, items_after, count_after, item_left, k_left, skips_both, none_if_nothing, nothing_if_none, least_both, unasked_is_least}
 use Rattle.klsm_parts.proofs.queue.Queue.delete_min.Goals as goal
 
 pub take-requires : goal.take-requires
@@ -25,6 +25,12 @@ returns-clause-items g c =
     let after = queue_of c.take.new.own c.take.new.shared c.self.inside.inserted in
     subst (λ (s : QueueState). MatchOption c.take.result (after ≡ s) (λ item. items_of s ≡ sorted (item ∷ items_of after))) c.self.view_is
     (items_after c.take.result c.self.inside.inserted c.self.inside.own c.take.new.own c.self.inside.shared c.take.new.shared c.take.ensures.left)
+
+pub returns-clause-count : goal.returns-clause-count
+returns-clause-count g c =
+    let after = queue_of c.take.new.own c.take.new.shared c.self.inside.inserted in
+    subst (λ (s : QueueState). IfSome c.take.result (λ _. length (items_of s) ≡ length (items_of after) + 1)) c.self.view_is
+    (count_after c.take.result c.self.inside.own c.take.new.own c.self.inside.shared c.take.new.shared c.take.ensures.left)
 
 pub returns-clause-skips : goal.returns-clause-skips
 returns-clause-skips g c =

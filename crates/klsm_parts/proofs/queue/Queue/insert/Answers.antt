@@ -1,11 +1,11 @@
-use Rattle.std.proofs.Common.{◌≡◌, ◌+◌, ◌-◌, ◌<◌, ◌^◌, ◌↔◌, ◌∷◌, rules, sym, ap, subst, arith, inr}
+use Rattle.std.proofs.Common.{◌≡◌, ◌+◌, ◌-◌, ◌<◌, ◌^◌, ◌↔◌, ◌∷◌, length, rules, sym, ap, subst, arith, inr}
 use Rattle.klsm_run.specs.declared.item.Item.{Item}
 use Rattle.klsm_run.specs.Content.{sorted}
 use Rattle.klsm_lsm.specs.declared.errors.LsmError.TheVariants.{Full}
 use Rattle.klsm_lsm.specs.Lsm.{content}
 use Rattle.klsm_parts.specs.Queues.{QueueState, items_of, next_item, Joins, HaveNoPlace, IsFull}
 use Rattle.klsm_parts.proofs.PairLemmas.{absent_number}
-use Rattle.klsm_parts.proofs.QueueLemmas.{queue_of, shared_fits, queue_joined, joined_items, k_joined, full_by_place, not_full}
+use Rattle.klsm_parts.proofs.QueueLemmas.{queue_of, shared_fits, queue_joined, joined_items, count_joined, k_joined, full_by_place, not_full}
 use Rattle.klsm_parts.proofs.queue.Queue.insert.Goals as goal
 
 pub put_or_flush-requires : goal.put_or_flush-requires
@@ -47,6 +47,15 @@ returns-in-Ok-clause-items g c =
     let joined = joined_items c.item_of-item.result own c.put_or_flush.new.own shared c.put_or_flush.new.shared c.in-Ok.ensures.joins in
     subst (λ (s : QueueState). items_of after ≡ sorted (next_item s c.args.key c.args.load ∷ items_of s)) c.self.view_is
     (subst (λ (x : Item). items_of after ≡ sorted (x ∷ items_of before)) c.item_of-item.ensures joined)
+
+pub returns-in-Ok-clause-count : goal.returns-in-Ok-clause-count
+returns-in-Ok-clause-count g c =
+    let after = queue_of c.put_or_flush.new.own c.put_or_flush.new.shared c.in-Some.next in
+    subst (λ (s : QueueState). length (items_of after) ≡ length (items_of s) + 1) c.self.view_is
+    (count_joined c.item_of-item.result c.self.inside.own c.put_or_flush.new.own c.self.inside.shared c.put_or_flush.new.shared c.in-Ok.ensures.joins)
+
+pub returns-in-Ok-clause-inserted : goal.returns-in-Ok-clause-inserted
+returns-in-Ok-clause-inserted g c = subst (λ (s : QueueState). c.in-Some.next ≡ s.inserted + 1) c.self.view_is c.in-Some.ensures.1
 
 pub returns-in-Ok-clause-k : goal.returns-in-Ok-clause-k
 returns-in-Ok-clause-k g c =
