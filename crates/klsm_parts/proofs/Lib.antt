@@ -9,5 +9,6 @@ pub mod OwnLemmas
 pub mod PairLemmas
 pub mod PivotLemmas
 pub mod PivotListLemmas
+pub mod QueueLemmas
 pub mod SpyLemmas
 pub mod TakeLemmas

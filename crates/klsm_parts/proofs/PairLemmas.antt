@@ -1,4 +1,4 @@
--- Two parts that share no item, and whose items' numbers are below a count, for the tests.
+-- Two parts that share no item, and whose items' numbers are below a count: after each change of a queue for one thread.
 use Rattle.std.proofs.Common.{◌≡◌, ◌≢◌, ℕ, ◌+◌, ◌<◌, List, [], ◌∷◌, sym, ap, ◌∙◌, arith, inl, inr, Option, Some, None, MatchOption}
 use Rattle.std.specs.List.{All, AllByRecursion, Contains}
 use Rattle.std.proofs.lemmas.List.Elements.{All-from_recursion, recursion_from_All}

@@ -1,7 +1,6 @@
 -- The choice of a deletion: whether the picker is asked, and which of the candidate and the least own item goes.
 use Rattle.std.proofs.Common.{◌≡◌, ℕ, ◌+◌, ◌<◌, Bool, true, false, not, List, [], ◌∷◌, length, inl, inr, Option, Some, None, MatchOption, refl, sym, ap, ◌∙◌, subst, arith, if◌then◌else◌}
 use Rattle.std.specs.List.{Contains, slice_get}
-use Rattle.std.specs.Option.{option_map}
 use Rattle.std.proofs.lemmas.List.{length-take}
 use Rattle.std.proofs.lemmas.Option.{slice_get_within, same_Some}
 use Rattle.klsm_run.specs.declared.item.Item.{Item}
@@ -12,7 +11,6 @@ use Rattle.klsm_run.proofs.IndexLemmas.{taken_at, slice_get-take}
 use Rattle.klsm_run.proofs.LesserLemmas.{less_if_smaller}
 use Rattle.klsm_run.proofs.RankLemmas.{empty_if_no_least}
 use Rattle.klsm_lsm.specs.Lsm.{content}
-use Rattle.klsm_parts.specs.declared.ranks.Place.{Place}
 use Rattle.klsm_parts.specs.Least.{least, IsLeast}
 use Rattle.klsm_parts.specs.Events.{MayTake}
 use Rattle.klsm_parts.specs.Taking.{picks, lesser_of, unless_smaller, IsPicked, IsCutFrom}
@@ -21,11 +19,6 @@ use Rattle.klsm_parts.proofs.EventLemmas.{contains_cut, least_alone, least_candi
 -- what is said of the least own item, where there is one, by a test against another item
 abbrev pub IsTested : Option Item → Item → Bool → Type 0
 IsTested least_own y r = MatchOption least_own (r ≡ false) (λ x. r ≡ is_smaller x y)
-
--- the same, where the least own item comes with its place
-pub tested_at : (o : Option Place) (y : Item) (r : Bool) → MatchOption o (r ≡ false) (λ own. r ≡ is_smaller own.item y) → IsTested (option_map (λ place. place.item) o) y r
-tested_at None y r is = is
-tested_at (Some place) y r is = is
 
 pub not_asked : (o p : Option Item) (y : Item) (r : Bool) → p ≡ Some y → IsTested o y r → r ≡ true → picks o p ≡ false
 not_asked None p y r is tested smaller = let bad : false ≡ true = sym tested ∙ smaller in cc

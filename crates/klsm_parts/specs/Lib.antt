@@ -6,4 +6,5 @@ pub mod Mending
 pub mod Part
 pub mod Parts
 pub mod Pivots
+pub mod Queues
 pub mod Taking

@@ -5,14 +5,25 @@
 //! candidates, so that several members need not meet at one item. The parts know nothing of members, locks and threads: who
 //! calls has both in hand, and each call is one event of the queue.
 //!
-//! The caller of a deletion, as a solver with its own part and the shared one:
+//! A program of one thread takes a `Queue`, which has both parts and numbers the items itself:
 //!
 //! ```text
-//! let mut own: Local<64> = Local::new(16);
-//! let mut shared: Shared<21> = Shared::new(alloc, 16);
+//! let mut open: Queue<64, 21> = Queue::new(alloc, 16);  // a deletion may skip 16 items
+//! let mut picker = random_of(1);                        // or First, and no item is skipped
+//! open.insert(bound_of(&root), 0)?;                     // a key, and what the item is to carry
+//! while let Some(item) = open.delete_min(&mut picker) {
+//!     for node in children_of(item.load) {
+//!         open.insert(bound_of(&node), index_of(&node))?;
+//!     }
+//! }
+//! ```
+//!
+//! A member of a larger queue has its own part and, for as long as it may, the shared one:
+//!
+//! ```text
 //! put(&mut own, item);                                  // the own part has room
 //! flush(&mut own, &mut shared, item)?;                  // it has not: its largest block moves
-//! let next = take(&mut own, &mut shared, &mut random_of(1));
+//! let next = take(&mut own, &mut shared, &mut picker);
 //! let count = spy(&mut own, &mut victim);               // the own part is empty: items move from another member's
 //! ```
 //!
@@ -22,6 +33,8 @@
 //!   it leaves of the contents; the other clauses say which blocks move, and which item goes.
 //! - **A deletion skips at most k items** of the two parts: clause `skips` of `take`. `laws::takes_skip_few` says the same of
 //!   the event, however the candidate was picked.
+//! - **A `Queue` holds what was inserted and not yet deleted**, each item once: clauses `items` of `Queue::insert` and
+//!   `Queue::delete_min`, and `ascending` of `Queue::len`. It asks nothing of its callers.
 //! - **A deletion takes no memory** and is never refused. `flush` makes one growth, before anything changes; refused, it has
 //!   changed nothing: clauses `unchanged`.
 //! - **Pivots are mended, not counted anew.** A change of the shared part costs about one comparison a block for them.
@@ -35,6 +48,7 @@ mod local;
 mod mending;
 mod part;
 mod picker;
+mod queue;
 mod ranks;
 mod shared;
 mod spying;
@@ -45,6 +59,7 @@ pub use klsm_lsm::LsmError;
 pub use local::{Local, put};
 pub use part::Part;
 pub use picker::{First, Last, Picker, Random, random_of};
+pub use queue::Queue;
 pub use shared::Shared;
 pub use spying::spy;
 pub use taking::take;

@@ -49,7 +49,7 @@ pub fn take<const CAP: usize, const LEVELS: usize, A: Allocator + Copy, P: Picke
 {
     // Each part is searched once.
     let least_own = least_place(own.lsm());
-    match choose(least_own, shared, picker) {
+    match choose(item_of(least_own), shared, picker) {
         Some(place) => {
             shared.remove(place);
             Some(place.item)
@@ -60,16 +60,16 @@ pub fn take<const CAP: usize, const LEVELS: usize, A: Allocator + Copy, P: Picke
 
 // The candidate to take. `None` where the least own item is to be taken, if there is one.
 fn choose<const LEVELS: usize, A: Allocator + Copy, P: Picker>(
-    least_own: Option<Place>,
+    least_own: Option<Item>,
     shared: &Shared<LEVELS, A>,
     picker: &mut P,
 ) -> Option<Place>
-    ensures unasked { picks (option_map (λ place. place.item) least_own) (least_in shared.now) ≡ false
+    ensures unasked { picks least_own (least_in shared.now) ≡ false
         → (picker.new ≡ picker.old) × (result ≡ None) }
-    ensures asked { IsTrue (picks (option_map (λ place. place.item) least_own) (least_in shared.now))
+    ensures asked { IsTrue (picks least_own (least_in shared.now))
         → IsPicked P.may_pick picker.old picker.new (candidates_of shared.now)
         (λ candidate. option_map (λ place. place.item) result
-        ≡ unless_smaller candidate (option_map (λ place. place.item) least_own)) }
+        ≡ unless_smaller candidate least_own) }
     ensures place { IfSome result (λ place. (place.block < length shared.now.blocks)
         × (slice_get (slice_index_or shared.now.blocks place.block []) place.index ≡ Some place.item)
         × Contains (candidates_of shared.now) place.item) }
@@ -87,8 +87,16 @@ fn choose<const LEVELS: usize, A: Allocator + Copy, P: Picker>(
 }
 
 // Whether the least own item, if there is one, is smaller than another item.
-fn is_smaller_own(least_own: Option<Place>, item: Item) -> bool
-    ensures { MatchOption least_own (result ≡ false) (λ own. result ≡ is_smaller own.item item) }
+pub(crate) fn is_smaller_own(least_own: Option<Item>, item: Item) -> bool
+    ensures { MatchOption least_own (result ≡ false) (λ own. result ≡ is_smaller own item) }
 {
-    least_own.is_some_and(|own| own.item.is_before(&item))
+    least_own.is_some_and(|own| own.is_before(&item))
+}
+
+// The item of a place.
+#[inline]
+fn item_of(place: Option<Place>) -> Option<Item>
+    ensures { result ≡ option_map (λ place. place.item) place }
+{
+    place.map(|place| place.item)
 }

@@ -3,12 +3,12 @@ use Rattle.std.specs.List.{slice_get}
 use Rattle.klsm_run.proofs.IndexLemmas.{contains_at}
 use Rattle.klsm_run.specs.Content.{sorted}
 use Rattle.klsm_lsm.specs.Lsm.{content}
-use Rattle.klsm_parts.proofs.TakeLemmas.{tested_at, not_asked, is_asked, own_goes, candidate_goes, some_candidate, least_is_candidate}
+use Rattle.klsm_parts.proofs.TakeLemmas.{not_asked, is_asked, own_goes, candidate_goes, some_candidate, least_is_candidate}
 use Rattle.klsm_parts.proofs.taking.choose.Goals as goal
 
 pub returns-then-is_smaller_own-clause-asked : goal.returns-then-is_smaller_own-clause-asked
 returns-then-is_smaller_own-clause-asked g c asked =
-    let tested = tested_at c.args.least_own c.in_ok-least.least.item c.is_smaller_own.result c.is_smaller_own.ensures in
+    let tested = c.is_smaller_own.ensures in
     let unasked = not_asked _ _ c.in_ok-least.least.item c.is_smaller_own.result (ap (λ bs. slice_get (sorted (content bs)) 0) (sym c.lsm.ensures) ∙ sym c.in_ok-least.ensures.item) tested c.if-is_smaller_own.true in
     let bad : false ≡ true = sym unasked ∙ asked in
     cc
@@ -25,7 +25,7 @@ place_from_least-candidate-requires g c =
 
 pub returns-then-is_smaller_own-2-clause-unasked : goal.returns-then-is_smaller_own-2-clause-unasked
 returns-then-is_smaller_own-2-clause-unasked g c unasked =
-    let tested = tested_at c.args.least_own c.in_ok-least.least.item c.is_smaller_own.result c.is_smaller_own.ensures in
+    let tested = c.is_smaller_own.ensures in
     let asked = is_asked _ _ c.in_ok-least.least.item c.is_smaller_own.result (ap (λ bs. slice_get (sorted (content bs)) 0) (sym c.lsm.ensures) ∙ sym c.in_ok-least.ensures.item) tested c.if-is_smaller_own.false in
     let bad : true ≡ false = sym asked ∙ unasked in
     cc
@@ -36,12 +36,12 @@ returns-then-is_smaller_own-2-clause-asked g c asked = record {
   picked = rw (← c.candidates.ensures) c.pick-index.ensures.picked;
   candidate = c.place_from_least-candidate.result.item;
   found = c.place_from_least-candidate.ensures.candidate;
-  follows = own_goes _ c.place_from_least-candidate.result.item c.is_smaller_own-2.result (tested_at c.args.least_own c.place_from_least-candidate.result.item c.is_smaller_own-2.result c.is_smaller_own-2.ensures) c.if-is_smaller_own-2.true;
+  follows = own_goes _ c.place_from_least-candidate.result.item c.is_smaller_own-2.result c.is_smaller_own-2.ensures c.if-is_smaller_own-2.true;
 }
 
 pub returns-clause-unasked : goal.returns-clause-unasked
 returns-clause-unasked g c unasked =
-    let tested = tested_at c.args.least_own c.in_ok-least.least.item c.is_smaller_own.result c.is_smaller_own.ensures in
+    let tested = c.is_smaller_own.ensures in
     let asked = is_asked _ _ c.in_ok-least.least.item c.is_smaller_own.result (ap (λ bs. slice_get (sorted (content bs)) 0) (sym c.lsm.ensures) ∙ sym c.in_ok-least.ensures.item) tested c.if-is_smaller_own.false in
     let bad : true ≡ false = sym asked ∙ unasked in
     cc
@@ -52,7 +52,7 @@ returns-clause-asked g c asked = record {
   picked = rw (← c.candidates.ensures) c.pick-index.ensures.picked;
   candidate = c.place_from_least-candidate.result.item;
   found = c.place_from_least-candidate.ensures.candidate;
-  follows = candidate_goes _ c.place_from_least-candidate.result.item c.is_smaller_own-2.result (tested_at c.args.least_own c.place_from_least-candidate.result.item c.is_smaller_own-2.result c.is_smaller_own-2.ensures) c.if-is_smaller_own-2.false;
+  follows = candidate_goes _ c.place_from_least-candidate.result.item c.is_smaller_own-2.result c.is_smaller_own-2.ensures c.if-is_smaller_own-2.false;
 }
 
 pub returns-clause-place : goal.returns-clause-place

@@ -12,12 +12,12 @@ use Rattle.klsm_parts.proofs.taking.take.Goals as goal
 
 pub returns-in-Some-clause-unasked : goal.returns-in-Some-clause-unasked
 returns-in-Some-clause-unasked g c unasked =
-    let own_is = c.least_place-least_own.ensures.item ∙ ap (λ bs. slice_get (sorted (content bs)) 0) c.lsm.ensures in
+    let own_is = c.item_of.ensures ∙ c.least_place-least_own.ensures.item ∙ ap (λ bs. slice_get (sorted (content bs)) 0) c.lsm.ensures in
     let bad = (c.in-Some.ensures.unasked (ap (λ o. picks o (least_in c.args.shared.now)) own_is ∙ unasked)).1 in cc
 
 pub returns-in-Some-clause-asked : goal.returns-in-Some-clause-asked
 returns-in-Some-clause-asked g c asked =
-    let own_is = c.least_place-least_own.ensures.item ∙ ap (λ bs. slice_get (sorted (content bs)) 0) c.lsm.ensures in
+    let own_is = c.item_of.ensures ∙ c.least_place-least_own.ensures.item ∙ ap (λ bs. slice_get (sorted (content bs)) 0) c.lsm.ensures in
     let own_asked = asked_of g.P.Picker.may_pick c.args.picker.now c.choose.new.picker (candidates_of c.args.shared.now) (least_in c.args.shared.now) _ _ (least_in c.args.own.now) own_is c.in-Some.ensures.asked in
     let chosen = own_asked asked in
     record { index = chosen.index; picked = chosen.picked; candidate = chosen.candidate; found = chosen.found; follows = lesser_is_candidate chosen.candidate c.in-Some.place.item _ chosen.follows }
@@ -34,7 +34,7 @@ returns-in-Some-clause-nothing g c =
 
 pub returns-in-Some-clause-event : goal.returns-in-Some-clause-event
 returns-in-Some-clause-event g c =
-    let own_is = c.least_place-least_own.ensures.item ∙ ap (λ bs. slice_get (sorted (content bs)) 0) c.lsm.ensures in
+    let own_is = c.item_of.ensures ∙ c.least_place-least_own.ensures.item ∙ ap (λ bs. slice_get (sorted (content bs)) 0) c.lsm.ensures in
     let own_asked = asked_of g.P.Picker.may_pick c.args.picker.now c.choose.new.picker (candidates_of c.args.shared.now) (least_in c.args.shared.now) _ _ (least_in c.args.own.now) own_is c.in-Some.ensures.asked in
     let cut : IsCutFrom c.in-Some.place.item c.args.shared.now.blocks c.remove.new.self.blocks = (c.in-Some.place.block, c.in-Some.place.index, c.in-Some.ensures.place.1, ap (λ (p : PartState). p.blocks) c.remove.ensures) in
     let taken = chosen_may_go g.P.Picker.may_pick c.args.picker.now c.choose.new.picker c.args.shared.now.k (content c.args.own.now.blocks) (content c.args.shared.now.blocks) c.in-Some.place.item (λ unasked. let bad = (c.in-Some.ensures.unasked (ap (λ o. picks o (least_in c.args.shared.now)) own_is ∙ unasked)).1 in cc) own_asked in
@@ -43,29 +43,29 @@ returns-in-Some-clause-event g c =
 
 pub returns-in-Some-clause-skips : goal.returns-in-Some-clause-skips
 returns-in-Some-clause-skips g c =
-    let own_is = c.least_place-least_own.ensures.item ∙ ap (λ bs. slice_get (sorted (content bs)) 0) c.lsm.ensures in
+    let own_is = c.item_of.ensures ∙ c.least_place-least_own.ensures.item ∙ ap (λ bs. slice_get (sorted (content bs)) 0) c.lsm.ensures in
     let own_asked = asked_of g.P.Picker.may_pick c.args.picker.now c.choose.new.picker (candidates_of c.args.shared.now) (least_in c.args.shared.now) _ _ (least_in c.args.own.now) own_is c.in-Some.ensures.asked in
     let taken = chosen_may_go g.P.Picker.may_pick c.args.picker.now c.choose.new.picker c.args.shared.now.k (content c.args.own.now.blocks) (content c.args.shared.now.blocks) c.in-Some.place.item (λ unasked. let bad = (c.in-Some.ensures.unasked (ap (λ o. picks o (least_in c.args.shared.now)) own_is ∙ unasked)).1 in cc) own_asked in
     take_skips_few c.args.own.now.k (items_in c.args.own.now) (items_in c.args.shared.now) c.in-Some.place.item (may_take_sorted c.args.own.now.k (content c.args.own.now.blocks) (content c.args.shared.now.blocks) c.in-Some.place.item (rw c.requires.same_k taken))
 
 pub returns-in_err-least_own-in-None-clause-unasked : goal.returns-in_err-least_own-in-None-clause-unasked
 returns-in_err-least_own-in-None-clause-unasked g c unasked =
-    let own_is = c.least_place-least_own.ensures.item ∙ ap (λ bs. slice_get (sorted (content bs)) 0) c.lsm.ensures in
-    let none_own : slice_get (items_in c.args.own.now) 0 ≡ None = sym own_is ∙ ap (option_map (λ (place : Place). place.item)) c.in_err-least_own-in-None.was in
+    let own_is = c.item_of.ensures ∙ c.least_place-least_own.ensures.item ∙ ap (λ bs. slice_get (sorted (content bs)) 0) c.lsm.ensures in
+    let none_own : slice_get (items_in c.args.own.now) 0 ≡ None = sym own_is ∙ (c.item_of.ensures ∙ ap (option_map (λ (place : Place). place.item)) c.in_err-least_own-in-None.was) in
     ((c.in-None.ensures.unasked (ap (λ o. picks o (least_in c.args.shared.now)) own_is ∙ unasked)).0, c.from_residual.ensures ∙ sym none_own)
 
 pub returns-in_err-least_own-in-None-clause-asked : goal.returns-in_err-least_own-in-None-clause-asked
 returns-in_err-least_own-in-None-clause-asked g c asked =
-    let own_is = c.least_place-least_own.ensures.item ∙ ap (λ bs. slice_get (sorted (content bs)) 0) c.lsm.ensures in
-    let none_own : slice_get (items_in c.args.own.now) 0 ≡ None = sym own_is ∙ ap (option_map (λ (place : Place). place.item)) c.in_err-least_own-in-None.was in
+    let own_is = c.item_of.ensures ∙ c.least_place-least_own.ensures.item ∙ ap (λ bs. slice_get (sorted (content bs)) 0) c.lsm.ensures in
+    let none_own : slice_get (items_in c.args.own.now) 0 ≡ None = sym own_is ∙ (c.item_of.ensures ∙ ap (option_map (λ (place : Place). place.item)) c.in_err-least_own-in-None.was) in
     let own_asked = asked_of g.P.Picker.may_pick c.args.picker.now c.choose.new.picker (candidates_of c.args.shared.now) (least_in c.args.shared.now) _ _ (least_in c.args.own.now) own_is c.in-None.ensures.asked in
     let chosen = own_asked asked in
     absurd (none_is_smaller chosen.candidate _ none_own chosen.follows)
 
 pub returns-in_err-least_own-in-None-clause-nothing : goal.returns-in_err-least_own-in-None-clause-nothing
 returns-in_err-least_own-in-None-clause-nothing g c =
-    let own_is = c.least_place-least_own.ensures.item ∙ ap (λ bs. slice_get (sorted (content bs)) 0) c.lsm.ensures in
-    let none_own : slice_get (items_in c.args.own.now) 0 ≡ None = sym own_is ∙ ap (option_map (λ (place : Place). place.item)) c.in_err-least_own-in-None.was in
+    let own_is = c.item_of.ensures ∙ c.least_place-least_own.ensures.item ∙ ap (λ bs. slice_get (sorted (content bs)) 0) c.lsm.ensures in
+    let none_own : slice_get (items_in c.args.own.now) 0 ≡ None = sym own_is ∙ (c.item_of.ensures ∙ ap (option_map (λ (place : Place). place.item)) c.in_err-least_own-in-None.was) in
     let own_asked = asked_of g.P.Picker.may_pick c.args.picker.now c.choose.new.picker (candidates_of c.args.shared.now) (least_in c.args.shared.now) _ _ (least_in c.args.own.now) own_is c.in-None.ensures.asked in
     let unasked : picks (slice_get (items_in c.args.own.now) 0) (slice_get (items_in c.args.shared.now) 0) ≡ true → ⊥ =
     λ asked. let chosen = own_asked asked in none_is_smaller chosen.candidate _ none_own chosen.follows in
@@ -73,12 +73,12 @@ returns-in_err-least_own-in-None-clause-nothing g c =
 
 pub returns-in_ok-least_own-in-None-clause-unasked : goal.returns-in_ok-least_own-in-None-clause-unasked
 returns-in_ok-least_own-in-None-clause-unasked g c unasked =
-    let own_is = c.least_place-least_own.ensures.item ∙ ap (λ bs. slice_get (sorted (content bs)) 0) c.lsm.ensures in
+    let own_is = c.item_of.ensures ∙ c.least_place-least_own.ensures.item ∙ ap (λ bs. slice_get (sorted (content bs)) 0) c.lsm.ensures in
     ((c.in-None.ensures.unasked (ap (λ o. picks o (least_in c.args.shared.now)) own_is ∙ unasked)).0, sym c.remove-in-None.ensures.least)
 
 pub returns-in_ok-least_own-in-None-clause-asked : goal.returns-in_ok-least_own-in-None-clause-asked
 returns-in_ok-least_own-in-None-clause-asked g c asked =
-    let own_is = c.least_place-least_own.ensures.item ∙ ap (λ bs. slice_get (sorted (content bs)) 0) c.lsm.ensures in
+    let own_is = c.item_of.ensures ∙ c.least_place-least_own.ensures.item ∙ ap (λ bs. slice_get (sorted (content bs)) 0) c.lsm.ensures in
     let own_asked = asked_of g.P.Picker.may_pick c.args.picker.now c.choose.new.picker (candidates_of c.args.shared.now) (least_in c.args.shared.now) _ _ (least_in c.args.own.now) own_is c.in-None.ensures.asked in
     let chosen = own_asked asked in
     record { index = chosen.index; picked = chosen.picked; candidate = chosen.candidate; found = chosen.found; follows = lesser_is_own chosen.candidate c.remove-in-None.result _ c.remove-in-None.ensures.least chosen.follows }
@@ -89,7 +89,7 @@ returns-in_ok-least_own-in-None-clause-nothing g c =
 
 pub returns-in_ok-least_own-in-None-clause-event : goal.returns-in_ok-least_own-in-None-clause-event
 returns-in_ok-least_own-in-None-clause-event g c =
-    let own_is = c.least_place-least_own.ensures.item ∙ ap (λ bs. slice_get (sorted (content bs)) 0) c.lsm.ensures in
+    let own_is = c.item_of.ensures ∙ c.least_place-least_own.ensures.item ∙ ap (λ bs. slice_get (sorted (content bs)) 0) c.lsm.ensures in
     let own_asked = asked_of g.P.Picker.may_pick c.args.picker.now c.choose.new.picker (candidates_of c.args.shared.now) (least_in c.args.shared.now) _ _ (least_in c.args.own.now) own_is c.in-None.ensures.asked in
     let taken = own_may_go g.P.Picker.may_pick c.args.picker.now c.choose.new.picker c.args.shared.now.k (content c.args.own.now.blocks) (content c.args.shared.now.blocks) c.remove-in-None.result c.remove-in-None.ensures.least own_asked in
     let within = contains_cut c.args.own.now.blocks c.remove-in-None.new.self.blocks c.remove-in-None.result c.remove-in-None.ensures.cut in
@@ -97,7 +97,7 @@ returns-in_ok-least_own-in-None-clause-event g c =
 
 pub returns-in_ok-least_own-in-None-clause-skips : goal.returns-in_ok-least_own-in-None-clause-skips
 returns-in_ok-least_own-in-None-clause-skips g c =
-    let own_is = c.least_place-least_own.ensures.item ∙ ap (λ bs. slice_get (sorted (content bs)) 0) c.lsm.ensures in
+    let own_is = c.item_of.ensures ∙ c.least_place-least_own.ensures.item ∙ ap (λ bs. slice_get (sorted (content bs)) 0) c.lsm.ensures in
     let own_asked = asked_of g.P.Picker.may_pick c.args.picker.now c.choose.new.picker (candidates_of c.args.shared.now) (least_in c.args.shared.now) _ _ (least_in c.args.own.now) own_is c.in-None.ensures.asked in
     let taken = own_may_go g.P.Picker.may_pick c.args.picker.now c.choose.new.picker c.args.shared.now.k (content c.args.own.now.blocks) (content c.args.shared.now.blocks) c.remove-in-None.result c.remove-in-None.ensures.least own_asked in
     take_skips_few c.args.own.now.k (items_in c.args.own.now) (items_in c.args.shared.now) c.remove-in-None.result (may_take_sorted c.args.own.now.k (content c.args.own.now.blocks) (content c.args.shared.now.blocks) c.remove-in-None.result (rw c.requires.same_k taken))

@@ -1,0 +1,6 @@
+use Rattle.std.proofs.Common.{◌≡◌, subst, sym}
+use Rattle.klsm_parts.specs.Queues.{QueueState}
+use Rattle.klsm_parts.proofs.queue.Queue.k.Goals as goal
+
+pub returns-clause-same : goal.returns-clause-same
+returns-clause-same g c = subst (λ (s : QueueState). s.shared.k ≡ s.own.k) c.self.view_is (sym c.self.invariant.same_k)

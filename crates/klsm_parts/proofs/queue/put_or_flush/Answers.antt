@@ -1,0 +1,18 @@
+use Rattle.std.proofs.Common.{◌≡◌, length, Result, Ok, Err, OnOk, inr, arith}
+use Rattle.klsm_lsm.specs.Lsm.{content}
+use Rattle.klsm_parts.proofs.queue.put_or_flush.Goals as goal
+
+-- what follows from two facts of a success
+on_ok_both : {T E P Q R : Type 0} (r : Result T E) → OnOk r P → OnOk r Q → (P → Q → R) → OnOk r R
+on_ok_both (Ok x) p q both = both p q
+on_ok_both (Err e) p q both = tt
+
+pub returns-clause-joins : goal.returns-clause-joins
+returns-clause-joins g c =
+    let full : length (content c.args.own.now.blocks) ≡ c.args.own.now.k = omega (arith, c.if-len-k.false, c.len.ensures.len, c.len.ensures.few, c.k.ensures.k) in
+    on_ok_both c.flush.result c.flush.ensures.own c.flush.ensures.shared (λ own shared. inr (full, own, shared))
+
+pub returns-clause-full : goal.returns-clause-full
+returns-clause-full g c =
+    let full : length (content c.args.own.now.blocks) ≡ c.args.own.now.k = omega (arith, c.if-len-k.false, c.len.ensures.len, c.len.ensures.few, c.k.ensures.k) in
+    (λ why. (full, c.flush.ensures.full.0 why), λ no_place. c.flush.ensures.full.1 no_place.1)
