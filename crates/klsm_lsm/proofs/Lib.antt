@@ -9,7 +9,6 @@ pub mod GapLemmas
 pub mod InsertLemmas
 pub mod JoinLemmas
 pub mod JoiningLemmas
-pub mod KeyLemmas
 pub mod LeastBlockLemmas
 pub mod LeastLemmas
 pub mod LevelLemmas
@@ -19,7 +18,6 @@ pub mod PlaceLemmas
 pub mod PuttingLemmas
 pub mod RemovingLemmas
 pub mod SlotLemmas
-pub mod SpyLemmas
 pub mod StoredLemmas
 pub mod TwoSlotLemmas
 pub mod UnitedLemmas
