@@ -1,5 +1,5 @@
 -- A victim's part before and after a spy.
-use Rattle.std.proofs.Common.{◌≡◌, ◌<◌, ◌≤◌, ◌/◌, List, [], ◌∷◌, ◌++◌, length, take, drop, Option, Some, None, IfSome, cond, refl, sym, ap, ◌∙◌, subst, arith, inl, inr}
+use Rattle.std.proofs.Common.{◌≡◌, ◌<◌, ◌/◌, List, [], ◌∷◌, ◌++◌, length, take, drop, Option, Some, None, IfSome, cond, refl, sym, ap, ◌∙◌, subst, arith, inl, inr}
 use Rattle.std.specs.List.{count_by}
 use Rattle.std.specs.Option.{option_to_list}
 use Rattle.std.proofs.lemmas.Bool.{cases_eq, eq-eqb, ne_eqb}
@@ -46,11 +46,6 @@ some_moved [] moved lsm is = absurd (none-some moved is)
 some_moved (b ∷ []) moved lsm is =
     omega (arith, ap length (same_Some (drop (length b / 2) b) moved is), length-drop (length b / 2) b, some_in_block (level b) b lsm.0)
 some_moved (b ∷ c ∷ cs) moved lsm is = omega (arith, ap length (same_Some b moved is), some_in_block (level b) b lsm.0)
-
-pub few_moved : (bs : List (List Item)) (moved : List Item) → spied bs ≡ Some moved → length moved ≤ length (content bs)
-few_moved bs moved is =
-    let left = content (left_by_spy bs) in
-    omega (arith, ap length (moved_and_left bs moved is), length_sorted (content bs), length_sorted (moved ++ left), length-append moved left)
 
 ascending_moved : (bs : List (List Item)) (moved : List Item) → IsLsm bs → spied bs ≡ Some moved → IsAscending moved
 ascending_moved [] moved lsm is = absurd (none-some moved is)
