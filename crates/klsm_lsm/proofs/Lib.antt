@@ -18,6 +18,7 @@ pub mod PlaceLemmas
 pub mod PuttingLemmas
 pub mod RemovingLemmas
 pub mod SlotLemmas
+pub mod SpyLemmas
 pub mod StoredLemmas
 pub mod TwoSlotLemmas
 pub mod UnitedLemmas
