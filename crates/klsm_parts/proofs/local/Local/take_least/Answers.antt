@@ -1,4 +1,4 @@
-use Rattle.std.proofs.Common.{◌≡◌, ◌<◌, [], length, get_or, Some, refl, sym, ◌∙◌, subst, rules, inl}
+use Rattle.std.proofs.Common.{◌≡◌, ◌<◌, [], length, get_or, Some, refl, sym, ◌∙◌, subst, rules, inl, ap, arith}
 use Rattle.std.specs.List.{slice_get}
 use Rattle.std.proofs.lemmas.Option.{slice_get_within}
 use Rattle.klsm_run.specs.Content.{sorted}
@@ -6,6 +6,7 @@ use Rattle.klsm_lsm.specs.Lsm.{content}
 use Rattle.klsm_parts.specs.Parts.{PartState, items_in}
 use Rattle.klsm_parts.specs.Events.{MayTake, own_after_take}
 use Rattle.klsm_parts.specs.Taking.{IsCutFrom}
+use Rattle.klsm_parts.specs.Least.{IsLeast}
 use Rattle.klsm_parts.proofs.FoundLemmas.{some_ranked}
 use Rattle.klsm_parts.proofs.EventLemmas.{cut_is_taken, may_take_own, may_take_sorted}
 use Rattle.klsm_parts.proofs.OwnLemmas.{own_cut}
@@ -32,3 +33,28 @@ returns-clause-event g c =
       may_take_sorted c.self.inside.k (content bs) [] c.remove.result (may_take_own c.self.inside.k (content bs) [] c.remove.result first (inl refl)),
       cut_is_taken bs c.remove.new.self c.remove.result cut,
     )
+
+pub least_block-requires : goal.least_block-requires
+least_block-requires g c = search rules
+
+pub unreachable-requires : goal.unreachable-requires
+unreachable-requires g c =
+    let none : c.self.inside.lsm ≡ [] = rw c.in_default.is at c.least_block.ensures in
+    let some = subst (λ (p : PartState). 0 < length (content p.blocks)) (sym c.self.view_is) c.requires in
+    omega (arith, some, ap (λ bs. length (content bs)) none)
+
+pub same-self : goal.same-self
+same-self g c = refl
+
+pub returns-clause-least : goal.returns-clause-least
+returns-clause-least g c =
+    let first : slice_get (sorted (content c.self.inside.lsm)) 0 ≡ Some c.remove.result = sym c.in-Some.ensures.1 ∙ c.remove.ensures.item in
+    subst (λ (p : PartState). IsLeast c.remove.result (content p.blocks)) c.self.view_is first
+
+pub returns-clause-cut : goal.returns-clause-cut
+returns-clause-cut g c =
+    let cut : IsCutFrom c.remove.result c.self.inside.lsm c.remove.new.self = (c.in-Some.block, 0, c.remove.ensures.item, c.remove.ensures.rest) in
+    subst (λ (p : PartState). IsCutFrom c.remove.result p.blocks c.remove.new.self) c.self.view_is cut
+
+pub returns-clause-k : goal.returns-clause-k
+returns-clause-k g c = ap (λ (p : PartState). p.k) c.self.view_is
