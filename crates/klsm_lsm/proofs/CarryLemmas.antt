@@ -10,7 +10,7 @@ use Rattle.klsm_lsm.specs.Adding.{add}
 use Rattle.klsm_lsm.proofs.JoinLemmas.{AllBelow}
 use Rattle.klsm_lsm.proofs.SlotLemmas.{some_at}
 use Rattle.klsm_lsm.proofs.PlaceLemmas.{AllFrom}
-use Rattle.klsm_lsm.proofs.CascadeLemmas.{IsCarried, CanMerge, carried_first, can_merge_at, carried_more_at, carried_last_at, carried_none_at}
+use Rattle.klsm_lsm.proofs.CascadeLemmas.{IsCarried, CanMerge, carried_first, can_merge_at, carried_more_at, carried_last_at}
 
 abbrev Blocks : Type 0
 Blocks = List (List Item)
@@ -75,10 +75,6 @@ carrying_more room bs now next at result some c same is =
     shorter (suc n) zero xs h = absurd (omega (arith, h))
     shorter (suc n) (suc k) [] h = refl
     shorter (suc n) (suc k) (x ∷ xs) h = ap (λ (l : Blocks). x ∷ l) (shorter n k xs (omega (arith, h)))
-
--- the run has come to its slot: there is no block before it, or one of another level
-pub carrying_none : (room : ℕ) (bs now : Blocks) (at : ℕ) (result : Blocks) → at ≤ 0 → IsCarrying room bs now at result → take (at + 1) now ≡ result
-carrying_none room bs now at result none c = take_more now at [] c.within ∙ (ap (λ (l : Blocks). l ++ get_or now at [] ∷ []) c.front ∙ carried_none_at room bs at (get_or now at []) [] result none c.carried)
 
 pub carrying_last : (room : ℕ) (bs now : Blocks) (at : ℕ) (result : Blocks) → 0 < at → IsCarrying room bs now at result → (level (get_or now (at - 1) []) ≡ level (get_or now at []) → ⊥) → take (at + 1) now ≡ result
 carrying_last room bs now at result some c differ =

@@ -1,7 +1,7 @@
 -- A run that is carried up the levels: it becomes one with each block of the level that it comes to have.
-use Rattle.std.proofs.Common.{◌≡◌, ℕ, ◌+◌, ◌-◌, ◌<◌, ◌≤◌, List, [], ◌∷◌, ◌++◌, length, get_or, take, drop, refl, sym, ap, ◌∙◌, subst, arith, suc, true, false, ◌==◌, if◌then◌else◌}
+use Rattle.std.proofs.Common.{◌≡◌, ℕ, ◌+◌, ◌-◌, ◌<◌, ◌≤◌, List, [], ◌∷◌, ◌++◌, length, get_or, take, drop, refl, sym, ap, ◌∙◌, subst, arith, suc}
 use Rattle.std.proofs.lemmas.Bool.{lt-ltb, le-ltb, eq-eqb, ne_eqb}
-use Rattle.std.proofs.lemmas.List.{append_assoc, length-append, length-take, length-drop, take-append-drop, take_more}
+use Rattle.std.proofs.lemmas.List.{append_assoc, length-append, take-append-drop, take_more}
 use Rattle.klsm_run.specs.declared.item.Item.{Item}
 use Rattle.klsm_run.specs.Block.{IsBlock}
 use Rattle.klsm_run.specs.Content.{sorted, ShareNone}
@@ -149,20 +149,6 @@ pub carried_last_at : (room : ℕ) (bs : List (List Item)) (start : ℕ) (b w : 
 carried_last_at room bs start b w lower result lsm some within is differ carried =
     ap (λ hs. hs ++ w ∷ lower) (up_to_last bs start some within)
     ∙ carried_last room (take (start - 1) bs) (get_or bs (start - 1) []) w lower result (lsm_up_to bs start lsm some within) (subst (λ hs. IsCarried room hs w lower result) (up_to_last bs start some within) carried) (rw is at differ)
-
-count_joined : (b : List Item) (cs : List (List Item)) → length (joined b cs) ≤ suc (length cs)
-count_joined b [] = omega arith
-count_joined b (c ∷ cs) = elim (level b == level c) as (λ t. length (if t then sorted (b ++ c) ∷ cs else b ∷ c ∷ cs) ≤ suc (suc (length cs))) [ true ↦ omega arith | false ↦ omega arith ]
-
-count_joined_all : (hs cs : List (List Item)) → length (joined_all hs cs) ≤ length hs + length cs
-count_joined_all [] cs = omega arith
-count_joined_all (h ∷ hs) cs = omega (arith, count_joined h (joined_all hs cs), count_joined_all hs cs)
-
--- a run that becomes one with a block adds no block
-pub carried_adds_none_at : (room : ℕ) (bs : List (List Item)) (start end : ℕ) (b w : List Item) (result : List (List Item)) → IsLsm bs → 0 < start → start ≤ length bs → start ≤ end → b ≡ get_or bs (start - 1) [] → level b ≡ level w → IsCarried room (take start bs) w (drop end bs) result → length result ≤ length bs
-carried_adds_none_at room bs start end b w result lsm some within order is same carried =
-    let more : IsCarried room (take (start - 1) bs) (sorted (b ++ w)) (drop end bs) result = carried_more_at room bs start b w (sorted (b ++ w)) (drop end bs) result lsm some within is same refl carried in
-    omega (arith, ap length more.leads, count_joined_all (take (start - 1) bs) (sorted (b ++ w) ∷ drop end bs), length-take (start - 1) bs, length-drop end bs)
 
 -- no block is left
 pub carried_none_at : (room : ℕ) (bs : List (List Item)) (start : ℕ) (w : List Item) (lower result : List (List Item)) → start ≤ 0 → IsCarried room (take start bs) w lower result → take start bs ++ w ∷ lower ≡ result

@@ -1,7 +1,6 @@
 -- What cutting leaves where the block goes, where it becomes one with the next, and where it stays.
-use Rattle.std.proofs.Common.{◌≡◌, ℕ, ◌+◌, ◌-◌, ◌<◌, ◌≤◌, ◌^◌, ◌%◌, ◌*◌, true, List, [], ◌∷◌, ◌++◌, length, remove, set, take, drop, get_or, refl, sym, ap, ◌∙◌, subst, arith, leb, add-one, zero, suc}
+use Rattle.std.proofs.Common.{◌≡◌, ℕ, ◌+◌, ◌-◌, ◌<◌, ◌≤◌, ◌^◌, ◌%◌, ◌*◌, true, List, [], ◌∷◌, ◌++◌, length, remove, set, get_or, refl, sym, ap, ◌∙◌, subst, arith, leb, add-one, zero, suc}
 use Rattle.std.proofs.lemmas.Bool.{eq-eqb, ne_eqb, leb-true, le-leb}
-use Rattle.std.proofs.lemmas.List.{length-append, length-take, length-drop}
 use Rattle.std.proofs.lemmas.List.Edits.{length-remove}
 use Rattle.std.proofs.Math.Nat.{mod-eq_of_lt}
 use Rattle.std.proofs.Math.Pow.{pow-lt}
@@ -53,10 +52,6 @@ cut_staying (b ∷ c ∷ cs) zero index within more inside stays =
     rw (ne_eqb (length b) 1 more, ne_eqb (level (remove b index)) (level c) (λ same. stays (omega arith) (sym (level_without b index (least_level (length b - 1)) inside refl) ∙ same))) refl
 cut_staying (b ∷ bs) (suc at) index within more inside stays = ap (λ cs. b ∷ cs) (cut_staying bs at index (omega (arith, within)) more inside (λ next. stays (omega (arith, next))))
 
--- where two blocks become one there is a block less
-pub length_merging : (bs : List (List Item)) (at : ℕ) (b : List Item) → suc at < length bs → length (with_block bs at (suc (suc at)) b) < length bs
-length_merging bs at b within = omega (arith, length-append (take at bs) (b ∷ drop (suc (suc at)) bs), length-take at bs, length-drop (suc (suc at)) bs, within)
-
 -- the level l of the next block, where a block has n items
 pub record IsNextLevel (n l : ℕ) : Type 0 where
   pub small : l < 64
@@ -84,14 +79,6 @@ pub cut_falling : (bs : List (List Item)) (at index : ℕ) → FallsToNext bs at
 cut_falling bs at index falls inside more =
     let two : at + 2 ≡ suc (suc at) = omega arith in
     rw (two, add-one) (cut_merging bs at index (rw add-one at falls.within) (more_than_one (get_or bs at []) index inside more) inside (rw add-one at falls.level_is))
-
--- then there is a block less
-pub length_falling : (bs : List (List Item)) (at index : ℕ) → FallsToNext bs at → index < length (get_or bs at []) → (length (get_or bs at []) ≡ 1 → ⊥) → (1 < length (get_or bs at [])) × (length (cut bs at index) < length bs)
-length_falling bs at index falls inside more = (
-  more_than_one (get_or bs at []) index inside more,
-  let two : at + 2 ≡ suc (suc at) = omega arith in
-      rw (cut_falling bs at index falls inside more, two) (length_merging bs at _ (rw add-one at falls.within)),
-)
 
 -- a block that does not fall
 pub cut_not_falling : (bs : List (List Item)) (at index : ℕ) → at < length bs → (FallsToNext bs at → ⊥) → index < length (get_or bs at []) → (length (get_or bs at []) ≡ 1 → ⊥) → cut bs at index ≡ set bs at (remove (get_or bs at []) index)

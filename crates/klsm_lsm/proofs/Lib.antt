@@ -9,7 +9,6 @@ pub mod GapLemmas
 pub mod InsertLemmas
 pub mod JoinLemmas
 pub mod JoiningLemmas
-pub mod KeyLemmas
 pub mod LeastBlockLemmas
 pub mod LeastLemmas
 pub mod LevelLemmas

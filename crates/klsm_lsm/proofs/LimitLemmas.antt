@@ -47,13 +47,3 @@ blocks_fit levels room len bs stored =
 -- there is room for a run
 pub room_left : (levels room len count limit : ℕ) (bs : List (List Item)) (run : List Item) → IsStored levels room len bs → count ≡ length run → limit ≡ limit_of levels room → count ≤ limit - len → length (content bs) + length run ≤ limit_of levels room
 room_left levels room len count limit bs run stored counted is few = omega (arith, stored.within.in_limit, stored.counted, counted, is, few)
-
--- what adding a run needs
-pub record CanAdd (levels room : ℕ) (bs : List (List Item)) (run : List Item) : Type 0 where
-  pub fits : length (content bs) + length run ≤ room
-  pub blocks : length (add bs run) ≤ levels
-
-pub can_add : (levels room len count limit : ℕ) (bs : List (List Item)) (run : List Item) → IsStored levels room len bs → IsAscending run → 0 < length run → ShareNone (content bs) run → count ≡ length run → limit ≡ limit_of levels room → count ≤ limit - len → CanAdd levels room bs run
-can_add levels room len count limit bs run stored up some apart counted is few =
-    let fits = room_left levels room len count limit bs run stored counted is few in
-    record { fits = omega (arith, fits); blocks = blocks_fit levels room (len + length run) (add bs run) (stored_add levels room len bs run stored up some apart fits) }

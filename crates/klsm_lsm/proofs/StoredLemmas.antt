@@ -20,10 +20,9 @@ count_blocks {levels} {room} {len} {count} {slots} s = omega (arith, length-take
 pub few_blocks : {levels room len count : ℕ} {slots : Blocks} → IsSlotted levels room len count slots → count ≤ levels
 few_blocks {levels} {room} {len} {count} {slots} s = omega (arith, count_blocks s, blocks_fit levels room len (take count slots) s.stored)
 
--- none of them is empty
-pub some_block : {levels room len count : ℕ} {slots : Blocks} (at : ℕ) → IsSlotted levels room len count slots → at < count → 0 < length (get_or slots at [])
-some_block {levels} {room} {len} {count} {slots} at s within =
-    subst (λ (b : List Item). 0 < length b) (get_or-take count slots at [] within) (some_at (take count slots) at s.stored.within.lawful (omega (arith, count_blocks s, within)))
+-- the same of what an LSM shows
+pub shown : {levels room len count : ℕ} {slots : Blocks} (now : Blocks) → IsSlotted levels room len count slots → take count slots ≡ now → IsStored levels room len now
+shown {levels} {room} {len} now s is = subst (λ (bs : Blocks). IsStored levels room len bs) is s.stored
 
 -- the first block goes
 pub stored_rest : (levels room len : ℕ) (bs : Blocks) → IsStored levels room len bs → 0 < length bs → IsStored levels room (len - length (get_or bs 0 [])) (drop 1 bs)

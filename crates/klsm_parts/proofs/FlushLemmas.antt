@@ -37,3 +37,8 @@ one_apart c x new y in_c (suc k, within, same) = absurd (omega (arith, within))
 pub block_apart : (bs : List (List Item)) (c : List Item) → ShareNone (content bs) c → ShareNone c (get_or bs 0 [])
 block_apart [] c apart x in_c in_none = absurd (omega (arith, in_none.1))
 block_apart (b ∷ bs) c apart x in_c in_b = apart x (Contains-append_left b (content bs) x in_b) in_c
+
+-- where there was no block, there is none
+pub kept_none : (bs : List (List Item)) (x : Item) → length bs ≡ 0 → bs ≡ kept bs x
+kept_none [] x none = refl
+kept_none (b ∷ bs) x none = absurd (omega (arith, none))

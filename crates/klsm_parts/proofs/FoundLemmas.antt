@@ -114,10 +114,6 @@ pivot_within (b ∷ bs) [] j within = absurd within
 pivot_within (b ∷ bs) (p ∷ ps) zero within = omega (arith, length-append (take p b) (marked bs ps), length-take p b, within.0)
 pivot_within (b ∷ bs) (p ∷ ps) (suc j) within = omega (arith, length-append (take p b) (marked bs ps), pivot_within bs ps j within.1)
 
--- no pivot is greater than the number of marked items
-pub pivot_small : (n : ℕ) (bs : List (List Item)) (ps : List ℕ) (j : ℕ) → ArePivots n bs ps → get_or ps j 0 ≤ n
-pivot_small n bs ps j pivots = omega (arith, pivot_within bs ps j pivots.within, length_marked n bs ps pivots)
-
 -- one more item is marked, in the list that the pivots are lent as
 pub pivot_counted : (n : ℕ) (bs : List (List Item)) (ps lent : List ℕ) (j : ℕ) → lent ≡ ps → IsLsm bs → ArePivots n bs ps → n < length (content bs)
     → slice_get (get_or bs j []) (get_or ps j 0) ≡ slice_get (sorted (content (unmarked bs ps))) 0

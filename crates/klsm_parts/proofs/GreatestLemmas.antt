@@ -48,10 +48,6 @@ pub record IsGreatestFound (bs : List (List Item)) (ps : List ℕ) (i : ℕ) (fo
   pub greatest : AllByRecursion (NoneAboveFound found) (marked (take i bs) (take i ps))
   pub at : (b : ℕ) (x : Item) → found ≡ Some (b, x) → (b < i) × (0 < get_or ps b 0) × (slice_get (get_or bs b []) (get_or ps b 0 - 1) ≡ Some x)
 
--- before the first block
-pub greatest_first : (bs : List (List Item)) (ps : List ℕ) → IsGreatestFound bs ps 0 None
-greatest_first bs ps = record { greatest = tt; at = λ b x is. let bad : None ≡ Some (b, x) = is in cc }
-
 -- a block without a marked item
 pub greatest_past : (bs : List (List Item)) (ps : List ℕ) (i : ℕ) (found : Option (ℕ × Item)) → AreWithin bs ps → i < length bs → get_or ps i 0 ≤ 0 → IsGreatestFound bs ps i found → IsGreatestFound bs ps (i + 1) found
 greatest_past bs ps i found within here none so_far =

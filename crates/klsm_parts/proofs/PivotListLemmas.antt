@@ -1,6 +1,6 @@
 -- Pivots that are taken out and added.
 use Rattle.std.proofs.Common.{◌≡◌, ℕ, ◌+◌, ◌-◌, ◌<◌, ◌≤◌, List, [], ◌∷◌, ◌++◌, length, get_or, set, remove, take, drop, sum, refl, sym, ap, ◌∙◌, arith, zero, suc, add-one}
-use Rattle.std.proofs.lemmas.List.{drop-drop, length-append, length-take, length-drop, take-append-drop}
+use Rattle.std.proofs.lemmas.List.{drop-drop, length-drop}
 use Rattle.std.proofs.lemmas.List.Sums.{sum_by_more, sum_by-set, sum_by-take-le, sum_by-take-drop}
 
 remove_next : (ps : List ℕ) (first n : ℕ) → first ≤ n → n < length ps → remove (take first ps ++ drop n ps) first ≡ take first ps ++ drop (suc n) ps
@@ -21,19 +21,11 @@ behind_is ps zero i = ap (λ n. get_or ps n 0) (omega arith)
 behind_is [] (suc first) i = refl
 behind_is (p ∷ ps) (suc first) i = let next : suc first + i ≡ suc (first + i) = omega arith in behind_is ps first i ∙ ap (λ n. get_or (p ∷ ps) n 0) (sym next)
 
--- none is gone yet
-pub none_gone : (ps : List ℕ) (first : ℕ) → ps ≡ take first ps ++ drop (first + 0) ps
-none_gone ps first = let same : first + 0 ≡ first = omega arith in sym (take-append-drop first ps) ∙ ap (λ n. take first ps ++ drop n ps) (sym same)
-
 -- one more is taken out
 pub one_gone : (ps now : List ℕ) (first i : ℕ) → first + i < length ps → now ≡ take first ps ++ drop (first + i) ps → remove now first ≡ take first ps ++ drop (first + (i + 1)) ps
 one_gone ps now first i within is =
     let next : suc (first + i) ≡ first + (i + 1) = omega arith in
     ap (λ (l : List ℕ). remove l first) is ∙ (remove_next ps first (first + i) (omega arith) within ∙ ap (λ n. take first ps ++ drop n ps) next)
-
--- there was one
-pub one_left : (ps now : List ℕ) (first i : ℕ) → first + i < length ps → now ≡ take first ps ++ drop (first + i) ps → first < length now
-one_left ps now first i within is = omega (arith, ap length is, length-append (take first ps) (drop (first + i) ps), length-take first ps, length-drop (first + i) ps, within)
 
 -- and added
 pub one_added : (ps now : List ℕ) (first i pivot total x : ℕ) → first + i < length ps → now ≡ take first ps ++ drop (first + i) ps → x ≡ get_or now first x → total ≡ pivot + sum (take i (drop first ps)) → total + x ≡ pivot + sum (take (i + 1) (drop first ps))
@@ -44,10 +36,6 @@ one_added ps now first i pivot total x within is value so_far =
 -- the sum stays within that of all
 pub part_of_sum : (ps : List ℕ) (first i : ℕ) → sum (take i (drop first ps)) ≤ sum ps
 part_of_sum ps first i = omega (arith, sum_by-take-le (λ (y : ℕ). y) (drop first ps) i, sum_by-take-drop (λ (y : ℕ). y) ps first)
-
--- so many are left
-pub length_gone : (ps now : List ℕ) (first count : ℕ) → first + count ≤ length ps → now ≡ take first ps ++ drop (first + count) ps → length now + count ≡ length ps
-length_gone ps now first count within is = omega (arith, ap length is, length-append (take first ps) (drop (first + count) ps), length-take first ps, length-drop (first + count) ps, within)
 
 -- one less
 pub sum_less : (ps : List ℕ) (j : ℕ) → j < length ps → 0 < get_or ps j 0 → sum (set ps j (get_or ps j 0 - 1)) + 1 ≡ sum ps

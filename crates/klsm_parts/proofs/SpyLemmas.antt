@@ -1,9 +1,9 @@
 -- A victim's part before and after a spy.
-use Rattle.std.proofs.Common.{◌≡◌, ◌<◌, ◌≤◌, ◌/◌, List, [], ◌∷◌, ◌++◌, length, take, drop, Option, Some, None, IfSome, cond, refl, sym, ap, ◌∙◌, subst, arith, inl, inr}
+use Rattle.std.proofs.Common.{◌≡◌, ◌<◌, ◌/◌, List, [], ◌∷◌, ◌++◌, length, take, drop, Option, Some, None, IfSome, cond, refl, sym, ap, ◌∙◌, subst, arith, inl, inr, ◌≤◌, ◌==◌, true, false, if◌then◌else◌}
 use Rattle.std.specs.List.{count_by}
 use Rattle.std.specs.Option.{option_to_list}
 use Rattle.std.proofs.lemmas.Bool.{cases_eq, eq-eqb, ne_eqb}
-use Rattle.std.proofs.lemmas.List.{append-nil, length-append, length-drop, take-append-drop}
+use Rattle.std.proofs.lemmas.List.{append-nil, length-append, length-drop, take-append-drop, length-take}
 use Rattle.std.proofs.lemmas.List.Sums.{sum_by-append}
 use Rattle.std.proofs.lemmas.Option.{none-some, same_Some}
 use Rattle.klsm_run.specs.declared.item.Item.{Item}
@@ -46,11 +46,6 @@ some_moved [] moved lsm is = absurd (none-some moved is)
 some_moved (b ∷ []) moved lsm is =
     omega (arith, ap length (same_Some (drop (length b / 2) b) moved is), length-drop (length b / 2) b, some_in_block (level b) b lsm.0)
 some_moved (b ∷ c ∷ cs) moved lsm is = omega (arith, ap length (same_Some b moved is), some_in_block (level b) b lsm.0)
-
-pub few_moved : (bs : List (List Item)) (moved : List Item) → spied bs ≡ Some moved → length moved ≤ length (content bs)
-few_moved bs moved is =
-    let left = content (left_by_spy bs) in
-    omega (arith, ap length (moved_and_left bs moved is), length_sorted (content bs), length_sorted (moved ++ left), length-append moved left)
 
 ascending_moved : (bs : List (List Item)) (moved : List Item) → IsLsm bs → spied bs ≡ Some moved → IsAscending moved
 ascending_moved [] moved lsm is = absurd (none-some moved is)
@@ -103,3 +98,15 @@ spy_by own bs own_after victim_after (Some moved) empty lsm is own_is victim_is 
 pub spy_takes_effect : (own : List Item) (bs own_after victim_after : List (List Item)) → own ≡ [] → IsLsm bs → own_after ≡ option_to_list (spied bs) → victim_after ≡ left_by_spy bs
     → IfSome (spied bs) (λ moved. MaySpy own (sorted (content bs)) moved × (sorted (content own_after) ≡ own_after_spy moved) × (sorted (content victim_after) ≡ victim_after_spy (sorted (content bs)) moved))
 spy_takes_effect own bs own_after victim_after empty lsm own_is victim_is = spy_by own bs own_after victim_after (spied bs) empty lsm refl own_is victim_is
+
+-- neither what goes nor what stays is more than there was
+pub few_moved : (bs : List (List Item)) → length (content (option_to_list (spied bs))) ≤ length (content bs)
+few_moved [] = omega arith
+few_moved (b ∷ []) = omega (arith, length-append (drop (length b / 2) b) [], length-append b [], length-drop (length b / 2) b)
+few_moved (b ∷ c ∷ cs) = omega (arith, length-append b [], length-append b (c ++ content cs))
+
+pub few_stay : (bs : List (List Item)) → length (content (left_by_spy bs)) ≤ length (content bs)
+few_stay [] = omega arith
+few_stay (b ∷ []) =
+    elim (length b == 1) as (λ t. length (content (if t then [] else take (length b / 2) b ∷ [])) ≤ length (b ++ [])) [ true ↦ omega arith | false ↦ omega (arith, length-append (take (length b / 2) b) [], length-append b [], length-take (length b / 2) b) ]
+few_stay (b ∷ c ∷ cs) = omega (arith, length-append b (c ++ content cs))

@@ -106,14 +106,6 @@ lesser_is_candidate c x (Some y) goes = by_test (is_smaller y c) goes
     by_test true bad = cc
     by_test false goes = goes
 
-pub candidate_is : (c x : Item) (o : Option Item) → Some x ≡ unless_smaller c o → x ≡ c
-candidate_is c x None goes = same_Some x c goes
-candidate_is c x (Some y) goes = by_test (is_smaller y c) goes
-  where
-    by_test : (b : Bool) → Some x ≡ (if b then None else Some c) → x ≡ c
-    by_test true bad = cc
-    by_test false goes = same_Some x c goes
-
 pub lesser_is_own : (c x : Item) (o : Option Item) → o ≡ Some x → None ≡ unless_smaller c o → Some x ≡ Some (lesser_of c o)
 lesser_is_own c x o is goes = let smaller = smaller_if_none c x o is goes in rw (is, smaller) refl
 

@@ -61,3 +61,15 @@ block-requires-room-R-Run g c = search rules
 
 pub absorb_copy-requires-else-len-eq0-room-R-Run : goal.absorb_copy-requires-else-len-eq0-room-R-Run
 absorb_copy-requires-else-len-eq0-room-R-Run g c = search rules
+
+pub returns-then-len-eq0-clause-lawful : goal.returns-then-len-eq0-clause-lawful
+returns-then-len-eq0-clause-lawful g c = c.len.ensures.lawful
+
+pub returns-then-len-eq0-clause-unchanged : goal.returns-then-len-eq0-clause-unchanged
+returns-then-len-eq0-clause-unchanged g c = c.absorb_copy.ensures.unchanged
+
+pub returns-else-len-eq0-clause-lawful : goal.returns-else-len-eq0-clause-lawful
+returns-else-len-eq0-clause-lawful g c = c.len.ensures.lawful
+
+pub returns-else-len-eq0-clause-unchanged : goal.returns-else-len-eq0-clause-unchanged
+returns-else-len-eq0-clause-unchanged g c = c.absorb_copy-else-len-eq0.ensures.unchanged

@@ -19,3 +19,9 @@ returns-clause-pivots g c =
     let after = c.args.lsm.now in
     let count : c.min-most.result ≡ min (c.args.k + 1) (length (content after)) = omega (arith, c.min-most.ensures, c.len.ensures.len) in
     pivots_all (c.args.k + 1) after c.unmark_to.new.pivots.items (subst (λ n. ArePivots n after c.unmark_to.new.pivots.items) count c.unmark_to.ensures)
+
+pub overflow_add-k : goal.overflow_add-k
+overflow_add-k g c = omega (arith, c.requires.k)
+
+pub returns-clause-lawful : goal.returns-clause-lawful
+returns-clause-lawful g c = c.requires.mendable.lawful

@@ -26,3 +26,15 @@ returns-clause-rank g c =
     let marks : ArePivots (c.args.rank + 1) c.args.lsm.now read = subst (ArePivots (c.args.rank + 1) c.args.lsm.now) (sym c.as_slice.ensures.value) c.unmark_to.ensures in
     greatest_ranked c.args.rank c.args.lsm.now read c.greatest_marked.result.block c.greatest_marked.result.index c.greatest_marked.result.item c.requires.lawful (omega (arith, c.requires.rank, c.requires.marked)) marks
     (c.greatest_marked.ensures.pivot ∙ add-one _) c.greatest_marked.ensures.index c.greatest_marked.ensures.greatest
+
+pub overflow_add-rank : goal.overflow_add-rank
+overflow_add-rank g c = omega (arith, c.requires.rank)
+
+pub as_slice-requires : goal.as_slice-requires
+as_slice-requires g c = search rules
+
+pub returns-clause-block : goal.returns-clause-block
+returns-clause-block g c = c.greatest_marked.ensures.block
+
+pub returns-clause-index : goal.returns-clause-index
+returns-clause-index g c = c.greatest_marked.ensures.index

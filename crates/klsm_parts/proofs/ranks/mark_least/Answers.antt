@@ -34,3 +34,9 @@ pub returns : goal.returns
 returns g c n more pivots =
     pivot_counted n c.args.lsm.now c.args.pivots.now.items c.as_mut_slice.result.now c.least_unmarked-block.result c.as_mut_slice.ensures.value c.requires.lawful pivots more
     (subst (λ ps. slice_get (get_or c.args.lsm.now c.least_unmarked-block.result []) (get_or ps c.least_unmarked-block.result 0) ≡ slice_get (sorted (content (unmarked c.args.lsm.now ps))) 0) c.as_slice.ensures.value c.least_unmarked-block.ensures.least)
+
+pub as_slice-requires : goal.as_slice-requires
+as_slice-requires g c = search rules
+
+pub as_mut_slice-requires : goal.as_mut_slice-requires
+as_mut_slice-requires g c = search rules

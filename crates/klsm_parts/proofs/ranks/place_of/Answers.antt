@@ -35,3 +35,12 @@ returns-clause-rank g c =
     let there = ranked c.args.rank c.args.lsm.now c.pivots_of-pivots.result.items c.as_slice.result.now c.as_slice-2.result.now c.least_unmarked-block.result c.as_slice.ensures.value c.as_slice-2.ensures.value c.requires.lawful c.pivots_of-pivots.ensures c.least_unmarked-block.ensures.least in
     let here : slice_get (get_or c.args.lsm.now c.least_unmarked-block.result []) (get_or c.as_slice-2.result.now c.least_unmarked-block.result 0) ≡ Some c.item_at-item.result = rw block c.item_at-item.ensures in
     sym there ∙ here
+
+pub as_slice-requires : goal.as_slice-requires
+as_slice-requires g c = search rules
+
+pub as_slice-requires-2 : goal.as_slice-requires-2
+as_slice-requires-2 g c = search rules
+
+pub returns-clause-block : goal.returns-clause-block
+returns-clause-block g c = c.least_unmarked-block.ensures.block

@@ -8,3 +8,9 @@ pub returns-clause-pivots : goal.returns-clause-pivots
 returns-clause-pivots g c =
     let count : c.min.result ≡ min (c.args.k + 1) (length (content c.args.lsm.now)) = omega (arith, c.min.ensures, c.len.ensures.len) in
     pivots_all (c.args.k + 1) c.args.lsm.now c.pivots_of.result.items (subst (λ n. ArePivots n c.args.lsm.now c.pivots_of.result.items) count c.pivots_of.ensures)
+
+pub overflow_add-k : goal.overflow_add-k
+overflow_add-k g c = omega (arith, c.requires.k)
+
+pub returns-clause-lawful : goal.returns-clause-lawful
+returns-clause-lawful g c = c.len.ensures.lawful

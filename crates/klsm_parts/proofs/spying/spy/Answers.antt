@@ -40,3 +40,15 @@ returns-clause-unchanged g c none =
 pub returns-clause-event : goal.returns-clause-event
 returns-clause-event g c =
     spy_takes_effect (items_in c.args.own.now) c.args.victim.now.blocks _ _ c.requires.empty c.len-lawful.ensures.lawful (ap (λ (p : PartState). p.blocks) c.spy_from.ensures.own) (ap (λ (p : PartState). p.blocks) c.spy_from.ensures.victim)
+
+pub len-requires : goal.len-requires
+len-requires g c = search rules
+
+pub len-lawful-requires : goal.len-lawful-requires
+len-lawful-requires g c = search rules
+
+pub returns-clause-own : goal.returns-clause-own
+returns-clause-own g c = c.spy_from.ensures.own
+
+pub returns-clause-victim : goal.returns-clause-victim
+returns-clause-victim g c = c.spy_from.ensures.victim

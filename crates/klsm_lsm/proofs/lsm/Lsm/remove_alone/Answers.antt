@@ -1,4 +1,4 @@
-use Rattle.std.proofs.Common.{◌≡◌, ◌<◌, [], length, get_or, remove, sym, ap, ◌∙◌, arith}
+use Rattle.std.proofs.Common.{◌≡◌, ◌<◌, [], length, get_or, remove, sym, ap, ◌∙◌, arith, refl}
 use Rattle.std.proofs.lemmas.List.{length-map}
 use Rattle.std.proofs.lemmas.Option.{get_or_from_slice_get}
 use Rattle.klsm_lsm.specs.Lsm.{content}
@@ -63,3 +63,21 @@ returns-else-len-eq1-clause-rest g c =
     let rest = stayed sl _ c.args.self.now c.args.block c.args.index _ c.self.invariant c.self.view_is c.requires.block c.requires.index (λ one. c.if-len-eq1.false (c.len-len.ensures.len ∙ (sym (ap length block) ∙ one))) c.requires.stays
     (rw value at c.take_out-item.ensures.rest) (ap (λ b. remove b c.args.index) here) in
     view_back g.R.Run.items _ c.self.inside.slots.items c.take_out-item.new.slots _ (c.take_out-item.auto.slots ∙ ap length value) rest
+
+pub close_gap-requires-clause-at : goal.close_gap-requires-clause-at
+close_gap-requires-clause-at g c = omega (arith, count_blocks c.self.invariant, ap length c.self.view_is, c.requires.block)
+
+pub close_gap-requires-clause-within : goal.close_gap-requires-clause-within
+close_gap-requires-clause-within g c = omega (arith, c.take_out-item.auto.slots, ap length c.as_mut_slice-slots.ensures.value, rw length-map at c.self.invariant.within)
+
+pub way_back_following-self : goal.way_back_following-self
+way_back_following-self g c = (refl, refl)
+
+pub overflow_sub-self-then-len-eq1 : goal.overflow_sub-self-then-len-eq1
+overflow_sub-self-then-len-eq1 g c = omega (arith, count_blocks c.self.invariant, ap length c.self.view_is, c.requires.block)
+
+pub returns-then-len-eq1-clause-item : goal.returns-then-len-eq1-clause-item
+returns-then-len-eq1-clause-item g c = rw (← block_in_place c.args.self.now c.args.block c.self.invariant c.self.view_is c.requires.block) (rw c.as_mut_slice-slots.ensures.value at c.take_out-item.ensures.item)
+
+pub returns-else-len-eq1-clause-item : goal.returns-else-len-eq1-clause-item
+returns-else-len-eq1-clause-item g c = rw (← block_in_place c.args.self.now c.args.block c.self.invariant c.self.view_is c.requires.block) (rw c.as_mut_slice-slots.ensures.value at c.take_out-item.ensures.item)

@@ -3,7 +3,7 @@ use Rattle.std.proofs.lemmas.List.{length-map}
 use Rattle.klsm_lsm.specs.Lsm.{content}
 use Rattle.klsm_lsm.specs.Slots.{blocks_in}
 use Rattle.klsm_lsm.proofs.RemovingLemmas.{block_in_place, some_item, can_fall, fallen, cut_stored}
-use Rattle.klsm_lsm.proofs.StoredLemmas.{count_blocks, slots_back, view_back}
+use Rattle.klsm_lsm.proofs.StoredLemmas.{count_blocks, slots_back, view_back, few_blocks}
 use Rattle.klsm_lsm.proofs.lsm.Lsm.remove_falling.Goals as goal
 
 pub overflow_sub-self : goal.overflow_sub-self
@@ -59,3 +59,15 @@ returns-clause-rest g c =
     let rest = fallen sl _ _ c.args.self.now c.args.block c.args.index _ c.self.invariant c.self.view_is falls c.requires.others c.requires.index (rw value at c.take_out_and_unite-item.ensures.rest) (rw (one, two) refl) c.close_gap.ensures.moved in
     let len : length c.take_out_and_unite-item.new.slots ≡ length c.self.inside.slots.items = c.take_out_and_unite-item.auto.slots ∙ ap length value in
     view_back g.R.Run.items _ c.self.inside.slots.items c.close_gap.new.slots _ (c.close_gap.ensures.len ∙ len) rest
+
+pub overflow_add-block : goal.overflow_add-block
+overflow_add-block g c = omega (arith, few_blocks c.self.invariant, count_blocks c.self.invariant, ap length c.self.view_is, c.requires.falls.within, c.self.invariant.stored.within.levels_in_range.at_most)
+
+pub close_gap-requires-clause-within : goal.close_gap-requires-clause-within
+close_gap-requires-clause-within g c = omega (arith, c.take_out_and_unite-item.auto.slots, ap length c.as_mut_slice-slots.ensures.value, rw length-map at c.self.invariant.within)
+
+pub way_back_following-self : goal.way_back_following-self
+way_back_following-self g c = (refl, refl)
+
+pub overflow_sub-self-2 : goal.overflow_sub-self-2
+overflow_sub-self-2 g c = omega (arith, count_blocks c.self.invariant, ap length c.self.view_is, c.requires.falls.within)

@@ -1,7 +1,8 @@
-use Rattle.std.proofs.Common.{◌<◌, [], length, take, drop, Some, sym, ap, ◌∙◌, arith}
+use Rattle.std.proofs.Common.{◌<◌, [], length, take, drop, Some, sym, ap, ◌∙◌, arith, List, refl, ◌≡◌}
 use Rattle.std.specs.Option.{option_map}
 use Rattle.std.specs.List.{slice_get}
 use Rattle.std.proofs.lemmas.Option.{slice_get-get_or}
+use Rattle.klsm_run.specs.declared.item.Item.{Item}
 use Rattle.klsm_lsm.specs.Slots.{block_in, blocks_in}
 use Rattle.klsm_lsm.proofs.StoredLemmas.{first_slot, count_blocks}
 use Rattle.klsm_lsm.proofs.lsm.Lsm.take_largest.Goals as goal
@@ -32,3 +33,19 @@ pub returns-clause-rest : goal.returns-clause-rest
 returns-clause-rest g c =
     let first = first_slot g.R.Run.items c.self.inside.slots.items c.remove-largest.result c.self.invariant (omega (arith, c.if-self-eq0.false)) c.remove-largest.ensures.value in
     rw c.remove-largest.ensures.items (first.rest ∙ ap (drop 1) c.self.view_is)
+
+pub same-self : goal.same-self
+same-self g c = refl
+
+pub returns-then-self-eq0-clause-block : goal.returns-then-self-eq0-clause-block
+returns-then-self-eq0-clause-block g c =
+    let empty : [] ≡ c.args.self.now = ap (λ n. take n (blocks_in g.R.Run.items c.self.inside.slots.items)) (sym c.if-self-eq0.true) ∙ c.self.view_is in
+    ap (λ (bs : List (List Item)). slice_get bs 0) empty
+
+pub returns-then-self-eq0-clause-rest : goal.returns-then-self-eq0-clause-rest
+returns-then-self-eq0-clause-rest g c =
+    let empty : [] ≡ c.args.self.now = ap (λ n. take n (blocks_in g.R.Run.items c.self.inside.slots.items)) (sym c.if-self-eq0.true) ∙ c.self.view_is in
+    sym empty ∙ ap (drop 1) empty
+
+pub overflow_sub-self-2 : goal.overflow_sub-self-2
+overflow_sub-self-2 g c = omega (arith, c.if-self-eq0.false)

@@ -1,8 +1,10 @@
-use Rattle.std.proofs.Common.{◌<◌, length, drop, subst, sym, arith, rules}
+use Rattle.std.proofs.Common.{◌<◌, length, drop, subst, sym, arith, rules, ◌≡◌, List, ap, refl}
 use Rattle.std.specs.List.{Contains}
+use Rattle.klsm_run.specs.declared.item.Item.{Item}
 use Rattle.klsm_lsm.specs.Lsm.{content, IsLsm}
 use Rattle.klsm_parts.specs.Parts.{PartState}
 use Rattle.klsm_parts.proofs.OwnLemmas.{has_room, own_added, fewer_without_largest, absent_without_largest, some_if_block}
+use Rattle.klsm_parts.proofs.FlushLemmas.{kept_none}
 use Rattle.klsm_parts.proofs.local.Local.replace_largest.Goals as goal
 
 pub insert-requires : goal.insert-requires
@@ -30,3 +32,17 @@ invariant_of-self g c =
 
 pub returns : goal.returns
 returns g c = search rules
+
+pub blocks-requires : goal.blocks-requires
+blocks-requires g c = search rules
+
+pub same-self : goal.same-self
+same-self g c = refl
+
+pub returns-then-blocks-eq0 : goal.returns-then-blocks-eq0
+returns-then-blocks-eq0 g c =
+    let none : length c.args.self.now.blocks ≡ 0 = subst (λ (p : PartState). length p.blocks ≡ 0) c.self.view_is (omega (arith, c.blocks-2.ensures.blocks, c.if-blocks-eq0.true)) in
+    ap (λ (bs : List (List Item)). record { k = c.args.self.now.k; blocks = bs }) (kept_none c.args.self.now.blocks c.args.item none)
+
+pub discard_largest-requires : goal.discard_largest-requires
+discard_largest-requires g c = (search rules, omega (arith, c.blocks-2.ensures.blocks, c.if-blocks-eq0.false))

@@ -1,4 +1,7 @@
-use Rattle.std.proofs.Common.{rules}
+use Rattle.std.proofs.Common.{rules, ◌≡◌, ◌∙◌, ap, arith, length, sym}
+use Rattle.klsm_lsm.specs.Lsm.{content}
+use Rattle.klsm_parts.specs.Parts.{PartState}
+use Rattle.klsm_parts.proofs.SpyLemmas.{few_moved, few_stay}
 use Rattle.klsm_parts.proofs.local.Local.spy_from.Goals as goal
 
 pub returns-clause-own : goal.returns-clause-own
@@ -9,3 +12,17 @@ returns-clause-victim g c = search rules
 
 pub returns-clause-count : goal.returns-clause-count
 returns-clause-count g c = search rules
+
+pub len-few-requires : goal.len-few-requires
+len-few-requires g c = search rules
+
+pub spy-requires : goal.spy-requires
+spy-requires g c = (search rules, (search rules, (c.self.invariant.capacity_in_range, ap (λ (p : PartState). p.blocks) c.self.view_is ∙ c.requires.empty)))
+
+pub invariant_of-self : goal.invariant_of-self
+invariant_of-self g c =
+    let same : c.self.inside.k ≡ c.victim.inside.k = ap (λ (p : PartState). p.k) c.self.view_is ∙ (c.requires.same_k ∙ sym (ap (λ (p : PartState). p.k) c.victim.view_is)) in
+    record { few = omega (arith, same, ap (λ bs. length (content bs)) c.spy.ensures.taken, few_moved c.victim.inside.lsm, c.victim.invariant.few); k_in_range = c.self.invariant.k_in_range; capacity_in_range = c.self.invariant.capacity_in_range }
+
+pub invariant_of-victim : goal.invariant_of-victim
+invariant_of-victim g c = record { few = omega (arith, ap (λ bs. length (content bs)) c.spy.ensures.rest, few_stay c.victim.inside.lsm, c.victim.invariant.few); k_in_range = c.victim.invariant.k_in_range; capacity_in_range = c.victim.invariant.capacity_in_range }

@@ -1,8 +1,11 @@
-use Rattle.std.proofs.Common.{◌+◌, ◌<◌, ◌^◌, length, subst, sym, arith, rules}
+use Rattle.std.proofs.Common.{◌+◌, ◌<◌, ◌^◌, length, subst, sym, arith, rules, ◌∙◌, List, ap}
 use Rattle.klsm_run.specs.Content.{ShareNone}
+use Rattle.klsm_run.specs.declared.item.Item.{Item}
 use Rattle.klsm_lsm.specs.Lsm.{content}
-use Rattle.klsm_parts.specs.Parts.{PartState}
+use Rattle.klsm_lsm.specs.Adding.{add}
+use Rattle.klsm_parts.specs.Parts.{PartState, IsShared}
 use Rattle.klsm_parts.specs.Pivots.{ArePivots}
+use Rattle.klsm_parts.specs.Mending.{IsMendable}
 use Rattle.klsm_parts.proofs.shared.Shared.absorb_copy.Goals as goal
 
 pub added_by-added-requires : goal.added_by-added-requires
@@ -29,3 +32,34 @@ len-requires-2 g c = search rules
 
 pub invariant_of-self : goal.invariant_of-self
 invariant_of-self g c = search rules
+
+pub as_slice-requires : goal.as_slice-requires
+as_slice-requires g c = search rules
+
+pub invariant_of-self-in-Err : goal.invariant_of-self-in-Err
+invariant_of-self-in-Err g c = subst (λ bs. IsShared g.row.LEVELS (record { k = c.self.inside.k; blocks = bs }) c.self.inside.pivots.items) (sym c.in-Err.ensures.unchanged) c.self.invariant
+
+pub returns-in-Ok-clause-added : goal.returns-in-Ok-clause-added
+returns-in-Ok-clause-added g c =
+    let state : List (List Item) → PartState = λ bs. record { k = c.self.inside.k; blocks = bs } in
+    ap state c.in-Ok.ensures.added ∙ ap (λ (p : PartState). record { k = p.k; blocks = add p.blocks (g.R.Run.items c.args.run.now) }) c.self.view_is
+
+pub returns-in-Ok-clause-full : goal.returns-in-Ok-clause-full
+returns-in-Ok-clause-full g c = rw (← c.self.view_is) c.in-Ok.ensures.full
+
+pub returns-in-Ok-clause-unchanged : goal.returns-in-Ok-clause-unchanged
+returns-in-Ok-clause-unchanged g c = tt
+
+pub returns-in-Err-clause-added : goal.returns-in-Err-clause-added
+returns-in-Err-clause-added g c = tt
+
+pub returns-in-Err-clause-unchanged : goal.returns-in-Err-clause-unchanged
+returns-in-Err-clause-unchanged g c =
+    let state : List (List Item) → PartState = λ bs. record { k = c.self.inside.k; blocks = bs } in
+    ap state c.in-Err.ensures.unchanged ∙ c.self.view_is
+
+pub mend_added-requires : goal.mend_added-requires
+mend_added-requires g c =
+    let added = c.added_by-added.result in
+    let can = subst (IsMendable c.self.inside.k added.cascade.first added.cascade.count added.pivot added.marked (add c.self.inside.lsm (g.R.Run.items c.args.run.now))) c.as_slice.ensures.value c.added_by-added.ensures in
+    (search rules, (search rules, (subst (λ bs. IsMendable c.self.inside.k added.cascade.first added.cascade.count added.pivot added.marked bs c.self.inside.pivots.items) (sym c.in-Ok.ensures.added) can, c.self.invariant.k_in_range)))

@@ -1,4 +1,7 @@
-use Rattle.std.proofs.Common.{rules}
+use Rattle.std.proofs.Common.{rules, ◌≡◌, ◌+◌, [], arith, length, min, subst}
+use Rattle.klsm_lsm.specs.Lsm.{content}
+use Rattle.klsm_parts.specs.Pivots.{ArePivots}
+use Rattle.klsm_parts.proofs.PivotLemmas.{pivots_all, pivots_none}
 use Rattle.klsm_parts.proofs.shared.Shared.new.Goals as goal
 
 pub new-requires : goal.new-requires
@@ -9,3 +12,13 @@ new-requires-2 g c = search rules
 
 pub returns : goal.returns
 returns g c = search rules
+
+pub invariant_of-result : goal.invariant_of-result
+invariant_of-result g c =
+    let none : 0 ≡ min (c.args.k + 1) (length (content [])) = omega arith in
+    rw (c.new.ensures, c.new-2.ensures) (record {
+      lawful = tt;
+      pivots_exact = pivots_all (c.args.k + 1) [] [] (subst (λ n. ArePivots n [] []) none (pivots_none []));
+      k_in_range = c.requires.k;
+      levels_in_range = c.requires.levels;
+    })

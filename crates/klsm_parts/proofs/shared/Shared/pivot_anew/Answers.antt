@@ -33,3 +33,9 @@ returns-clause-counts g c =
     let pivots = subst (λ (p : PartState). ArePivots (p.k + 1) p.blocks ps) c.self.view_is c.candidate_pivots.ensures.pivots in
     let lawful = subst (λ (p : PartState). IsLsm p.blocks) c.self.view_is c.self.invariant.lawful in
     rw c.as_slice.ensures.value (pivot_counts (c.args.self.now.k + 1) c.args.self.now.blocks ps c.args.block lawful pivots)
+
+pub as_slice-requires : goal.as_slice-requires
+as_slice-requires g c = search rules
+
+pub candidate_pivots-requires : goal.candidate_pivots-requires
+candidate_pivots-requires g c = (search rules, (search rules, (c.self.invariant.levels_in_range, c.self.invariant.k_in_range)))

@@ -1,4 +1,4 @@
-use Rattle.std.proofs.Common.{◌≡◌, ◌+◌, ◌<◌, length, min, Some, subst, sym, ◌∙◌, arith, rules}
+use Rattle.std.proofs.Common.{◌≡◌, ◌+◌, ◌<◌, length, min, Some, subst, sym, ◌∙◌, arith, rules, [], get_or}
 use Rattle.std.specs.List.{slice_get}
 use Rattle.std.proofs.lemmas.List.{length-take}
 use Rattle.klsm_run.specs.Content.{sorted}
@@ -39,3 +39,18 @@ returns-clause-candidate g c =
     let among : c.args.index < c.args.self.now.k + 1 = omega (arith, c.requires, length-take (c.args.self.now.k + 1) (sorted (content c.args.self.now.blocks))) in
     slice_get-take (c.args.self.now.k + 1) (sorted (content c.args.self.now.blocks)) c.args.index among
     ∙ subst (λ (p : PartState). slice_get (sorted (content p.blocks)) c.args.index ≡ Some c.place_from_above.result.item) c.self.view_is c.place_from_above.ensures.rank
+
+pub returns-then-index-marked-clause-block : goal.returns-then-index-marked-clause-block
+returns-then-index-marked-clause-block g c = subst (λ (p : PartState). c.place_of.result.block < length p.blocks) c.self.view_is c.place_of.ensures.block
+
+pub returns-then-index-marked-clause-index : goal.returns-then-index-marked-clause-index
+returns-then-index-marked-clause-index g c = subst (λ (p : PartState). slice_get (get_or p.blocks c.place_of.result.block []) c.place_of.result.index ≡ Some c.place_of.result.item) c.self.view_is c.place_of.ensures.index
+
+pub as_slice-requires : goal.as_slice-requires
+as_slice-requires g c = search rules
+
+pub returns-clause-block : goal.returns-clause-block
+returns-clause-block g c = subst (λ (p : PartState). c.place_from_above.result.block < length p.blocks) c.self.view_is c.place_from_above.ensures.block
+
+pub returns-clause-index : goal.returns-clause-index
+returns-clause-index g c = subst (λ (p : PartState). slice_get (get_or p.blocks c.place_from_above.result.block []) c.place_from_above.result.index ≡ Some c.place_from_above.result.item) c.self.view_is c.place_from_above.ensures.index

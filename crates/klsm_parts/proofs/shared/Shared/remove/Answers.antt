@@ -1,7 +1,9 @@
-use Rattle.std.proofs.Common.{◌≡◌, ◌<◌, ◌==◌, [], length, get_or, Some, subst, sym, ap, ◌∙◌, rules}
+use Rattle.std.proofs.Common.{◌≡◌, ◌<◌, ◌==◌, [], length, get_or, Some, subst, sym, ap, ◌∙◌, rules, List}
 use Rattle.std.specs.List.{Contains, slice_get}
 use Rattle.std.proofs.lemmas.Option.{slice_get_within, get_or_from_slice_get}
+use Rattle.klsm_run.specs.declared.item.Item.{Item}
 use Rattle.klsm_run.proofs.IndexLemmas.{index_of}
+use Rattle.klsm_lsm.specs.Adding.{cut}
 use Rattle.klsm_parts.specs.Parts.{PartState, candidates_of}
 use Rattle.klsm_parts.specs.Mending.{IsCutMendable}
 use Rattle.klsm_parts.proofs.AddedLemmas.{cut_mendable}
@@ -28,3 +30,14 @@ mend_cut-requires g c =
 
 pub invariant_of-self : goal.invariant_of-self
 invariant_of-self g c = search rules
+
+pub returns : goal.returns
+returns g c =
+    let state : List (List Item) → PartState = λ bs. record { k = c.self.inside.k; blocks = bs } in
+    ap state c.remove-item.ensures.rest ∙ ap (λ (p : PartState). record { k = p.k; blocks = cut p.blocks c.args.place.block c.args.place.index }) c.self.view_is
+
+pub partner-partner-requires : goal.partner-partner-requires
+partner-partner-requires g c = (search rules, subst (λ (p : PartState). c.args.place.block < length p.blocks) (sym c.self.view_is) c.requires.block)
+
+pub block-requires : goal.block-requires
+block-requires g c = (search rules, subst (λ (p : PartState). c.args.place.block < length p.blocks) (sym c.self.view_is) c.requires.block)
