@@ -2,6 +2,7 @@ pub mod Events
 pub mod Flushing
 pub mod Laws
 pub mod Least
+pub mod LeastPlaces
 pub mod Mending
 pub mod Part
 pub mod Parts

@@ -5,7 +5,9 @@ use Rattle.klsm_run.specs.Capacity.{IsCapacity}
 use Rattle.klsm_run.specs.Content.{sorted}
 use Rattle.klsm_lsm.specs.Lsm.{content, IsLsm}
 use Rattle.klsm_lsm.specs.Limit.{IsLevelCount}
+use Rattle.klsm_parts.specs.declared.ranks.Place.{Place}
 use Rattle.klsm_parts.specs.Least.{least}
+use Rattle.klsm_parts.specs.LeastPlaces.{IsLeastPlace}
 use Rattle.klsm_parts.specs.Pivots.{ArePivots}
 
 -- an own part or a shared one: its k, and the blocks of its LSM
@@ -31,9 +33,10 @@ pub record IsOwn (capacity : ℕ) (part : PartState) : Type 0 where
   pub k_in_range : part.k ≤ capacity
   pub capacity_in_range : IsCapacity capacity
 
--- a shared part is a lawful LSM with exact pivots of its least k+1 items
-pub record IsShared (levels : ℕ) (part : PartState) (pivots : List ℕ) : Type 0 where
+-- a shared part is a lawful LSM with exact pivots of its least k+1 items, of which the least is known with its place
+pub record IsShared (levels : ℕ) (part : PartState) (pivots : List ℕ) (least : Option Place) : Type 0 where
   pub lawful : IsLsm part.blocks
   pub pivots_exact : ArePivots (part.k + 1) part.blocks pivots
+  pub least_found : IsLeastPlace part.blocks least
   pub k_in_range : part.k ≤ 128
   pub levels_in_range : IsLevelCount levels

@@ -4,6 +4,7 @@ ghost use Rattle.klsm_run.specs.Content.{sorted};
 ghost use Rattle.klsm_run.specs.ItemOrder.{is_smaller};
 ghost use Rattle.klsm_lsm.specs.Lsm.{content, IsLsm};
 ghost use Rattle.klsm_lsm.specs.Limit.{IsLevelCount};
+ghost use Rattle.klsm_parts.specs.LeastPlaces.{IsLeastPlace};
 ghost use Rattle.klsm_parts.specs.Pivots.{ArePivots, AreWithin, marked, unmarked};
 
 use arrayvec::ArrayVec;
@@ -20,10 +21,7 @@ pub(crate) struct Place {
 
 /// The least item, and where it stands, if there is one. It costs one comparison a block.
 pub(crate) fn least_place<R: Run, const LEVELS: usize>(lsm: &Lsm<R, LEVELS>) -> Option<Place>
-    ensures item { option_map (λ place. place.item) result ≡ slice_get (sorted (content lsm.now)) 0 }
-    ensures place { IfSome result (λ place. (place.block < length lsm.now)
-        × (slice_get (slice_index_or lsm.now place.block []) place.index ≡ Some place.item)) }
-    ensures first { IfSome result (λ place. place.index ≡ 0) }
+    ensures { IsLeastPlace lsm.now result }
 {
     let block = lsm.least_block()?;
     let item = lsm.block(block).item_at(0);
@@ -32,6 +30,14 @@ pub(crate) fn least_place<R: Run, const LEVELS: usize>(lsm: &Lsm<R, LEVELS>) -> 
         index: 0,
         item,
     })
+}
+
+/// The item of a place.
+#[inline]
+pub(crate) fn item_of(place: Option<Place>) -> Option<Item>
+    ensures { result ≡ option_map (λ place. place.item) place }
+{
+    place.map(|place| place.item)
 }
 
 /// How many of each block's first items are among the least `count`. It costs `count` comparisons a block.

@@ -6,11 +6,12 @@ ghost use Rattle.klsm_run.specs.Content.{sorted, ShareNone};
 ghost use Rattle.klsm_lsm.specs.Lsm.{content, IsLsm};
 ghost use Rattle.klsm_lsm.specs.Limit.{IsLevelCount, limit_of};
 ghost use Rattle.klsm_lsm.specs.Adding.{add, cut};
+ghost use Rattle.klsm_parts.specs.LeastPlaces.{IsLeastPlace};
 ghost use Rattle.klsm_parts.specs.Pivots.{ArePivots, IsPivotAt, count_in_least};
 ghost use Rattle.klsm_parts.specs.Parts.{PartState, IsShared, least_in, candidates_of};
 
 use crate::mending::{added_by, mend_added, mend_cut, place_from_above};
-use crate::ranks::{Place, pivots_of, place_of};
+use crate::ranks::{Place, item_of, least_place, pivots_of, place_of};
 use arrayvec::ArrayVec;
 use klsm_lsm::{Lsm, LsmError};
 use klsm_run::{HeapRun, Item, Run};
@@ -25,6 +26,8 @@ pub struct Shared<const LEVELS: usize, A: Allocator + Copy = Global> {
     k: usize,
     // How many of each block's first items are candidates.
     pivots: ArrayVec<usize, LEVELS>,
+    // The least item and where it stands, if there is one, so that a deletion of an own item does not search for it.
+    least: Option<Place>,
     alloc: A,
 }
 
@@ -33,7 +36,7 @@ impl<const LEVELS: usize, A: Allocator + Copy> Model for Shared<LEVELS, A> {
 
     ghost view = { λ shared. record { k = shared.k; blocks = shared.lsm } };
 
-    ghost invariant = { λ shared. IsShared LEVELS (record { k = shared.k; blocks = shared.lsm }) shared.pivots.items };
+    ghost invariant = { λ shared. IsShared LEVELS (record { k = shared.k; blocks = shared.lsm }) shared.pivots.items shared.least };
 }
 
 impl<const LEVELS: usize, A: Allocator + Copy> Shared<LEVELS, A> {
@@ -47,6 +50,7 @@ impl<const LEVELS: usize, A: Allocator + Copy> Shared<LEVELS, A> {
             lsm: Lsm::new(),
             k,
             pivots: ArrayVec::new(),
+            least: None,
             alloc,
         }
     }
@@ -70,11 +74,20 @@ impl<const LEVELS: usize, A: Allocator + Copy> Shared<LEVELS, A> {
         self.lsm.len()
     }
 
-    /// The least item, if there is one. It costs one comparison a block.
+    /// The least item, if there is one. It costs one access.
+    #[inline]
     pub fn least(&self) -> Option<Item>
         ensures { result ≡ least_in self.now }
     {
-        self.lsm.least()
+        item_of(self.least)
+    }
+
+    // The least item, and where it stands.
+    #[inline]
+    pub(crate) fn least_place(&self) -> Option<Place>
+        ensures { IsLeastPlace self.now.blocks result }
+    {
+        self.least
     }
 
     /// The items, as an LSM.
@@ -168,6 +181,7 @@ impl<const LEVELS: usize, A: Allocator + Copy> Shared<LEVELS, A> {
         match self.lsm.absorb_copy(self.alloc, run) {
             Ok(()) => {
                 mend_added(&self.lsm, &mut self.pivots, added, self.k);
+                self.least = least_place(&self.lsm);
                 Ok(())
             }
             Err(why) => Err(why),
@@ -193,6 +207,7 @@ impl<const LEVELS: usize, A: Allocator + Copy> Shared<LEVELS, A> {
             partner,
             self.k,
         );
+        self.least = least_place(&self.lsm);
     }
 }
 

@@ -8,7 +8,7 @@ ghost use Rattle.klsm_parts.specs.Parts.{items_in, least_in, candidates_of};
 ghost use Rattle.klsm_parts.specs.Events.{MayTake, MayFindNothing, own_after_take, shared_after_take};
 ghost use Rattle.klsm_parts.specs.Taking.{picks, lesser_of, unless_smaller, IsPicked, Leaves};
 
-use crate::ranks::{Place, least_place};
+use crate::ranks::{Place, item_of, least_place};
 use crate::{Local, Picker, Shared};
 use klsm_run::Item;
 use std::alloc::Allocator;
@@ -74,7 +74,7 @@ fn choose<const LEVELS: usize, A: Allocator + Copy, P: Picker>(
         × (slice_get (slice_index_or shared.now.blocks place.block []) place.index ≡ Some place.item)
         × Contains (candidates_of shared.now) place.item) }
 {
-    let least = least_place(shared.lsm())?;
+    let least = shared.least_place()?;
     if is_smaller_own(least_own, least.item) {
         return None;
     }
@@ -91,12 +91,4 @@ pub(crate) fn is_smaller_own(least_own: Option<Item>, item: Item) -> bool
     ensures { MatchOption least_own (result ≡ false) (λ own. result ≡ is_smaller own item) }
 {
     least_own.is_some_and(|own| own.is_before(&item))
-}
-
-// The item of a place.
-#[inline]
-fn item_of(place: Option<Place>) -> Option<Item>
-    ensures { result ≡ option_map (λ place. place.item) place }
-{
-    place.map(|place| place.item)
 }

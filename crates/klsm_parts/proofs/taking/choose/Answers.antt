@@ -1,7 +1,5 @@
-use Rattle.std.proofs.Common.{◌≡◌, true, false, sym, ap, ◌∙◌, rules}
-use Rattle.std.specs.List.{slice_get}
+use Rattle.std.proofs.Common.{◌≡◌, true, false, sym, ◌∙◌, rules}
 use Rattle.klsm_run.proofs.IndexLemmas.{contains_at}
-use Rattle.klsm_run.specs.Content.{sorted}
 use Rattle.klsm_lsm.specs.Lsm.{content}
 use Rattle.klsm_parts.proofs.TakeLemmas.{not_asked, is_asked, own_goes, candidate_goes, some_candidate, least_is_candidate}
 use Rattle.klsm_parts.proofs.taking.choose.Goals as goal
@@ -9,24 +7,24 @@ use Rattle.klsm_parts.proofs.taking.choose.Goals as goal
 pub returns-then-is_smaller_own-clause-asked : goal.returns-then-is_smaller_own-clause-asked
 returns-then-is_smaller_own-clause-asked g c asked =
     let tested = c.is_smaller_own.ensures in
-    let unasked = not_asked _ _ c.in_ok-least.least.item c.is_smaller_own.result (ap (λ bs. slice_get (sorted (content bs)) 0) (sym c.lsm.ensures) ∙ sym c.in_ok-least.ensures.item) tested c.if-is_smaller_own.true in
+    let unasked = not_asked _ _ c.in_ok-least.least.item c.is_smaller_own.result (sym c.in_ok-least.ensures.item) tested c.if-is_smaller_own.true in
     let bad : false ≡ true = sym unasked ∙ asked in
     cc
 
 pub pick-index-requires : goal.pick-index-requires
 pick-index-requires g c = record {
-  some = rw c.candidates.ensures (some_candidate c.args.shared.now.k (content c.args.shared.now.blocks) c.in_ok-least.least.item (ap (λ bs. slice_get (sorted (content bs)) 0) (sym c.lsm.ensures) ∙ sym c.in_ok-least.ensures.item));
+  some = rw c.candidates.ensures (some_candidate c.args.shared.now.k (content c.args.shared.now.blocks) c.in_ok-least.least.item (sym c.in_ok-least.ensures.item));
 }
 
 pub place_from_least-candidate-requires : goal.place_from_least-candidate-requires
 place_from_least-candidate-requires g c =
-    let first = least_is_candidate c.args.shared.now.k (content c.args.shared.now.blocks) c.in_ok-least.least.item (ap (λ bs. slice_get (sorted (content bs)) 0) (sym c.lsm.ensures) ∙ sym c.in_ok-least.ensures.item) in
-    (search rules, (rw (← c.lsm.ensures) c.in_ok-least.ensures.place.0, (rw (← c.lsm.ensures) c.in_ok-least.ensures.place.1, (first, rw (← c.candidates.ensures) c.pick-index.ensures.below))))
+    let first = least_is_candidate c.args.shared.now.k (content c.args.shared.now.blocks) c.in_ok-least.least.item (sym c.in_ok-least.ensures.item) in
+    (search rules, (c.in_ok-least.ensures.place.0, (c.in_ok-least.ensures.place.1, (first, rw (← c.candidates.ensures) c.pick-index.ensures.below))))
 
 pub returns-then-is_smaller_own-2-clause-unasked : goal.returns-then-is_smaller_own-2-clause-unasked
 returns-then-is_smaller_own-2-clause-unasked g c unasked =
     let tested = c.is_smaller_own.ensures in
-    let asked = is_asked _ _ c.in_ok-least.least.item c.is_smaller_own.result (ap (λ bs. slice_get (sorted (content bs)) 0) (sym c.lsm.ensures) ∙ sym c.in_ok-least.ensures.item) tested c.if-is_smaller_own.false in
+    let asked = is_asked _ _ c.in_ok-least.least.item c.is_smaller_own.result (sym c.in_ok-least.ensures.item) tested c.if-is_smaller_own.false in
     let bad : true ≡ false = sym asked ∙ unasked in
     cc
 
@@ -42,7 +40,7 @@ returns-then-is_smaller_own-2-clause-asked g c asked = record {
 pub returns-clause-unasked : goal.returns-clause-unasked
 returns-clause-unasked g c unasked =
     let tested = c.is_smaller_own.ensures in
-    let asked = is_asked _ _ c.in_ok-least.least.item c.is_smaller_own.result (ap (λ bs. slice_get (sorted (content bs)) 0) (sym c.lsm.ensures) ∙ sym c.in_ok-least.ensures.item) tested c.if-is_smaller_own.false in
+    let asked = is_asked _ _ c.in_ok-least.least.item c.is_smaller_own.result (sym c.in_ok-least.ensures.item) tested c.if-is_smaller_own.false in
     let bad : true ≡ false = sym asked ∙ unasked in
     cc
 

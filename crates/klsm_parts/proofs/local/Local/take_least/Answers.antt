@@ -1,8 +1,5 @@
-use Rattle.std.proofs.Common.{◌≡◌, ◌<◌, None, Some, length, sym, ap, ◌∙◌, subst, rules}
-use Rattle.std.specs.List.{slice_get}
-use Rattle.klsm_run.specs.Content.{sorted}
+use Rattle.std.proofs.Common.{◌≡◌, ◌<◌, None, Some, length, sym, ◌∙◌, subst}
 use Rattle.klsm_lsm.specs.Lsm.{content}
-use Rattle.klsm_parts.specs.Least.{IsLeast}
 use Rattle.klsm_parts.specs.Parts.{PartState}
 use Rattle.klsm_parts.proofs.FoundLemmas.{some_ranked}
 use Rattle.klsm_parts.proofs.local.Local.take_least.Goals as goal

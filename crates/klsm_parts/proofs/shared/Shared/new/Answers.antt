@@ -1,4 +1,4 @@
-use Rattle.std.proofs.Common.{rules, ◌≡◌, ◌+◌, [], arith, length, min, subst}
+use Rattle.std.proofs.Common.{rules, refl, ◌≡◌, ◌+◌, [], arith, length, min, subst}
 use Rattle.klsm_lsm.specs.Lsm.{content}
 use Rattle.klsm_parts.specs.Pivots.{ArePivots}
 use Rattle.klsm_parts.proofs.PivotLemmas.{pivots_all, pivots_none}
@@ -19,6 +19,7 @@ invariant_of-result g c =
     rw (c.new.ensures, c.new-2.ensures) (record {
       lawful = tt;
       pivots_exact = pivots_all (c.args.k + 1) [] [] (subst (λ n. ArePivots n [] []) none (pivots_none []));
+      least_found = record { item = refl; place = tt };
       k_in_range = c.requires.k;
       levels_in_range = c.requires.levels;
     })
