@@ -1,0 +1,88 @@
+//! The run whose output does not depend on time.
+
+use crate::contenders::Contender;
+use crate::trio::Trio;
+use crate::workloads::{Workload, fill};
+use rand_core::SeedableRng;
+use rand_pcg::Pcg32;
+use std::alloc::Global;
+use std::io;
+
+/// Prints, for each workload and several k, whether the queue with the least candidate gives what the heap gives, and whether
+/// the other one gives as many.
+pub(crate) fn print<R: Print + AllocGlobal>(rt: &R) -> io::Result<()> {
+    for workload in Workload::all() {
+        for k in [8, 64, 128] {
+            let agreement = agree(rt.alloc(), workload, &mut Trio::new(rt.alloc(), k));
+            print_row(rt, workload, k, agreement)?;
+        }
+    }
+    Ok(())
+}
+
+// Whether the keys of one are those of the heap in their order, and the other gives as many.
+#[derive(Clone, Copy)]
+struct Agreement {
+    in_order: bool,
+    as_many: bool,
+}
+
+fn print_row<R: Print>(
+    rt: &R,
+    workload: Workload,
+    k: usize,
+    agreement: Option<Agreement>,
+) -> io::Result<()> {
+    let Some(Agreement { in_order, as_many }) = agreement else {
+        return println!(rt; "{} k {k}: no memory", workload.name());
+    };
+    println!(rt;
+        "{} k {k}: first gives the heap's keys: {in_order}, random gives as many: {as_many}",
+        workload.name()
+    )
+}
+
+// Fills all three, and then takes everything out again.
+fn agree(alloc: Global, workload: Workload, trio: &mut Trio) -> Option<Agreement> {
+    let mut draws = Pcg32::seed_from_u64(42);
+    let first = workload.keys(alloc, &mut draws, 0, 500).ok()?;
+    let then = workload.keys(alloc, &mut draws, 500, 1_000).ok()?;
+    let heap = keys_of(workload, &mut trio.heap, first.as_slice(), then.as_slice())?;
+    let least = keys_of(workload, &mut trio.first, first.as_slice(), then.as_slice())?;
+    let random = keys_of(
+        workload,
+        &mut trio.random,
+        first.as_slice(),
+        then.as_slice(),
+    )?;
+    Some(Agreement {
+        in_order: least == heap,
+        as_many: random.count == heap.count,
+    })
+}
+
+// What a contender gave: a sum that depends on the order of the keys, and how many keys came in all.
+#[derive(Clone, Copy, PartialEq, Eq)]
+struct Deleted {
+    sum: u64,
+    count: u64,
+}
+
+fn keys_of<C: Contender>(
+    workload: Workload,
+    contender: &mut C,
+    first: &[u64],
+    then: &[u64],
+) -> Option<Deleted> {
+    fill(contender, first)?;
+    let mut sum = workload.run(contender, then)?;
+    let mut count = 0u64;
+    for _ in 0..=first.len() {
+        let Some(key) = contender.delete() else {
+            break;
+        };
+        sum = sum.wrapping_mul(31).wrapping_add(key);
+        count = count.wrapping_add(1);
+    }
+    Some(Deleted { sum, count })
+}
