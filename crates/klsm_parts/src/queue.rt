@@ -165,7 +165,8 @@ impl<const CAP: usize, const LEVELS: usize, A: Allocator + Copy> Queue<CAP, LEVE
     /// Deletes an item: the least own one where that is the least of all, else the lesser of it and the candidate that the
     /// picker answers. `None` where there is no item.
     ///
-    /// It skips at most k items. It takes no memory, and costs what `take` does.
+    /// It skips at most k items, and with `First` none (`laws::first_gives_least`). It takes no memory, and costs what `take`
+    /// does.
     pub fn delete_min<P: Picker>(&mut self, picker: &mut P) -> Option<Item>
         ensures nothing { (result ≡ None) ↔ (items_of self.old ≡ []) }
         ensures items { MatchOption result (self.new ≡ self.old)
