@@ -13,6 +13,7 @@ use Rattle.klsm_run.proofs.ContainsLemmas.{contains_unsorted}
 use Rattle.klsm_run.proofs.ApartLemmas.{apart_if_sharing_none, ascending_sorted}
 use Rattle.klsm_run.proofs.ContentLemmas.{sorted_middle, sorted_swap, sorted_same_behind, sorted_sorted, sorted_itself}
 use Rattle.klsm_run.proofs.LesserLemmas.{lesser, first_append}
+use Rattle.klsm_run.proofs.IndexLemmas.{taken_at}
 use Rattle.klsm_run.proofs.RankLemmas.{count_sorted}
 use Rattle.klsm_run.specs.Capacity.{IsCapacity, heap_room}
 use Rattle.klsm_lsm.specs.Lsm.{content, IsLsm}
@@ -21,9 +22,9 @@ use Rattle.klsm_lsm.specs.Adding.{add}
 use Rattle.klsm_lsm.proofs.ContentLemmas.{ascending_content}
 use Rattle.klsm_lsm.proofs.AddLemmas.{sorted_add}
 use Rattle.klsm_lsm.proofs.CutLemmas.{sorted_cut}
-use Rattle.klsm_parts.specs.Parts.{PartState, items_in, least_in}
+use Rattle.klsm_parts.specs.Parts.{PartState, items_in, least_in, candidates_of}
 use Rattle.klsm_parts.specs.Flushing.{moved, kept}
-use Rattle.klsm_parts.specs.Taking.{picks, IsCutFrom, Leaves}
+use Rattle.klsm_parts.specs.Taking.{picks, lesser_of, IsCutFrom, Leaves}
 use Rattle.klsm_parts.specs.Events.{MayFindNothing}
 use Rattle.klsm_parts.specs.Queues.{QueueState, IsQueue, Joins, HaveNoPlace, IsFull}
 use Rattle.klsm_parts.proofs.TakeLemmas.{IsTested}
@@ -220,6 +221,16 @@ least_both own shared =
     ∙ (first_append (items_in shared) (items_in own)
     ∙ (ap (λ c. lesser (slice_get c 0) (slice_get (sorted (items_in own)) 0)) (sorted_itself (content shared.blocks))
     ∙ ap (λ c. lesser (least_in shared) (slice_get c 0)) (sorted_itself (content own.blocks))))
+
+-- so it is the lesser of the first candidate and the least own item
+pub least_of_first : (own shared : PartState) (candidate : Item) → slice_get (candidates_of shared) 0 ≡ Some candidate → slice_get (both own shared) 0 ≡ Some (lesser_of candidate (least_in own))
+least_of_first own shared candidate first =
+    let is : least_in shared ≡ Some candidate = (taken_at (shared.k + 1) (items_in shared) 0 candidate first).1 in
+    least_both own shared ∙ (ap (λ o. lesser o (least_in own)) is ∙ with_own (least_in own))
+  where
+    with_own : (o : Option Item) → lesser (Some candidate) o ≡ Some (lesser_of candidate o)
+    with_own None = refl
+    with_own (Some x) = refl
 
 -- where there is no shared item it is the least own one
 pub least_is_own : (o p : Option Item) → p ≡ None → o ≡ lesser p o

@@ -1,5 +1,5 @@
 //! The queue for one thread.
-ghost use Rattle.std.specs.Prelude.{◌≡◌, ◌+◌, ◌-◌, ◌<◌, ◌≤◌, ◌^◌, ◌↔◌, ◌∷◌, [], false, length, Some, None, IsTrue, IfOk, OnOk, OnErr, IsErrAnd, IfSome, MatchOption};
+ghost use Rattle.std.specs.Prelude.{◌≡◌, ◌+◌, ◌-◌, ◌<◌, ◌≤◌, ◌^◌, ◌↔◌, ◌∷◌, [], false, length, Some, None, IsTrue, IsOk, IfOk, OnOk, OnErr, IsErrAnd, IfSome, MatchOption};
 ghost use Rattle.std.specs.List.{All, Contains};
 ghost use Rattle.klsm_run.specs.Capacity.{IsCapacity, heap_room};
 ghost use Rattle.klsm_run.specs.Content.{sorted, skipped, IsAscending, ShareNone};
@@ -119,10 +119,18 @@ impl<const CAP: usize, const LEVELS: usize, A: Allocator + Copy> Queue<CAP, LEVE
         &self.shared
     }
 
+    /// Takes the queue apart.
+    pub fn into_parts(self) -> (Local<CAP>, Shared<LEVELS, A>)
+        ensures own { result.0 ≡ self.own }
+        ensures shared { result.1 ≡ self.shared }
+    {
+        (self.own, self.shared)
+    }
+
     /// Inserts an item of this key, which carries `load`, and answers it. Its stamp tells it from all other items of the
     /// queue: its owner is 0, and its number how many items were inserted before.
     ///
-    /// Only an insertion that finds k items in the own part takes memory. Refused, it has changed nothing.
+    /// Only an insertion that finds k items in the own part takes memory.
     pub fn insert(&mut self, key: u64, load: u64) -> Result<Item, LsmError>
         ensures item { IfOk result (λ item. item ≡ next_item self.old key load) }
         ensures items { OnOk result (items_of self.new ≡ sorted (next_item self.old key load ∷ items_of self.old)) }
@@ -133,11 +141,12 @@ impl<const CAP: usize, const LEVELS: usize, A: Allocator + Copy> Queue<CAP, LEVE
             (Joins (next_item self.old key load) self.old.own self.new.own self.old.shared self.new.shared) }
 
         // A refusal changes nothing. It is for want of room exactly where there is none, so never while there are fewer items
-        // than the shared part can hold and numbers are left, and else for want of memory.
+        // than the shared part can hold and numbers are left. Else it is for want of memory, of which a put takes none.
         ensures full { IsErrAnd result (λ why. why ≡ LsmError.Full)
             ↔ IsFull LEVELS (next_item self.old key load) self.old }
         ensures room { length (items_of self.old) < limit_of LEVELS heap_room → self.old.inserted < 2 ^ 64 - 1
             → ¬ IsErrAnd result (λ why. why ≡ LsmError.Full) }
+        ensures put { length (content self.old.own.blocks) < self.old.own.k → self.old.inserted < 2 ^ 64 - 1 → IsOk result }
         ensures unchanged { OnErr result (self.new ≡ self.old) }
     {
         let Some(next) = self.inserted.checked_add(1) else {
@@ -156,7 +165,8 @@ impl<const CAP: usize, const LEVELS: usize, A: Allocator + Copy> Queue<CAP, LEVE
     /// Deletes an item: the least own one where that is the least of all, else the lesser of it and the candidate that the
     /// picker answers. `None` where there is no item.
     ///
-    /// It skips at most k items. It takes no memory, and costs what `take` does.
+    /// It skips at most k items, and with `First` none (`laws::first_gives_least`). It takes no memory, and costs what `take`
+    /// does.
     pub fn delete_min<P: Picker>(&mut self, picker: &mut P) -> Option<Item>
         ensures nothing { (result ≡ None) ↔ (items_of self.old ≡ []) }
         ensures items { MatchOption result (self.new ≡ self.old)
@@ -204,6 +214,7 @@ fn put_or_flush<const CAP: usize, const LEVELS: usize, A: Allocator + Copy>(
     ensures lawful { IsLsm own.old.blocks }
     ensures joins { OnOk result (Joins item own.old own.new shared.old shared.new) }
     ensures full { IsErrAnd result (λ why. why ≡ LsmError.Full) ↔ HaveNoPlace LEVELS item own.old shared.old }
+    ensures put { length (content own.old.blocks) < own.old.k → IsOk result }
     ensures unchanged { OnErr result ((own.new ≡ own.old) × (shared.new ≡ shared.old)) }
 {
     if own.len() < own.k() {

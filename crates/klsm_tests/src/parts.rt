@@ -3,8 +3,8 @@
 mod compared;
 mod emptied;
 mod mended;
-mod pair;
 mod pickers;
+mod queue;
 mod refused;
 mod spied;
 mod worked;

@@ -3,9 +3,9 @@ ghost use Rattle.std.specs.Prelude.{◌≤◌};
 
 mod plain;
 
-use super::pair::{Pair, has_items, item};
+use super::queue::{RationedQueue, has_items, item};
 use klsm_lsm::Lsm;
-use klsm_parts::{Random, random_of};
+use klsm_parts::{Queue, Random, random_of};
 use klsm_run::{Item, Run};
 use klsm_testing::Rationed;
 use plain::{Plain, marked};
@@ -23,31 +23,31 @@ struct Draws {
 
 // Inserts an item into both, or deletes one from both, and answers whether it is the same. Keys are few, so that equal ones
 // occur, and insertions somewhat more than deletions.
-fn step_same(pair: &mut Pair<21>, plain: &mut Plain, draws: &mut Draws) -> Option<bool> {
+fn step_same(queue: &mut RationedQueue<21>, plain: &mut Plain, draws: &mut Draws) -> Option<bool> {
     if draws.mix.next_u32() % 9 < 5 {
-        insert(pair, plain, draws.mix.next_u64() % 100)?;
-        return Some(true);
+        return insert_same(queue, plain, draws.mix.next_u64() % 100);
     }
-    let answer = pair.delete(&mut draws.picker);
+    let answer = queue.delete_min(&mut draws.picker);
     let want = plain.delete(&mut draws.plain_picker).ok()?;
     Some(answer == want)
 }
 
-// Inserts an item into both.
-fn insert(pair: &mut Pair<21>, plain: &mut Plain, key: u64) -> Option<()> {
-    plain.insert(item(key, pair.inserted)).ok()?;
-    pair.insert(key).ok()
+// Inserts an item into both, and answers whether it is the same.
+fn insert_same(queue: &mut RationedQueue<21>, plain: &mut Plain, key: u64) -> Option<bool> {
+    let item = item(key, queue.inserted());
+    plain.insert(item).ok()?;
+    Some(queue.insert(key, 0) == Ok(item))
 }
 
 // Whether both show the same.
-fn show_same(pair: &Pair<21>, plain: &Plain) -> Option<bool> {
+fn show_same(queue: &RationedQueue<21>, plain: &Plain) -> Option<bool> {
     let candidates = plain.candidates().ok()?;
-    let are_blocks = has_blocks(pair.own.lsm(), plain.own.as_slice())
-        && has_blocks(pair.shared.lsm(), plain.shared.as_slice());
+    let are_blocks = has_blocks(queue.own().lsm(), plain.own.as_slice())
+        && has_blocks(queue.shared().lsm(), plain.shared.as_slice());
     Some(
         are_blocks
-            && has_pivots(pair, plain.shared.as_slice(), candidates.as_slice())
-            && has_candidates(pair, candidates.as_slice()),
+            && has_pivots(queue, plain.shared.as_slice(), candidates.as_slice())
+            && has_candidates(queue, candidates.as_slice()),
     )
 }
 
@@ -63,24 +63,24 @@ fn has_blocks<R: Run, const LEVELS: usize>(lsm: &Lsm<R, LEVELS>, blocks: &[Vec<I
     true
 }
 
-fn has_pivots(pair: &Pair<21>, blocks: &[Vec<Item>], candidates: &[Item]) -> bool {
-    if pair.shared.lsm().blocks() != blocks.len() {
+fn has_pivots(queue: &RationedQueue<21>, blocks: &[Vec<Item>], candidates: &[Item]) -> bool {
+    if queue.shared().lsm().blocks() != blocks.len() {
         return false;
     }
     for (index, block) in blocks.iter().enumerate() {
-        if pair.shared.pivot(index) != marked(block.as_slice(), candidates) {
+        if queue.shared().pivot(index) != marked(block.as_slice(), candidates) {
             return false;
         }
     }
     true
 }
 
-fn has_candidates(pair: &Pair<21>, candidates: &[Item]) -> bool {
-    if pair.shared.candidates() != candidates.len() {
+fn has_candidates(queue: &RationedQueue<21>, candidates: &[Item]) -> bool {
+    if queue.shared().candidates() != candidates.len() {
         return false;
     }
     for (index, candidate) in candidates.iter().enumerate() {
-        if pair.shared.candidate(index) != *candidate {
+        if queue.shared().candidate(index) != *candidate {
             return false;
         }
     }
@@ -88,9 +88,9 @@ fn has_candidates(pair: &Pair<21>, candidates: &[Item]) -> bool {
 }
 
 // Whether both are the same at each of 2,000 steps.
-fn steps_same(pair: &mut Pair<21>, plain: &mut Plain, draws: &mut Draws) -> Option<bool> {
+fn steps_same(queue: &mut RationedQueue<21>, plain: &mut Plain, draws: &mut Draws) -> Option<bool> {
     for _ in 0..2000 {
-        if !step_same(pair, plain, draws)? || !show_same(pair, plain)? {
+        if !step_same(queue, plain, draws)? || !show_same(queue, plain)? {
             return Some(false);
         }
     }
@@ -108,7 +108,7 @@ fn are_same(alloc: Global, k: usize) -> Option<bool>
         plain_picker: Pcg32::seed_from_u64(7),
     };
     steps_same(
-        &mut Pair::new(&heap, k),
+        &mut Queue::new(&heap, k),
         &mut Plain::new(alloc, k),
         &mut draws,
     )

@@ -1,17 +1,17 @@
 //! Pivots that were mended, beside those counted anew, after each of 500 mixed insertions and deletions.
 ghost use Rattle.std.specs.Prelude.{◌≤◌};
 
-use super::pair::Pair;
-use klsm_parts::{Random, random_of};
+use super::queue::RationedQueue;
+use klsm_parts::{Queue, Random, random_of};
 use klsm_testing::Rationed;
 use rand_core::{Rng, SeedableRng};
 use rand_pcg::Pcg32;
 use std::alloc::Global;
 
 // Whether each pivot is the one counted anew.
-fn are_mended(pair: &Pair<21>) -> bool {
-    for block in 0..pair.shared.lsm().blocks() {
-        if pair.shared.pivot(block) != pair.shared.pivot_anew(block) {
+fn are_mended(queue: &RationedQueue<21>) -> bool {
+    for block in 0..queue.shared().lsm().blocks() {
+        if queue.shared().pivot(block) != queue.shared().pivot_anew(block) {
             return false;
         }
     }
@@ -19,11 +19,11 @@ fn are_mended(pair: &Pair<21>) -> bool {
 }
 
 // Inserts or deletes an item. Keys are few, so that equal ones occur, and insertions somewhat more than deletions.
-fn step(pair: &mut Pair<21>, picker: &mut Random<Pcg32>, mix: &mut Pcg32) -> Option<()> {
+fn step(queue: &mut RationedQueue<21>, picker: &mut Random<Pcg32>, mix: &mut Pcg32) -> Option<()> {
     if mix.next_u32() % 9 < 5 {
-        pair.insert(mix.next_u64() % 100).ok()?;
+        queue.insert(mix.next_u64() % 100, 0).ok()?;
     } else {
-        let _item = pair.delete(picker);
+        let _item = queue.delete_min(picker);
     }
     Some(())
 }
@@ -33,12 +33,12 @@ fn mends(alloc: Global, k: usize) -> Option<bool>
     requires { k ≤ 64 }
 {
     let heap = Rationed::new(alloc);
-    let mut pair: Pair<21> = Pair::new(&heap, k);
+    let mut queue: RationedQueue<21> = Queue::new(&heap, k);
     let mut picker = random_of(3);
     let mut mix = Pcg32::seed_from_u64(4);
     for _ in 0..500 {
-        step(&mut pair, &mut picker, &mut mix)?;
-        if !are_mended(&pair) {
+        step(&mut queue, &mut picker, &mut mix)?;
+        if !are_mended(&queue) {
             return Some(false);
         }
     }

@@ -1,7 +1,7 @@
 //! What a spy moves and what it leaves. The helpers' clauses are what the tested calls require: no key comes twice.
 ghost use Rattle.std.specs.Prelude.{◌≡◌, ◌+◌, ◌≤◌, []};
 
-use super::pair;
+use super::queue;
 use klsm_parts::{First, Local, Shared, put, spy, take};
 use klsm_run::{Item, Run};
 use std::alloc::Global;
@@ -10,7 +10,7 @@ use std::alloc::Global;
 fn item(key: u64) -> Item
     ensures { result.key ≡ key }
 {
-    pair::item(key, key)
+    queue::item(key, key)
 }
 
 // The part of the keys from `first` up to `past`, which are put in turn.

@@ -1,8 +1,8 @@
 //! A worked run at k = 2, and each public call once.
 
-use super::pair::{Pair, item};
+use super::queue::{RationedQueue, insert_all, item};
 use klsm_lsm::{Lsm, LsmError};
-use klsm_parts::{First, Last, Local, Part, Picker, Shared, flush};
+use klsm_parts::{First, Last, Local, Part, Picker, Queue, Shared, flush};
 use klsm_run::{Item, Run};
 use klsm_testing::Rationed;
 use std::alloc::{Allocator, Global};
@@ -67,22 +67,26 @@ fn has_candidates<const LEVELS: usize, A: Allocator + Copy>(
 
 // Whether two parts show these keys and pivots.
 fn shows<const LEVELS: usize>(
-    pair: &Pair<LEVELS>,
+    queue: &RationedQueue<LEVELS>,
     own: &[&[u64]],
     shared: &[&[u64]],
     pivots: &[usize],
     candidates: &[u64],
 ) -> bool {
-    has_blocks(pair.own.lsm(), own)
-        && has_blocks(pair.shared.lsm(), shared)
-        && has_pivots(&pair.shared, pivots)
-        && has_candidates(&pair.shared, candidates)
+    has_blocks(queue.own().lsm(), own)
+        && has_blocks(queue.shared().lsm(), shared)
+        && has_pivots(queue.shared(), pivots)
+        && has_candidates(queue.shared(), candidates)
 }
 
 // Whether deletions answer these in turn.
-fn deletes<P: Picker>(pair: &mut Pair<21>, picker: &mut P, want: &[Option<Item>]) -> bool {
+fn deletes<P: Picker>(
+    queue: &mut RationedQueue<21>,
+    picker: &mut P,
+    want: &[Option<Item>],
+) -> bool {
     for want in want {
-        if pair.delete(picker) != *want {
+        if queue.delete_min(picker) != *want {
             return false;
         }
     }
@@ -95,35 +99,41 @@ fn is_own(own: &Local<64>, k: usize, len: usize, least: Item) -> bool {
 }
 
 // The same of a shared part.
-fn is_shared(pair: &Pair<21>, k: usize, len: usize, least: Item) -> bool {
-    pair.shared.k() == k && pair.shared.len() == len && pair.shared.least() == Some(least)
+fn is_shared(queue: &RationedQueue<21>, k: usize, len: usize, least: Item) -> bool {
+    queue.shared().k() == k && queue.shared().len() == len && queue.shared().least() == Some(least)
+}
+
+// The same of a queue.
+fn is_queue(queue: &RationedQueue<21>, k: usize, len: usize, least: Item) -> bool {
+    queue.k() == k && queue.len() == len && queue.least() == Some(least)
 }
 
 // After seven insertions at k = 2.
-fn shows_seven(pair: &Pair<21>) -> bool {
+fn shows_seven(queue: &RationedQueue<21>) -> bool {
     shows(
-        pair,
+        queue,
         &[&[8]],
         &[&[1, 2, 4, 5], &[3, 9]],
         &[2, 1],
         &[1, 2, 3],
-    ) && is_own(&pair.own, 2, 1, item(8, 6))
-        && is_shared(pair, 2, 6, item(1, 1))
+    ) && is_own(queue.own(), 2, 1, item(8, 6))
+        && is_shared(queue, 2, 6, item(1, 1))
+        && is_queue(queue, 2, 7, item(1, 1))
 }
 
 // After the deletion of the greatest candidate.
-fn shows_six(pair: &Pair<21>) -> bool {
-    shows(pair, &[&[8]], &[&[1, 2, 4, 5], &[9]], &[3, 0], &[1, 2, 4])
+fn shows_six(queue: &RationedQueue<21>) -> bool {
+    shows(queue, &[&[8]], &[&[1, 2, 4, 5], &[9]], &[3, 0], &[1, 2, 4])
 }
 
 // Seven insertions at k = 2, and the deletion of the greatest candidate.
 fn seven(heap: &Rationed<Global>) -> Option<bool> {
-    let mut pair: Pair<21> = Pair::new(heap, 2);
-    pair.insert_all(&[5, 1, 4, 2, 3, 9, 8]).ok()?;
+    let mut queue: RationedQueue<21> = Queue::new(heap, 2);
+    insert_all(&mut queue, &[5, 1, 4, 2, 3, 9, 8]).ok()?;
     Some(
-        shows_seven(&pair)
-            && deletes(&mut pair, &mut Last, &[Some(item(3, 4))])
-            && shows_six(&pair),
+        shows_seven(&queue)
+            && deletes(&mut queue, &mut Last, &[Some(item(3, 4))])
+            && shows_six(&queue),
     )
 }
 
@@ -134,20 +144,20 @@ fn blocks_pivots_and_candidates(rt: HostRuntime) {
 }
 
 // The least item of both parts is an own one, and then the candidate is greater than the least own one.
-fn own_then_greatest(pair: &mut Pair<21>) -> bool {
-    pair.own.least() == Some(item(5, 2))
-        && deletes(pair, &mut Last, &[Some(item(5, 2)), Some(item(7, 0))])
+fn own_then_greatest(queue: &mut RationedQueue<21>) -> bool {
+    queue.own().least() == Some(item(5, 2))
+        && deletes(queue, &mut Last, &[Some(item(5, 2)), Some(item(7, 0))])
 }
 
 // Own items go that are the least of both parts, or less than the candidate.
 fn own_items_go(heap: &Rationed<Global>) -> Option<bool> {
-    let mut pair: Pair<21> = Pair::new(heap, 1);
-    let none = deletes(&mut pair, &mut Last, &[None]);
-    pair.insert_all(&[7, 2, 5]).ok()?;
-    let two = own_then_greatest(&mut pair);
-    pair.insert(1).ok()?;
-    let one = deletes(&mut pair, &mut Last, &[Some(item(1, 3))]);
-    let last = deletes(&mut pair, &mut First, &[Some(item(2, 1)), None]);
+    let mut queue: RationedQueue<21> = Queue::new(heap, 1);
+    let none = deletes(&mut queue, &mut Last, &[None]);
+    insert_all(&mut queue, &[7, 2, 5]).ok()?;
+    let two = own_then_greatest(&mut queue);
+    queue.insert(1, 0).ok()?;
+    let one = deletes(&mut queue, &mut Last, &[Some(item(1, 3))]);
+    let last = deletes(&mut queue, &mut First, &[Some(item(2, 1)), None]);
     Some(none && two && one && last)
 }
 
@@ -158,17 +168,17 @@ fn own_items(rt: HostRuntime) {
 }
 
 // One own item, and one block of four.
-fn shows_full(pair: &Pair<3>) -> bool {
-    shows(pair, &[&[5]], &[&[1, 2, 3, 4]], &[2], &[1, 2])
+fn shows_full(queue: &RationedQueue<3>) -> bool {
+    shows(queue, &[&[5]], &[&[1, 2, 3, 4]], &[2], &[1, 2])
 }
 
 // A shared part of three levels holds at most 4 items. What comes then is refused, and nothing changes.
 fn full(heap: &Rationed<Global>) -> Option<bool> {
-    let mut pair: Pair<3> = Pair::new(heap, 1);
-    pair.insert_all(&[1, 2, 3, 4, 5]).ok()?;
-    let before = shows_full(&pair);
-    let answer = pair.insert(6);
-    Some(before && answer == Err(LsmError::Full) && shows_full(&pair))
+    let mut queue: RationedQueue<3> = Queue::new(heap, 1);
+    insert_all(&mut queue, &[1, 2, 3, 4, 5]).ok()?;
+    let before = shows_full(&queue);
+    let answer = queue.insert(6, 0);
+    Some(before && answer == Err(LsmError::Full) && shows_full(&queue))
 }
 
 #[test]
@@ -179,10 +189,10 @@ fn full_shared_part(rt: HostRuntime) {
 
 // With k = 0 each item goes to the shared part, and the least one is the only candidate.
 fn all_shared(heap: &Rationed<Global>) -> Option<bool> {
-    let mut pair: Pair<21> = Pair::new(heap, 0);
-    pair.insert_all(&[3, 1, 2]).ok()?;
-    let shows_three = shows(&pair, &[], &[&[1, 3], &[2]], &[1, 0], &[1]);
-    Some(shows_three && deletes(&mut pair, &mut Last, &[Some(item(1, 1))]))
+    let mut queue: RationedQueue<21> = Queue::new(heap, 0);
+    insert_all(&mut queue, &[3, 1, 2]).ok()?;
+    let shows_three = shows(&queue, &[], &[&[1, 3], &[2]], &[1, 0], &[1]);
+    Some(shows_three && deletes(&mut queue, &mut Last, &[Some(item(1, 1))]))
 }
 
 #[test]
@@ -206,10 +216,9 @@ fn is_part(part: &Part<64, 21>, least: Option<Item>, items: &[Item]) -> bool {
 
 // The own part after three insertions.
 fn own_part(heap: &Rationed<Global>) -> Option<Part<64, 21>> {
-    let mut pair: Pair<21> = Pair::new(heap, 3);
-    pair.insert_all(&[4, 6, 5]).ok()?;
-    let Pair { own, .. } = pair;
-    Some(Part::Own(own))
+    let mut queue: RationedQueue<21> = Queue::new(heap, 3);
+    insert_all(&mut queue, &[4, 6, 5]).ok()?;
+    Some(Part::Own(queue.into_parts().0))
 }
 
 // The shared part after one insertion at k = 0.

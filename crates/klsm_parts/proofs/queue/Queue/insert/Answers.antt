@@ -87,3 +87,7 @@ returns-in-Err-clause-room g c few left why =
     let place = subst (λ (x : Item). HaveNoPlace g.row.LEVELS x c.self.inside.own c.self.inside.shared) c.item_of-item.ensures (c.in-Err.ensures.full.0 why) in
     let none = subst (λ (s : QueueState). HaveNoPlace g.row.LEVELS (next_item s c.args.key c.args.load) s.own s.shared) c.self.view_is place in
     not_full g.row.LEVELS (next_item queue c.args.key c.args.load) queue few left (inr none)
+
+pub returns-in-Err-clause-put : goal.returns-in-Err-clause-put
+returns-in-Err-clause-put g c room left =
+    c.in-Err.ensures.put (subst (λ (s : QueueState). length (content s.own.blocks) < s.own.k) (sym c.self.view_is) room)
