@@ -84,13 +84,13 @@ pub returns-in-None-2-clause-left : goal.returns-in-None-2-clause-left
 returns-in-None-2-clause-left g c = (c.take_least.ensures.k, refl, inl (c.take_least.ensures.cut, refl))
 
 pub choose-requires : goal.choose-requires
-choose-requires g c = search rules
+choose-requires g c = search
 
 pub remove-requires : goal.remove-requires
-remove-requires g c = (search rules, (c.in-Some.ensures.place.0, (c.in-Some.ensures.place.1, c.in-Some.ensures.place.2)))
+remove-requires g c = (search, (c.in-Some.ensures.place.0, (c.in-Some.ensures.place.1, c.in-Some.ensures.place.2)))
 
 pub len-requires : goal.len-requires
-len-requires g c = search rules
+len-requires g c = search
 
 pub take_least-requires : goal.take_least-requires
 take_least-requires g c = search rules
