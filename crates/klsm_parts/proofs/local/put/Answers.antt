@@ -1,8 +1,6 @@
-use Rattle.std.proofs.Common.{◌<◌, length, subst, sym, arith, rules, ◌∷◌, ◌∙◌, [], List, ap, ℕ}
-use Rattle.klsm_run.specs.declared.item.Item.{Item}
+use Rattle.std.proofs.Common.{◌<◌, length, subst, sym, arith, rules}
 use Rattle.klsm_run.proofs.SortedLemmas.{length_sorted}
 use Rattle.klsm_lsm.specs.Lsm.{content}
-use Rattle.klsm_lsm.specs.Adding.{add}
 use Rattle.klsm_parts.specs.Parts.{PartState}
 use Rattle.klsm_parts.proofs.OwnLemmas.{has_room, own_added, put_is}
 use Rattle.klsm_parts.proofs.local.put.Goals as goal
@@ -29,6 +27,4 @@ pub insert-requires : goal.insert-requires
 insert-requires g c = search rules
 
 pub returns-clause-blocks : goal.returns-clause-blocks
-returns-clause-blocks g c =
-    let state : ℕ → List (List Item) → PartState = λ k bs. record { k = k; blocks = bs } in
-    ap (state c.own.inside.k) c.in-Ok.ensures.added ∙ ap (λ (p : PartState). state p.k (add p.blocks (c.args.item ∷ []))) c.own.view_is
+returns-clause-blocks g c = search rules
