@@ -1,4 +1,4 @@
-use Rattle.std.proofs.Common.{rules, ◌≡◌, ◌+◌, ◌-◌, ◌<◌, [], length, get_or, refl, sym, ◌∙◌, arith}
+use Rattle.std.proofs.Common.{◌≡◌, ◌+◌, ◌-◌, ◌<◌, [], length, get_or, refl, sym, ◌∙◌, arith}
 use Rattle.std.proofs.lemmas.List.{length-map, length-take-le}
 use Rattle.klsm_lsm.specs.Level.{level}
 use Rattle.klsm_lsm.specs.Slots.{blocks_in}
@@ -16,14 +16,14 @@ loop-at-init g c =
 
 pub level_in-requires : goal.level_in-requires
 level_in-requires g c =
-    (search rules, (omega (arith, c.loop-at.invariant.order, c.loop-at.invariant.len, c.requires.within, c.loop-at-test.true), some_before _ _ _ _ _ c.loop-at-test.true c.loop-at.invariant.carrying))
+    (search, (omega (arith, c.loop-at.invariant.order, c.loop-at.invariant.len, c.requires.within, c.loop-at-test.true), some_before _ _ _ _ _ c.loop-at-test.true c.loop-at.invariant.carrying))
 
 pub unite_next-requires : goal.unite_next-requires
 unite_next-requires g c =
     let back : c.loop-at.at - 1 + 1 ≡ c.loop-at.at = omega (arith, c.loop-at-test.true) in
     let now = c.loop-at.invariant in
     let can = carrying_can _ _ _ _ _ c.loop-at-test.true now.carrying in
-    (search rules, (omega (arith, now.order, now.len, c.requires.within, c.loop-at-test.true), (some_before _ _ _ _ _ c.loop-at-test.true now.carrying, (rw back now.carrying.carried.some, (rw back can.apart, rw back can.fits)))))
+    (search, (omega (arith, now.order, now.len, c.requires.within, c.loop-at-test.true), (some_before _ _ _ _ _ c.loop-at-test.true now.carrying, (rw back now.carrying.carried.some, (rw back can.apart, rw back can.fits)))))
 
 pub loop-at-preserved : goal.loop-at-preserved
 loop-at-preserved g c =

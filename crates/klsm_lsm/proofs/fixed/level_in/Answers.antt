@@ -14,4 +14,4 @@ pub bounds-slots-at : goal.bounds-slots-at
 bounds-slots-at g c = c.requires.within
 
 pub level-requires : goal.level-requires
-level-requires g c = (search rules, omega (arith, ap length (run_in_slot (λ run. run) _ _ _ _ c.requires.within (sym c.index-slots-at.is ∙ c.in-Some.is)), c.requires.some))
+level-requires g c = (search, omega (arith, ap length (run_in_slot (λ run. run) _ _ _ _ c.requires.within (sym c.index-slots-at.is ∙ c.in-Some.is)), c.requires.some))

@@ -8,7 +8,7 @@ use Rattle.klsm_parts.proofs.FlushLemmas.{moved_none, moved_some, some_block, on
 use Rattle.klsm_parts.proofs.flushing.absorb_moved.Goals as goal
 
 pub absorb_copy-requires : goal.absorb_copy-requires
-absorb_copy-requires g c = (search rules, (rw c.single.ensures (omega arith), rw c.single.ensures (one_apart (content c.args.shared.now.blocks) c.args.item c.requires.new)))
+absorb_copy-requires g c = (search, (rw c.single.ensures (omega arith), rw c.single.ensures (one_apart (content c.args.shared.now.blocks) c.args.item c.requires.new)))
 
 pub block-requires : goal.block-requires
 block-requires g c =
@@ -18,7 +18,7 @@ block-requires g c =
 pub absorb_copy-requires-else-len-eq0 : goal.absorb_copy-requires-else-len-eq0
 absorb_copy-requires-else-len-eq0 g c =
     let block = get_or_from_slice_get c.lsm.result.now 0 _ [] c.block.ensures.block in
-    (search rules, (c.block.ensures.some, rw (← block, c.lsm.ensures) (block_apart c.args.own.now.blocks (content c.args.shared.now.blocks) c.requires.apart)))
+    (search, (c.block.ensures.some, rw (← block, c.lsm.ensures) (block_apart c.args.own.now.blocks (content c.args.shared.now.blocks) c.requires.apart)))
 
 pub returns-then-len-eq0-clause-added : goal.returns-then-len-eq0-clause-added
 returns-then-len-eq0-clause-added g c =
@@ -45,7 +45,7 @@ returns-else-len-eq0-clause-full g c =
     rw (← run, block) c.absorb_copy-else-len-eq0.ensures.full
 
 pub len-requires : goal.len-requires
-len-requires g c = search rules
+len-requires g c = search
 
 pub single-requires : goal.single-requires
 single-requires g c = search rules

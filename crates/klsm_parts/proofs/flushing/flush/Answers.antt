@@ -1,4 +1,4 @@
-use Rattle.std.proofs.Common.{ap, ◌∙◌, rules, refl}
+use Rattle.std.proofs.Common.{ap, ◌∙◌, refl}
 use Rattle.klsm_parts.specs.Parts.{items_in}
 use Rattle.klsm_parts.specs.Flushing.{moved}
 use Rattle.klsm_parts.proofs.EventLemmas.{shared_flushed}
@@ -11,10 +11,10 @@ returns-in-Ok-clause-event g c =
     (effect.0, ap items_in c.replace_largest.ensures ∙ effect.1, ap items_in c.in-Ok.ensures.added ∙ shared_flushed c.args.shared.now.blocks (moved c.args.own.now.blocks c.args.item))
 
 pub absorb_moved-requires : goal.absorb_moved-requires
-absorb_moved-requires g c = search rules
+absorb_moved-requires g c = search
 
 pub replace_largest-requires : goal.replace_largest-requires
-replace_largest-requires g c = search rules
+replace_largest-requires g c = search
 
 pub returns-in-Ok-clause-own : goal.returns-in-Ok-clause-own
 returns-in-Ok-clause-own g c = c.replace_largest.ensures

@@ -1,4 +1,4 @@
-use Rattle.std.proofs.Common.{◌≡◌, ◌+◌, length, min, subst, sym, arith, rules}
+use Rattle.std.proofs.Common.{◌≡◌, ◌+◌, length, min, subst, sym, arith}
 use Rattle.klsm_lsm.specs.Lsm.{content}
 use Rattle.klsm_parts.specs.Pivots.{ArePivots}
 use Rattle.klsm_parts.proofs.PivotLemmas.{pivots_all}
@@ -7,12 +7,12 @@ use Rattle.klsm_parts.proofs.mending.mend_added.Goals as goal
 pub unite_pivots-requires : goal.unite_pivots-requires
 unite_pivots-requires g c =
     let can = c.requires.mendable in
-    (search rules, (can.within, (omega (arith, can.blocks, c.blocks-blocks.ensures.within), omega (arith, can.total, can.at_most, c.len.ensures.len))))
+    (search, (can.within, (omega (arith, can.blocks, c.blocks-blocks.ensures.within), omega (arith, can.total, can.at_most, c.len.ensures.len))))
 
 pub unmark_to-requires : goal.unmark_to-requires
 unmark_to-requires g c =
     let can = c.requires.mendable in
-    (search rules, (search rules, (can.lawful, (omega (arith, can.enough, c.min-most.ensures, c.len.ensures.len), (can.at_most, subst (ArePivots c.args.added.marked c.args.lsm.now) (sym c.unite_pivots.ensures) can.marks)))))
+    (search, (search, (can.lawful, (omega (arith, can.enough, c.min-most.ensures, c.len.ensures.len), (can.at_most, subst (ArePivots c.args.added.marked c.args.lsm.now) (sym c.unite_pivots.ensures) can.marks)))))
 
 pub returns-clause-pivots : goal.returns-clause-pivots
 returns-clause-pivots g c =

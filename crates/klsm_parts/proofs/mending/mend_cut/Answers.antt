@@ -1,4 +1,4 @@
-use Rattle.std.proofs.Common.{◌≡◌, ◌+◌, ◌-◌, length, min, subst, sym, arith, rules}
+use Rattle.std.proofs.Common.{◌≡◌, ◌+◌, ◌-◌, length, min, subst, sym, arith}
 use Rattle.klsm_lsm.specs.Lsm.{content}
 use Rattle.klsm_parts.specs.Pivots.{ArePivots}
 use Rattle.klsm_parts.proofs.PivotLemmas.{length_marked, pivots_all}
@@ -8,7 +8,7 @@ pub mark_least-requires : goal.mark_least-requires
 mark_least-requires g c =
     let after = c.args.lsm.now in
     let marks = subst (ArePivots (min (c.args.k + 1) (length (content after) + 1) - 1) after) (sym c.cut_pivot.ensures) c.requires.mendable.marks in
-    (search rules, (search rules, (c.requires.mendable.lawful, (marks.within, omega (arith, length_marked _ after c.cut_pivot.new.pivots.items marks, c.len.ensures.len, c.if-len-k.true)))))
+    (search, (search, (c.requires.mendable.lawful, (marks.within, omega (arith, length_marked _ after c.cut_pivot.new.pivots.items marks, c.len.ensures.len, c.if-len-k.true)))))
 
 pub returns-else-len-k-clause-pivots : goal.returns-else-len-k-clause-pivots
 returns-else-len-k-clause-pivots g c =
@@ -20,7 +20,7 @@ returns-else-len-k-clause-pivots g c =
 pub cut_pivot-requires : goal.cut_pivot-requires
 cut_pivot-requires g c =
     let can = c.requires.mendable in
-    (search rules, (can.block, (can.some, (can.next, omega (arith, can.few, c.requires.k)))))
+    (search, (can.block, (can.some, (can.next, omega (arith, can.few, c.requires.k)))))
 
 pub returns-then-len-k-clause-pivots : goal.returns-then-len-k-clause-pivots
 returns-then-len-k-clause-pivots g c =

@@ -1,4 +1,4 @@
-use Rattle.std.proofs.Common.{◌+◌, ◌≤◌, ◌∷◌, length, min, subst, sym, arith, rules}
+use Rattle.std.proofs.Common.{◌+◌, ◌≤◌, ◌∷◌, length, min, subst, sym, arith}
 use Rattle.klsm_lsm.specs.Lsm.{content}
 use Rattle.klsm_parts.specs.Pivots.{ArePivots}
 use Rattle.klsm_parts.proofs.PivotLemmas.{length_marked}
@@ -14,7 +14,7 @@ returns-then-len-k-clause-marks g c =
 
 pub greatest_marked-requires : goal.greatest_marked-requires
 greatest_marked-requires g c =
-    (search rules, (c.requires.lawful, (c.requires.pivots.within, omega (arith, length_marked (c.args.k + 1) c.args.lsm.now c.args.pivots.now c.requires.pivots, c.len.ensures.len, c.if-len-k.false))))
+    (search, (c.requires.lawful, (c.requires.pivots.within, omega (arith, length_marked (c.args.k + 1) c.args.lsm.now c.args.pivots.now c.requires.pivots, c.len.ensures.len, c.if-len-k.false))))
 
 pub returns-clause-marks : goal.returns-clause-marks
 returns-clause-marks g c =

@@ -11,14 +11,14 @@ copy_of-left-requires g c =
 
 pub unmark_to-requires : goal.unmark_to-requires
 unmark_to-requires g c =
-    (search rules, (search rules, (c.requires.lawful, (omega (arith, c.requires.rank), (c.requires.marked, subst (ArePivots c.args.marked c.args.lsm.now) (sym c.copy_of-left.ensures) c.requires.pivots)))))
+    (search, (search rules, (c.requires.lawful, (omega (arith, c.requires.rank), (c.requires.marked, subst (ArePivots c.args.marked c.args.lsm.now) (sym c.copy_of-left.ensures) c.requires.pivots)))))
 
 pub greatest_marked-requires : goal.greatest_marked-requires
 greatest_marked-requires g c =
     let left = c.unmark_to.new.pivots.items in
     let marks : ArePivots (c.args.rank + 1) c.args.lsm.now left = c.unmark_to.ensures in
     let some : 0 < length (marked c.args.lsm.now left) = omega (arith, length_marked (c.args.rank + 1) c.args.lsm.now left marks, c.requires.rank, c.requires.marked) in
-    (search rules, (c.requires.lawful, (rw c.as_slice.ensures.value marks.within, rw c.as_slice.ensures.value some)))
+    (search, (c.requires.lawful, (rw c.as_slice.ensures.value marks.within, rw c.as_slice.ensures.value some)))
 
 pub returns-clause-rank : goal.returns-clause-rank
 returns-clause-rank g c =

@@ -1,11 +1,11 @@
-use Rattle.std.proofs.Common.{◌≡◌, ◌+◌, ◌-◌, subst, arith, rules}
+use Rattle.std.proofs.Common.{◌≡◌, ◌+◌, ◌-◌, subst, arith}
 use Rattle.klsm_parts.specs.Pivots.{ArePivots}
 use Rattle.klsm_parts.proofs.PivotLemmas.{length_marked}
 use Rattle.klsm_parts.proofs.mending.unmark_to.Goals as goal
 
 pub unmark_greatest-requires : goal.unmark_greatest-requires
 unmark_greatest-requires g c =
-    (search rules, (search rules, (c.requires.lawful, (c.loop-count.invariant.marks.within, omega (arith, length_marked c.loop-count.count c.args.lsm.now c.loop-count.pivots.items c.loop-count.invariant.marks, c.requires.marked, c.loop-count.invariant.at_most, c.loop-count-test.true)))))
+    (search, (search, (c.requires.lawful, (c.loop-count.invariant.marks.within, omega (arith, length_marked c.loop-count.count c.args.lsm.now c.loop-count.pivots.items c.loop-count.invariant.marks, c.requires.marked, c.loop-count.invariant.at_most, c.loop-count-test.true)))))
 
 pub loop-count-preserved : goal.loop-count-preserved
 loop-count-preserved g c =

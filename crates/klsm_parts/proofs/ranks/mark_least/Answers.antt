@@ -8,7 +8,7 @@ use Rattle.klsm_parts.proofs.ranks.mark_least.Goals as goal
 
 pub least_unmarked-block-requires : goal.least_unmarked-block-requires
 least_unmarked-block-requires g c =
-    (search rules, (rw c.as_slice.ensures.value c.requires.within, rw c.as_slice.ensures.value c.requires.some))
+    (search, (rw c.as_slice.ensures.value c.requires.within, rw c.as_slice.ensures.value c.requires.some))
 
 pub bounds-as_mut_slice-block : goal.bounds-as_mut_slice-block
 bounds-as_mut_slice-block g c =
@@ -36,7 +36,7 @@ returns g c n more pivots =
     (subst (λ ps. slice_get (get_or c.args.lsm.now c.least_unmarked-block.result []) (get_or ps c.least_unmarked-block.result 0) ≡ slice_get (sorted (content (unmarked c.args.lsm.now ps))) 0) c.as_slice.ensures.value c.least_unmarked-block.ensures.least)
 
 pub as_slice-requires : goal.as_slice-requires
-as_slice-requires g c = search rules
+as_slice-requires g c = search
 
 pub as_mut_slice-requires : goal.as_mut_slice-requires
-as_mut_slice-requires g c = search rules
+as_mut_slice-requires g c = search

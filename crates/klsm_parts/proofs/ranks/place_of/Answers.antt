@@ -6,7 +6,7 @@ use Rattle.klsm_parts.proofs.ranks.place_of.Goals as goal
 
 pub least_unmarked-block-requires : goal.least_unmarked-block-requires
 least_unmarked-block-requires g c =
-    (search rules, (rw c.as_slice.ensures.value c.pivots_of-pivots.ensures.within, rw c.as_slice.ensures.value (some_behind c.args.rank c.args.lsm.now c.pivots_of-pivots.result.items c.pivots_of-pivots.ensures c.requires.rank)))
+    (search, (rw c.as_slice.ensures.value c.pivots_of-pivots.ensures.within, rw c.as_slice.ensures.value (some_behind c.args.rank c.args.lsm.now c.pivots_of-pivots.result.items c.pivots_of-pivots.ensures c.requires.rank)))
 
 pub bounds-as_slice-block : goal.bounds-as_slice-block
 bounds-as_slice-block g c =

@@ -1,4 +1,4 @@
-use Rattle.std.proofs.Common.{◌≡◌, [], length, sym, ap, ◌∙◌, arith, rules}
+use Rattle.std.proofs.Common.{◌≡◌, [], length, sym, ap, ◌∙◌, arith}
 use Rattle.std.specs.Option.{option_to_list}
 use Rattle.klsm_run.specs.Content.{sorted}
 use Rattle.klsm_run.proofs.SortedLemmas.{length_sorted}
@@ -14,7 +14,7 @@ prove-unreachable-requires g c = c.if-prove.true (omega (arith, c.len.ensures.le
 pub spy_from-requires : goal.spy_from-requires
 spy_from-requires g c =
     let own : c.args.own.now.blocks ≡ [] = no_items_in c.args.own.now.blocks c.len.ensures.lawful c.requires.empty in
-    (search rules, (c.requires.same_k, own))
+    (search, (c.requires.same_k, own))
 
 pub returns-clause-count : goal.returns-clause-count
 returns-clause-count g c = c.spy_from.ensures.count ∙ sym (length_sorted (content c.spy_from.new.self.blocks))
@@ -42,10 +42,10 @@ returns-clause-event g c =
     spy_takes_effect (items_in c.args.own.now) c.args.victim.now.blocks _ _ c.requires.empty c.len-lawful.ensures.lawful (ap (λ (p : PartState). p.blocks) c.spy_from.ensures.own) (ap (λ (p : PartState). p.blocks) c.spy_from.ensures.victim)
 
 pub len-requires : goal.len-requires
-len-requires g c = search rules
+len-requires g c = search
 
 pub len-lawful-requires : goal.len-lawful-requires
-len-lawful-requires g c = search rules
+len-lawful-requires g c = search
 
 pub returns-clause-own : goal.returns-clause-own
 returns-clause-own g c = c.spy_from.ensures.own

@@ -9,13 +9,13 @@ use Rattle.klsm_lsm.proofs.fixed.Lsm+FixedRun+CAP+LEVELS.insert.Goals as goal
 pub put_last-requires : goal.put_last-requires
 put_last-requires g c =
     let less : c.self.inside.len < limit_of g.row.LEVELS g.row.CAP = omega (arith, c.if-self-limit.false, c.limit.ensures) in
-    (search rules, (search rules, (c.requires.capacity, (rw length-map at c.self.invariant.within, (free_level _ _ _ _ _ c.self.invariant less, ((tt, tt), c.requires.capacity.some_room))))))
+    (search rules, (search, (c.requires.capacity, (rw length-map at c.self.invariant.within, (free_level _ _ _ _ _ c.self.invariant less, ((tt, tt), c.requires.capacity.some_room))))))
 
 pub carry-requires : goal.carry-requires
 carry-requires g c =
     let less : c.self.inside.len < limit_of g.row.LEVELS g.row.CAP = omega (arith, c.if-self-limit.false, c.limit.ensures) in
     let can = can_carry _ _ _ _ _ (blocks_in (λ run. run) c.put_last.new.slots.items) _ _ c.self.invariant c.self.view_is less c.requires.new c.put_last.ensures.blocks in
-    rw c.as_mut_slice.ensures.value (search rules, (c.put_last.ensures.within, (can.lawful, (can.some, (can.apart, (can.fits, can.above))))))
+    rw c.as_mut_slice.ensures.value (search, (c.put_last.ensures.within, (can.lawful, (can.some, (can.apart, (can.fits, can.above))))))
 
 pub invariant_of-self : goal.invariant_of-self
 invariant_of-self g c =
@@ -30,7 +30,7 @@ returns-clause-added g c =
     view_back (λ run. run) _ c.put_last.new.slots.items c.carry.new.slots _ (c.carry.ensures.len ∙ ap length c.as_mut_slice.ensures.value) added
 
 pub limit-requires : goal.limit-requires
-limit-requires g c = search rules
+limit-requires g c = search
 
 pub same-self : goal.same-self
 same-self g c = refl

@@ -45,7 +45,7 @@ truncate_slot-requires g c =
     let some : 0 < length slots = omega (arith, one, rw length-map at c.self.invariant.within) in
     let here : block_in (λ run. run) (get_or slots 0 c.index-as_mut_slice-0.result) ≡ get_or c.args.self.now 0 [] =
     sym (block_in_slot (λ run. run) slots 0 c.index-as_mut_slice-0.result some) ∙ block_in_place c.args.self.now 0 c.self.invariant c.self.view_is (omega (arith, c.requires.only)) in
-    (search rules, (c.requires.some, rw (value, here) c.requires.within))
+    (search, (c.requires.some, rw (value, here) c.requires.within))
 
 pub returns : goal.returns
 returns g c =

@@ -1,4 +1,4 @@
-use Rattle.std.proofs.Common.{List, [], ◌∷◌, length, sym, ap, ◌∙◌, arith, rules}
+use Rattle.std.proofs.Common.{List, [], ◌∷◌, length, sym, ap, ◌∙◌, arith}
 use Rattle.std.specs.Option.{option_to_list}
 use Rattle.klsm_run.specs.declared.item.Item.{Item}
 use Rattle.klsm_lsm.specs.Lsm.{content}
@@ -9,10 +9,10 @@ use Rattle.klsm_lsm.proofs.fixed.Lsm+FixedRun+CAP+LEVELS.spy.Goals as goal
 pub fill-requires : goal.fill-requires
 fill-requires g c =
     let items = c.as_slice.ensures.items in
-    (search rules, (search rules, (c.requires.capacity, (c.requires.empty, (rw items c.block.ensures.some, (rw items c.as_slice.ensures.ascending, omega (arith, ap length items, first_items _ _ c.block.ensures.block, c.len-limit.ensures.limit)))))))
+    (search, (search, (c.requires.capacity, (c.requires.empty, (rw items c.block.ensures.some, (rw items c.as_slice.ensures.ascending, omega (arith, ap length items, first_items _ _ c.block.ensures.block, c.len-limit.ensures.limit)))))))
 
 pub blocks-requires : goal.blocks-requires
-blocks-requires g c = search rules
+blocks-requires g c = search
 
 pub returns-then-blocks-eq0-clause-taken : goal.returns-then-blocks-eq0-clause-taken
 returns-then-blocks-eq0-clause-taken g c = c.requires.empty ∙ ap option_to_list (none_spied c.args.victim.now (omega (arith, c.blocks-2.ensures.blocks, c.if-blocks-eq0.true))).0
@@ -24,10 +24,10 @@ pub returns-then-blocks-eq0-clause-count : goal.returns-then-blocks-eq0-clause-c
 returns-then-blocks-eq0-clause-count g c = sym (ap (λ (bs : List (List Item)). length (content bs)) c.requires.empty)
 
 pub blocks-requires-2 : goal.blocks-requires-2
-blocks-requires-2 g c = search rules
+blocks-requires-2 g c = search
 
 pub spy_half-requires : goal.spy_half-requires
-spy_half-requires g c = (search rules, (search rules, (c.requires.capacity, (c.requires.empty, omega arith))))
+spy_half-requires g c = (search, (search, (c.requires.capacity, (c.requires.empty, omega arith))))
 
 pub returns-then-blocks-eq1-clause-taken : goal.returns-then-blocks-eq1-clause-taken
 returns-then-blocks-eq1-clause-taken g c = c.spy_half.ensures.taken
@@ -39,19 +39,19 @@ pub returns-then-blocks-eq1-clause-count : goal.returns-then-blocks-eq1-clause-c
 returns-then-blocks-eq1-clause-count g c = c.spy_half.ensures.count
 
 pub len-limit-requires : goal.len-limit-requires
-len-limit-requires g c = search rules
+len-limit-requires g c = search
 
 pub block-requires : goal.block-requires
-block-requires g c = (search rules, omega arith)
+block-requires g c = (search, omega arith)
 
 pub as_slice-requires : goal.as_slice-requires
-as_slice-requires g c = search rules
+as_slice-requires g c = search
 
 pub discard_largest-requires : goal.discard_largest-requires
-discard_largest-requires g c = (search rules, omega arith)
+discard_largest-requires g c = (search, omega arith)
 
 pub len-requires : goal.len-requires
-len-requires g c = search rules
+len-requires g c = search
 
 pub returns-clause-taken : goal.returns-clause-taken
 returns-clause-taken g c =

@@ -11,16 +11,16 @@ pub fill-requires : goal.fill-requires
 fill-requires g c =
     let items = c.as_slice-items.ensures.items in
     let few : length c.block.result.now ≤ limit_of g.row.LEVELS g.row.CAP = omega (arith, first_items _ _ c.block.ensures.block, c.len-limit.ensures.limit) in
-    (search rules, (search rules, (c.requires.capacity, (c.requires.empty, (rw (items, take_rest) (some_behind _ c.block.ensures.some), (rw (items, take_rest) (ascending_drop _ _ c.as_slice-items.ensures.ascending), rw (items, take_rest) (few_behind _ _ few)))))))
+    (search, (search, (c.requires.capacity, (c.requires.empty, (rw (items, take_rest) (some_behind _ c.block.ensures.some), (rw (items, take_rest) (ascending_drop _ _ c.as_slice-items.ensures.ascending), rw (items, take_rest) (few_behind _ _ few)))))))
 
 pub len-limit-requires : goal.len-limit-requires
-len-limit-requires g c = search rules
+len-limit-requires g c = search
 
 pub block-requires : goal.block-requires
-block-requires g c = (search rules, omega (arith, c.requires.only))
+block-requires g c = (search, omega (arith, c.requires.only))
 
 pub as_slice-items-requires : goal.as_slice-items-requires
-as_slice-items-requires g c = search rules
+as_slice-items-requires g c = search
 
 pub offset_bounds-items-items : goal.offset_bounds-items-items
 offset_bounds-items-items g c = search rules
@@ -29,10 +29,10 @@ pub slice_bounds-fill-count : goal.slice_bounds-fill-count
 slice_bounds-fill-count g c = omega arith
 
 pub lose_half-requires : goal.lose_half-requires
-lose_half-requires g c = (search rules, (search rules, c.requires.only))
+lose_half-requires g c = (search, (search, c.requires.only))
 
 pub len-requires : goal.len-requires
-len-requires g c = search rules
+len-requires g c = search
 
 pub returns-clause-taken : goal.returns-clause-taken
 returns-clause-taken g c = c.fill.ensures ∙ rw (c.as_slice-items.ensures.items, take_rest) (ap option_to_list (half_spied c.args.victim.now _ c.requires.only c.block.ensures.block))

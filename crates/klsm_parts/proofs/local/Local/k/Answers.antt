@@ -1,8 +1,9 @@
-use Rattle.std.proofs.Common.{rules}
+use Rattle.std.proofs.Common.{◌≤◌, subst}
+use Rattle.klsm_parts.specs.Parts.{PartState}
 use Rattle.klsm_parts.proofs.local.Local.k.Goals as goal
 
 pub returns-clause-k : goal.returns-clause-k
-returns-clause-k g c = search rules
+returns-clause-k g c = search
 
 pub returns-clause-within : goal.returns-clause-within
-returns-clause-within g c = search rules
+returns-clause-within g c = subst (λ (p : PartState). p.k ≤ g.row.CAP) c.self.view_is c.self.invariant.k_in_range

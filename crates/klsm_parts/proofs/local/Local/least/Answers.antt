@@ -1,4 +1,5 @@
-use Rattle.std.proofs.Common.{rules}
+use Rattle.std.proofs.Common.{rules, ◌∙◌, ap}
+use Rattle.klsm_parts.specs.Parts.{least_in}
 use Rattle.klsm_parts.proofs.local.Local.least.Goals as goal
 
 pub least-requires-room-R-Run : goal.least-requires-room-R-Run
@@ -8,4 +9,4 @@ pub least-requires : goal.least-requires
 least-requires g c = search rules
 
 pub returns : goal.returns
-returns g c = search rules
+returns g c = c.least.ensures ∙ ap least_in c.self.view_is

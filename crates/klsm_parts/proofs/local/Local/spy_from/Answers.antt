@@ -1,20 +1,27 @@
-use Rattle.std.proofs.Common.{rules, ◌≡◌, ◌∙◌, ap, arith, length, sym}
+use Rattle.std.proofs.Common.{rules, ◌≡◌, ◌∙◌, ap, arith, length, sym, List, ℕ}
+use Rattle.std.specs.Option.{option_to_list}
+use Rattle.klsm_run.specs.declared.item.Item.{Item}
 use Rattle.klsm_lsm.specs.Lsm.{content}
+use Rattle.klsm_lsm.specs.Spying.{left_by_spy, spied}
 use Rattle.klsm_parts.specs.Parts.{PartState}
 use Rattle.klsm_parts.proofs.SpyLemmas.{few_moved, few_stay}
 use Rattle.klsm_parts.proofs.local.Local.spy_from.Goals as goal
 
 pub returns-clause-own : goal.returns-clause-own
-returns-clause-own g c = search rules
+returns-clause-own g c =
+    let state : ℕ → List (List Item) → PartState = λ k bs. record { k = k; blocks = bs } in
+    ap (state c.self.inside.k) c.spy.ensures.taken ∙ (ap (λ (v : PartState). state c.self.inside.k (option_to_list (spied v.blocks))) c.victim.view_is ∙ ap (λ (p : PartState). state p.k (option_to_list (spied c.args.victim.now.blocks))) c.self.view_is)
 
 pub returns-clause-victim : goal.returns-clause-victim
-returns-clause-victim g c = search rules
+returns-clause-victim g c =
+    let state : ℕ → List (List Item) → PartState = λ k bs. record { k = k; blocks = bs } in
+    ap (state c.victim.inside.k) c.spy.ensures.rest ∙ ap (λ (v : PartState). state v.k (left_by_spy v.blocks)) c.victim.view_is
 
 pub returns-clause-count : goal.returns-clause-count
-returns-clause-count g c = search rules
+returns-clause-count g c = search
 
 pub len-few-requires : goal.len-few-requires
-len-few-requires g c = search rules
+len-few-requires g c = search
 
 pub spy-requires : goal.spy-requires
 spy-requires g c = (search rules, (search rules, (c.self.invariant.capacity_in_range, ap (λ (p : PartState). p.blocks) c.self.view_is ∙ c.requires.empty)))

@@ -8,7 +8,7 @@ pub least-requires-in-Common : goal.least-requires-in-Common
 least-requires-in-Common g c = search rules
 
 pub returns-in-Own : goal.returns-in-Own
-returns-in-Own g c = search rules
+returns-in-Own g c = search
 
 pub returns-in-Common : goal.returns-in-Common
-returns-in-Common g c = search rules
+returns-in-Common g c = search

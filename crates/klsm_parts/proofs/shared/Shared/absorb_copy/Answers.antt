@@ -25,13 +25,13 @@ pub returns-in-Err-clause-full : goal.returns-in-Err-clause-full
 returns-in-Err-clause-full g c = rw (← c.self.view_is) c.in-Err.ensures.full
 
 pub len-requires : goal.len-requires
-len-requires g c = search rules
+len-requires g c = search
 
 pub len-requires-2 : goal.len-requires-2
 len-requires-2 g c = search rules
 
 pub invariant_of-self : goal.invariant_of-self
-invariant_of-self g c = search rules
+invariant_of-self g c = search
 
 pub as_slice-requires : goal.as_slice-requires
 as_slice-requires g c = search rules

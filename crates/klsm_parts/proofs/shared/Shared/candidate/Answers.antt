@@ -1,8 +1,7 @@
-use Rattle.std.proofs.Common.{rules}
 use Rattle.klsm_parts.proofs.shared.Shared.candidate.Goals as goal
 
 pub place_of_candidate-requires : goal.place_of_candidate-requires
-place_of_candidate-requires g c = search rules
+place_of_candidate-requires g c = search
 
 pub returns : goal.returns
-returns g c = search rules
+returns g c = search

@@ -14,7 +14,7 @@ pub len-requires : goal.len-requires
 len-requires g c = search rules
 
 pub min-requires : goal.min-requires
-min-requires g c = search rules
+min-requires g c = search
 
 pub overflow_add-self-inside : goal.overflow_add-self-inside
 overflow_add-self-inside g c = search rules
