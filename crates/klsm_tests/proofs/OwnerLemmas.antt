@@ -56,20 +56,17 @@ first_more owner n old new x is of at first = rw is record {
   numbers = all_sorted (λ y. y.stamp.number < n + 1) (old ++ x ∷ []) (all_append (λ y. y.stamp.number < n + 1) old (x ∷ []) (all_weaker (λ y. y.stamp.number < n) (λ y. y.stamp.number < n + 1) (λ y h. omega (arith, h)) old first.numbers) (omega (arith, at), tt));
 }
 
--- an item of a greater owner is new
-pub absent_owner : (owner : ℕ) (x : Item) (xs : List Item) → x.stamp.owner ≡ owner → OwnersBelow owner xs → Contains xs x → ⊥
-absent_owner owner x xs is below = absent_if_new x xs (all_weaker (λ y. y.stamp.owner < owner) (λ y. y ≢ x) (λ y low same. omega (arith, ap (λ (z : Item). z.stamp.owner) same, is, low)) xs below)
-
--- blocks after an insertion of a greater owner's items, or a refusal of it
+-- blocks after a greater owner's items were put in, or refused
 pub below_after : {T E : Type 0} (r : Result T E) (owner : ℕ) (old new : List (List Item)) (run : List Item) → OnOk r (new ≡ add old run) → OnErr r (new ≡ old) → OwnersBelow owner (content old) → AreOf owner run → OwnersBelow (owner + 1) (content new)
 below_after (Ok t) owner old new run added same below of =
     rw added (all_add (λ x. x.stamp.owner < owner + 1) old run (below_weaker owner (owner + 1) (content old) (omega arith) below) (below_if_of owner (owner + 1) run (omega arith) of))
 below_after (Err e) owner old new run added same below of = rw same (below_weaker owner (owner + 1) (content old) (omega arith) below)
 
--- the owners are below this one, item by item
+-- an item's owner is below this one
 abbrev pub IsOwnedBelow : ℕ → Item → Type 0
 IsOwnedBelow owner x = x.stamp.owner < owner
 
+-- the same, item by item
 pub owned_after : {T E : Type 0} (r : Result T E) (owner next : ℕ) (old new : List (List Item)) (run : List Item) → OnOk r (new ≡ add old run) → OnErr r (new ≡ old) → next ≡ owner + 1 → All (IsOwnedBelow owner) (content old) → AreOf owner run → All (IsOwnedBelow next) (content new)
 owned_after r owner next old new run added same is below of =
     rw is (All-from_recursion (IsOwnedBelow (owner + 1)) (content new) (below_after r owner old new run added same (recursion_from_All (IsOwnedBelow owner) (content old) below) of))
@@ -79,6 +76,6 @@ pub owned_cut : (owner at index : ℕ) (old new : List (List Item)) → new ≡ 
 owned_cut owner at index old new is below =
     rw is (All-from_recursion (IsOwnedBelow owner) (content (cut old at index)) (all_cut (IsOwnedBelow owner) old at index (recursion_from_All (IsOwnedBelow owner) (content old) below)))
 
--- a run of the next owner shares no item with them
+-- a run of the next owner shares no item with the blocks
 pub owned_apart : (owner : ℕ) (blocks : List (List Item)) (run : List Item) → All (IsOwnedBelow owner) (content blocks) → AreOf owner run → ShareNone (content blocks) run
 owned_apart owner blocks run below of = apart_by_owner owner (content blocks) run (recursion_from_All (IsOwnedBelow owner) (content blocks) below) of

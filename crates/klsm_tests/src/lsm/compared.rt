@@ -1,8 +1,8 @@
 //! Mixed additions and removals beside a plain sorted list: the same items each time, and as many blocks as was told.
-ghost use Rattle.std.specs.Prelude.{◌<◌, ◌≤◌, length};
+ghost use Rattle.std.specs.Prelude.{◌<◌, length};
 
 use super::super::owned::run_of;
-use super::grown::{Grown, why_of};
+use super::grown::{Grown, are_keys, why_of};
 use klsm_lsm::{Lsm, LsmError};
 use klsm_run::{FixedRun, HeapRun, Item, Run};
 use klsm_testing::Rationed;
@@ -43,16 +43,16 @@ fn fixed_adds(
     grown: &mut Grown<FixedRun<64>, 7>,
     plain: &mut Vec<Item>,
     keys: &[u64],
-) -> Option<bool>
-    requires some { 0 < length keys.now }
-    requires few { length keys.now ≤ 64 }
-{
+) -> Option<bool> {
+    if !are_keys(keys) {
+        return None;
+    }
     let run = run_of(grown.owners, keys);
     let told = told_with(&grown.lsm, &run);
     let answer = if keys.len() == 1 {
         grown.insert(keys[0])
     } else {
-        why_of(grown.absorb_keys(keys))
+        why_of(grown.absorb_keys(keys)?)
     };
     note(plain, &run, answer)?;
     Some((answer, grown.lsm.blocks()) == told)
@@ -64,14 +64,14 @@ fn heap_adds<'a>(
     grown: &mut Grown<HeapRun<&'a Rationed<Global>>, 7>,
     plain: &mut Vec<Item>,
     keys: &[u64],
-) -> Option<bool>
-    requires some { 0 < length keys.now }
-    requires few { length keys.now ≤ 64 }
-{
+) -> Option<bool> {
+    if !are_keys(keys) {
+        return None;
+    }
     let run = run_of(grown.owners, keys);
     let told = told_with(&grown.lsm, &run);
     let answer = if keys.len() <= 2 {
-        grown.absorb_copy(heap, keys)
+        grown.absorb_copy(heap, keys)?
     } else {
         why_of(grown.absorb_keys(heap, keys)?)
     };

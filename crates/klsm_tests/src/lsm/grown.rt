@@ -65,61 +65,59 @@ impl<const LEVELS: usize> Grown<FixedRun<64>, LEVELS> {
         answer
     }
 
-    /// Absorbs the run of these keys.
-    pub fn absorb_keys(&mut self, keys: &[u64]) -> Result<(), Refused<FixedRun<64>>>
-        requires some { 0 < length keys.now }
-        requires few { length keys.now ≤ 64 }
-    {
+    /// Absorbs the run of these keys, where there are keys for one.
+    pub fn absorb_keys(&mut self, keys: &[u64]) -> Option<Result<(), Refused<FixedRun<64>>>> {
+        if !are_keys(keys) {
+            return None;
+        }
         let run = run_of(self.owners, keys);
-        self.absorb(run)
+        Some(self.absorb(run))
     }
 
     /// Absorbs runs of these keys in turn.
     pub fn absorb_all(&mut self, runs: &[&[u64]]) -> Option<()> {
         for keys in runs {
-            if !are_keys(keys) {
-                return None;
-            }
-            self.absorb_keys(keys).ok()?;
+            self.absorb_keys(keys)?.ok()?;
         }
         Some(())
     }
 }
 
 impl<'a, const LEVELS: usize> Grown<HeapRun<&'a Rationed<Global>>, LEVELS> {
-    /// Absorbs the run of these keys, where there is memory for it.
+    /// Absorbs the run of these keys, where there are keys for one, and memory.
     pub fn absorb_keys(
         &mut self,
         heap: &'a Rationed<Global>,
         keys: &[u64],
-    ) -> Option<Result<(), Refused<HeapRun<&'a Rationed<Global>>>>>
-        requires some { 0 < length keys.now }
-        requires few { length keys.now ≤ 64 }
-    {
+    ) -> Option<Result<(), Refused<HeapRun<&'a Rationed<Global>>>>> {
+        if !are_keys(keys) {
+            return None;
+        }
         let run = heap_run_of(heap, self.owners, keys)?;
         Some(self.absorb(run))
     }
 
-    /// Absorbs a copy of the run of these keys.
-    pub fn absorb_copy(&mut self, heap: &'a Rationed<Global>, keys: &[u64]) -> Result<(), LsmError>
-        requires some { 0 < length keys.now }
-        requires few { length keys.now ≤ 64 }
-    {
+    /// Absorbs a copy of the run of these keys, where there are keys for one.
+    pub fn absorb_copy(
+        &mut self,
+        heap: &'a Rationed<Global>,
+        keys: &[u64],
+    ) -> Option<Result<(), LsmError>> {
+        if !are_keys(keys) {
+            return None;
+        }
         let Some(next) = self.owners.checked_add(1) else {
-            return Err(LsmError::Full);
+            return None;
         };
         let run = run_of(self.owners, keys);
         let answer = self.lsm.absorb_copy(heap, &run);
         self.owners = next;
-        answer
+        Some(answer)
     }
 
     /// Absorbs runs of these keys in turn.
     pub fn absorb_all(&mut self, heap: &'a Rationed<Global>, runs: &[&[u64]]) -> Option<()> {
         for keys in runs {
-            if !are_keys(keys) {
-                return None;
-            }
             self.absorb_keys(heap, keys)?.ok()?;
         }
         Some(())
@@ -128,10 +126,7 @@ impl<'a, const LEVELS: usize> Grown<HeapRun<&'a Rationed<Global>>, LEVELS> {
     /// Absorbs copies of the runs of these keys in turn.
     pub fn absorb_copies(&mut self, heap: &'a Rationed<Global>, runs: &[&[u64]]) -> Option<()> {
         for keys in runs {
-            if !are_keys(keys) {
-                return None;
-            }
-            self.absorb_copy(heap, keys).ok()?;
+            self.absorb_copy(heap, keys)?.ok()?;
         }
         Some(())
     }
@@ -154,28 +149,28 @@ pub(super) fn why_of<R: Run>(answer: Result<(), Refused<R>>) -> Result<(), LsmEr
 }
 
 /// The LSM over fixed runs that absorbed runs of these keys in turn.
-pub(super) fn fixed(runs: &[&[u64]]) -> Option<Lsm<FixedRun<64>, 8>> {
+pub(super) fn fixed(runs: &[&[u64]]) -> Option<Grown<FixedRun<64>, 8>> {
     let mut grown: Grown<FixedRun<64>, 8> = Grown::new();
     grown.absorb_all(runs)?;
-    Some(grown.lsm)
+    Some(grown)
 }
 
 /// The same over runs on the heap.
 pub(super) fn on_heap<'a>(
     heap: &'a Rationed<Global>,
     runs: &[&[u64]],
-) -> Option<Lsm<HeapRun<&'a Rationed<Global>>, 8>> {
+) -> Option<Grown<HeapRun<&'a Rationed<Global>>, 8>> {
     let mut grown: Grown<HeapRun<&'a Rationed<Global>>, 8> = Grown::new();
     grown.absorb_all(heap, runs)?;
-    Some(grown.lsm)
+    Some(grown)
 }
 
 /// The LSM over runs on the heap that absorbed copies of these runs.
 pub(super) fn copied<'a>(
     heap: &'a Rationed<Global>,
     runs: &[&[u64]],
-) -> Option<Lsm<HeapRun<&'a Rationed<Global>>, 8>> {
+) -> Option<Grown<HeapRun<&'a Rationed<Global>>, 8>> {
     let mut grown: Grown<HeapRun<&'a Rationed<Global>>, 8> = Grown::new();
     grown.absorb_copies(heap, runs)?;
-    Some(grown.lsm)
+    Some(grown)
 }

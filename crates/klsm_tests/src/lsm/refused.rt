@@ -3,7 +3,7 @@ ghost use Rattle.std.specs.Prelude.{◌≡◌, ◌<◌, ◌≤◌, length};
 ghost use Rattle.std.specs.List.{AllByRecursion};
 
 use super::super::owned::{has_blocks, has_keys, heap_run_of};
-use super::grown::{Grown, are_keys};
+use super::grown::Grown;
 use klsm_lsm::{LsmError, Refused};
 use klsm_run::{FixedRun, HeapRun, Run};
 use klsm_testing::Rationed;
@@ -30,10 +30,7 @@ fn fixed_run_leaves(
 ) -> Option<bool> {
     let mut grown: Grown<FixedRun<64>, 3> = Grown::new();
     grown.absorb_all(runs)?;
-    if !are_keys(keys) {
-        return None;
-    }
-    let answer = grown.absorb_keys(keys);
+    let answer = grown.absorb_keys(keys)?;
     Some(is_refused(&answer, refusal, keys) && has_blocks(&grown.lsm, blocks))
 }
 
@@ -47,9 +44,6 @@ fn heap_run_leaves(
 ) -> Option<bool> {
     let mut grown: Grown<HeapRun<&Rationed<Global>>, 3> = Grown::new();
     grown.absorb_all(heap, runs)?;
-    if !are_keys(keys) {
-        return None;
-    }
     let answer = grown.absorb_keys(heap, keys)?;
     Some(is_refused(&answer, refusal, keys) && has_blocks(&grown.lsm, blocks))
 }
@@ -64,10 +58,7 @@ fn copy_leaves(
 ) -> Option<bool> {
     let mut grown: Grown<HeapRun<&Rationed<Global>>, 3> = Grown::new();
     grown.absorb_all(heap, runs)?;
-    if !are_keys(keys) {
-        return None;
-    }
-    let answer = grown.absorb_copy(heap, keys);
+    let answer = grown.absorb_copy(heap, keys)?;
     Some(answer.err() == refusal && has_blocks(&grown.lsm, blocks))
 }
 
@@ -192,10 +183,10 @@ fn absorb_needs_none(heap: &Rationed<Global>) -> Option<bool> {
 fn copy_needs_one(heap: &Rationed<Global>) -> Option<bool> {
     let mut grown = three_blocks(heap)?;
     heap.allow(0);
-    let refused = grown.absorb_copy(heap, &[8]) == Err(LsmError::NoMemory) && heap.has_refused();
+    let refused = grown.absorb_copy(heap, &[8])? == Err(LsmError::NoMemory) && heap.has_refused();
     let is_same = has_blocks(&grown.lsm, &[&[1, 2, 3, 4], &[5, 6], &[7]]);
     heap.allow(1);
-    let answer = grown.absorb_copy(heap, &[8]);
+    let answer = grown.absorb_copy(heap, &[8])?;
     Some(
         refused
             && is_same

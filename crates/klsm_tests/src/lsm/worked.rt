@@ -29,9 +29,9 @@ fn keys_in_turn(rt: HostRuntime) {
 // Whether LSMs that absorbed these runs in turn have these blocks.
 fn absorbing_leaves(heap: &Rationed<Global>, runs: &[&[u64]], blocks: &[&[u64]]) -> Option<bool> {
     Some(
-        has_blocks(&fixed(runs)?, blocks)
-            && has_blocks(&on_heap(heap, runs)?, blocks)
-            && has_blocks(&copied(heap, runs)?, blocks),
+        has_blocks(&fixed(runs)?.lsm, blocks)
+            && has_blocks(&on_heap(heap, runs)?.lsm, blocks)
+            && has_blocks(&copied(heap, runs)?.lsm, blocks),
     )
 }
 
@@ -57,27 +57,27 @@ fn runs_in_turn(rt: HostRuntime) {
 
 // Whether item `index` of block `block` has this key, and its removal leaves these blocks.
 fn removes<R: Run>(
-    lsm: &mut Lsm<R, 8>,
+    grown: &mut Grown<R, 8>,
     block: usize,
     index: usize,
     key: u64,
     left: &[&[u64]],
 ) -> bool {
-    if block >= lsm.blocks() || index >= lsm.block(block).len() {
+    let Some(item) = grown.remove(block, index) else {
         return false;
-    }
-    lsm.remove(block, index).key == key && has_blocks(lsm, left)
+    };
+    item.key == key && has_blocks(&grown.lsm, left)
 }
 
 // The same of each kind of LSM that absorbed these runs.
 fn removal_leaves(
     heap: &Rationed<Global>,
     runs: &[&[u64]],
-    place: (usize, usize),
+    block: usize,
+    index: usize,
     key: u64,
     left: &[&[u64]],
 ) -> Option<bool> {
-    let (block, index) = place;
     Some(
         removes(&mut fixed(runs)?, block, index, key, left)
             && removes(&mut on_heap(heap, runs)?, block, index, key, left),
@@ -88,16 +88,17 @@ fn removal_leaves(
 #[test]
 fn removals(rt: HostRuntime) {
     let heap = Rationed::new(rt.alloc());
-    let united = removal_leaves(&heap, &[&[1, 2, 3], &[4, 5]], (0, 0), 1, &[&[2, 3, 4, 5]]);
+    let united = removal_leaves(&heap, &[&[1, 2, 3], &[4, 5]], 0, 0, 1, &[&[2, 3, 4, 5]]);
     let stays = removal_leaves(
         &heap,
         &[&[1, 2, 3, 7], &[4, 5]],
-        (0, 3),
+        0,
+        3,
         7,
         &[&[1, 2, 3], &[4, 5]],
     );
-    let falls = removal_leaves(&heap, &[&[1, 2, 3], &[4]], (0, 1), 2, &[&[1, 3], &[4]]);
-    let goes = removal_leaves(&heap, &[&[1, 2, 3], &[4]], (1, 0), 4, &[&[1, 2, 3]]);
+    let falls = removal_leaves(&heap, &[&[1, 2, 3], &[4]], 0, 1, 2, &[&[1, 3], &[4]]);
+    let goes = removal_leaves(&heap, &[&[1, 2, 3], &[4]], 1, 0, 4, &[&[1, 2, 3]]);
     assert!(rt; united == Some(true));
     assert!(rt; stays == Some(true));
     assert!(rt; falls == Some(true));
@@ -131,6 +132,10 @@ fn has_partners<R: Run>(lsm: &Lsm<R, 8>, partners: &[Option<usize>]) -> bool {
     true
 }
 
+fn tells<R: Run>(lsm: &Lsm<R, 8>, cascades: &[(usize, usize)], partners: &[Option<usize>]) -> bool {
+    has_cascades(lsm, cascades) && has_partners(lsm, partners)
+}
+
 // Whether both kinds of LSM tell these cascades and partners where they absorbed these runs.
 fn foretell(
     heap: &Rationed<Global>,
@@ -138,13 +143,9 @@ fn foretell(
     cascades: &[(usize, usize)],
     partners: &[Option<usize>],
 ) -> Option<bool> {
-    let lsm = fixed(runs)?;
-    let heap_lsm = on_heap(heap, runs)?;
     Some(
-        has_cascades(&lsm, cascades)
-            && has_partners(&lsm, partners)
-            && has_cascades(&heap_lsm, cascades)
-            && has_partners(&heap_lsm, partners),
+        tells(&fixed(runs)?.lsm, cascades, partners)
+            && tells(&on_heap(heap, runs)?.lsm, cascades, partners),
     )
 }
 
@@ -175,7 +176,10 @@ fn both_show(
     least: Option<u64>,
     block: Option<usize>,
 ) -> Option<bool> {
-    Some(shows(&fixed(runs)?, len, least, block) && shows(&on_heap(heap, runs)?, len, least, block))
+    Some(
+        shows(&fixed(runs)?.lsm, len, least, block)
+            && shows(&on_heap(heap, runs)?.lsm, len, least, block),
+    )
 }
 
 #[test]
@@ -191,21 +195,15 @@ fn lengths_and_least_items(rt: HostRuntime) {
 fn limits(rt: HostRuntime) {
     assert!(rt; Lsm::<FixedRun<64>, 8>::new().limit() == 64);
     assert!(rt; Lsm::<FixedRun<64>, 3>::new().limit() == 4);
-    assert!(rt; Lsm::<HeapRun, 8>::new().limit() == 128);
     assert!(rt; Lsm::<HeapRun, 21>::new().limit() == 1048576);
 }
 
-// Whether there is a run, of these keys, or none where there are no keys.
-fn is_run_of<R: Run>(given: &Option<R>, keys: &[u64]) -> bool {
-    match given {
-        Some(run) => has_keys(run, keys),
-        None => keys.is_empty(),
-    }
-}
-
-// Whether the largest block has these keys and leaves these blocks.
+// Whether the largest block has these keys, or there is none where there are no keys, and these blocks stay.
 fn gives_largest<R: Run>(lsm: &mut Lsm<R, 8>, keys: &[u64], left: &[&[u64]]) -> bool {
-    is_run_of(&lsm.take_largest(), keys) && has_blocks(lsm, left)
+    let Some(run) = lsm.take_largest() else {
+        return keys.is_empty() && has_blocks(lsm, left);
+    };
+    has_keys(&run, keys) && has_blocks(lsm, left)
 }
 
 // Whether these blocks stay where the largest is discarded.
@@ -217,47 +215,42 @@ fn discards_largest<R: Run>(lsm: &mut Lsm<R, 8>, left: &[&[u64]]) -> bool {
     has_blocks(lsm, left)
 }
 
-// Whether an LSM of 1, 2, 3 and of 4 gives its blocks, the largest first, and another discards them.
-fn loses_largest<R: Run>(giving: &mut Lsm<R, 8>, discarding: &mut Lsm<R, 8>) -> bool {
-    gives_largest(giving, &[1, 2, 3], &[&[4]])
-        && gives_largest(giving, &[4], &[])
-        && gives_largest(giving, &[], &[])
-        && discards_largest(discarding, &[&[4]])
-        && discards_largest(discarding, &[])
+// Whether an LSM of three blocks loses them as it gives or discards its largest one, until there is none.
+fn loses_blocks<R: Run>(lsm: &mut Lsm<R, 8>) -> bool {
+    gives_largest(lsm, &[1, 2, 3], &[&[4, 5], &[6]])
+        && discards_largest(lsm, &[&[6]])
+        && gives_largest(lsm, &[6], &[])
+        && gives_largest(lsm, &[], &[])
 }
 
 // The same of each kind of LSM that absorbed these runs.
-fn both_lose_largest(heap: &Rationed<Global>, runs: &[&[u64]]) -> Option<bool> {
-    Some(
-        loses_largest(&mut fixed(runs)?, &mut fixed(runs)?)
-            && loses_largest(&mut on_heap(heap, runs)?, &mut on_heap(heap, runs)?),
-    )
+fn both_lose_blocks(heap: &Rationed<Global>, runs: &[&[u64]]) -> Option<bool> {
+    let mut lsm = fixed(runs)?.lsm;
+    let mut heap_lsm = on_heap(heap, runs)?.lsm;
+    Some(loses_blocks(&mut lsm) && loses_blocks(&mut heap_lsm))
 }
 
 #[test]
 fn largest_blocks(rt: HostRuntime) {
     let heap = Rationed::new(rt.alloc());
-    assert!(rt; both_lose_largest(&heap, &[&[1, 2, 3], &[4]]) == Some(true));
+    assert!(rt; both_lose_blocks(&heap, &[&[1, 2, 3], &[4, 5], &[6]]) == Some(true));
 }
 
 // Whether a spy takes a block of these keys, or none where there are no keys, from an LSM of these runs, and leaves these.
 fn spies(runs: &[&[u64]], taken: &[u64], left: &[&[u64]]) -> Option<bool> {
     let mut lsm: Lsm<FixedRun<64>, 8> = Lsm::new();
-    let mut victim = fixed(runs)?;
+    let mut victim = fixed(runs)?.lsm;
     let count = lsm.spy(&mut victim);
-    Some(
-        count == taken.len()
-            && lsm.len() == count
-            && gives_largest(&mut lsm, taken, &[])
-            && has_blocks(&victim, left),
-    )
+    Some(count == taken.len() && gives_largest(&mut lsm, taken, &[]) && has_blocks(&victim, left))
 }
 
 // The same of a split for a spy.
 fn splits(runs: &[&[u64]], taken: &[u64], left: &[&[u64]]) -> Option<bool> {
-    let mut victim = fixed(runs)?;
-    let given = victim.split_for_spy();
-    Some(is_run_of(&given, taken) && has_blocks(&victim, left))
+    let mut victim = fixed(runs)?.lsm;
+    let Some(run) = victim.split_for_spy() else {
+        return Some(taken.is_empty() && has_blocks(&victim, left));
+    };
+    Some(has_keys(&run, taken) && has_blocks(&victim, left))
 }
 
 fn both_take(runs: &[&[u64]], taken: &[u64], left: &[&[u64]]) -> bool {

@@ -45,7 +45,8 @@ fn merge_needs_one(heap: &Rationed<Global>) -> Option<bool> {
     let refused = is_refused(run.merge(&other));
     let are_same = has_keys(&run, &[1, 3]) && has_keys(&other, &[2]);
     heap.allow(1);
-    Some(refused && are_same && has_made(run.merge(&other), &[1, 2, 3]))
+    let merged = run.merge(&other);
+    Some(refused && are_same && has_made(merged, &[1, 2, 3]))
 }
 
 #[test]
