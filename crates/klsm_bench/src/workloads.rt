@@ -68,6 +68,14 @@ pub(crate) fn fill<C: Contender>(contender: &mut C, keys: &[u64]) -> Option<()> 
     Some(())
 }
 
+/// Deletes so many keys.
+pub(crate) fn drain<C: Contender>(contender: &mut C, count: usize) -> Option<()> {
+    for _ in 0..count {
+        contender.delete()?;
+    }
+    Some(())
+}
+
 fn insert_and_delete<C: Contender>(contender: &mut C, keys: &[u64]) -> Option<u64> {
     let mut sum = 0u64;
     for key in keys {
