@@ -38,11 +38,23 @@ pub record IsQueue (capacity levels : ℕ) (queue : QueueState) : Type 0 where
 abbrev pub next_item : QueueState → ℕ → ℕ → Item
 next_item queue key load = record { key = key; stamp = record { owner = 0; number = queue.inserted }; load = load }
 
--- an item joins two parts: it is put into the own one where that has room, and else flushed
+-- an item is put into the own one of two parts, which has room
+abbrev pub IsPut : Item → PartState → PartState → PartState → PartState → Type 0
+IsPut x own own_after shared shared_after =
+    (length (content own.blocks) < own.k)
+    × (own_after ≡ record { k = own.k; blocks = add own.blocks (x ∷ []) })
+    × (shared_after ≡ shared)
+
+-- an item is flushed, as the own part has no room
+abbrev pub IsFlushed : Item → PartState → PartState → PartState → PartState → Type 0
+IsFlushed x own own_after shared shared_after =
+    (length (content own.blocks) ≡ own.k)
+    × (own_after ≡ record { k = own.k; blocks = kept own.blocks x })
+    × (shared_after ≡ record { k = shared.k; blocks = add shared.blocks (moved own.blocks x) })
+
+-- an item joins two parts
 abbrev pub Joins : Item → PartState → PartState → PartState → PartState → Type 0
-Joins x own own_after shared shared_after =
-    ((length (content own.blocks) < own.k) × (own_after ≡ record { k = own.k; blocks = add own.blocks (x ∷ []) }) × (shared_after ≡ shared))
-    ⊎ ((length (content own.blocks) ≡ own.k) × (own_after ≡ record { k = own.k; blocks = kept own.blocks x }) × (shared_after ≡ record { k = shared.k; blocks = add shared.blocks (moved own.blocks x) }))
+Joins x own own_after shared shared_after = IsPut x own own_after shared shared_after ⊎ IsFlushed x own own_after shared shared_after
 
 -- two parts have no place for an item: the own one is full, and the shared one has no room for what would move
 abbrev pub HaveNoPlace : ℕ → Item → PartState → PartState → Type 0

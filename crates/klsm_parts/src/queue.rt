@@ -130,7 +130,7 @@ impl<const CAP: usize, const LEVELS: usize, A: Allocator + Copy> Queue<CAP, LEVE
     /// Inserts an item of this key, which carries `load`, and answers it. Its stamp tells it from all other items of the
     /// queue: its owner is 0, and its number how many items were inserted before.
     ///
-    /// Only an insertion that finds k items in the own part takes memory.
+    /// Only an insertion that finds k items in the own part takes memory. It costs what `put` does, or else `flush`.
     pub fn insert(&mut self, key: u64, load: u64) -> Result<Item, LsmError>
         ensures item { IfOk result (λ item. item ≡ next_item self.old key load) }
         ensures items { OnOk result (items_of self.new ≡ sorted (next_item self.old key load ∷ items_of self.old)) }
