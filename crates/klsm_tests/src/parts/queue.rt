@@ -5,7 +5,7 @@ use klsm_lsm::{Lsm, LsmError};
 use klsm_parts::{Queue, Shared};
 use klsm_run::{Item, Run, Stamp};
 use klsm_testing::Rationed;
-use std::alloc::{Allocator, Global};
+use std::alloc::Global;
 
 /// The item of a key, inserted after `number` others.
 pub(super) fn item(key: u64, number: u64) -> Item
@@ -20,6 +20,9 @@ pub(super) fn item(key: u64, number: u64) -> Item
 
 /// A queue of own parts of at most 64 items, whose growths are rationed.
 pub(super) type RationedQueue<'a, const LEVELS: usize> = Queue<64, LEVELS, &'a Rationed<Global>>;
+
+/// The shared part of such a queue.
+pub(super) type RationedShared<'a, const LEVELS: usize> = Shared<LEVELS, &'a Rationed<Global>>;
 
 /// Inserts the items of these keys in turn.
 pub(super) fn insert_all<const LEVELS: usize>(
@@ -67,10 +70,7 @@ fn have_same_items<R: Run, S: Run>(one: &R, other: &S) -> bool {
     true
 }
 
-fn have_same_pivots<const LEVELS: usize, A: Allocator + Copy, B: Allocator + Copy>(
-    one: &Shared<LEVELS, A>,
-    other: &Shared<LEVELS, B>,
-) -> bool {
+fn have_same_pivots(one: &RationedShared<21>, other: &RationedShared<21>) -> bool {
     if one.lsm().blocks() != other.lsm().blocks() {
         return false;
     }
@@ -82,10 +82,7 @@ fn have_same_pivots<const LEVELS: usize, A: Allocator + Copy, B: Allocator + Cop
     true
 }
 
-fn have_same_candidates<const LEVELS: usize, A: Allocator + Copy, B: Allocator + Copy>(
-    one: &Shared<LEVELS, A>,
-    other: &Shared<LEVELS, B>,
-) -> bool {
+fn have_same_candidates(one: &RationedShared<21>, other: &RationedShared<21>) -> bool {
     if one.candidates() != other.candidates() {
         return false;
     }

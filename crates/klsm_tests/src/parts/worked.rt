@@ -1,11 +1,11 @@
 //! A worked run at k = 2, and each public call once.
 
-use super::queue::{RationedQueue, insert_all, item};
+use super::queue::{RationedQueue, RationedShared, insert_all, item};
 use klsm_lsm::{Lsm, LsmError};
 use klsm_parts::{First, Last, Local, Part, Picker, Queue, Shared, flush};
 use klsm_run::{Item, Run};
 use klsm_testing::Rationed;
-use std::alloc::{Allocator, Global};
+use std::alloc::Global;
 
 // Whether a run has these keys.
 fn has_keys<R: Run>(run: &R, keys: &[u64]) -> bool {
@@ -34,10 +34,7 @@ fn has_blocks<R: Run, const LEVELS: usize>(lsm: &Lsm<R, LEVELS>, blocks: &[&[u64
 }
 
 // Whether a shared part has these pivots.
-fn has_pivots<const LEVELS: usize, A: Allocator + Copy>(
-    shared: &Shared<LEVELS, A>,
-    pivots: &[usize],
-) -> bool {
+fn has_pivots<const LEVELS: usize>(shared: &RationedShared<LEVELS>, pivots: &[usize]) -> bool {
     if shared.lsm().blocks() != pivots.len() {
         return false;
     }
@@ -50,10 +47,7 @@ fn has_pivots<const LEVELS: usize, A: Allocator + Copy>(
 }
 
 // Whether the candidates of a shared part have these keys.
-fn has_candidates<const LEVELS: usize, A: Allocator + Copy>(
-    shared: &Shared<LEVELS, A>,
-    keys: &[u64],
-) -> bool {
+fn has_candidates<const LEVELS: usize>(shared: &RationedShared<LEVELS>, keys: &[u64]) -> bool {
     if shared.candidates() != keys.len() {
         return false;
     }
