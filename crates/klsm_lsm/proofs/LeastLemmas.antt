@@ -1,15 +1,8 @@
 -- The content of the first blocks and of one more.
-use Rattle.std.proofs.Common.{◌≡◌, ℕ, ◌+◌, ◌<◌, List, [], ◌∷◌, ◌++◌, length, get_or, take, Option, Some, None, MatchOption, refl, sym, ap, ◌∙◌}
-use Rattle.std.specs.List.{slice_get}
-use Rattle.std.specs.Ordering.{ord_min}
+use Rattle.std.proofs.Common.{◌≡◌, ℕ, ◌+◌, ◌<◌, List, [], ◌∷◌, ◌++◌, length, get_or, take, refl, sym, ap, ◌∙◌}
 use Rattle.std.proofs.lemmas.List.{take_more, append-nil, append_assoc}
 use Rattle.klsm_run.specs.declared.item.Item.{Item}
-use Rattle.klsm_run.specs.ItemOrder.{item_cmp}
-use Rattle.klsm_run.specs.Content.{sorted}
-use Rattle.klsm_run.proofs.SortedLemmas.{sorted_ascending}
-use Rattle.klsm_run.proofs.LesserLemmas.{lesser, first_append}
-use Rattle.klsm_lsm.specs.Lsm.{content, IsLsm}
-use Rattle.klsm_lsm.proofs.SlotLemmas.{block_at}
+use Rattle.klsm_lsm.specs.Lsm.{content}
 
 -- the content of blocks before others
 pub content_append : (bs cs : List (List Item)) → content (bs ++ cs) ≡ content bs ++ content cs
