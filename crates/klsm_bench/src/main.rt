@@ -2,7 +2,8 @@
 //!
 //! Each workload is run on a heap, on a queue with the picker of the least candidate, and on one with a picker of random
 //! candidates, one after another in each of five rounds. With the word `times` it prints the medians, in tenths of
-//! nanoseconds an operation; so it does for insertions alone, and for own parts that are filled and emptied. Without words it makes small runs, and prints what does not depend on time.
+//! nanoseconds an operation; so it does for insertions alone, and for own parts that are filled and emptied. Without words
+//! it makes small runs, and prints what does not depend on time.
 #![tactic(auto)]
 
 mod agreement;

@@ -16,8 +16,8 @@ use std::alloc::Allocator;
 /// Takes an item out of the two parts: the least own one where it is the least of both parts, else the lesser of the least
 /// own one and the candidate that the picker answers. `None` where both parts are empty.
 ///
-/// What it takes skips at most k items of the two parts. It takes no memory, and costs as many comparisons a block of the shared part as
-/// candidates are counted, from the nearer end, and one where a shared item goes.
+/// What it takes skips at most k items of the two parts. It takes no memory. It costs one comparison a block of the own part
+/// and, where a shared item goes, of the shared one; and as many a block there as candidates are counted, from the nearer end.
 pub fn take<const CAP: usize, const LEVELS: usize, A: Allocator + Copy, P: Picker>(
     own: &mut Local<CAP>,
     shared: &mut Shared<LEVELS, A>,
