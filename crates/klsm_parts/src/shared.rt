@@ -125,8 +125,8 @@ impl<const LEVELS: usize, A: Allocator + Copy> Shared<LEVELS, A> {
         (self.k + 1).min(self.lsm.len())
     }
 
-    /// Candidate `index`, counted from the least. It is counted from the nearer end, and costs as many comparisons a block
-    /// as are counted.
+    /// Candidate `index`, counted from the least. The first is at hand; another is counted from the nearer end, and costs as
+    /// many comparisons a block as are counted.
     pub fn candidate(&self, index: usize) -> Item
         requires { index < length (candidates_of self.now) }
         ensures { slice_get (candidates_of self.now) index ≡ Some result }
@@ -134,30 +134,19 @@ impl<const LEVELS: usize, A: Allocator + Copy> Shared<LEVELS, A> {
         self.place_of_candidate(index).item
     }
 
-    // A candidate, and where it stands, by the place of the least one.
-    #[inline]
-    pub(crate) fn place_from_least(&self, index: usize, least: Place) -> Place
-        requires block { least.block < length self.now.blocks }
-        requires index { slice_get (slice_index_or self.now.blocks least.block []) least.index ≡ Some least.item }
-        requires least { slice_get (candidates_of self.now) 0 ≡ Some least.item }
-        requires among { index < length (candidates_of self.now) }
-        ensures block { result.block < length self.now.blocks }
-        ensures index { slice_get (slice_index_or self.now.blocks result.block []) result.index ≡ Some result.item }
-        ensures candidate { slice_get (candidates_of self.now) index ≡ Some result.item }
-    {
-        if index == 0 {
-            return least;
-        }
-        self.place_of_candidate(index)
-    }
-
     // A candidate, and where it stands.
-    fn place_of_candidate(&self, index: usize) -> Place
+    pub(crate) fn place_of_candidate(&self, index: usize) -> Place
         requires { index < length (candidates_of self.now) }
         ensures block { result.block < length self.now.blocks }
         ensures index { slice_get (slice_index_or self.now.blocks result.block []) result.index ≡ Some result.item }
         ensures candidate { slice_get (candidates_of self.now) index ≡ Some result.item }
     {
+        if index == 0 {
+            let Some(least) = self.least else {
+                unreachable!();
+            };
+            return least;
+        }
         let marked = self.candidates();
         if index < marked / 2 {
             return place_of(&self.lsm, index);

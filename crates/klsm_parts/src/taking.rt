@@ -79,7 +79,7 @@ fn choose<const LEVELS: usize, A: Allocator + Copy, P: Picker>(
         return None;
     }
     let index = picker.pick(shared.candidates());
-    let candidate = shared.place_from_least(index, least);
+    let candidate = shared.place_of_candidate(index);
     if is_smaller_own(least_own, candidate.item) {
         return None;
     }

@@ -1,7 +1,7 @@
 use Rattle.std.proofs.Common.{◌≡◌, true, false, sym, ◌∙◌, rules}
 use Rattle.klsm_run.proofs.IndexLemmas.{contains_at}
 use Rattle.klsm_lsm.specs.Lsm.{content}
-use Rattle.klsm_parts.proofs.TakeLemmas.{not_asked, is_asked, own_goes, candidate_goes, some_candidate, least_is_candidate}
+use Rattle.klsm_parts.proofs.TakeLemmas.{not_asked, is_asked, own_goes, candidate_goes, some_candidate}
 use Rattle.klsm_parts.proofs.taking.choose.Goals as goal
 
 pub returns-then-is_smaller_own-clause-asked : goal.returns-then-is_smaller_own-clause-asked
@@ -16,11 +16,6 @@ pick-index-requires g c = record {
   some = rw c.candidates.ensures (some_candidate c.args.shared.now.k (content c.args.shared.now.blocks) c.in_ok-least.least.item (sym c.in_ok-least.ensures.item));
 }
 
-pub place_from_least-candidate-requires : goal.place_from_least-candidate-requires
-place_from_least-candidate-requires g c =
-    let first = least_is_candidate c.args.shared.now.k (content c.args.shared.now.blocks) c.in_ok-least.least.item (sym c.in_ok-least.ensures.item) in
-    (search rules, (c.in_ok-least.ensures.place.0, (c.in_ok-least.ensures.place.1, (first, rw (← c.candidates.ensures) c.pick-index.ensures.below))))
-
 pub returns-then-is_smaller_own-2-clause-unasked : goal.returns-then-is_smaller_own-2-clause-unasked
 returns-then-is_smaller_own-2-clause-unasked g c unasked =
     let tested = c.is_smaller_own.ensures in
@@ -32,9 +27,9 @@ pub returns-then-is_smaller_own-2-clause-asked : goal.returns-then-is_smaller_ow
 returns-then-is_smaller_own-2-clause-asked g c asked = record {
   index = c.pick-index.result;
   picked = rw (← c.candidates.ensures) c.pick-index.ensures.picked;
-  candidate = c.place_from_least-candidate.result.item;
-  found = c.place_from_least-candidate.ensures.candidate;
-  follows = own_goes _ c.place_from_least-candidate.result.item c.is_smaller_own-2.result c.is_smaller_own-2.ensures c.if-is_smaller_own-2.true;
+  candidate = c.place_of_candidate-candidate.result.item;
+  found = c.place_of_candidate-candidate.ensures.candidate;
+  follows = own_goes _ c.place_of_candidate-candidate.result.item c.is_smaller_own-2.result c.is_smaller_own-2.ensures c.if-is_smaller_own-2.true;
 }
 
 pub returns-clause-unasked : goal.returns-clause-unasked
@@ -48,14 +43,14 @@ pub returns-clause-asked : goal.returns-clause-asked
 returns-clause-asked g c asked = record {
   index = c.pick-index.result;
   picked = rw (← c.candidates.ensures) c.pick-index.ensures.picked;
-  candidate = c.place_from_least-candidate.result.item;
-  found = c.place_from_least-candidate.ensures.candidate;
-  follows = candidate_goes _ c.place_from_least-candidate.result.item c.is_smaller_own-2.result c.is_smaller_own-2.ensures c.if-is_smaller_own-2.false;
+  candidate = c.place_of_candidate-candidate.result.item;
+  found = c.place_of_candidate-candidate.ensures.candidate;
+  follows = candidate_goes _ c.place_of_candidate-candidate.result.item c.is_smaller_own-2.result c.is_smaller_own-2.ensures c.if-is_smaller_own-2.false;
 }
 
 pub returns-clause-place : goal.returns-clause-place
 returns-clause-place g c =
-    (c.place_from_least-candidate.ensures.block, c.place_from_least-candidate.ensures.index, contains_at _ c.pick-index.result _ c.place_from_least-candidate.ensures.candidate)
+    (c.place_of_candidate-candidate.ensures.block, c.place_of_candidate-candidate.ensures.index, contains_at _ c.pick-index.result _ c.place_of_candidate-candidate.ensures.candidate)
 
 pub least_place-requires : goal.least_place-requires
 least_place-requires g c = search rules
@@ -74,3 +69,6 @@ candidates-requires g c = search rules
 
 pub is_smaller_own-requires-2 : goal.is_smaller_own-requires-2
 is_smaller_own-requires-2 g c = search rules
+
+pub place_of_candidate-candidate-requires : goal.place_of_candidate-candidate-requires
+place_of_candidate-candidate-requires g c = search rules

@@ -1,14 +1,17 @@
-use Rattle.std.proofs.Common.{◌≡◌, ◌+◌, ◌<◌, length, min, Some, subst, sym, ◌∙◌, arith, rules, [], get_or}
+use Rattle.std.proofs.Common.{◌≡◌, ◌+◌, ◌<◌, length, min, Option, Some, subst, sym, ◌∙◌, arith, rules, [], get_or}
 use Rattle.std.specs.List.{slice_get}
+use Rattle.std.specs.Option.{option_map}
 use Rattle.std.proofs.lemmas.List.{length-take}
 use Rattle.klsm_run.specs.Content.{sorted}
 use Rattle.klsm_run.proofs.SortedLemmas.{length_sorted}
 use Rattle.klsm_run.proofs.IndexLemmas.{slice_get-take}
 use Rattle.klsm_lsm.specs.Lsm.{content}
+use Rattle.klsm_parts.specs.declared.ranks.Place.{Place}
 use Rattle.klsm_parts.specs.Least.{least}
 use Rattle.klsm_parts.specs.Parts.{PartState, candidates_of}
 use Rattle.klsm_parts.specs.Pivots.{ArePivots}
 use Rattle.klsm_parts.proofs.PivotLemmas.{pivots_min}
+use Rattle.klsm_parts.proofs.TakeLemmas.{least_is_candidate}
 use Rattle.klsm_parts.proofs.shared.Shared.place_of_candidate.Goals as goal
 
 pub place_of-requires : goal.place_of-requires
@@ -54,3 +57,9 @@ returns-clause-block g c = subst (λ (p : PartState). c.place_from_above.result.
 
 pub returns-clause-index : goal.returns-clause-index
 returns-clause-index g c = subst (λ (p : PartState). slice_get (get_or p.blocks c.place_from_above.result.block []) c.place_from_above.result.index ≡ Some c.place_from_above.result.item) c.self.view_is c.place_from_above.ensures.index
+
+pub returns-then-index-eq0-clause-candidate : goal.returns-then-index-eq0-clause-candidate
+returns-then-index-eq0-clause-candidate g c =
+    let held = content c.self.inside.lsm in
+    let first : Some c.in-Some.least.item ≡ slice_get (sorted held) 0 = subst (λ (o : Option Place). option_map (λ (place : Place). place.item) o ≡ slice_get (sorted held) 0) c.in-Some.is c.self.invariant.least_found.item in
+    rw c.if-index-eq0.true (subst (λ (p : PartState). slice_get (candidates_of p) 0 ≡ Some c.in-Some.least.item) c.self.view_is (least_is_candidate c.self.inside.k held c.in-Some.least.item (sym first)))
