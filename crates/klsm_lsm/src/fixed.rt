@@ -18,6 +18,7 @@ use klsm_run::{FixedRun, Item, Run};
 
 impl<const CAP: usize, const LEVELS: usize> Lsm<FixedRun<CAP>, LEVELS> {
     /// Puts an item in that the LSM does not hold.
+    // As a call of its own it would read in one piece what its caller has just written in parts, and wait for that.
     #[inline(always)]
     pub fn insert(&mut self, item: Item) -> Result<(), LsmError>
         requires capacity { IsCapacity CAP }

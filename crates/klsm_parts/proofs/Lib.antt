@@ -1,5 +1,6 @@
 pub mod AddedLemmas
 pub mod EventLemmas
+pub mod FitLemmas
 pub mod FlushLemmas
 pub mod FoundLemmas
 pub mod GreatestLemmas

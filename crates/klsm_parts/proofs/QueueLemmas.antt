@@ -29,11 +29,6 @@ use Rattle.klsm_parts.specs.Events.{MayFindNothing}
 use Rattle.klsm_parts.specs.Queues.{QueueState, IsQueue, Joins, HaveNoPlace, IsFull}
 use Rattle.klsm_parts.proofs.TakeLemmas.{IsTested}
 use Rattle.klsm_parts.proofs.PairLemmas.{ArePair, pair_put, pair_flushed, pair_taken}
-use prog.Memory.{up}
-
--- where a queue has a place in memory, its shared part has one
-pub shared_fits : (a b c s n limit : ℕ) → up a (up 8 (up b c + s) + n) < limit → s < limit
-shared_fits a b c s n limit whole = omega (arith, whole)
 
 -- the items of two parts together
 abbrev pub both : PartState → PartState → List Item

@@ -1,37 +1,12 @@
 //! A worked run at k = 2, and each public call once.
 
 use super::queue::{RationedQueue, RationedShared, insert_all, item};
-use klsm_lsm::{Lsm, LsmError};
+use crate::owned::has_blocks;
+use klsm_lsm::LsmError;
 use klsm_parts::{First, Last, Local, Part, Picker, Queue, Shared, flush};
-use klsm_run::{Item, Run};
+use klsm_run::Item;
 use klsm_testing::Rationed;
 use std::alloc::Global;
-
-// Whether a run has these keys.
-fn has_keys<R: Run>(run: &R, keys: &[u64]) -> bool {
-    if run.len() != keys.len() {
-        return false;
-    }
-    for (index, key) in keys.iter().enumerate() {
-        if run.item_at(index).key != *key {
-            return false;
-        }
-    }
-    true
-}
-
-// Whether the blocks of an LSM have these keys.
-fn has_blocks<R: Run, const LEVELS: usize>(lsm: &Lsm<R, LEVELS>, blocks: &[&[u64]]) -> bool {
-    if lsm.blocks() != blocks.len() {
-        return false;
-    }
-    for (index, keys) in blocks.iter().enumerate() {
-        if !has_keys(lsm.block(index), keys) {
-            return false;
-        }
-    }
-    true
-}
 
 // Whether a shared part has these pivots.
 fn has_pivots<const LEVELS: usize>(shared: &RationedShared<LEVELS>, pivots: &[usize]) -> bool {

@@ -16,3 +16,26 @@ pub returns-clause-full : goal.returns-clause-full
 returns-clause-full g c =
     let full : length (content c.args.own.now.blocks) ≡ c.args.own.now.k = omega (arith, c.if-len-k.false, c.len.ensures.len, c.len.ensures.few, c.k.ensures.k) in
     (λ why. (full, c.flush.ensures.full.0 why), λ no_place. c.flush.ensures.full.1 no_place.1)
+
+pub len-requires : goal.len-requires
+len-requires g c = search
+
+pub k-requires : goal.k-requires
+k-requires g c = search
+
+pub put-requires : goal.put-requires
+put-requires g c = (search, (c.requires.capacity, (omega (arith, c.if-len-k.true, c.len.ensures.len, c.k.ensures.k), c.requires.new_to_own)))
+
+pub flush-requires : goal.flush-requires
+flush-requires g c =
+    let full : length (content c.args.own.now.blocks) ≡ c.args.own.now.k = omega (arith, c.if-len-k.false, c.len.ensures.len, c.len.ensures.few, c.k.ensures.k) in
+    (search, (search, (c.requires.capacity, (full, (c.requires.apart, (c.requires.new_to_own, c.requires.new_to_shared))))))
+
+pub returns-clause-lawful : goal.returns-clause-lawful
+returns-clause-lawful g c = c.len.ensures.lawful
+
+pub returns-then-len-k-clause-lawful : goal.returns-then-len-k-clause-lawful
+returns-then-len-k-clause-lawful g c = c.len.ensures.lawful
+
+pub returns-clause-unchanged : goal.returns-clause-unchanged
+returns-clause-unchanged g c = c.flush.ensures.unchanged

@@ -53,7 +53,7 @@ returns-clause-place g c =
     (c.place_of_candidate-candidate.ensures.block, c.place_of_candidate-candidate.ensures.index, contains_at _ c.pick-index.result _ c.place_of_candidate-candidate.ensures.candidate)
 
 pub least_place-requires : goal.least_place-requires
-least_place-requires g c = search rules
+least_place-requires g c = search
 
 pub branch-least-requires : goal.branch-least-requires
 branch-least-requires g c = search rules
@@ -62,13 +62,13 @@ pub from_residual-requires : goal.from_residual-requires
 from_residual-requires g c = search rules
 
 pub is_smaller_own-requires : goal.is_smaller_own-requires
-is_smaller_own-requires g c = search rules
+is_smaller_own-requires g c = search
 
 pub candidates-requires : goal.candidates-requires
-candidates-requires g c = search rules
+candidates-requires g c = search
 
 pub is_smaller_own-requires-2 : goal.is_smaller_own-requires-2
-is_smaller_own-requires-2 g c = search rules
+is_smaller_own-requires-2 g c = search
 
 pub place_of_candidate-candidate-requires : goal.place_of_candidate-candidate-requires
 place_of_candidate-candidate-requires g c = search rules

@@ -1,13 +1,15 @@
-use Rattle.std.proofs.Common.{◌≡◌, true, None, refl, sym, ap, ◌∙◌, inl, inr, rules}
+use Rattle.std.proofs.Common.{◌≡◌, ◌<◌, [], true, None, Some, length, get_or, refl, sym, ap, subst, ◌∙◌, inl, inr}
 use Rattle.std.specs.List.{Contains, slice_get}
 use Rattle.std.specs.Option.{option_map}
 use Rattle.klsm_parts.specs.declared.ranks.Place.{Place}
 use Rattle.klsm_run.specs.Content.{sorted}
 use Rattle.klsm_lsm.specs.Lsm.{content}
+use Rattle.klsm_parts.specs.Least.{IsLeast}
 use Rattle.klsm_parts.specs.Parts.{PartState, items_in, least_in, candidates_of}
 use Rattle.klsm_parts.specs.Taking.{picks, IsCutFrom}
 use Rattle.klsm_parts.proofs.EventLemmas.{cut_is_taken, not_taken, shared_taken, shared_stays, contains_cut, may_take_sorted, may_find_nothing, take_skips_few}
 use Rattle.klsm_parts.proofs.TakeLemmas.{asked_of, chosen_may_go, own_may_go, lesser_is_candidate, lesser_is_own, none_is_smaller, none_shared, some_cut}
+use Rattle.klsm_parts.proofs.FitLemmas.{field_fits}
 use Rattle.klsm_parts.proofs.taking.take.Goals as goal
 
 pub returns-in-Some-clause-unasked : goal.returns-in-Some-clause-unasked
@@ -106,10 +108,25 @@ pub returns-in_ok-least_own-in-None-clause-left : goal.returns-in_ok-least_own-i
 returns-in_ok-least_own-in-None-clause-left g c = (c.remove-in-None.ensures.k, refl, inl (c.remove-in-None.ensures.cut, refl))
 
 pub choose-requires : goal.choose-requires
-choose-requires g c = search rules
+choose-requires g c = search
 
 pub least_place-least_own-requires : goal.least_place-least_own-requires
-least_place-least_own-requires g c = search rules
+least_place-least_own-requires g c = search field_fits
 
 pub remove-requires : goal.remove-requires
-remove-requires g c = (search rules, (c.in-Some.ensures.place.0, (c.in-Some.ensures.place.1, c.in-Some.ensures.place.2)))
+remove-requires g c = (search, (c.in-Some.ensures.place.0, (c.in-Some.ensures.place.1, c.in-Some.ensures.place.2)))
+
+pub remove-requires-in-None : goal.remove-requires-in-None
+remove-requires-in-None g c =
+    let place = c.in_ok-least_own-in-None.field-0 in
+    let found = c.in_ok-least_own-in-None.ensures in
+    (search, subst (λ bs. (place.block < length bs) × ((slice_get (get_or bs place.block []) place.index ≡ Some place.item) × IsLeast place.item (content bs))) c.lsm.ensures (found.place.0, (found.place.1, sym found.item)))
+
+pub returns-in_err-least_own-in-None-clause-left : goal.returns-in_err-least_own-in-None-clause-left
+returns-in_err-least_own-in-None-clause-left g c = rw c.from_residual.ensures (refl, refl)
+
+pub returns-in_err-least_own-in-None-clause-event : goal.returns-in_err-least_own-in-None-clause-event
+returns-in_err-least_own-in-None-clause-event g c = rw c.from_residual.ensures tt
+
+pub returns-in_err-least_own-in-None-clause-skips : goal.returns-in_err-least_own-in-None-clause-skips
+returns-in_err-least_own-in-None-clause-skips g c = rw c.from_residual.ensures tt

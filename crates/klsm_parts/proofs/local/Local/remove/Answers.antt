@@ -1,4 +1,4 @@
-use Rattle.std.proofs.Common.{◌≡◌, ◌<◌, [], length, get_or, Some, refl, sym, ◌∙◌, subst, rules, inl}
+use Rattle.std.proofs.Common.{◌≡◌, ◌<◌, [], length, get_or, Some, refl, sym, ap, ◌∙◌, subst, inl}
 use Rattle.std.specs.List.{slice_get}
 use Rattle.std.proofs.lemmas.Option.{slice_get_within, same_Some}
 use Rattle.klsm_run.specs.Content.{sorted}
@@ -9,6 +9,7 @@ use Rattle.klsm_parts.specs.Events.{MayTake, own_after_take}
 use Rattle.klsm_parts.specs.Taking.{IsCutFrom}
 use Rattle.klsm_parts.proofs.EventLemmas.{cut_is_taken, may_take_own, may_take_sorted}
 use Rattle.klsm_parts.proofs.OwnLemmas.{own_cut}
+use Rattle.klsm_parts.proofs.FitLemmas.{field_fits}
 use Rattle.klsm_parts.proofs.local.Local.remove.Goals as goal
 
 pub remove-requires : goal.remove-requires
@@ -17,7 +18,7 @@ remove-requires g c =
     let at = c.args.place.block in
     let block = subst (λ (p : PartState). at < length p.blocks) (sym c.self.view_is) c.requires.block in
     let index = subst (λ (p : PartState). slice_get (get_or p.blocks at []) c.args.place.index ≡ Some c.args.place.item) (sym c.self.view_is) c.requires.index in
-    (search rules, (block, slice_get_within (get_or bs at []) c.args.place.index c.args.place.item index))
+    (search field_fits, (block, slice_get_within (get_or bs at []) c.args.place.index c.args.place.item index))
 
 pub invariant_of-self : goal.invariant_of-self
 invariant_of-self g c =
@@ -40,3 +41,10 @@ returns-clause-event g c =
       may_take_sorted c.self.inside.k (content bs) [] c.remove.result (may_take_own c.self.inside.k (content bs) [] c.remove.result first (inl refl)),
       cut_is_taken bs c.remove.new.self c.remove.result cut,
     )
+
+pub returns-clause-cut : goal.returns-clause-cut
+returns-clause-cut g c =
+    subst (λ (p : PartState). IsCutFrom c.remove.result p.blocks c.remove.new.self) c.self.view_is (c.args.place.block, c.args.place.index, c.remove.ensures.item, c.remove.ensures.rest)
+
+pub returns-clause-k : goal.returns-clause-k
+returns-clause-k g c = ap (λ (p : PartState). p.k) c.self.view_is

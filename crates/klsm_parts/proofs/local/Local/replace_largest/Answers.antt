@@ -5,12 +5,13 @@ use Rattle.klsm_lsm.specs.Lsm.{content, IsLsm}
 use Rattle.klsm_parts.specs.Parts.{PartState}
 use Rattle.klsm_parts.proofs.OwnLemmas.{has_room, own_added, fewer_without_largest, absent_without_largest, some_if_block}
 use Rattle.klsm_parts.proofs.FlushLemmas.{kept_none}
+use Rattle.klsm_parts.proofs.FitLemmas.{field_fits}
 use Rattle.klsm_parts.proofs.local.Local.replace_largest.Goals as goal
 
 pub insert-requires : goal.insert-requires
 insert-requires g c =
     let absent = subst (λ (p : PartState). Contains (content p.blocks) c.args.item → ⊥) (sym c.self.view_is) c.requires.new in
-    (search rules, (search rules, (c.requires.capacity, rw c.discard_largest.ensures (absent_without_largest c.self.inside.lsm c.args.item absent))))
+    (search field_fits, (search rules, (c.requires.capacity, rw c.discard_largest.ensures (absent_without_largest c.self.inside.lsm c.args.item absent))))
 
 pub unreachable-requires : goal.unreachable-requires
 unreachable-requires g c =
@@ -34,7 +35,7 @@ pub returns : goal.returns
 returns g c = search rules
 
 pub blocks-requires : goal.blocks-requires
-blocks-requires g c = search rules
+blocks-requires g c = search field_fits
 
 pub same-self : goal.same-self
 same-self g c = refl
@@ -45,4 +46,4 @@ returns-then-blocks-eq0 g c =
     ap (λ (bs : List (List Item)). record { k = c.args.self.now.k; blocks = bs }) (kept_none c.args.self.now.blocks c.args.item none)
 
 pub discard_largest-requires : goal.discard_largest-requires
-discard_largest-requires g c = (search rules, omega (arith, c.blocks-2.ensures.blocks, c.if-blocks-eq0.false))
+discard_largest-requires g c = (search field_fits, omega (arith, c.blocks-2.ensures.blocks, c.if-blocks-eq0.false))

@@ -1,6 +1,9 @@
-use Rattle.std.proofs.Common.{◌≡◌, ◌<◌, None, Some, length, sym, ◌∙◌, subst}
+use Rattle.std.proofs.Common.{◌≡◌, ◌<◌, [], None, Some, length, get_or, sym, ◌∙◌, subst}
+use Rattle.std.specs.List.{slice_get}
 use Rattle.klsm_lsm.specs.Lsm.{content}
+use Rattle.klsm_parts.specs.Least.{IsLeast}
 use Rattle.klsm_parts.specs.Parts.{PartState}
+use Rattle.klsm_parts.proofs.FitLemmas.{field_fits}
 use Rattle.klsm_parts.proofs.FoundLemmas.{some_ranked}
 use Rattle.klsm_parts.proofs.local.Local.take_least.Goals as goal
 
@@ -10,3 +13,25 @@ unreachable-requires g c =
     let first = some_ranked 0 c.self.inside.lsm some in
     let bad : None ≡ Some first.0 = c.in_default.ensures.item ∙ first.1 in
     cc
+
+pub least_place-requires : goal.least_place-requires
+least_place-requires g c = search field_fits
+
+pub remove-requires : goal.remove-requires
+remove-requires g c =
+    let place = c.in-Some.place in
+    let found = c.in-Some.ensures.place in
+    let least = sym c.in-Some.ensures.item in
+    (search, subst (λ (p : PartState). (place.block < length p.blocks) × ((slice_get (get_or p.blocks place.block []) place.index ≡ Some place.item) × IsLeast place.item (content p.blocks))) c.self.view_is (found.0, (found.1, least)))
+
+pub returns-clause-least : goal.returns-clause-least
+returns-clause-least g c = c.remove.ensures.least
+
+pub returns-clause-cut : goal.returns-clause-cut
+returns-clause-cut g c = c.remove.ensures.cut
+
+pub returns-clause-k : goal.returns-clause-k
+returns-clause-k g c = c.remove.ensures.k
+
+pub returns-clause-event : goal.returns-clause-event
+returns-clause-event g c = c.remove.ensures.event

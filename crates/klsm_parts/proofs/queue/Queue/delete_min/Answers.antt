@@ -1,13 +1,14 @@
-use Rattle.std.proofs.Common.{◌≡◌, ◌+◌, ◌≤◌, ◌↔◌, ◌∷◌, [], false, length, Some, None, IsTrue, IfSome, MatchOption, rules, subst, sym, ◌∙◌}
+use Rattle.std.proofs.Common.{◌≡◌, ◌+◌, ◌≤◌, ◌↔◌, ◌∷◌, [], false, length, Some, None, IsTrue, IfSome, MatchOption, ap, rules, subst, sym, ◌∙◌}
 use Rattle.klsm_run.specs.Content.{sorted, skipped}
 use Rattle.klsm_parts.specs.Parts.{least_in, candidates_of}
 use Rattle.klsm_parts.specs.Taking.{picks, lesser_of, IsPicked, Leaves}
 use Rattle.klsm_parts.specs.Queues.{QueueState, items_of, least_of}
-use Rattle.klsm_parts.proofs.QueueLemmas.{queue_of, shared_fits, queue_left, items_after, count_after, item_left, k_left, skips_both, none_if_nothing, nothing_if_none, least_both, unasked_is_least}
+use Rattle.klsm_parts.proofs.FitLemmas.{field_fits, own_fits}
+use Rattle.klsm_parts.proofs.QueueLemmas.{queue_of, queue_left, items_after, count_after, item_left, k_left, skips_both, none_if_nothing, nothing_if_none, least_both, unasked_is_least}
 use Rattle.klsm_parts.proofs.queue.Queue.delete_min.Goals as goal
 
 pub take-requires : goal.take-requires
-take-requires g c = (search rules, (search shared_fits, (c.self.invariant.same_k, c.self.invariant.apart)))
+take-requires g c = (search own_fits, (search field_fits, (c.self.invariant.same_k, c.self.invariant.apart)))
 
 pub invariant_of-self : goal.invariant_of-self
 invariant_of-self g c =
@@ -59,3 +60,6 @@ pub returns-clause-k : goal.returns-clause-k
 returns-clause-k g c =
     subst (λ (s : QueueState). c.take.new.own.k ≡ s.own.k) c.self.view_is
     (k_left c.take.result c.self.inside.own c.take.new.own c.self.inside.shared c.take.new.shared c.take.ensures.left)
+
+pub returns-clause-inserted : goal.returns-clause-inserted
+returns-clause-inserted g c = ap (λ (s : QueueState). s.inserted) c.self.view_is

@@ -5,7 +5,8 @@ use Rattle.klsm_lsm.specs.declared.errors.LsmError.TheVariants.{Full}
 use Rattle.klsm_lsm.specs.Lsm.{content}
 use Rattle.klsm_parts.specs.Queues.{QueueState, items_of, next_item, Joins, HaveNoPlace, IsFull}
 use Rattle.klsm_parts.proofs.PairLemmas.{absent_number}
-use Rattle.klsm_parts.proofs.QueueLemmas.{queue_of, shared_fits, queue_joined, joined_items, count_joined, k_joined, full_by_place, not_full}
+use Rattle.klsm_parts.proofs.FitLemmas.{field_fits, own_fits}
+use Rattle.klsm_parts.proofs.QueueLemmas.{queue_of, queue_joined, joined_items, count_joined, k_joined, full_by_place, not_full}
 use Rattle.klsm_parts.proofs.queue.Queue.insert.Goals as goal
 
 pub put_or_flush-requires : goal.put_or_flush-requires
@@ -18,7 +19,7 @@ put_or_flush-requires g c =
     let number : item.stamp.number ≡ n = ap (λ (x : Item). x.stamp.number) c.item_of-item.ensures in
     let new_to_own = absent_number n item (content own.blocks) number queue.own_numbered in
     let new_to_shared = absent_number n item (content shared.blocks) number queue.shared_numbered in
-    (search rules, (search shared_fits, (queue.capacity_in_range, (queue.apart, (new_to_own, new_to_shared)))))
+    (search own_fits, (search field_fits, (queue.capacity_in_range, (queue.apart, (new_to_own, new_to_shared)))))
 
 pub returns-in-Err-clause-full : goal.returns-in-Err-clause-full
 returns-in-Err-clause-full g c =

@@ -2,11 +2,12 @@ use Rattle.std.proofs.Common.{◌≡◌, ◌+◌, ◌<◌, length, subst, arith}
 use Rattle.std.specs.List.{All}
 use Rattle.klsm_run.specs.Content.{IsAscending}
 use Rattle.klsm_parts.specs.Queues.{QueueState, items_of}
-use Rattle.klsm_parts.proofs.QueueLemmas.{shared_fits, length_both, ascending_both, all_of_both}
+use Rattle.klsm_parts.proofs.FitLemmas.{field_fits, own_fits}
+use Rattle.klsm_parts.proofs.QueueLemmas.{length_both, ascending_both, all_of_both}
 use Rattle.klsm_parts.proofs.queue.Queue.len.Goals as goal
 
 pub len-requires-2 : goal.len-requires-2
-len-requires-2 g c = search shared_fits
+len-requires-2 g c = search field_fits
 
 pub overflow_add-result : goal.overflow_add-result
 overflow_add-result g c =
@@ -27,3 +28,6 @@ pub returns-clause-numbered : goal.returns-clause-numbered
 returns-clause-numbered g c =
     subst (λ (s : QueueState). All (λ item. item.stamp.number < s.inserted) (items_of s)) c.self.view_is
     (all_of_both (λ item. item.stamp.number < c.self.inside.inserted) c.self.inside.own c.self.inside.shared c.self.invariant.own_numbered c.self.invariant.shared_numbered)
+
+pub len-requires : goal.len-requires
+len-requires g c = search own_fits

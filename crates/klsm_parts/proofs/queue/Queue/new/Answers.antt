@@ -1,12 +1,13 @@
 use Rattle.std.proofs.Common.{arith, rules}
-use Rattle.klsm_parts.proofs.QueueLemmas.{shared_fits, queue_of_none}
+use Rattle.klsm_parts.proofs.FitLemmas.{field_fits}
+use Rattle.klsm_parts.proofs.QueueLemmas.{queue_of_none}
 use Rattle.klsm_parts.proofs.queue.Queue.new.Goals as goal
 
 pub new-requires : goal.new-requires
 new-requires g c = search rules
 
 pub new-requires-2 : goal.new-requires-2
-new-requires-2 g c = (search shared_fits, (c.requires.levels, omega (arith, c.requires.k, c.requires.capacity.at_most)))
+new-requires-2 g c = (search field_fits, (c.requires.levels, omega (arith, c.requires.k, c.requires.capacity.at_most)))
 
 pub invariant_of-result : goal.invariant_of-result
 invariant_of-result g c =
@@ -16,7 +17,7 @@ pub returns-clause-none : goal.returns-clause-none
 returns-clause-none g c = search rules
 
 pub returns-clause-k : goal.returns-clause-k
-returns-clause-k g c = search rules
+returns-clause-k g c = search
 
 pub returns-clause-inserted : goal.returns-clause-inserted
-returns-clause-inserted g c = search rules
+returns-clause-inserted g c = search

@@ -2,13 +2,14 @@ use Rattle.std.proofs.Common.{rules, refl, ◌≡◌, ◌+◌, [], arith, length
 use Rattle.klsm_lsm.specs.Lsm.{content}
 use Rattle.klsm_parts.specs.Pivots.{ArePivots}
 use Rattle.klsm_parts.proofs.PivotLemmas.{pivots_all, pivots_none}
+use Rattle.klsm_parts.proofs.FitLemmas.{lsm_fits, pivots_fit}
 use Rattle.klsm_parts.proofs.shared.Shared.new.Goals as goal
 
 pub new-requires : goal.new-requires
-new-requires g c = search rules
+new-requires g c = search (lsm_fits, pivots_fit)
 
 pub new-requires-2 : goal.new-requires-2
-new-requires-2 g c = search rules
+new-requires-2 g c = search (lsm_fits, pivots_fit)
 
 pub returns : goal.returns
 returns g c = search rules

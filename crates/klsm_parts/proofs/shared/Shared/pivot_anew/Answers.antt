@@ -5,6 +5,7 @@ use Rattle.klsm_parts.specs.Parts.{PartState}
 use Rattle.klsm_parts.specs.Pivots.{ArePivots}
 use Rattle.klsm_parts.proofs.FoundLemmas.{one_each}
 use Rattle.klsm_parts.proofs.PivotLemmas.{pivot_counts}
+use Rattle.klsm_parts.proofs.FitLemmas.{lsm_fits, pivots_fit}
 use Rattle.klsm_parts.proofs.shared.Shared.pivot_anew.Goals as goal
 
 pub offset_bounds-as_slice-block : goal.offset_bounds-as_slice-block
@@ -35,7 +36,7 @@ returns-clause-counts g c =
     rw c.as_slice.ensures.value (pivot_counts (c.args.self.now.k + 1) c.args.self.now.blocks ps c.args.block lawful pivots)
 
 pub as_slice-requires : goal.as_slice-requires
-as_slice-requires g c = search rules
+as_slice-requires g c = search (lsm_fits, pivots_fit)
 
 pub candidate_pivots-requires : goal.candidate_pivots-requires
-candidate_pivots-requires g c = (search rules, (search rules, (c.self.invariant.levels_in_range, c.self.invariant.k_in_range)))
+candidate_pivots-requires g c = (search (lsm_fits, pivots_fit), (search (lsm_fits, pivots_fit), (c.self.invariant.levels_in_range, c.self.invariant.k_in_range)))

@@ -1,0 +1,5 @@
+use Rattle.std.proofs.Common.{refl}
+use Rattle.klsm_parts.proofs.picker.LastPicker.pick.Goals as goal
+
+pub returns-clause-picked : goal.returns-clause-picked
+returns-clause-picked g = refl
