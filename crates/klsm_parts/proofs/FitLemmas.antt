@@ -1,10 +1,14 @@
 -- Where a struct has a place in memory, each of its fields has one.
-use Rattle.std.proofs.Common.{ℕ, ◌+◌, ◌<◌, arith}
+use Rattle.std.proofs.Common.{ℕ, ◌+◌, ◌*◌, ◌<◌, max, arith}
 use prog.Memory.{up}
 
 -- a field of two or three
 pub field_fits : (a b c s n limit : ℕ) → up a (up 8 (up b c + s) + n) < limit → s < limit
 field_fits a b c s n limit whole = omega (arith, whole)
+
+-- a run in one of the eight slots of an own part
+pub run_fits : (s limit : ℕ) → up 8 (up 8 (0 + up 8 (up 8 (up 8 (0 + up 8 (up 1 (up 8 (0 + up 8 (0 + 8 * up 8 (max 1 (max (8 + s) 1)))) + 8) + 0)) + 8) + 8)) + 8) < limit → s < limit
+run_fits s limit whole = omega (arith, whole)
 
 -- the own part of a queue
 pub own_fits : (a b s t n limit : ℕ) → up a (up 8 (up b (0 + s) + t) + n) < limit → s < limit

@@ -5,7 +5,7 @@ use Rattle.klsm_lsm.specs.Lsm.{content}
 use Rattle.klsm_lsm.specs.Adding.{add}
 use Rattle.klsm_parts.specs.Flushing.{moved}
 use Rattle.klsm_parts.proofs.FlushLemmas.{moved_none, moved_some, some_block, one_apart, block_apart}
-use Rattle.klsm_parts.proofs.FitLemmas.{field_fits}
+use Rattle.klsm_parts.proofs.FitLemmas.{field_fits, run_fits}
 use Rattle.klsm_parts.proofs.flushing.absorb_moved.Goals as goal
 
 pub absorb_copy-requires : goal.absorb_copy-requires
@@ -49,19 +49,19 @@ pub len-requires : goal.len-requires
 len-requires g c = search
 
 pub single-requires : goal.single-requires
-single-requires g c = search rules
+single-requires g c = (search run_fits, c.requires.capacity)
 
 pub absorb_copy-requires-room-R-Run : goal.absorb_copy-requires-room-R-Run
-absorb_copy-requires-room-R-Run g c = search rules
+absorb_copy-requires-room-R-Run g c κs = search run_fits
 
 pub lsm-requires : goal.lsm-requires
-lsm-requires g c = search rules
+lsm-requires g c = (search, (search field_fits, search run_fits))
 
 pub block-requires-room-R-Run : goal.block-requires-room-R-Run
-block-requires-room-R-Run g c = search rules
+block-requires-room-R-Run g c κs = search run_fits
 
 pub absorb_copy-requires-else-len-eq0-room-R-Run : goal.absorb_copy-requires-else-len-eq0-room-R-Run
-absorb_copy-requires-else-len-eq0-room-R-Run g c = search rules
+absorb_copy-requires-else-len-eq0-room-R-Run g c κs = search run_fits
 
 pub returns-then-len-eq0-clause-lawful : goal.returns-then-len-eq0-clause-lawful
 returns-then-len-eq0-clause-lawful g c = c.len.ensures.lawful

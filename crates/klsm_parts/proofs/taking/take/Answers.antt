@@ -9,7 +9,7 @@ use Rattle.klsm_parts.specs.Parts.{PartState, items_in, least_in, candidates_of}
 use Rattle.klsm_parts.specs.Taking.{picks, IsCutFrom}
 use Rattle.klsm_parts.proofs.EventLemmas.{cut_is_taken, not_taken, shared_taken, shared_stays, contains_cut, may_take_sorted, may_find_nothing, take_skips_few}
 use Rattle.klsm_parts.proofs.TakeLemmas.{asked_of, chosen_may_go, own_may_go, lesser_is_candidate, lesser_is_own, none_is_smaller, none_shared, some_cut}
-use Rattle.klsm_parts.proofs.FitLemmas.{field_fits}
+use Rattle.klsm_parts.proofs.FitLemmas.{field_fits, run_fits}
 use Rattle.klsm_parts.proofs.taking.take.Goals as goal
 
 pub returns-in-Some-clause-unasked : goal.returns-in-Some-clause-unasked
@@ -130,3 +130,6 @@ returns-in_err-least_own-in-None-clause-event g c = rw c.from_residual.ensures t
 
 pub returns-in_err-least_own-in-None-clause-skips : goal.returns-in_err-least_own-in-None-clause-skips
 returns-in_err-least_own-in-None-clause-skips g c = rw c.from_residual.ensures tt
+
+pub lsm-requires : goal.lsm-requires
+lsm-requires g c = (search, (search field_fits, search run_fits))

@@ -5,13 +5,13 @@ use Rattle.klsm_lsm.specs.Lsm.{content, IsLsm}
 use Rattle.klsm_parts.specs.Parts.{PartState}
 use Rattle.klsm_parts.proofs.OwnLemmas.{has_room, own_added, fewer_without_largest, absent_without_largest, some_if_block}
 use Rattle.klsm_parts.proofs.FlushLemmas.{kept_none}
-use Rattle.klsm_parts.proofs.FitLemmas.{field_fits}
+use Rattle.klsm_parts.proofs.FitLemmas.{field_fits, run_fits}
 use Rattle.klsm_parts.proofs.local.Local.replace_largest.Goals as goal
 
 pub insert-requires : goal.insert-requires
 insert-requires g c =
     let absent = subst (λ (p : PartState). Contains (content p.blocks) c.args.item → ⊥) (sym c.self.view_is) c.requires.new in
-    (search field_fits, (search rules, (c.requires.capacity, rw c.discard_largest.ensures (absent_without_largest c.self.inside.lsm c.args.item absent))))
+    (search field_fits, (search run_fits, (c.requires.capacity, rw c.discard_largest.ensures (absent_without_largest c.self.inside.lsm c.args.item absent))))
 
 pub unreachable-requires : goal.unreachable-requires
 unreachable-requires g c =

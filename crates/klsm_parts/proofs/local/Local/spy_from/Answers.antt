@@ -1,11 +1,11 @@
-use Rattle.std.proofs.Common.{rules, ◌≡◌, ◌∙◌, ap, arith, length, sym, List, ℕ}
+use Rattle.std.proofs.Common.{◌≡◌, ◌∙◌, ap, arith, length, sym, List, ℕ}
 use Rattle.std.specs.Option.{option_to_list}
 use Rattle.klsm_run.specs.declared.item.Item.{Item}
 use Rattle.klsm_lsm.specs.Lsm.{content}
 use Rattle.klsm_lsm.specs.Spying.{left_by_spy, spied}
 use Rattle.klsm_parts.specs.Parts.{PartState}
 use Rattle.klsm_parts.proofs.SpyLemmas.{few_moved, few_stay}
-use Rattle.klsm_parts.proofs.FitLemmas.{field_fits}
+use Rattle.klsm_parts.proofs.FitLemmas.{field_fits, run_fits}
 use Rattle.klsm_parts.proofs.local.Local.spy_from.Goals as goal
 
 pub returns-clause-own : goal.returns-clause-own
@@ -25,7 +25,7 @@ pub len-few-requires : goal.len-few-requires
 len-few-requires g c = search
 
 pub spy-requires : goal.spy-requires
-spy-requires g c = (search field_fits, (search rules, (c.self.invariant.capacity_in_range, ap (λ (p : PartState). p.blocks) c.self.view_is ∙ c.requires.empty)))
+spy-requires g c = (search field_fits, (search run_fits, (c.self.invariant.capacity_in_range, ap (λ (p : PartState). p.blocks) c.self.view_is ∙ c.requires.empty)))
 
 pub invariant_of-self : goal.invariant_of-self
 invariant_of-self g c =
