@@ -2,7 +2,7 @@
 use Rattle.std.proofs.Common.{ℕ, ◌+◌, ◌*◌, ◌<◌, max, arith}
 use prog.Memory.{up}
 
--- a field of two or three
+-- the last field but one, as the LSM of an own part and the shared part of a queue
 pub field_fits : (a b c s n limit : ℕ) → up a (up 8 (up b c + s) + n) < limit → s < limit
 field_fits a b c s n limit whole = omega (arith, whole)
 

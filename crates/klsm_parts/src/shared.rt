@@ -6,7 +6,6 @@ ghost use Rattle.klsm_run.specs.Content.{sorted, ShareNone};
 ghost use Rattle.klsm_lsm.specs.Lsm.{content, IsLsm};
 ghost use Rattle.klsm_lsm.specs.Limit.{IsLevelCount, limit_of};
 ghost use Rattle.klsm_lsm.specs.Adding.{add, cut};
-ghost use Rattle.klsm_parts.specs.LeastPlaces.{IsLeastPlace};
 ghost use Rattle.klsm_parts.specs.Pivots.{ArePivots, IsPivotAt, count_in_least};
 ghost use Rattle.klsm_parts.specs.Parts.{PartState, IsShared, least_in, candidates_of};
 
@@ -80,14 +79,6 @@ impl<const LEVELS: usize, A: Allocator + Copy> Shared<LEVELS, A> {
         ensures { result ≡ least_in self.now }
     {
         item_of(self.least)
-    }
-
-    // The least item, and where it stands.
-    #[inline]
-    pub(crate) fn least_place(&self) -> Option<Place>
-        ensures { IsLeastPlace self.now.blocks result }
-    {
-        self.least
     }
 
     /// The items, as an LSM.

@@ -74,8 +74,8 @@ fn choose<const LEVELS: usize, A: Allocator + Copy, P: Picker>(
         × (slice_get (slice_index_or shared.now.blocks place.block []) place.index ≡ Some place.item)
         × Contains (candidates_of shared.now) place.item) }
 {
-    let least = shared.least_place()?;
-    if is_smaller_own(least_own, least.item) {
+    let least = shared.least()?;
+    if is_smaller_own(least_own, least) {
         return None;
     }
     let index = picker.pick(shared.candidates());

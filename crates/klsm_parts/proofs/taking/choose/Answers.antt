@@ -7,19 +7,19 @@ use Rattle.klsm_parts.proofs.taking.choose.Goals as goal
 pub returns-then-is_smaller_own-clause-asked : goal.returns-then-is_smaller_own-clause-asked
 returns-then-is_smaller_own-clause-asked g c asked =
     let tested = c.is_smaller_own.ensures in
-    let unasked = not_asked _ _ c.in_ok-least.least.item c.is_smaller_own.result (sym c.in_ok-least.ensures.item) tested c.if-is_smaller_own.true in
+    let unasked = not_asked _ _ c.in_ok-least.least c.is_smaller_own.result (sym c.in_ok-least.ensures) tested c.if-is_smaller_own.true in
     let bad : false ≡ true = sym unasked ∙ asked in
     cc
 
 pub pick-index-requires : goal.pick-index-requires
 pick-index-requires g c = record {
-  some = rw c.candidates.ensures (some_candidate c.args.shared.now.k (content c.args.shared.now.blocks) c.in_ok-least.least.item (sym c.in_ok-least.ensures.item));
+  some = rw c.candidates.ensures (some_candidate c.args.shared.now.k (content c.args.shared.now.blocks) c.in_ok-least.least (sym c.in_ok-least.ensures));
 }
 
 pub returns-then-is_smaller_own-2-clause-unasked : goal.returns-then-is_smaller_own-2-clause-unasked
 returns-then-is_smaller_own-2-clause-unasked g c unasked =
     let tested = c.is_smaller_own.ensures in
-    let asked = is_asked _ _ c.in_ok-least.least.item c.is_smaller_own.result (sym c.in_ok-least.ensures.item) tested c.if-is_smaller_own.false in
+    let asked = is_asked _ _ c.in_ok-least.least c.is_smaller_own.result (sym c.in_ok-least.ensures) tested c.if-is_smaller_own.false in
     let bad : true ≡ false = sym asked ∙ unasked in
     cc
 
@@ -35,7 +35,7 @@ returns-then-is_smaller_own-2-clause-asked g c asked = record {
 pub returns-clause-unasked : goal.returns-clause-unasked
 returns-clause-unasked g c unasked =
     let tested = c.is_smaller_own.ensures in
-    let asked = is_asked _ _ c.in_ok-least.least.item c.is_smaller_own.result (sym c.in_ok-least.ensures.item) tested c.if-is_smaller_own.false in
+    let asked = is_asked _ _ c.in_ok-least.least c.is_smaller_own.result (sym c.in_ok-least.ensures) tested c.if-is_smaller_own.false in
     let bad : true ≡ false = sym asked ∙ unasked in
     cc
 
@@ -52,8 +52,8 @@ pub returns-clause-place : goal.returns-clause-place
 returns-clause-place g c =
     (c.place_of_candidate-candidate.ensures.block, c.place_of_candidate-candidate.ensures.index, contains_at _ c.pick-index.result _ c.place_of_candidate-candidate.ensures.candidate)
 
-pub least_place-requires : goal.least_place-requires
-least_place-requires g c = search
+pub least-requires : goal.least-requires
+least-requires g c = search
 
 pub branch-least-requires : goal.branch-least-requires
 branch-least-requires g c = search rules

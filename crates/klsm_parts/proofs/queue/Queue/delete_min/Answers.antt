@@ -1,4 +1,4 @@
-use Rattle.std.proofs.Common.{◌≡◌, ◌+◌, ◌≤◌, ◌↔◌, ◌∷◌, [], false, length, Some, None, IsTrue, IfSome, MatchOption, ap, rules, subst, sym, ◌∙◌}
+use Rattle.std.proofs.Common.{◌≡◌, ◌+◌, ◌≤◌, ◌↔◌, ◌∷◌, [], false, length, Some, None, IsTrue, IfSome, MatchOption, ap, subst, sym, ◌∙◌}
 use Rattle.klsm_run.specs.Content.{sorted, skipped}
 use Rattle.klsm_parts.specs.Parts.{least_in, candidates_of}
 use Rattle.klsm_parts.specs.Taking.{picks, lesser_of, IsPicked, Leaves}

@@ -15,12 +15,12 @@ added_by-added-requires g c =
     let pivots = subst (ArePivots (c.self.inside.k + 1) c.self.inside.lsm) (sym c.as_slice.ensures.value) c.self.invariant.pivots_exact in
     let room : length (content c.self.inside.lsm) + length (g.R.Run.items c.args.run.now) < 2 ^ 64 =
     omega (arith, c.len.ensures.room, c.len.ensures.most, c.len-2.ensures.limit) in
-    (search (lsm_fits, pivots_fit), (c.self.invariant.lawful, (pivots, (c.self.invariant.k_in_range, (c.requires.some, (apart, room))))))
+    (search lsm_fits, (c.self.invariant.lawful, (pivots, (c.self.invariant.k_in_range, (c.requires.some, (apart, room))))))
 
 pub absorb_copy-requires : goal.absorb_copy-requires
 absorb_copy-requires g c =
     let apart = subst (λ (p : PartState). ShareNone (content p.blocks) (g.R.Run.items c.args.run.now)) (sym c.self.view_is) c.requires.apart in
-    (search (lsm_fits, pivots_fit), (c.requires.some, apart))
+    (search lsm_fits, (c.requires.some, apart))
 
 pub returns-in-Err-clause-full : goal.returns-in-Err-clause-full
 returns-in-Err-clause-full g c = rw (← c.self.view_is) c.in-Err.ensures.full
@@ -29,13 +29,13 @@ pub len-requires : goal.len-requires
 len-requires g c = search
 
 pub len-requires-2 : goal.len-requires-2
-len-requires-2 g c = search (lsm_fits, pivots_fit)
+len-requires-2 g c = search lsm_fits
 
 pub invariant_of-self : goal.invariant_of-self
 invariant_of-self g c = search
 
 pub as_slice-requires : goal.as_slice-requires
-as_slice-requires g c = search (lsm_fits, pivots_fit)
+as_slice-requires g c = search pivots_fit
 
 pub invariant_of-self-in-Err : goal.invariant_of-self-in-Err
 invariant_of-self-in-Err g c = subst (λ bs. IsShared g.row.LEVELS (record { k = c.self.inside.k; blocks = bs }) c.self.inside.pivots.items c.self.inside.least) (sym c.in-Err.ensures.unchanged) c.self.invariant
@@ -63,7 +63,7 @@ pub mend_added-requires : goal.mend_added-requires
 mend_added-requires g c =
     let added = c.added_by-added.result in
     let can = subst (IsMendable c.self.inside.k added.cascade.first added.cascade.count added.pivot added.marked (add c.self.inside.lsm (g.R.Run.items c.args.run.now))) c.as_slice.ensures.value c.added_by-added.ensures in
-    (search (lsm_fits, pivots_fit), (search (lsm_fits, pivots_fit), (subst (λ bs. IsMendable c.self.inside.k added.cascade.first added.cascade.count added.pivot added.marked bs c.self.inside.pivots.items) (sym c.in-Ok.ensures.added) can, c.self.invariant.k_in_range)))
+    (search lsm_fits, (search pivots_fit, (subst (λ bs. IsMendable c.self.inside.k added.cascade.first added.cascade.count added.pivot added.marked bs c.self.inside.pivots.items) (sym c.in-Ok.ensures.added) can, c.self.invariant.k_in_range)))
 
 pub least_place-self-inside-requires : goal.least_place-self-inside-requires
-least_place-self-inside-requires g c = search (lsm_fits, pivots_fit)
+least_place-self-inside-requires g c = search lsm_fits

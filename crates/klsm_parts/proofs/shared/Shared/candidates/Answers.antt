@@ -3,7 +3,7 @@ use Rattle.klsm_lsm.specs.Lsm.{content}
 use Rattle.klsm_parts.specs.Least.{least}
 use Rattle.klsm_parts.specs.Parts.{PartState}
 use Rattle.klsm_parts.proofs.PivotLemmas.{count_of_least}
-use Rattle.klsm_parts.proofs.FitLemmas.{lsm_fits, pivots_fit}
+use Rattle.klsm_parts.proofs.FitLemmas.{lsm_fits}
 use Rattle.klsm_parts.proofs.shared.Shared.candidates.Goals as goal
 
 pub returns : goal.returns
@@ -12,7 +12,7 @@ returns g c =
     subst (λ (p : PartState). c.min.result ≡ length (least (p.k + 1) (content p.blocks))) c.self.view_is (count ∙ count_of_least c.self.inside.k c.self.inside.lsm)
 
 pub len-requires : goal.len-requires
-len-requires g c = search (lsm_fits, pivots_fit)
+len-requires g c = search lsm_fits
 
 pub min-requires : goal.min-requires
 min-requires g c = search

@@ -6,10 +6,10 @@ use Rattle.klsm_parts.proofs.FitLemmas.{lsm_fits, pivots_fit}
 use Rattle.klsm_parts.proofs.shared.Shared.new.Goals as goal
 
 pub new-requires : goal.new-requires
-new-requires g c = search (lsm_fits, pivots_fit)
+new-requires g c = search lsm_fits
 
 pub new-requires-2 : goal.new-requires-2
-new-requires-2 g c = search (lsm_fits, pivots_fit)
+new-requires-2 g c = search pivots_fit
 
 pub returns : goal.returns
 returns g c = search rules

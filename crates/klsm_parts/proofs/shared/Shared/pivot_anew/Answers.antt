@@ -36,7 +36,7 @@ returns-clause-counts g c =
     rw c.as_slice.ensures.value (pivot_counts (c.args.self.now.k + 1) c.args.self.now.blocks ps c.args.block lawful pivots)
 
 pub as_slice-requires : goal.as_slice-requires
-as_slice-requires g c = search (lsm_fits, pivots_fit)
+as_slice-requires g c = search pivots_fit
 
 pub candidate_pivots-requires : goal.candidate_pivots-requires
-candidate_pivots-requires g c = (search (lsm_fits, pivots_fit), (search (lsm_fits, pivots_fit), (c.self.invariant.levels_in_range, c.self.invariant.k_in_range)))
+candidate_pivots-requires g c = (search lsm_fits, (search pivots_fit, (c.self.invariant.levels_in_range, c.self.invariant.k_in_range)))

@@ -1,12 +1,10 @@
-use Rattle.std.proofs.Common.{◌≡◌, ◌+◌, ◌<◌, length, min, Option, Some, subst, sym, ◌∙◌, arith, [], get_or}
+use Rattle.std.proofs.Common.{◌≡◌, ◌+◌, ◌<◌, length, min, Some, subst, sym, ◌∙◌, arith, [], get_or}
 use Rattle.std.specs.List.{slice_get}
-use Rattle.std.specs.Option.{option_map}
 use Rattle.std.proofs.lemmas.List.{length-take}
 use Rattle.klsm_run.specs.Content.{sorted}
 use Rattle.klsm_run.proofs.SortedLemmas.{length_sorted}
 use Rattle.klsm_run.proofs.IndexLemmas.{slice_get-take}
 use Rattle.klsm_lsm.specs.Lsm.{content}
-use Rattle.klsm_parts.specs.declared.ranks.Place.{Place}
 use Rattle.klsm_parts.specs.Least.{least}
 use Rattle.klsm_parts.specs.LeastPlaces.{IsLeastPlace}
 use Rattle.klsm_parts.specs.Parts.{PartState, candidates_of}
@@ -21,7 +19,7 @@ place_of-requires g c =
     let lsm = c.self.inside.lsm in
     let among = subst (λ (p : PartState). c.args.index < length (least (p.k + 1) (content p.blocks))) (sym c.self.view_is) c.requires in
     let rank : c.args.index < length (content lsm) = omega (arith, among, length-take (c.self.inside.k + 1) (sorted (content lsm)), length_sorted (content lsm)) in
-    (search (lsm_fits, pivots_fit), (c.self.invariant.levels_in_range, (c.self.invariant.lawful, rank)))
+    (search lsm_fits, (c.self.invariant.levels_in_range, (c.self.invariant.lawful, rank)))
 
 pub place_from_above-requires : goal.place_from_above-requires
 place_from_above-requires g c =
@@ -31,7 +29,7 @@ place_from_above-requires g c =
     let all = subst (λ (p : PartState). c.candidates-marked.result ≡ length (candidates_of p)) (sym c.self.view_is) c.candidates-marked.ensures in
     let count : min (k + 1) (length (content lsm)) ≡ c.candidates-marked.result = omega (arith, all, length-take (k + 1) (sorted (content lsm)), length_sorted (content lsm)) in
     let pivots = subst (λ n. ArePivots n lsm c.self.inside.pivots.items) count (pivots_min (k + 1) lsm c.self.inside.pivots.items c.self.invariant.pivots_exact) in
-    (search (lsm_fits, pivots_fit), (c.self.invariant.levels_in_range, (c.self.invariant.lawful, (subst (ArePivots c.candidates-marked.result lsm) (sym c.as_slice.ensures.value) pivots, (omega (arith, among, all), omega (arith, count))))))
+    (search lsm_fits, (c.self.invariant.levels_in_range, (c.self.invariant.lawful, (subst (ArePivots c.candidates-marked.result lsm) (sym c.as_slice.ensures.value) pivots, (omega (arith, among, all), omega (arith, count))))))
 
 pub returns-then-index-marked-clause-candidate : goal.returns-then-index-marked-clause-candidate
 returns-then-index-marked-clause-candidate g c =
@@ -52,7 +50,7 @@ pub returns-then-index-marked-clause-index : goal.returns-then-index-marked-clau
 returns-then-index-marked-clause-index g c = subst (λ (p : PartState). slice_get (get_or p.blocks c.place_of.result.block []) c.place_of.result.index ≡ Some c.place_of.result.item) c.self.view_is c.place_of.ensures.index
 
 pub as_slice-requires : goal.as_slice-requires
-as_slice-requires g c = search (lsm_fits, pivots_fit)
+as_slice-requires g c = search pivots_fit
 
 pub returns-clause-block : goal.returns-clause-block
 returns-clause-block g c = subst (λ (p : PartState). c.place_from_above.result.block < length p.blocks) c.self.view_is c.place_from_above.ensures.block
@@ -63,18 +61,18 @@ returns-clause-index g c = subst (λ (p : PartState). slice_get (get_or p.blocks
 pub returns-then-index-eq0-clause-candidate : goal.returns-then-index-eq0-clause-candidate
 returns-then-index-eq0-clause-candidate g c =
     let held = content c.self.inside.lsm in
-    let first : Some c.in-Some.least.item ≡ slice_get (sorted held) 0 = subst (λ (o : Option Place). option_map (λ (place : Place). place.item) o ≡ slice_get (sorted held) 0) c.in-Some.is c.self.invariant.least_found.item in
-    rw c.if-index-eq0.true (subst (λ (p : PartState). slice_get (candidates_of p) 0 ≡ Some c.in-Some.least.item) c.self.view_is (least_is_candidate c.self.inside.k held c.in-Some.least.item (sym first)))
+    let found = subst (IsLeastPlace c.self.inside.lsm) c.in-Some.is c.self.invariant.least_found in
+    rw c.if-index-eq0.true (subst (λ (p : PartState). slice_get (candidates_of p) 0 ≡ Some c.in-Some.least.item) c.self.view_is (least_is_candidate c.self.inside.k held c.in-Some.least.item (sym found.item)))
 
 pub candidates-marked-requires : goal.candidates-marked-requires
 candidates-marked-requires g c = search
 
 pub returns-then-index-eq0-clause-block : goal.returns-then-index-eq0-clause-block
 returns-then-index-eq0-clause-block g c =
-    let found = subst (λ (o : Option Place). IsLeastPlace c.self.inside.lsm o) c.in-Some.is c.self.invariant.least_found in
+    let found = subst (IsLeastPlace c.self.inside.lsm) c.in-Some.is c.self.invariant.least_found in
     subst (λ (p : PartState). c.in-Some.least.block < length p.blocks) c.self.view_is found.place.0
 
 pub returns-then-index-eq0-clause-index : goal.returns-then-index-eq0-clause-index
 returns-then-index-eq0-clause-index g c =
-    let found = subst (λ (o : Option Place). IsLeastPlace c.self.inside.lsm o) c.in-Some.is c.self.invariant.least_found in
+    let found = subst (IsLeastPlace c.self.inside.lsm) c.in-Some.is c.self.invariant.least_found in
     subst (λ (p : PartState). slice_get (get_or p.blocks c.in-Some.least.block []) c.in-Some.least.index ≡ Some c.in-Some.least.item) c.self.view_is found.place.1

@@ -14,7 +14,7 @@ pub remove-item-requires : goal.remove-item-requires
 remove-item-requires g c =
     let block = subst (λ (p : PartState). c.args.place.block < length p.blocks) (sym c.self.view_is) c.requires.block in
     let index = subst (λ (p : PartState). slice_get (get_or p.blocks c.args.place.block []) c.args.place.index ≡ Some c.args.place.item) (sym c.self.view_is) c.requires.index in
-    (search (lsm_fits, pivots_fit), (block, slice_get_within (get_or c.self.inside.lsm c.args.place.block []) c.args.place.index c.args.place.item index))
+    (search lsm_fits, (block, slice_get_within (get_or c.self.inside.lsm c.args.place.block []) c.args.place.index c.args.place.item index))
 
 pub mend_cut-requires : goal.mend_cut-requires
 mend_cut-requires g c =
@@ -27,7 +27,7 @@ mend_cut-requires g c =
     let block = get_or_from_slice_get bs at _ [] c.block.ensures.block in
     let only = ap (λ n. n == 1) (c.len-is_only.ensures.len ∙ ap length (sym block)) in
     let can = cut_mendable c.self.inside.k at c.args.place.index rank.0 c.args.place.item _ _ bs c.self.inside.pivots.items c.self.invariant.lawful c.self.invariant.pivots_exact here found rank.1 c.partner-partner.ensures only in
-    (search (lsm_fits, pivots_fit), (search (lsm_fits, pivots_fit), (subst (λ cs. IsCutMendable c.self.inside.k cs at (c.len-is_only.result == 1) c.partner-partner.result c.self.inside.pivots.items) (sym c.remove-item.ensures.rest) can, c.self.invariant.k_in_range)))
+    (search lsm_fits, (search pivots_fit, (subst (λ cs. IsCutMendable c.self.inside.k cs at (c.len-is_only.result == 1) c.partner-partner.result c.self.inside.pivots.items) (sym c.remove-item.ensures.rest) can, c.self.invariant.k_in_range)))
 
 pub invariant_of-self : goal.invariant_of-self
 invariant_of-self g c = search
@@ -38,10 +38,10 @@ returns g c =
     ap state c.remove-item.ensures.rest ∙ ap (λ (p : PartState). record { k = p.k; blocks = cut p.blocks c.args.place.block c.args.place.index }) c.self.view_is
 
 pub partner-partner-requires : goal.partner-partner-requires
-partner-partner-requires g c = (search (lsm_fits, pivots_fit), subst (λ (p : PartState). c.args.place.block < length p.blocks) (sym c.self.view_is) c.requires.block)
+partner-partner-requires g c = (search lsm_fits, subst (λ (p : PartState). c.args.place.block < length p.blocks) (sym c.self.view_is) c.requires.block)
 
 pub block-requires : goal.block-requires
-block-requires g c = (search (lsm_fits, pivots_fit), subst (λ (p : PartState). c.args.place.block < length p.blocks) (sym c.self.view_is) c.requires.block)
+block-requires g c = (search lsm_fits, subst (λ (p : PartState). c.args.place.block < length p.blocks) (sym c.self.view_is) c.requires.block)
 
 pub least_place-self-inside-requires : goal.least_place-self-inside-requires
-least_place-self-inside-requires g c = search (lsm_fits, pivots_fit)
+least_place-self-inside-requires g c = search lsm_fits
