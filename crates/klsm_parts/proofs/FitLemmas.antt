@@ -1,6 +1,8 @@
 -- Where a struct has a place in memory, each of its fields has one.
 use Rattle.std.proofs.Common.{ℕ, ◌+◌, ◌*◌, ◌<◌, max, arith}
 use prog.Memory.{up}
+use Rattle.klsm_run.specs.Capacity.{IsCapacity}
+use Rattle.klsm_lsm.specs.Limit.{IsLevelCount}
 
 -- the last field but one, as the LSM of an own part and the shared part of a queue
 pub field_fits : (a b c s n limit : ℕ) → up a (up 8 (up b c + s) + n) < limit → s < limit
@@ -21,3 +23,31 @@ lsm_fits a b c d k p l m s limit whole = omega (arith, whole)
 -- the pivots of a shared part
 pub pivots_fit : (a b l m p q limit : ℕ) → up a (up b (up 8 (up 8 q + p) + l) + m) < limit → p < limit
 pivots_fit a b l m p q limit whole = omega (arith, whole)
+
+-- a run of any capacity
+run_is_small : (n : ℕ) → IsCapacity n → up 8 (up 8 (0 + up 8 (up 1 (up 8 (0 + up 8 (0 + n * 32)) + 8) + 0)) + 16) < 8192
+run_is_small n capacity = omega (arith, capacity.at_most)
+
+pub fixed_run_fits : (n : ℕ) → IsCapacity n → up 8 (up 8 (0 + up 8 (up 1 (up 8 (0 + up 8 (0 + n * 32)) + 8) + 0)) + 16) < 9223372036854775808
+fixed_run_fits n capacity = omega (arith, run_is_small n capacity)
+
+-- the LSM of an own part of any capacity
+lsm_is_small : (s : ℕ) → s < 8192 → up 8 (up 8 (up 8 (0 + up 8 (up 1 (up 8 (0 + up 8 (0 + 8 * up 8 (max 1 (max (8 + s) 1)))) + 8) + 0)) + 8) + 8) < 131072
+lsm_is_small s run = omega (arith, run)
+
+pub own_lsm_fits : (n : ℕ) → IsCapacity n → up 8 (up 8 (up 8 (0 + up 8 (up 1 (up 8 (0 + up 8 (0 + 8 * up 8 (max 1 (max (8 + up 8 (up 8 (0 + up 8 (up 1 (up 8 (0 + up 8 (0 + n * 32)) + 8) + 0)) + 16)) 1)))) + 8) + 0)) + 8) + 8) < 9223372036854775808
+own_lsm_fits n capacity = omega (arith, lsm_is_small _ (run_is_small n capacity))
+
+-- the part
+pub local_fits : (n : ℕ) → IsCapacity n → up 8 (up 8 (0 + up 8 (up 8 (up 8 (0 + up 8 (up 1 (up 8 (0 + up 8 (0 + 8 * up 8 (max 1 (max (8 + up 8 (up 8 (0 + up 8 (up 1 (up 8 (0 + up 8 (0 + n * 32)) + 8) + 0)) + 16)) 1)))) + 8) + 0)) + 8) + 8)) + 8) < 9223372036854775808
+local_fits n capacity = part_fits _ (lsm_is_small _ (run_is_small n capacity)) where
+  part_fits : (s : ℕ) → s < 131072 → up 8 (up 8 (0 + s) + 8) < 9223372036854775808
+  part_fits s lsm = omega (arith, lsm)
+
+-- the LSM of a shared part of any number of levels
+pub shared_lsm_fits : (n : ℕ) → IsLevelCount n → up 8 (up 8 (up 8 (0 + up 8 (up 1 (up 8 (0 + up 8 (0 + n * 48)) + 8) + 0)) + 8) + 8) < 9223372036854775808
+shared_lsm_fits n levels = omega (arith, levels.at_most)
+
+-- the part
+pub shared_fits : (n : ℕ) → IsLevelCount n → up 8 (up 1 (up 8 (up 8 (up 8 (0 + up 8 (up 8 (up 8 (0 + up 8 (up 1 (up 8 (0 + up 8 (0 + n * 48)) + 8) + 0)) + 8) + 8)) + 8) + up 8 (up 1 (up 8 (0 + up 8 (0 + n * 8)) + 8) + 0)) + 56) + 0) < 9223372036854775808
+shared_fits n levels = omega (arith, levels.at_most)

@@ -71,4 +71,4 @@ pub is_smaller_own-requires-2 : goal.is_smaller_own-requires-2
 is_smaller_own-requires-2 g c = search
 
 pub place_of_candidate-candidate-requires : goal.place_of_candidate-candidate-requires
-place_of_candidate-candidate-requires g c = search rules
+place_of_candidate-candidate-requires g c = (search, rw (← c.candidates.ensures) c.pick-index.ensures.below)
