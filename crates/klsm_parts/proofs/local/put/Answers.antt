@@ -28,3 +28,6 @@ insert-requires g c = search rules
 
 pub returns-clause-blocks : goal.returns-clause-blocks
 returns-clause-blocks g c = search rules
+
+pub unreachable-unreachable : goal.unreachable-unreachable
+unreachable-unreachable g c = absurd c.unreachable.result

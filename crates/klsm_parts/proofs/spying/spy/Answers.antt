@@ -52,3 +52,6 @@ returns-clause-own g c = c.spy_from.ensures.own
 
 pub returns-clause-victim : goal.returns-clause-victim
 returns-clause-victim g c = c.spy_from.ensures.victim
+
+pub unreachable-prove : goal.unreachable-prove
+unreachable-prove g c = absurd c.prove-unreachable.result

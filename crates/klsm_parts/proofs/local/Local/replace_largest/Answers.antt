@@ -47,3 +47,6 @@ returns-then-blocks-eq0 g c =
 
 pub discard_largest-requires : goal.discard_largest-requires
 discard_largest-requires g c = (search field_fits, omega (arith, c.blocks-2.ensures.blocks, c.if-blocks-eq0.false))
+
+pub unreachable-unreachable : goal.unreachable-unreachable
+unreachable-unreachable g c = absurd c.unreachable.result

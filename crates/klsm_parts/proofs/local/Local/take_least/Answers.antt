@@ -1,4 +1,4 @@
-use Rattle.std.proofs.Common.{◌≡◌, ◌<◌, [], None, Some, length, get_or, sym, ◌∙◌, subst}
+use Rattle.std.proofs.Common.{◌≡◌, ◌<◌, [], None, Some, length, get_or, refl, sym, ◌∙◌, subst}
 use Rattle.std.specs.List.{slice_get}
 use Rattle.klsm_lsm.specs.Lsm.{content}
 use Rattle.klsm_parts.specs.Least.{IsLeast}
@@ -35,3 +35,12 @@ returns-clause-k g c = c.remove.ensures.k
 
 pub returns-clause-event : goal.returns-clause-event
 returns-clause-event g c = c.remove.ensures.event
+
+pub same-self : goal.same-self
+same-self g c = refl
+
+pub same-self-2 : goal.same-self-2
+same-self-2 g c = refl
+
+pub unreachable-unreachable : goal.unreachable-unreachable
+unreachable-unreachable g c = absurd c.unreachable.result

@@ -1,8 +1,9 @@
-use Rattle.std.proofs.Common.{◌≡◌, ◌+◌, ◌-◌, ◌<◌, ◌^◌, ◌↔◌, ◌∷◌, length, sym, ap, subst, arith, inr}
+use Rattle.std.proofs.Common.{◌≡◌, ◌+◌, ◌-◌, ◌<◌, ◌^◌, ◌↔◌, ◌∷◌, ◌∙◌, length, refl, sym, ap, subst, arith, inr}
 use Rattle.klsm_run.specs.declared.item.Item.{Item}
 use Rattle.klsm_run.specs.Content.{sorted}
 use Rattle.klsm_lsm.specs.declared.errors.LsmError.TheVariants.{Full}
 use Rattle.klsm_lsm.specs.Lsm.{content}
+use Rattle.klsm_parts.specs.Parts.{PartState}
 use Rattle.klsm_parts.specs.Queues.{QueueState, items_of, next_item, Joins, HaveNoPlace, IsFull}
 use Rattle.klsm_parts.proofs.PairLemmas.{absent_number}
 use Rattle.klsm_parts.proofs.FitLemmas.{field_fits, own_fits}
@@ -92,3 +93,65 @@ returns-in-Err-clause-room g c few left why =
 pub returns-in-Err-clause-put : goal.returns-in-Err-clause-put
 returns-in-Err-clause-put g c room left =
     c.in-Err.ensures.put (subst (λ (s : QueueState). length (content s.own.blocks) < s.own.k) (sym c.self.view_is) room)
+
+pub same-self : goal.same-self
+same-self g c = refl
+
+pub returns-in_default-clause-item : goal.returns-in_default-clause-item
+returns-in_default-clause-item g c = tt
+
+pub returns-in_default-clause-items : goal.returns-in_default-clause-items
+returns-in_default-clause-items g c = tt
+
+pub returns-in_default-clause-count : goal.returns-in_default-clause-count
+returns-in_default-clause-count g c = tt
+
+pub returns-in_default-clause-inserted : goal.returns-in_default-clause-inserted
+returns-in_default-clause-inserted g c = tt
+
+pub returns-in_default-clause-k : goal.returns-in_default-clause-k
+returns-in_default-clause-k g c = refl
+
+pub returns-in_default-clause-parts : goal.returns-in_default-clause-parts
+returns-in_default-clause-parts g c = tt
+
+pub returns-in_default-clause-unchanged : goal.returns-in_default-clause-unchanged
+returns-in_default-clause-unchanged g c = refl
+
+pub returns-in-Err-clause-item : goal.returns-in-Err-clause-item
+returns-in-Err-clause-item g c = tt
+
+pub returns-in-Err-clause-items : goal.returns-in-Err-clause-items
+returns-in-Err-clause-items g c = tt
+
+pub returns-in-Err-clause-count : goal.returns-in-Err-clause-count
+returns-in-Err-clause-count g c = tt
+
+pub returns-in-Err-clause-inserted : goal.returns-in-Err-clause-inserted
+returns-in-Err-clause-inserted g c = tt
+
+pub returns-in-Err-clause-parts : goal.returns-in-Err-clause-parts
+returns-in-Err-clause-parts g c = tt
+
+pub returns-in-Err-clause-k : goal.returns-in-Err-clause-k
+returns-in-Err-clause-k g c = ap (λ (p : PartState). p.k) c.in-Err.ensures.unchanged.0 ∙ ap (λ (s : QueueState). s.own.k) c.self.view_is
+
+pub returns-in-Err-clause-unchanged : goal.returns-in-Err-clause-unchanged
+returns-in-Err-clause-unchanged g c = rw (c.in-Err.ensures.unchanged.0, c.in-Err.ensures.unchanged.1) c.self.view_is
+
+pub invariant_of-self-in-Err : goal.invariant_of-self-in-Err
+invariant_of-self-in-Err g c = rw (c.in-Err.ensures.unchanged.0, c.in-Err.ensures.unchanged.1) c.self.invariant
+
+pub returns-in-Ok-clause-room : goal.returns-in-Ok-clause-room
+returns-in-Ok-clause-room g c = λ few left bad. bad
+
+pub returns-in-Ok-clause-put : goal.returns-in-Ok-clause-put
+returns-in-Ok-clause-put g c = λ room left. refl
+
+pub returns-in-Ok-clause-unchanged : goal.returns-in-Ok-clause-unchanged
+returns-in-Ok-clause-unchanged g c = tt
+
+pub returns-in_default-clause-put : goal.returns-in_default-clause-put
+returns-in_default-clause-put g c room left =
+    let below = subst (λ (s : QueueState). s.inserted < 2 ^ 64 - 1) (sym c.self.view_is) left in
+    absurd (c.in_default.ensures (omega (arith, below)))

@@ -1,4 +1,4 @@
-use Rattle.std.proofs.Common.{◌≡◌, subst, sym}
+use Rattle.std.proofs.Common.{◌≡◌, ◌≤◌, ◌∙◌, ap, subst, sym}
 use Rattle.klsm_parts.specs.Queues.{QueueState}
 use Rattle.klsm_parts.proofs.FitLemmas.{own_fits}
 use Rattle.klsm_parts.proofs.queue.Queue.k.Goals as goal
@@ -8,3 +8,9 @@ returns-clause-same g c = subst (λ (s : QueueState). s.shared.k ≡ s.own.k) c.
 
 pub k-requires : goal.k-requires
 k-requires g c = search own_fits
+
+pub returns-clause-k : goal.returns-clause-k
+returns-clause-k g c = c.k.ensures.k ∙ ap (λ (s : QueueState). s.own.k) c.self.view_is
+
+pub returns-clause-within : goal.returns-clause-within
+returns-clause-within g c = subst (λ (s : QueueState). s.own.k ≤ g.row.CAP) c.self.view_is c.k.ensures.within

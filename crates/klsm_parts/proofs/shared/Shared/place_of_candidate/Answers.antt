@@ -76,3 +76,6 @@ pub returns-then-index-eq0-clause-index : goal.returns-then-index-eq0-clause-ind
 returns-then-index-eq0-clause-index g c =
     let found = subst (IsLeastPlace c.self.inside.lsm) c.in-Some.is c.self.invariant.least_found in
     subst (λ (p : PartState). slice_get (get_or p.blocks c.in-Some.least.block []) c.in-Some.least.index ≡ Some c.in-Some.least.item) c.self.view_is found.place.1
+
+pub unreachable-unreachable : goal.unreachable-unreachable
+unreachable-unreachable g c = absurd c.unreachable.result
