@@ -28,3 +28,9 @@ returns-then-len-k-clause-pivots g c =
     let marks = subst (ArePivots (min (c.args.k + 1) (length (content after) + 1) - 1) after) (sym c.cut_pivot.ensures) c.requires.mendable.marks in
     let count : min (c.args.k + 1) (length (content after) + 1) - 1 ≡ c.args.k = omega (arith, c.len.ensures.len, c.if-len-k.true) in
     c.mark_least.ensures c.args.k (omega (arith, c.len.ensures.len, c.if-len-k.true)) (subst (λ n. ArePivots n after c.cut_pivot.new.pivots.items) count marks)
+
+pub returns-then-len-k-clause-lawful : goal.returns-then-len-k-clause-lawful
+returns-then-len-k-clause-lawful g c = c.len.ensures.lawful
+
+pub returns-else-len-k-clause-lawful : goal.returns-else-len-k-clause-lawful
+returns-else-len-k-clause-lawful g c = c.len.ensures.lawful

@@ -1,4 +1,4 @@
-use Rattle.std.proofs.Common.{◌≡◌, length, Result, Ok, Err, OnOk, inr, arith}
+use Rattle.std.proofs.Common.{◌≡◌, length, Result, Ok, Err, OnOk, refl, inl, inr, arith}
 use Rattle.klsm_lsm.specs.Lsm.{content}
 use Rattle.klsm_parts.proofs.queue.put_or_flush.Goals as goal
 
@@ -39,3 +39,18 @@ returns-then-len-k-clause-lawful g c = c.len.ensures.lawful
 
 pub returns-clause-unchanged : goal.returns-clause-unchanged
 returns-clause-unchanged g c = c.flush.ensures.unchanged
+
+pub returns-then-len-k-clause-joins : goal.returns-then-len-k-clause-joins
+returns-then-len-k-clause-joins g c = inl (omega (arith, c.if-len-k.true, c.len.ensures.len, c.k.ensures.k), c.put.ensures.blocks, refl)
+
+pub returns-then-len-k-clause-full : goal.returns-then-len-k-clause-full
+returns-then-len-k-clause-full g c = (λ bad. absurd bad, λ none. omega (arith, none.0, c.if-len-k.true, c.len.ensures.len, c.k.ensures.k))
+
+pub returns-then-len-k-clause-put : goal.returns-then-len-k-clause-put
+returns-then-len-k-clause-put g c room = refl
+
+pub returns-then-len-k-clause-unchanged : goal.returns-then-len-k-clause-unchanged
+returns-then-len-k-clause-unchanged g c = tt
+
+pub returns-clause-put : goal.returns-clause-put
+returns-clause-put g c room = absurd (omega (arith, room, c.if-len-k.false, c.len.ensures.len, c.k.ensures.k))

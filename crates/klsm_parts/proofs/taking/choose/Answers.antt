@@ -1,6 +1,7 @@
-use Rattle.std.proofs.Common.{◌≡◌, true, false, sym, ◌∙◌, rules}
+use Rattle.std.proofs.Common.{◌≡◌, true, false, refl, sym, subst, ◌∙◌, rules}
 use Rattle.klsm_run.proofs.IndexLemmas.{contains_at}
 use Rattle.klsm_lsm.specs.Lsm.{content}
+use Rattle.klsm_parts.specs.Taking.{picks}
 use Rattle.klsm_parts.proofs.TakeLemmas.{not_asked, is_asked, own_goes, candidate_goes, some_candidate}
 use Rattle.klsm_parts.proofs.taking.choose.Goals as goal
 
@@ -72,3 +73,23 @@ is_smaller_own-requires-2 g c = search
 
 pub place_of_candidate-candidate-requires : goal.place_of_candidate-candidate-requires
 place_of_candidate-candidate-requires g c = (search, rw (← c.candidates.ensures) c.pick-index.ensures.below)
+
+pub returns-in_err-least-clause-unasked : goal.returns-in_err-least-clause-unasked
+returns-in_err-least-clause-unasked g c unasked = (refl, c.from_residual.ensures)
+
+pub returns-in_err-least-clause-asked : goal.returns-in_err-least-clause-asked
+returns-in_err-least-clause-asked g c asked =
+    let bad : false ≡ true = subst (λ o. picks c.args.least_own o ≡ true) (sym c.least.ensures ∙ c.in_err-least.was) asked in
+    cc
+
+pub returns-in_err-least-clause-place : goal.returns-in_err-least-clause-place
+returns-in_err-least-clause-place g c = rw c.from_residual.ensures tt
+
+pub returns-then-is_smaller_own-clause-unasked : goal.returns-then-is_smaller_own-clause-unasked
+returns-then-is_smaller_own-clause-unasked g c unasked = (refl, refl)
+
+pub returns-then-is_smaller_own-clause-place : goal.returns-then-is_smaller_own-clause-place
+returns-then-is_smaller_own-clause-place g c = tt
+
+pub returns-then-is_smaller_own-2-clause-place : goal.returns-then-is_smaller_own-2-clause-place
+returns-then-is_smaller_own-2-clause-place g c = tt
