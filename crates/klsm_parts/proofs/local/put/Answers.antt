@@ -1,8 +1,12 @@
-use Rattle.std.proofs.Common.{◌<◌, length, subst, sym, arith, rules}
+use Rattle.std.proofs.Common.{◌≡◌, ◌<◌, ◌∷◌, [], List, length, ap, subst, sym, arith}
+use Rattle.std.specs.List.{Contains}
+use Rattle.klsm_run.specs.declared.item.Item.{Item}
 use Rattle.klsm_run.proofs.SortedLemmas.{length_sorted}
 use Rattle.klsm_lsm.specs.Lsm.{content}
+use Rattle.klsm_lsm.specs.Adding.{add}
 use Rattle.klsm_parts.specs.Parts.{PartState}
 use Rattle.klsm_parts.proofs.OwnLemmas.{has_room, own_added, put_is}
+use Rattle.klsm_parts.proofs.FitLemmas.{field_fits, run_fits}
 use Rattle.klsm_parts.proofs.local.put.Goals as goal
 
 pub unreachable-requires : goal.unreachable-requires
@@ -24,10 +28,14 @@ returns-clause-event g c = (
 )
 
 pub insert-requires : goal.insert-requires
-insert-requires g c = search rules
+insert-requires g c =
+    let absent = subst (λ (p : PartState). Contains (content p.blocks) c.args.item → ⊥) (sym c.own.view_is) c.requires.new in
+    (search field_fits, (search run_fits, (c.requires.capacity, absent)))
 
 pub returns-clause-blocks : goal.returns-clause-blocks
-returns-clause-blocks g c = search rules
+returns-clause-blocks g c =
+    let added = ap (λ (bs : List (List Item)). record { k = c.own.inside.k; blocks = bs }) c.in-Ok.ensures.added in
+    subst (λ (p : PartState). record { k = c.own.inside.k; blocks = c.insert.new.self } ≡ record { k = p.k; blocks = add p.blocks (c.args.item ∷ []) }) c.own.view_is added
 
 pub unreachable-unreachable : goal.unreachable-unreachable
 unreachable-unreachable g c = absurd c.unreachable.result
