@@ -133,3 +133,6 @@ returns-in_err-least_own-in-None-clause-skips g c = rw c.from_residual.ensures t
 
 pub lsm-requires : goal.lsm-requires
 lsm-requires g c = (search, (search field_fits, search run_fits))
+
+pub least_place-least_own-requires-room-R-Run : goal.least_place-least_own-requires-room-R-Run
+least_place-least_own-requires-room-R-Run g c κs = search run_fits

@@ -9,7 +9,7 @@ use Rattle.klsm_parts.specs.Events.{MayTake, own_after_take}
 use Rattle.klsm_parts.specs.Taking.{IsCutFrom}
 use Rattle.klsm_parts.proofs.EventLemmas.{cut_is_taken, may_take_own, may_take_sorted}
 use Rattle.klsm_parts.proofs.OwnLemmas.{own_cut}
-use Rattle.klsm_parts.proofs.FitLemmas.{field_fits}
+use Rattle.klsm_parts.proofs.FitLemmas.{field_fits, run_fits}
 use Rattle.klsm_parts.proofs.local.Local.remove.Goals as goal
 
 pub remove-requires : goal.remove-requires
@@ -48,3 +48,6 @@ returns-clause-cut g c =
 
 pub returns-clause-k : goal.returns-clause-k
 returns-clause-k g c = ap (λ (p : PartState). p.k) c.self.view_is
+
+pub remove-requires-room-R-Run : goal.remove-requires-room-R-Run
+remove-requires-room-R-Run g c κs = search run_fits

@@ -50,3 +50,9 @@ discard_largest-requires g c = (search field_fits, omega (arith, c.blocks-2.ensu
 
 pub unreachable-unreachable : goal.unreachable-unreachable
 unreachable-unreachable g c = absurd c.unreachable.result
+
+pub blocks-requires-room-R-Run : goal.blocks-requires-room-R-Run
+blocks-requires-room-R-Run g c κs = search run_fits
+
+pub discard_largest-requires-room-R-Run : goal.discard_largest-requires-room-R-Run
+discard_largest-requires-room-R-Run g c κs = search run_fits

@@ -3,7 +3,7 @@ use Rattle.std.specs.List.{slice_get}
 use Rattle.klsm_lsm.specs.Lsm.{content}
 use Rattle.klsm_parts.specs.Least.{IsLeast}
 use Rattle.klsm_parts.specs.Parts.{PartState}
-use Rattle.klsm_parts.proofs.FitLemmas.{field_fits}
+use Rattle.klsm_parts.proofs.FitLemmas.{field_fits, run_fits}
 use Rattle.klsm_parts.proofs.FoundLemmas.{some_ranked}
 use Rattle.klsm_parts.proofs.local.Local.take_least.Goals as goal
 
@@ -44,3 +44,6 @@ same-self-2 g c = refl
 
 pub unreachable-unreachable : goal.unreachable-unreachable
 unreachable-unreachable g c = absurd c.unreachable.result
+
+pub least_place-requires-room-R-Run : goal.least_place-requires-room-R-Run
+least_place-requires-room-R-Run g c κs = search run_fits
