@@ -4,3 +4,6 @@ use Rattle.klsm_parts.proofs.queue.Queue.is_empty.Goals as goal
 
 pub returns : goal.returns
 returns g c = is_none (items_of c.args.self.now) c.len.result c.len.ensures.len
+
+pub len-requires : goal.len-requires
+len-requires g c = search

@@ -1,9 +1,11 @@
-use Rattle.std.proofs.Common.{◌≡◌, ◌+◌, ◌<◌, length, min, Some, subst, sym, ◌∙◌, arith, [], get_or}
+use Rattle.std.proofs.Common.{List, ◌≡◌, ◌+◌, ◌<◌, length, min, Some, ap, subst, sym, ◌∙◌, arith, [], get_or}
 use Rattle.std.specs.List.{slice_get}
 use Rattle.std.proofs.lemmas.List.{length-take}
 use Rattle.klsm_run.specs.Content.{sorted}
 use Rattle.klsm_run.proofs.SortedLemmas.{length_sorted}
 use Rattle.klsm_run.proofs.IndexLemmas.{slice_get-take}
+use Rattle.klsm_run.proofs.RankLemmas.{empty_if_no_least}
+use Rattle.klsm_run.specs.declared.item.Item.{Item}
 use Rattle.klsm_lsm.specs.Lsm.{content}
 use Rattle.klsm_parts.specs.Least.{least}
 use Rattle.klsm_parts.specs.LeastPlaces.{IsLeastPlace}
@@ -79,3 +81,11 @@ returns-then-index-eq0-clause-index g c =
 
 pub unreachable-unreachable : goal.unreachable-unreachable
 unreachable-unreachable g c = absurd c.unreachable.result
+
+pub unreachable-requires : goal.unreachable-requires
+unreachable-requires g c =
+    let held = content c.self.inside.lsm in
+    let found = subst (IsLeastPlace c.self.inside.lsm) c.in_default.is c.self.invariant.least_found in
+    let none = empty_if_no_least held (sym found.item) in
+    let among = subst (λ (p : PartState). c.args.index < length (least (p.k + 1) (content p.blocks))) (sym c.self.view_is) c.requires in
+    omega (arith, among, length-take (c.self.inside.k + 1) (sorted held), length_sorted held, ap (λ (xs : List Item). length xs) none)
