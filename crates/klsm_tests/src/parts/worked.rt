@@ -9,7 +9,7 @@ use klsm_testing::Rationed;
 use std::alloc::Global;
 
 // Whether a shared part has these pivots.
-fn has_pivots<const LEVELS: usize>(shared: &RationedShared<LEVELS>, pivots: &[usize]) -> bool {
+fn has_pivots(shared: &RationedShared<21>, pivots: &[usize]) -> bool {
     if shared.lsm().blocks() != pivots.len() {
         return false;
     }
@@ -22,7 +22,7 @@ fn has_pivots<const LEVELS: usize>(shared: &RationedShared<LEVELS>, pivots: &[us
 }
 
 // Whether the candidates of a shared part have these keys.
-fn has_candidates<const LEVELS: usize>(shared: &RationedShared<LEVELS>, keys: &[u64]) -> bool {
+fn has_candidates(shared: &RationedShared<21>, keys: &[u64]) -> bool {
     if shared.candidates() != keys.len() {
         return false;
     }
@@ -35,8 +35,8 @@ fn has_candidates<const LEVELS: usize>(shared: &RationedShared<LEVELS>, keys: &[
 }
 
 // Whether two parts show these keys and pivots.
-fn shows<const LEVELS: usize>(
-    queue: &RationedQueue<LEVELS>,
+fn shows(
+    queue: &RationedQueue<21>,
     own: &[&[u64]],
     shared: &[&[u64]],
     pivots: &[usize],
@@ -138,7 +138,18 @@ fn own_items(rt: HostRuntime) {
 
 // One own item, and one block of four.
 fn shows_full(queue: &RationedQueue<3>) -> bool {
-    shows(queue, &[&[5]], &[&[1, 2, 3, 4]], &[2], &[1, 2])
+    has_blocks(queue.own().lsm(), &[&[5]])
+        && has_blocks(queue.shared().lsm(), &[&[1, 2, 3, 4]])
+        && offers_two(queue.shared())
+}
+
+// Whether a shared part of one block offers the two least items, of keys 1 and 2.
+fn offers_two(shared: &RationedShared<3>) -> bool {
+    shared.lsm().blocks() == 1
+        && shared.pivot(0) == 2
+        && shared.candidates() == 2
+        && shared.candidate(0).key == 1
+        && shared.candidate(1).key == 2
 }
 
 // A shared part of three levels holds at most 4 items. What comes then is refused, and nothing changes.
