@@ -1,7 +1,7 @@
 -- Runs in their stores.
-use Rattle.std.proofs.Common.{◌≡◌, ◌⊎◌, ℕ, ◌+◌, ◌-◌, ◌<◌, ◌≤◌, ◌^◌, List, [], ◌∷◌, ◌++◌, length, take, drop, refl, sym, ap, ◌∙◌, subst, arith, inl, inr, zero, suc}
-use Rattle.std.specs.List.{refill}
-use Rattle.std.proofs.lemmas.List.{take_all, take-append-le, length-take, length-drop}
+use Rattle.std.proofs.Common.{◌≡◌, ◌⊎◌, ℕ, ◌+◌, ◌-◌, ◌<◌, ◌≤◌, ◌^◌, List, [], ◌∷◌, ◌++◌, length, take, drop, get_or, Some, refl, sym, ap, ◌∙◌, subst, arith, inl, inr, zero, suc}
+use Rattle.std.specs.List.{refill, slice_get}
+use Rattle.std.proofs.lemmas.List.{take_all, take_at, take-append-le, length-take, length-drop}
 use Rattle.std.proofs.lemmas.Bool.{cases_lt}
 use Rattle.std.proofs.Math.Pow.{pow_mono}
 use Rattle.klsm_run.specs.declared.item.Item.{Item}
@@ -10,6 +10,7 @@ use Rattle.klsm_run.specs.Block.{HasLevel}
 use Rattle.klsm_run.specs.Content.{IsAscending}
 use Rattle.klsm_run.specs.Capacity.{IsCapacity, IsRunCapacity, heap_room}
 use Rattle.klsm_run.specs.Stores.{spanned, IsSpan, IsFixedRun, IsHeapRun}
+use Rattle.klsm_run.proofs.ShiftLemmas.{get_spanned}
 
 -- the first of the first items
 pub take_within : (n k : ℕ) (xs : List Item) → n ≤ k → take n (take k xs) ≡ take n xs
@@ -49,6 +50,19 @@ fixed_lent capacity span old new same within up full range =
       capacity_in_range = range;
     })
 
+-- a span of the first places holds the items that were written there
+pub first_written : (span : Span) (new items : List Item) → take (length items) new ≡ items → span.start ≡ 0 → span.end ≡ length items → spanned span new ≡ items
+first_written span new items written start end =
+    let count : span.end - span.start ≡ length items = omega (arith, start, end) in
+    rw (count, start) written
+
+-- a fixed store that was lent, with other items in its first places
+pub fixed_written : (capacity : ℕ) (span : Span) (old new items : List Item) → length new ≡ length old → take (length items) new ≡ items → span.start ≡ 0 → span.end ≡ length items
+    → IsAscending items → length items ≤ capacity → length old ≡ capacity → IsCapacity capacity → IsFixedRun capacity span (refill (length old) old new)
+fixed_written capacity span old new items same written start end up few full range =
+    fixed_lent capacity span old new same (record { order = omega (arith, start); within = omega (arith, end, few, same, full) })
+    (subst IsAscending (sym (first_written span new items written start end)) up) full range
+
 -- a block of this level has more than half as many items as the power of two
 half_of_level : (l count : ℕ) → HasLevel l count → 2 ^ l < count + count
 half_of_level zero count level = omega (arith, level)
@@ -73,11 +87,17 @@ run_capacity room count capacity few holds power = record {
   ];
 }
 
--- a run in a fixed store is within it
+-- the span of a fixed run is one of its store
+pub fixed_span : {capacity : ℕ} {span : Span} {stored : List Item} → IsFixedRun capacity span stored → IsSpan span (length stored)
+fixed_span run = record { order = run.span_in.order; within = omega (arith, run.span_in.within, run.full) }
+
+-- a run in a fixed store has as many items as its span has places
+pub fixed_count : {capacity : ℕ} {span : Span} {stored : List Item} → IsFixedRun capacity span stored → length (spanned span stored) ≡ span.end - span.start
+fixed_count {capacity} {span} {stored} run = length_spanned span stored (fixed_span run)
+
+-- and is within it
 pub fixed_in_room : {capacity : ℕ} {span : Span} {stored : List Item} → IsFixedRun capacity span stored → length (spanned span stored) ≤ capacity
-fixed_in_room {capacity} {span} {stored} run =
-    let within : IsSpan span (length stored) = record { order = run.span_in.order; within = omega (arith, run.span_in.within, run.full) } in
-    omega (arith, length_spanned span stored within, run.span_in.within)
+fixed_in_room run = omega (arith, fixed_count run, run.span_in.within)
 
 -- and so is each part of it
 pub first_in_room : (capacity count : ℕ) (items : List Item) → length items ≤ capacity → length (take count items) ≤ capacity
@@ -85,3 +105,19 @@ first_in_room capacity count items few = omega (arith, few, length-take count it
 
 pub others_in_room : (capacity count : ℕ) (items : List Item) → length items ≤ capacity → length (drop count items) ≤ capacity
 others_in_room capacity count items few = omega (arith, few, length-drop count items)
+
+-- what a store begins with, where it was made to hold these items and then filled up
+pub first_stored : (places : ℕ) (items begun extended filled more : List Item) → length items ≤ places → begun ≡ [] → extended ≡ begun ++ items → filled ≡ take places extended ++ more
+    → take (length items) filled ≡ items
+first_stored places items begun extended filled more few none all is = rw (is, all, none, take_all places items few) (take_at items more (length items) refl)
+
+-- the place of an item is within the store
+pub place_in_store : (span : Span) (stored : List Item) {items : List Item} {index : ℕ} → IsSpan span (length stored) → spanned span stored ≡ items → index < length items → span.start + index < length stored
+place_in_store span stored within view less = omega (arith, length_spanned span stored within, ap length view, less, within.order, within.within)
+
+-- and there it lies
+pub item_in_store : (span : Span) (stored : List Item) {items : List Item} {index : ℕ} (d : Item) → IsSpan span (length stored) → spanned span stored ≡ items → index < length items
+    → slice_get items index ≡ Some (get_or stored (span.start + index) d)
+item_in_store span stored {items} {index} d within view less =
+    let few : index < span.end - span.start = omega (arith, length_spanned span stored within, ap length view, less) in
+    ap (λ xs. slice_get xs index) (sym view) ∙ get_spanned span.start span.end index stored d few within.within
