@@ -19,6 +19,12 @@ take_within (suc n) zero xs h = absurd (omega (arith, h))
 take_within (suc n) (suc k) [] h = refl
 take_within (suc n) (suc k) (x ∷ xs) h = ap (λ (l : List Item). x ∷ l) (take_within n k xs (omega (arith, h)))
 
+-- the first items of a span
+pub first_kept : (count : ℕ) (span : Span) (stored : List Item) → count ≤ span.end - span.start → take (span.start + count - span.start) (drop span.start stored) ≡ take count (spanned span stored)
+first_kept count span stored fewer =
+    let places : span.start + count - span.start ≡ count = omega arith in
+    ap (λ n. take n (drop span.start stored)) places ∙ sym (take_within _ _ (drop span.start stored) fewer)
+
 -- a store that was lent whole comes back whole
 pub lent_whole : (old new : List Item) → length new ≡ length old → refill (length old) old new ≡ new
 lent_whole old new same = take-append-le (length old) new (drop (length new) old) (omega (arith, same)) ∙ take_all (length old) new (omega (arith, same))
@@ -27,12 +33,15 @@ lent_whole old new same = take-append-le (length old) new (drop (length new) old
 pub length_spanned : (span : Span) (stored : List Item) → IsSpan span (length stored) → length (spanned span stored) ≡ span.end - span.start
 length_spanned span stored within = omega (arith, length-take (span.end - span.start) (drop span.start stored), length-drop span.start stored, within.order, within.within)
 
+-- a store of the heap that was lent comes back whole
+pub heap_whole : (count : ℕ) (old new : List Item) → length old ≡ count → length new ≡ length old → take count (new ++ drop (length new) old) ≡ new
+heap_whole count old new all same = take-append-le count new (drop (length new) old) (omega (arith, all, same)) ∙ take_all count new (omega (arith, all, same))
+
 -- a store of the heap that was lent, with another run in it
 pub heap_lent : (count : ℕ) (span : Span) (old new : List Item) → length old ≡ count → length new ≡ length old → IsSpan span (length new) → IsAscending (spanned span new)
     → length old ≤ heap_room → (length old ≡ heap_room) ⊎ ((l : ℕ) × (length old ≡ 2 ^ l)) → IsHeapRun span (take count (new ++ drop (length new) old))
 heap_lent count span old new all same within up room power =
-    let whole : take count (new ++ drop (length new) old) ≡ new = take-append-le count new (drop (length new) old) (omega (arith, all, same)) ∙ take_all count new (omega (arith, all, same)) in
-    subst (IsHeapRun span) (sym whole) (record {
+    subst (IsHeapRun span) (sym (heap_whole count old new all same)) (record {
       ascending = up;
       span_in = within;
       at_most = omega (arith, same, room);

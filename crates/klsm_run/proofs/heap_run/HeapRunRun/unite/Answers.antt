@@ -1,8 +1,8 @@
-use Rattle.std.proofs.Common.{◌∙◌, ap, sym, length}
+use Rattle.std.proofs.Common.{◌∙◌, ap, sym, refl, length}
 use Rattle.klsm_run.specs.Content.{ShareNone}
 use Rattle.klsm_run.specs.Stores.{spanned, HeapState}
 use Rattle.klsm_run.proofs.ApartLemmas.{apart_if_sharing_none, ascending_sorted}
-use Rattle.klsm_run.proofs.StoreLemmas.{heap_lent}
+use Rattle.klsm_run.proofs.StoreLemmas.{heap_whole, heap_lent}
 use Rattle.klsm_run.proofs.heap_run.HeapRunRun.unite.Goals as goal
 
 pub unite-requires-clause-apart : goal.unite-requires-clause-apart
@@ -14,3 +14,8 @@ invariant_of-self g c =
     heap_lent _ _ _ _ (ap length (sym c.as_mut_slice.ensures.value) ∙ c.as_mut_slice.ensures.len) (c.unite.ensures.len ∙ ap length c.as_mut_slice.ensures.value) c.unite.ensures.within
     (rw (c.unite.ensures.united, c.as_mut_slice.ensures.value, c.as_slice.ensures.items) (ascending_sorted _ _ c.self.invariant.ascending c.as_slice.ensures.ascending (apart_if_sharing_none _ _ apart)))
     c.self.invariant.at_most c.self.invariant.whole_or_power
+
+pub returns-clause-union : goal.returns-clause-union
+returns-clause-union g c =
+    ap (spanned c.unite.new.self) (heap_whole _ _ _ (ap length (sym c.as_mut_slice.ensures.value) ∙ c.as_mut_slice.ensures.len) (c.unite.ensures.len ∙ ap length c.as_mut_slice.ensures.value))
+    ∙ (c.unite.ensures.united ∙ rw (c.as_mut_slice.ensures.value, c.as_slice.ensures.items, ap (λ (s : HeapState). s.items) c.self.view_is) refl)
