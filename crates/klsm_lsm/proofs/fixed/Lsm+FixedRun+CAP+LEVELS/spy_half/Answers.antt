@@ -42,3 +42,9 @@ returns-clause-rest g c = c.lose_half.ensures
 
 pub returns-clause-count : goal.returns-clause-count
 returns-clause-count g c = c.len.ensures.len
+
+pub slice_bounds-fill-start : goal.slice_bounds-fill-start
+slice_bounds-fill-start g c = omega arith
+
+pub slice_bounds-fill-end : goal.slice_bounds-fill-end
+slice_bounds-fill-end g c = omega arith

@@ -1,6 +1,7 @@
-use Rattle.std.proofs.Common.{◌<◌, [], length, take, drop, Some, sym, ap, ◌∙◌, arith, List, refl, ◌≡◌}
+use Rattle.std.proofs.Common.{◌<◌, [], length, take, drop, Some, sym, ap, ◌∙◌, arith, rules, List, refl, ◌≡◌}
 use Rattle.std.specs.Option.{option_map}
 use Rattle.std.specs.List.{slice_get}
+use Rattle.std.proofs.lemmas.List.{length-map}
 use Rattle.std.proofs.lemmas.Option.{slice_get-get_or}
 use Rattle.klsm_run.specs.declared.item.Item.{Item}
 use Rattle.klsm_lsm.specs.Slots.{block_in, blocks_in}
@@ -49,3 +50,9 @@ returns-then-self-eq0-clause-rest g c =
 
 pub overflow_sub-self-2 : goal.overflow_sub-self-2
 overflow_sub-self-2 g c = omega (arith, c.if-self-eq0.false)
+
+pub remove-largest-requires : goal.remove-largest-requires
+remove-largest-requires g c = (search rules, omega (arith, c.if-self-eq0.false, rw length-map at c.self.invariant.within))
+
+pub unreachable-unreachable : goal.unreachable-unreachable
+unreachable-unreachable g c = c.unreachable.result
