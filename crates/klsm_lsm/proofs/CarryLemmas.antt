@@ -10,7 +10,7 @@ use Rattle.klsm_lsm.specs.Adding.{add}
 use Rattle.klsm_lsm.proofs.JoinLemmas.{AllBelow}
 use Rattle.klsm_lsm.proofs.SlotLemmas.{some_at}
 use Rattle.klsm_lsm.proofs.PlaceLemmas.{AllFrom}
-use Rattle.klsm_lsm.proofs.CascadeLemmas.{IsCarried, CanMerge, carried_first, can_merge_at, carried_more_at, carried_last_at}
+use Rattle.klsm_lsm.proofs.CascadeLemmas.{IsCarried, CanMerge, carried_first, can_merge_at, carried_more_at, carried_last_at, carried_none_at}
 
 abbrev Blocks : Type 0
 Blocks = List (List Item)
@@ -80,3 +80,8 @@ pub carrying_last : (room : ℕ) (bs now : Blocks) (at : ℕ) (result : Blocks) 
 carrying_last room bs now at result some c differ =
     take_more now at [] c.within ∙ (ap (λ (l : Blocks). l ++ get_or now at [] ∷ []) c.front
     ∙ carried_last_at room bs at (get_or now (at - 1) []) (get_or now at []) [] result c.lawful some c.order (before_is bs now at some c.front) differ c.carried)
+
+-- no block is left
+pub carrying_all : (room : ℕ) (bs now : Blocks) (at : ℕ) (result : Blocks) → at ≤ 0 → IsCarrying room bs now at result → take (at + 1) now ≡ result
+carrying_all room bs now at result none c =
+    take_more now at [] c.within ∙ (ap (λ (l : Blocks). l ++ get_or now at [] ∷ []) c.front ∙ carried_none_at room bs at (get_or now at []) [] result none c.carried)

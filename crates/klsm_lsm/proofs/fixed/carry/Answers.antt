@@ -1,8 +1,8 @@
-use Rattle.std.proofs.Common.{◌≡◌, ◌+◌, ◌-◌, ◌<◌, [], length, get_or, refl, sym, ◌∙◌, arith}
+use Rattle.std.proofs.Common.{◌≡◌, ◌+◌, ◌-◌, ◌<◌, ◌≤◌, [], length, get_or, refl, sym, ◌∙◌, arith}
 use Rattle.std.proofs.lemmas.List.{length-map, length-take-le}
 use Rattle.klsm_lsm.specs.Level.{level}
 use Rattle.klsm_lsm.specs.Slots.{blocks_in}
-use Rattle.klsm_lsm.proofs.CarryLemmas.{carrying_first, some_before, carrying_can, carrying_more, carrying_last}
+use Rattle.klsm_lsm.proofs.CarryLemmas.{carrying_first, some_before, carrying_can, carrying_more, carrying_last, carrying_all}
 use Rattle.klsm_lsm.proofs.fixed.carry.Goals as goal
 
 pub loop-at-init : goal.loop-at-init
@@ -40,3 +40,8 @@ loop-at-preserved g c =
 pub returns-then-level_in-clause-added : goal.returns-then-level_in-clause-added
 returns-then-level_in-clause-added g c =
     carrying_last _ _ _ _ _ c.loop-at-test.true c.loop-at.invariant.carrying (λ same. c.if-level_in.true (c.level_in.ensures ∙ (same ∙ sym c.level_in-in-loop-at.ensures)))
+
+pub returns-after-loop-at-clause-added : goal.returns-after-loop-at-clause-added
+returns-after-loop-at-clause-added g c =
+    let none : c.loop-at.at ≤ 0 = omega (arith, c.loop-at-test.false) in
+    carrying_all _ _ _ _ _ none c.loop-at.invariant.carrying
