@@ -9,8 +9,8 @@ set-requires g c =
     let few : length c.of-items.result.now ≤ g.row.CAP = rw (c.of-items.ensures, c.as_slice.ensures.value) (fixed_in_room c.self.invariant) in
     (search rules, (up, few))
 
-pub returns-clause-items : goal.returns-clause-items
-returns-clause-items g c = c.set.ensures ∙ (c.of-items.ensures ∙ rw c.as_slice.ensures.value c.self.view_is)
-
 pub returns-clause-fixed : goal.returns-clause-fixed
 returns-clause-fixed g c = search rules
+
+pub returns-clause-items : goal.returns-clause-items
+returns-clause-items g c = c.set.ensures ∙ (c.of-items.ensures ∙ rw c.as_slice.ensures.value c.self.view_is)
