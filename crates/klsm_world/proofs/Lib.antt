@@ -18,6 +18,7 @@ pub mod LegalLemmas
 pub mod LiveAfterLemmas
 pub mod LiveCountLemmas
 pub mod LiveListLemmas
+pub mod MemoryLemmas
 pub mod NewLemmas
 pub mod NotedLemmas
 pub mod OnceLemmas

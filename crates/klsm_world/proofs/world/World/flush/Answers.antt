@@ -1,8 +1,10 @@
-use Rattle.std.proofs.Common.{ap, ◌∙◌}
+use Rattle.std.proofs.Common.{ap, ◌∙◌, refl, sym, subst}
 use Rattle.klsm_run.proofs.SortedLemmas.{sorted_ascending}
 use Rattle.klsm_parts.specs.Events.{minus}
+use Rattle.klsm_world.specs.Kept.{IsKept}
 use Rattle.klsm_world.specs.Worlds.{Limits}
 use Rattle.klsm_world.proofs.CommitTakenLemmas.{flush_taken}
+use Rattle.klsm_world.proofs.MemoryLemmas.{lists_kept, refused_for_memory}
 use Rattle.klsm_world.proofs.world.World.flush.Goals as goal
 
 -- what moves at a legal flush ascends
@@ -26,3 +28,20 @@ returns g c =
     c.requires c.in_ok-note.ensures.noted (c.new-listed.ensures ∙ c.in_ok-copied.ensures.copy) c.own_part-own.ensures c.index.ensures c.as_slice.ensures
     (c.new.ensures ∙ (c.take_all_out.ensures ∙ ap (λ xs. minus xs c.args.moved.now) c.in_ok-own_after.ensures.with_all))
     c.index-2.ensures c.as_slice-2.ensures (c.new-2.ensures ∙ c.in_ok-shared_after.ensures.with_all)).1
+
+pub returns-in_err-own_after : goal.returns-in_err-own_after
+returns-in_err-own_after g c = refused_for_memory _ _ _ _ _ c.requires c.from_residual.ensures.1 c.in_err-own_after.ensures.refused refl
+
+pub returns-in_err-shared_after : goal.returns-in_err-shared_after
+returns-in_err-shared_after g c = refused_for_memory _ _ _ _ _ c.requires c.from_residual-in_err-shared_after.ensures.1 c.in_err-shared_after.ensures.refused refl
+
+pub returns-in_err-copied : goal.returns-in_err-copied
+returns-in_err-copied g c = refused_for_memory _ _ _ _ _ c.requires c.from_residual-in_err-copied.ensures.1 c.in_err-copied.ensures.refused refl
+
+pub invariant_of-self : goal.invariant_of-self
+invariant_of-self g c = subst (IsKept _ c.self.inside.words.items c.self.inside.contents.items) (sym c.in_err-note.ensures.unchanged) c.self.invariant
+
+pub returns-in_err-note : goal.returns-in_err-note
+returns-in_err-note g c =
+    refused_for_memory _ _ _ _ _ c.requires c.from_residual-in_err-note.ensures.1 c.in_err-note.ensures.refused
+    (lists_kept c.self.inside.words.items c.self.inside.contents.items c.in_err-note.ensures.unchanged c.self.view_is)

@@ -1,6 +1,9 @@
+use Rattle.std.proofs.Common.{sym, subst}
 use Rattle.std.proofs.lemmas.List.{get_or_read}
+use Rattle.klsm_world.specs.Kept.{IsKept}
 use Rattle.klsm_world.specs.Worlds.{Limits}
 use Rattle.klsm_world.proofs.TakenLemmas.{miss_taken}
+use Rattle.klsm_world.proofs.MemoryLemmas.{lists_kept, refused_for_memory}
 use Rattle.klsm_world.proofs.world.World.miss.Goals as goal
 
 pub invariant_of-self-2 : goal.invariant_of-self-2
@@ -16,3 +19,11 @@ returns g c =
     (miss_taken c.args.self.now limits c.self.inside.words.items c.self.inside.contents.items c.self.inside.lists.items c.note.new.lists.items c.args.thread c.self.view_is c.self.invariant
     c.args.part c.index.result.now c.requires c.in_ok-note.ensures.noted
     (λ within. get_or_read c.self.inside.words.items _ _ within c.index.ensures 0)).1
+
+pub invariant_of-self : goal.invariant_of-self
+invariant_of-self g c = subst (IsKept _ c.self.inside.words.items c.self.inside.contents.items) (sym c.in_err-note.ensures.unchanged) c.self.invariant
+
+pub returns-in_err-note : goal.returns-in_err-note
+returns-in_err-note g c =
+    refused_for_memory _ _ _ _ _ c.requires c.from_residual.ensures.1 c.in_err-note.ensures.refused
+    (lists_kept c.self.inside.words.items c.self.inside.contents.items c.in_err-note.ensures.unchanged c.self.view_is)

@@ -1,6 +1,8 @@
-use Rattle.std.proofs.Common.{◌∙◌}
+use Rattle.std.proofs.Common.{◌∙◌, sym, subst, refl}
+use Rattle.klsm_world.specs.Kept.{IsKept}
 use Rattle.klsm_world.specs.Worlds.{Limits}
 use Rattle.klsm_world.proofs.CommitTakenLemmas.{put_taken}
+use Rattle.klsm_world.proofs.MemoryLemmas.{lists_kept, refused_for_memory}
 use Rattle.klsm_world.proofs.world.World.put.Goals as goal
 
 pub invariant_of-self-2 : goal.invariant_of-self-2
@@ -16,3 +18,14 @@ returns g c =
     (put_taken c.args.self.now limits c.self.inside.words.items c.self.inside.contents.items c.self.inside.lists.items c.note.new.lists.items c.args.thread c.self.view_is c.self.invariant
     c.args.item c.own_part-own.result c.index.result.now c.as_slice.result.now c.new-2.result c.requires c.in_ok-note.ensures.noted
     c.own_part-own.ensures c.index.ensures c.as_slice.ensures (c.new-2.ensures ∙ c.in_ok-after.ensures.with_all)).1
+
+pub returns-in_err-after : goal.returns-in_err-after
+returns-in_err-after g c = refused_for_memory _ _ _ _ _ c.requires c.from_residual.ensures.1 c.in_err-after.ensures.refused refl
+
+pub invariant_of-self : goal.invariant_of-self
+invariant_of-self g c = subst (IsKept _ c.self.inside.words.items c.self.inside.contents.items) (sym c.in_err-note.ensures.unchanged) c.self.invariant
+
+pub returns-in_err-note : goal.returns-in_err-note
+returns-in_err-note g c =
+    refused_for_memory _ _ _ _ _ c.requires c.from_residual-in_err-note.ensures.1 c.in_err-note.ensures.refused
+    (lists_kept c.self.inside.words.items c.self.inside.contents.items c.in_err-note.ensures.unchanged c.self.view_is)

@@ -1,5 +1,8 @@
+use Rattle.std.proofs.Common.{sym, subst}
+use Rattle.klsm_world.specs.Kept.{IsKept}
 use Rattle.klsm_world.specs.Worlds.{Limits}
 use Rattle.klsm_world.proofs.TakenLemmas.{release_taken}
+use Rattle.klsm_world.proofs.MemoryLemmas.{lists_kept, refused_for_memory}
 use Rattle.klsm_world.proofs.world.World.release.Goals as goal
 
 pub invariant_of-self-2 : goal.invariant_of-self-2
@@ -13,3 +16,11 @@ returns g c =
     let limits : Limits = record { threads = c.self.inside.threads; k = c.self.inside.k } in
     (release_taken c.args.self.now limits c.self.inside.words.items c.self.inside.contents.items c.self.inside.lists.items c.note.new.lists.items c.args.thread c.self.view_is c.self.invariant
     c.args.part c.requires c.in_ok-note.ensures.noted).1
+
+pub invariant_of-self : goal.invariant_of-self
+invariant_of-self g c = subst (IsKept _ c.self.inside.words.items c.self.inside.contents.items) (sym c.in_err-note.ensures.unchanged) c.self.invariant
+
+pub returns-in_err-note : goal.returns-in_err-note
+returns-in_err-note g c =
+    refused_for_memory _ _ _ _ _ c.requires c.from_residual.ensures.1 c.in_err-note.ensures.refused
+    (lists_kept c.self.inside.words.items c.self.inside.contents.items c.in_err-note.ensures.unchanged c.self.view_is)

@@ -1,7 +1,9 @@
-use Rattle.std.proofs.Common.{◌≡◌, ◌⊎◌, true, false, inl, inr, ◌∙◌}
+use Rattle.std.proofs.Common.{◌≡◌, ◌⊎◌, true, false, inl, inr, ◌∙◌, sym, subst, refl}
 use Rattle.klsm_world.proofs.world.World.take.Goals.{then-is_own, else-is_own}
+use Rattle.klsm_world.specs.Kept.{IsKept}
 use Rattle.klsm_world.specs.Worlds.{Limits}
 use Rattle.klsm_world.proofs.CommitTakenLemmas.{take_taken}
+use Rattle.klsm_world.proofs.MemoryLemmas.{lists_kept, refused_for_memory}
 use Rattle.klsm_world.proofs.world.World.take.Goals as goal
 
 pub invariant_of-self-2 : goal.invariant_of-self-2
@@ -23,3 +25,14 @@ returns g c =
     c.args.item c.own_part-own.result c.if-is_own.part c.has-is_own.result c.index.result.now c.as_slice.result.now c.index-2.result.now c.as_slice-2.result.now c.new-2.result
     c.requires c.in_ok-note.ensures.noted c.own_part-own.ensures c.index.ensures c.as_slice.ensures c.has-is_own.ensures.0 c.has-is_own.ensures.1 place
     c.index-2.ensures c.as_slice-2.ensures (c.new-2.ensures ∙ c.in_ok-after.ensures.without_all)).1
+
+pub returns-in_err-after : goal.returns-in_err-after
+returns-in_err-after g c = refused_for_memory _ _ _ _ _ c.requires c.from_residual.ensures.1 c.in_err-after.ensures.refused refl
+
+pub invariant_of-self : goal.invariant_of-self
+invariant_of-self g c = subst (IsKept _ c.self.inside.words.items c.self.inside.contents.items) (sym c.in_err-note.ensures.unchanged) c.self.invariant
+
+pub returns-in_err-note : goal.returns-in_err-note
+returns-in_err-note g c =
+    refused_for_memory _ _ _ _ _ c.requires c.from_residual-in_err-note.ensures.1 c.in_err-note.ensures.refused
+    (lists_kept c.self.inside.words.items c.self.inside.contents.items c.in_err-note.ensures.unchanged c.self.view_is)
