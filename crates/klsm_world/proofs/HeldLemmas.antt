@@ -27,3 +27,11 @@ module _ (limits : Limits) (w : World) (t : ℕ) (agreed : AreAgreed limits w) (
     λ both. subst (λ c. Fits c shared) (sym (own_is ∙ held_is (own_part t) both.0 own_word both.2))
         (subst (Fits both.0) (sym (shared_is ∙ held_is shared_part both.1 shared_word both.3)) both.4),
   )
+
+  -- and of the own part alone
+  pub holds_own : (Fits : List Item → Type 0) (own : List Item) → own ≡ content_of w (own_part t) → word_of w (own_part t) ≡ t + 1
+      → Fits own ↔ ((c : List Item) × Holds (hand_in w t) (own_part t) c × Fits c)
+  holds_own Fits own own_is own_word = (
+    λ fits. (content_of w (own_part t), holds_named limits w t agreed less (own_part t) own_word, subst Fits own_is fits),
+    λ has. subst Fits (sym (own_is ∙ held_is (own_part t) has.0 own_word has.1)) has.2,
+  )
