@@ -23,6 +23,7 @@ pub mod NewLemmas
 pub mod NotedLemmas
 pub mod OnceLemmas
 pub mod PartContentLemmas
+pub mod PlaceLemmas
 pub mod PlacingLemmas
 pub mod RefusalLemmas
 pub mod RestLemmas

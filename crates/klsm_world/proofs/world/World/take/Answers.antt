@@ -4,6 +4,7 @@ use Rattle.klsm_world.specs.Kept.{IsKept}
 use Rattle.klsm_world.specs.Worlds.{Limits}
 use Rattle.klsm_world.proofs.CommitTakenLemmas.{take_taken}
 use Rattle.klsm_world.proofs.MemoryLemmas.{lists_kept, refused_for_memory}
+use Rattle.klsm_world.proofs.PlaceLemmas.{list_place, own_place}
 use Rattle.klsm_world.proofs.world.World.take.Goals as goal
 
 pub invariant_of-self-2 : goal.invariant_of-self-2
@@ -36,3 +37,12 @@ pub returns-in_err-note : goal.returns-in_err-note
 returns-in_err-note g c =
     refused_for_memory _ _ _ _ _ c.requires c.from_residual-in_err-note.ensures.1 c.in_err-note.ensures.refused
     (lists_kept c.self.inside.words.items c.self.inside.contents.items c.in_err-note.ensures.unchanged c.self.view_is)
+
+pub index-requires : goal.index-requires
+index-requires g c = own_place c.self.invariant c.self.view_is c.requires.0 c.own_part-own.ensures c.self.inside.contents.ok.0
+
+pub slice_bounds-without_all-end : goal.slice_bounds-without_all-end
+slice_bounds-without_all-end g c = refl
+
+pub note-requires : goal.note-requires
+note-requires g c = list_place c.self.invariant c.self.view_is c.requires.0 c.self.inside.lists.ok.0
