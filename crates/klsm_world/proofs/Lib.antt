@@ -32,6 +32,7 @@ pub mod RunLemmas
 pub mod SameLemmas
 pub mod SkipLemmas
 pub mod StampLemmas
+pub mod StartLemmas
 pub mod TakeConditionLemmas
 pub mod TakenLemmas
 pub mod TraceEndLemmas

@@ -5,8 +5,9 @@ use Rattle.klsm_run.specs.declared.item.Item.{Item}
 use Rattle.klsm_run.specs.Content.{sorted}
 use Rattle.klsm_world.specs.declared.step.Entry.{Entry}
 use Rattle.klsm_world.specs.Kept.{IsKept, world_of}
+use Rattle.klsm_world.specs.OwnSteps.{Holds}
 use Rattle.klsm_world.specs.Running.{Running}
-use Rattle.klsm_world.specs.Worlds.{Limits}
+use Rattle.klsm_world.specs.Worlds.{Limits, hand_in}
 
 module _ {limits : Limits} {words : List ℕ} {contents : List (List Item)} {lists : List (List Entry)} (kept : IsKept limits words contents lists) where
   pub shared_place : {len : ℕ} → len ≡ length contents → 0 < len
@@ -27,3 +28,8 @@ module _ {limits : Limits} {words : List ℕ} {contents : List (List Item)} {lis
 
     pub list_place : {len : ℕ} → len ≡ length lists → t < len
     list_place counted = omega (arith, less_kept, kept.lawful.agreed.lists_are, counted)
+
+    pub held_place : {p q len : ℕ} {c : List Item} → q ≡ p → Holds (hand_in before.world t) p c → len ≡ length contents → q < len
+    held_place {p = p} {c = c} is has counted =
+        let here : Holds (hand_in (world_of words contents lists) t) p c = subst (λ (r : Running). Holds (hand_in r.world t) p c) (sym view) has in
+        omega (arith, is, (kept.lawful.agreed.named t p c less_kept here).0, kept.contents_are, counted)

@@ -1,10 +1,12 @@
-use Rattle.std.proofs.Common.{◌≡◌, ◌∙◌, ap, sym, subst, List, max, ◌+◌, ◌++◌}
+use Rattle.std.proofs.Common.{◌≡◌, ◌∙◌, ap, sym, subst, List, max, ◌+◌, ◌++◌, refl}
+use Rattle.std.proofs.lemmas.Result.{IfOk-from_err}
 use Rattle.klsm_run.specs.declared.item.Item.{Item}
 use Rattle.klsm_world.specs.Refusals.{Refuses}
 use Rattle.klsm_world.specs.Running.{Running}
 use Rattle.klsm_world.specs.Schedules.{MayStep, next}
 use Rattle.klsm_world.specs.Traces.{IsTrace, listed}
-use Rattle.klsm_world.specs.Worlds.{Limits}
+use Rattle.klsm_world.specs.Worlds.{Limits, first_world}
+use Rattle.klsm_world.proofs.StartLemmas.{are_limits, run_lacks_memory, run_not_started}
 use Rattle.klsm_world.proofs.TraceLemmas.{HasRun, has_run_more}
 use Rattle.klsm_world.proofs.TraceEndLemmas.{trace_of_run, refused_by_step, greater_of}
 use Rattle.klsm_world.proofs.running.run.Goals as goal
@@ -50,3 +52,42 @@ returns-clause-trace g c =
     trace_of_run limits c.args.steps.now c.loop-index.index c.loop-index.world.world _ _ _ _ c.loop-index.invariant.limits_are c.loop-index.invariant.run c.loop-index-test.false c.in_ok-live.ensures.live in
     subst (λ (d : List Item). IsTrace limits c.args.steps.now c.new-2.result d c.loop-index.most c.in_ok-live.live) (sym c.new-3.ensures)
     (subst (λ (i : List Item). IsTrace limits c.args.steps.now i c.loop-index.deleted.items c.loop-index.most c.in_ok-live.live) (sym c.new-2.ensures) trace)
+
+pub returns-in_err-world-clause-refused : goal.returns-in_err-world-clause-refused
+returns-in_err-world-clause-refused g c =
+    let limits : Limits = record { threads = c.args.threads; k = c.args.k } in
+    run_not_started limits c.args.steps.now _ _ c.from_residual.ensures.1 c.in_err-world.ensures.bad_threads c.in_err-world.ensures.bad_k c.in_err-world.ensures.no_step
+
+pub loop-index-init : goal.loop-index-init
+loop-index-init g c =
+    let limits : Limits = record { threads = c.args.threads; k = c.args.k } in
+    let made : c.in_ok-world.world ≡ record { limits = limits; world = first_world limits } = c.in_ok-world.ensures.made in
+    record {
+      limits = ap (λ (r : Running). r.limits) made;
+      limits_are = are_limits limits c.in_ok-world.ensures.bad_threads.1 c.in_ok-world.ensures.bad_k.1;
+      run = record { leads = ap (λ (r : Running). r.world) made; inserted_are = c.new-inserted.ensures.items; deleted_are = c.new-deleted.ensures.items; most_is = refl };
+    }
+
+pub returns-in_err-push_some-clause-refused : goal.returns-in_err-push_some-clause-refused
+returns-in_err-push_some-clause-refused g c =
+    run_lacks_memory _ c.args.steps.now _ _ c.from_residual-in_err-push_some.ensures.1 c.in_err-push_some.ensures.refused c.loop-index.invariant.limits_are
+
+pub returns-in_err-push_some-2-clause-refused : goal.returns-in_err-push_some-2-clause-refused
+returns-in_err-push_some-2-clause-refused g c =
+    run_lacks_memory _ c.args.steps.now _ _ c.from_residual-in_err-push_some-2.ensures.1 c.in_err-push_some-2.ensures.refused c.loop-index.invariant.limits_are
+
+pub returns-in_err-live-clause-refused : goal.returns-in_err-live-clause-refused
+returns-in_err-live-clause-refused g c =
+    run_lacks_memory _ c.args.steps.now _ _ c.from_residual-in_err-live.ensures.1 c.in_err-live.ensures.refused c.loop-index.invariant.limits_are
+
+pub returns-in_err-world-clause-trace : goal.returns-in_err-world-clause-trace
+returns-in_err-world-clause-trace g c = IfOk-from_err c.from_residual.result _ c.from_residual.ensures.0
+
+pub returns-in_err-push_some-clause-trace : goal.returns-in_err-push_some-clause-trace
+returns-in_err-push_some-clause-trace g c = IfOk-from_err c.from_residual-in_err-push_some.result _ c.from_residual-in_err-push_some.ensures.0
+
+pub returns-in_err-push_some-2-clause-trace : goal.returns-in_err-push_some-2-clause-trace
+returns-in_err-push_some-2-clause-trace g c = IfOk-from_err c.from_residual-in_err-push_some-2.result _ c.from_residual-in_err-push_some-2.ensures.0
+
+pub returns-in_err-live-clause-trace : goal.returns-in_err-live-clause-trace
+returns-in_err-live-clause-trace g c = IfOk-from_err c.from_residual-in_err-live.result _ c.from_residual-in_err-live.ensures.0

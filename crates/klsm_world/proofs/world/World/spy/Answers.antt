@@ -3,7 +3,7 @@ use Rattle.klsm_world.specs.Kept.{IsKept}
 use Rattle.klsm_world.specs.Worlds.{Limits}
 use Rattle.klsm_world.proofs.CommitTakenLemmas.{spy_taken}
 use Rattle.klsm_world.proofs.MemoryLemmas.{lists_kept, refused_for_memory}
-use Rattle.klsm_world.proofs.PlaceLemmas.{list_place, own_place}
+use Rattle.klsm_world.proofs.PlaceLemmas.{held_place, list_place, own_place}
 use Rattle.klsm_world.proofs.world.World.spy.Goals as goal
 
 pub invariant_of-self-2 : goal.invariant_of-self-2
@@ -44,3 +44,9 @@ note-requires g c = list_place c.self.invariant c.self.view_is c.requires.0 c.se
 
 pub index_mut-requires : goal.index_mut-requires
 index_mut-requires g c = own_place c.self.invariant c.self.view_is c.requires.0 c.own_part.ensures c.self.inside.contents.ok.0
+
+pub index-requires : goal.index-requires
+index-requires g c = held_place c.self.invariant c.self.view_is c.requires.0 c.own_part-from.ensures c.requires.1.1.3 c.self.inside.contents.ok.0
+
+pub index_mut-requires-2 : goal.index_mut-requires-2
+index_mut-requires-2 g c = held_place c.self.invariant c.self.view_is c.requires.0 c.own_part-from.ensures c.requires.1.1.3 c.self.inside.contents.ok.0
