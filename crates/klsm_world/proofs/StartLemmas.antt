@@ -16,8 +16,11 @@ AreBadThreads limits = (limits.threads ≡ 0) ⊎ (16 < limits.threads)
 abbrev pub IsBadK : Limits → Type 0
 IsBadK limits = (1 ≤ limits.threads) × (limits.threads ≤ 16) × (128 < limits.k)
 
-pub are_threads : (limits : Limits) → 1 ≤ limits.threads → limits.threads ≤ 16 → AreBadThreads limits → ⊥
-are_threads limits some most (inl none) = omega (arith, some, none)
+pub some_thread : (limits : Limits) → (limits.threads ≡ 0 → ⊥) → 1 ≤ limits.threads
+some_thread limits some = elim (cases_lt limits.threads 1) [ inl none ↦ absurd (some (omega (arith, none))) | inr one ↦ one ]
+
+pub are_threads : (limits : Limits) → (limits.threads ≡ 0 → ⊥) → limits.threads ≤ 16 → AreBadThreads limits → ⊥
+are_threads limits some most (inl none) = absurd (some none)
 are_threads limits some most (inr many) = omega (arith, most, many)
 
 pub is_k : (limits : Limits) → limits.k ≤ 128 → IsBadK limits → ⊥

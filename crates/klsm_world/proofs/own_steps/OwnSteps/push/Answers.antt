@@ -1,4 +1,4 @@
-use Rattle.std.proofs.Common.{arith, rules, length, ◌≡◌, ◌+◌}
+use Rattle.std.proofs.Common.{arith, length, ◌≡◌, ◌+◌}
 use Rattle.klsm_world.specs.Kept.{entry_of}
 use Rattle.klsm_world.specs.OwnSteps.{inserted, inserted_at}
 use Rattle.klsm_world.proofs.InsertionLemmas.{few_inserted, one_inserted, none_inserted, inserted_with}
