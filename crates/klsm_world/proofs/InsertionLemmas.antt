@@ -26,12 +26,14 @@ few_inserted [] = omega arith
 few_inserted (entry ∷ own) = omega (arith, at_most_one entry, few_inserted own, length-append (inserted_at entry) (inserted own))
 
 -- a step that adds an item to a part inserts one
-pub one_inserted : (step : KeptStep) (items : List Item) → ((x : Item) × (step ≡ kept.Put x)) ⊎ ((x : Item) × (step ≡ kept.Flush x)) → length (inserted_at (entry_of step items)) ≡ 1
+pub one_inserted : (step : KeptStep) (items : List Item) → ((x : Item) × (step ≡ kept.Put x)) ⊎ ((x : Item) × (step ≡ kept.Flush x))
+    → length (inserted_at (entry_of step items)) ≡ 1
 one_inserted step items (inl put) = ap (λ s. length (inserted_at (entry_of s items))) put.1
 one_inserted step items (inr flush) = ap (λ s. length (inserted_at (entry_of s items))) flush.1
 
 -- and any other inserts none
-pub none_inserted : (step : KeptStep) (items : List Item) → ((x : Item) → step ≡ kept.Put x → ⊥) → ((x : Item) → step ≡ kept.Flush x → ⊥) → length (inserted_at (entry_of step items)) ≡ 0
+pub none_inserted : (step : KeptStep) (items : List Item) → ((x : Item) → step ≡ kept.Put x → ⊥) → ((x : Item) → step ≡ kept.Flush x → ⊥)
+    → length (inserted_at (entry_of step items)) ≡ 0
 none_inserted (kept.Acquired p) items put flush = refl
 none_inserted (kept.Put x) items put flush = absurd (put x refl)
 none_inserted (kept.Flush x) items put flush = absurd (flush x refl)

@@ -37,13 +37,13 @@ are_limits limits threads k =
     }
 
 -- what is refused for want of memory is refused for nothing else
-pub only_memory : {T Bad : Type 0} (result : Result T WorldError) (why other : WorldError) → NoMemory ≢ other → IsErrAnd result (λ error. error ≡ why) → why ≡ NoMemory → (Bad → ⊥)
-    → IsErrAnd result (λ error. error ≡ other) ↔ Bad
+pub only_memory : {T Bad : Type 0} (result : Result T WorldError) (why other : WorldError) → NoMemory ≢ other → IsErrAnd result (λ error. error ≡ why)
+    → why ≡ NoMemory → (Bad → ⊥) → IsErrAnd result (λ error. error ≡ other) ↔ Bad
 only_memory (Ok done) why other differs refused lacks fine = (λ is. absurd refused, λ bad. absurd (fine bad))
 only_memory (Err error) why other differs refused lacks fine = (λ is. absurd (differs (sym (refused ∙ lacks) ∙ is)), λ bad. absurd (fine bad))
 
-pub run_lacks_memory : {T : Type 0} (limits : Limits) (steps : List Step) (result : Result T WorldError) (why : WorldError) → IsErrAnd result (λ error. error ≡ why) → why ≡ NoMemory
-    → AreLimits limits → IfErr result (RefusesRun limits steps)
+pub run_lacks_memory : {T : Type 0} (limits : Limits) (steps : List Step) (result : Result T WorldError) (why : WorldError)
+    → IsErrAnd result (λ error. error ≡ why) → why ≡ NoMemory → AreLimits limits → IfErr result (RefusesRun limits steps)
 run_lacks_memory limits steps (Ok done) why refused lacks are = absurd refused
 run_lacks_memory limits steps (Err error) why refused lacks are = subst (RefusesRun limits steps) (sym (refused ∙ lacks)) are
 
@@ -57,6 +57,7 @@ start_refused limits steps (At at error) threads k no_step = absurd (no_step at 
 
 -- a run is refused as its first world is
 pub run_not_started : {T : Type 0} (limits : Limits) (steps : List Step) (result : Result T WorldError) (why : WorldError) → IsErrAnd result (λ error. error ≡ why)
-    → (why ≡ BadThreads) ↔ AreBadThreads limits → (why ≡ BadK) ↔ IsBadK limits → ((at : ℕ) (error : StepError) → why ≢ At at error) → IfErr result (RefusesRun limits steps)
+    → (why ≡ BadThreads) ↔ AreBadThreads limits → (why ≡ BadK) ↔ IsBadK limits → ((at : ℕ) (error : StepError) → why ≢ At at error)
+    → IfErr result (RefusesRun limits steps)
 run_not_started limits steps (Ok done) why refused threads k no_step = absurd refused
 run_not_started limits steps (Err error) why refused threads k no_step = subst (RefusesRun limits steps) (sym refused) (start_refused limits steps why threads k no_step)

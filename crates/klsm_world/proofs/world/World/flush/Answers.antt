@@ -54,7 +54,8 @@ pub slice_bounds-with_all-end : goal.slice_bounds-with_all-end
 slice_bounds-with_all-end g c = refl
 
 pub with_all-requires-clause-sorted : goal.with_all-requires-clause-sorted
-with_all-requires-clause-sorted g c = ascending_place c.self.invariant (own_place c.self.invariant c.self.view_is c.requires.0 c.own_part-own.ensures refl) c.index.ensures c.as_slice.ensures
+with_all-requires-clause-sorted g c =
+    ascending_place c.self.invariant (own_place c.self.invariant c.self.view_is c.requires.0 c.own_part-own.ensures refl) c.index.ensures c.as_slice.ensures
 
 pub with_all-requires-clause-joining_sorted : goal.with_all-requires-clause-joining_sorted
 with_all-requires-clause-joining_sorted g c = refl

@@ -28,22 +28,31 @@ returns-then-k-gt-MOST_K-clause-bad_k g c =
     (λ same. (some_thread (record { threads = c.args.threads; k = c.args.k }) c.if-threads-eq0.false, c.if-threads-gt-MOST_THREADS.false, c.if-k-gt-MOST_K.true), λ bad. refl)
 
 pub returns-in_default-clause-bad_threads : goal.returns-in_default-clause-bad_threads
-returns-in_default-clause-bad_threads g c = (λ same. cc, λ bad. absurd (are_threads (record { threads = c.args.threads; k = c.args.k }) c.if-threads-eq0.false c.if-threads-gt-MOST_THREADS.false bad))
+returns-in_default-clause-bad_threads g c =
+    (λ same. cc, λ bad. absurd (are_threads (record { threads = c.args.threads; k = c.args.k }) c.if-threads-eq0.false c.if-threads-gt-MOST_THREADS.false bad))
 
 pub returns-in_default-clause-bad_k : goal.returns-in_default-clause-bad_k
 returns-in_default-clause-bad_k g c = (λ same. cc, λ bad. absurd (is_k (record { threads = c.args.threads; k = c.args.k }) c.if-k-gt-MOST_K.false bad))
 
 pub returns-in_err-contents-clause-bad_threads : goal.returns-in_err-contents-clause-bad_threads
-returns-in_err-contents-clause-bad_threads g c = only_memory _ _ _ (λ same. cc) c.from_residual.ensures.1 c.in_err-contents.ensures.refused (are_threads (record { threads = c.args.threads; k = c.args.k }) c.if-threads-eq0.false c.if-threads-gt-MOST_THREADS.false)
+returns-in_err-contents-clause-bad_threads g c =
+    only_memory _ _ _ (λ same. cc) c.from_residual.ensures.1 c.in_err-contents.ensures.refused
+    (are_threads (record { threads = c.args.threads; k = c.args.k }) c.if-threads-eq0.false c.if-threads-gt-MOST_THREADS.false)
 
 pub returns-in_err-contents-clause-bad_k : goal.returns-in_err-contents-clause-bad_k
-returns-in_err-contents-clause-bad_k g c = only_memory _ _ _ (λ same. cc) c.from_residual.ensures.1 c.in_err-contents.ensures.refused (is_k (record { threads = c.args.threads; k = c.args.k }) c.if-k-gt-MOST_K.false)
+returns-in_err-contents-clause-bad_k g c =
+    only_memory _ _ _ (λ same. cc) c.from_residual.ensures.1 c.in_err-contents.ensures.refused
+    (is_k (record { threads = c.args.threads; k = c.args.k }) c.if-k-gt-MOST_K.false)
 
 pub returns-in_err-lists-clause-bad_threads : goal.returns-in_err-lists-clause-bad_threads
-returns-in_err-lists-clause-bad_threads g c = only_memory _ _ _ (λ same. cc) c.from_residual-in_err-lists.ensures.1 c.in_err-lists.ensures.refused (are_threads (record { threads = c.args.threads; k = c.args.k }) c.if-threads-eq0.false c.if-threads-gt-MOST_THREADS.false)
+returns-in_err-lists-clause-bad_threads g c =
+    only_memory _ _ _ (λ same. cc) c.from_residual-in_err-lists.ensures.1 c.in_err-lists.ensures.refused
+    (are_threads (record { threads = c.args.threads; k = c.args.k }) c.if-threads-eq0.false c.if-threads-gt-MOST_THREADS.false)
 
 pub returns-in_err-lists-clause-bad_k : goal.returns-in_err-lists-clause-bad_k
-returns-in_err-lists-clause-bad_k g c = only_memory _ _ _ (λ same. cc) c.from_residual-in_err-lists.ensures.1 c.in_err-lists.ensures.refused (is_k (record { threads = c.args.threads; k = c.args.k }) c.if-k-gt-MOST_K.false)
+returns-in_err-lists-clause-bad_k g c =
+    only_memory _ _ _ (λ same. cc) c.from_residual-in_err-lists.ensures.1 c.in_err-lists.ensures.refused
+    (is_k (record { threads = c.args.threads; k = c.args.k }) c.if-k-gt-MOST_K.false)
 
 pub returns-clause-bad_threads : goal.returns-clause-bad_threads
 returns-clause-bad_threads g c = (λ never. absurd never, are_threads (record { threads = c.args.threads; k = c.args.k }) c.if-threads-eq0.false c.if-threads-gt-MOST_THREADS.false)
