@@ -4,7 +4,7 @@ use klsm_run::Item;
 use std::fmt;
 
 /// What the queue answers to a row.
-#[derive(Clone, Copy, Debug, PartialEq, Eq)]
+#[derive(Clone, Copy)]
 pub(crate) enum Answer {
     /// This item was accepted.
     Inserted(Item),
@@ -15,14 +15,14 @@ pub(crate) enum Answer {
 }
 
 /// An answer, and the thread whose row it answers.
-#[derive(Clone, Copy, Debug, PartialEq, Eq)]
+#[derive(Clone, Copy)]
 pub(crate) struct Line {
     pub thread: u32,
     pub answer: Answer,
 }
 
 /// A line as it is printed: with the number of smaller live items that its deletion skipped.
-#[derive(Clone, Copy, Debug, PartialEq, Eq)]
+#[derive(Clone, Copy)]
 pub(crate) struct Printed {
     pub line: Line,
     pub skip: usize,

@@ -3,8 +3,9 @@ ghost use Rattle.std.specs.Prelude.{◌≡◌, IfErr, IfOk, OnOk, IsUtf8, map};
 ghost use Rattle.std.specs.List.{All};
 ghost use Rattle.clap.specs.Words.{app_of, kind_of};
 ghost use Rattle.klsm_tool.specs.CommandLine.{IsCommand, klsm_command, replay_words};
-ghost use Rattle.klsm_tool.specs.Program.{Explains, IsFaultIn, Runs, RunsReplayOrLacksMemory};
-ghost use Rattle.klsm_tool.specs.Program.{RunsSome, Says, status_of as status_of_end};
+ghost use Rattle.klsm_tool.specs.Program.{Explains, IsFaultIn, RefusesBytes, Runs, RunsReplay};
+ghost use Rattle.klsm_tool.specs.Program.{RunsReplayOrLacksMemory, RunsSome, Says};
+ghost use Rattle.klsm_tool.specs.Program.{status_of as status_of_end};
 
 use crate::output::{NO_MEMORY, write_text};
 use crate::process_words::process_words;
@@ -49,19 +50,30 @@ pub fn run_words<R: Read + Drop, W: Write>(
         (W.contents writer.old) (W.contents writer.new) result.code }
 {
     match parse(rt.alloc(), words) {
-        Ok(()) => {
-            let settings = Settings {
-                threads: 1,
-                k: 64,
-                pick: Pick::First,
-                seed: 1,
-            };
-            status_of(replay_over(rt, reader, writer, &settings).end)
-        }
+        Ok(()) => run_replay(rt, reader, writer),
         Err(Fault::Said { text, status }) => say(writer, text.as_bytes(), status),
-        Err(Fault::NotText) => say(writer, NOT_TEXT, USAGE),
+        Err(Fault::NotText) => refuse_bytes(writer),
         Err(Fault::NoMemory) => say(writer, NO_MEMORY, EXHAUSTED),
     }
+}
+
+fn run_replay<R: Read + Drop, W: Write>(rt: &impl AllocGlobal, reader: R, writer: &mut W) -> Status
+    ensures { RunsReplay (R.remaining reader) (W.contents writer.old) (W.contents writer.new)
+        result.code }
+{
+    let settings = Settings {
+        threads: 1,
+        k: 64,
+        pick: Pick::First,
+        seed: 1,
+    };
+    status_of(replay_over(rt, reader, writer, &settings).end)
+}
+
+fn refuse_bytes<W: Write>(writer: &mut W) -> Status
+    ensures { RefusesBytes (W.contents writer.old) (W.contents writer.new) result.code }
+{
+    say(writer, NOT_TEXT, USAGE)
 }
 
 /// Why the words ask for no run.

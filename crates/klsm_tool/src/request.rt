@@ -3,21 +3,21 @@
 use std::fmt;
 
 /// What a row asks its thread to do.
-#[derive(Clone, Copy, Debug, PartialEq, Eq)]
+#[derive(Clone, Copy)]
 pub(crate) enum Operation {
     Insert { key: u64, load: u64 },
     Delete,
 }
 
 /// A row that is not refused.
-#[derive(Clone, Copy, Debug, PartialEq, Eq)]
+#[derive(Clone, Copy)]
 pub(crate) struct Request {
     pub thread: u32,
     pub operation: Operation,
 }
 
 /// What is wrong with a row, in the order in which it is judged.
-#[derive(Clone, Copy, Debug, PartialEq, Eq)]
+#[derive(Clone, Copy, PartialEq, Eq)]
 pub(crate) enum Refusal {
     /// It is one row too many.
     Rows,

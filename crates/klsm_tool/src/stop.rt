@@ -5,7 +5,7 @@ use crate::settings::End;
 use std::fmt;
 
 /// Why no further row is answered.
-#[derive(Clone, Copy, Debug, PartialEq, Eq)]
+#[derive(Clone, Copy, PartialEq, Eq)]
 pub(crate) enum Stop {
     /// There is no further row.
     AtEnd,
@@ -41,7 +41,7 @@ impl Stop {
 }
 
 /// The last line of a text.
-#[derive(Clone, Copy, Debug, PartialEq, Eq)]
+#[derive(Clone, Copy)]
 pub(crate) struct Closing {
     /// Why there is no further answer.
     pub stop: Stop,

@@ -53,6 +53,19 @@ fn run<R: Read + Drop, W: Write>(
     Ok(run_words(rt, words.as_slice(), reader, writer).code())
 }
 
+/// Whether the program on the words of a line ends with this status, and all that it writes is this text.
+fn gives<R: Read + Drop>(
+    rt: &impl AllocGlobal,
+    line: &[u8],
+    reader: R,
+    status: u8,
+    text: &[u8],
+) -> Result<bool, AllocError> {
+    let mut out = Vec::new(rt.alloc());
+    let ended = run(rt, line, reader, &mut out)?;
+    Ok(ended == status && out.as_slice() == text)
+}
+
 /// The status of `klsm replay` over a reader and a writer.
 fn replay<R: Read + Drop, W: Write>(
     rt: &impl AllocGlobal,

@@ -1,4 +1,4 @@
-use Rattle.std.proofs.Common.{◌<◌, sym, ◌∙◌, arith}
+use Rattle.std.proofs.Common.{◌<◌, sym, ◌∙◌, arith, rules}
 use Rattle.klsm_lsm.proofs.ContentLemmas.{ascending_content}
 use Rattle.klsm_lsm.proofs.SlotLemmas.{some_at}
 use Rattle.klsm_tool.specs.Fits.{FitsItem}
@@ -13,6 +13,9 @@ invariant_of-self c = record {
   stamped = all_left (λ item. item.stamp.number < c.args.self.now.inserted) c.args.self.now.live c.remove.new.self c.in-Some.block 0 c.remove.ensures.rest c.args.self.now.stamped;
   fits = all_left FitsItem c.args.self.now.live c.remove.new.self c.in-Some.block 0 c.remove.ensures.rest c.args.self.now.fits;
 }
+
+pub returns-in-Some-clause-answer : goal.returns-in-Some-clause-answer
+returns-in-Some-clause-answer c = search rules
 
 pub returns-in-Some-clause-live : goal.returns-in-Some-clause-live
 returns-in-Some-clause-live c =
