@@ -1,7 +1,7 @@
 //! A reader or a writer that fails in mid-stream.
 
 use super::streams::{Bounded, Failing, Refusal};
-use super::{FIRST_ANSWERS, FIRST_SCRIPT, replay};
+use super::{FIRST_ANSWERS, FIRST_SCRIPT, gives, replay};
 use crate::{End, Pick, Settings, replay_over};
 use std::test::Fail;
 
@@ -24,13 +24,34 @@ fn a_failed_read_follows_the_answers_before_it(rt: HostRuntime) -> Result<(), Fa
     ];
     for (left, want) in table {
         for at_a_time in [1, 3, 4096] {
-            let mut out = Vec::new(rt.alloc());
             let reader = Failing { left, at_a_time };
-            assert_eq!(rt; replay(&rt, reader, &mut out)?, 4);
-            assert_eq!(rt; out.as_slice(), want.as_bytes());
+            assert!(rt; gives(&rt, b"replay", reader, 4, want.as_bytes())?);
         }
     }
     Ok(())
+}
+
+/// How the first script's replay ends over a writer with so much room that takes so much at a time, how many bytes it counts, and how many writes were refused,
+/// where just these bytes were taken.
+fn leaves(
+    rt: &impl AllocGlobal,
+    room: usize,
+    at_a_time: usize,
+    refusal: Refusal,
+    want: &[u8],
+) -> Option<(End, u64, u32)> {
+    let mut writer = Bounded {
+        taken: Vec::new(rt.alloc()),
+        room,
+        at_a_time,
+        refusal,
+        refused: 0,
+    };
+    let report = replay_over(rt, FIRST_SCRIPT, &mut writer, &SETTINGS);
+    if writer.taken.as_slice() != want {
+        return None;
+    }
+    Some((report.end, report.written, writer.refused))
 }
 
 #[test]
@@ -38,18 +59,9 @@ fn a_failed_write_leaves_the_first_bytes(rt: HostRuntime) -> Result<(), Fail> {
     assert_eq!(rt; FIRST_ANSWERS.len(), 134);
     for refusal in [Refusal::Fails, Refusal::TakesNothing] {
         for room in 0..134usize {
-            let mut writer = Bounded {
-                taken: Vec::new(rt.alloc()),
-                room,
-                at_a_time: 10,
-                refusal,
-                refused: 0,
-            };
-            let report = replay_over(&rt, FIRST_SCRIPT, &mut writer, &SETTINGS);
-            assert_eq!(rt; report.end, End::WriteFault);
-            assert_eq!(rt; report.written, room as u64);
-            assert_eq!(rt; writer.taken.as_slice(), &FIRST_ANSWERS.as_bytes()[..room]);
-            assert_eq!(rt; writer.refused, 1);
+            let want = &FIRST_ANSWERS.as_bytes()[..room];
+            let left = leaves(&rt, room, 10, refusal, want);
+            assert_eq!(rt; left, Some((End::WriteFault, room as u64, 1)));
         }
     }
     Ok(())
@@ -58,17 +70,14 @@ fn a_failed_write_leaves_the_first_bytes(rt: HostRuntime) -> Result<(), Fail> {
 #[test]
 fn short_writes_give_the_whole_text(rt: HostRuntime) -> Result<(), Fail> {
     for at_a_time in [1, 7] {
-        let mut writer = Bounded {
-            taken: Vec::new(rt.alloc()),
-            room: 1000,
+        let left = leaves(
+            &rt,
+            1000,
             at_a_time,
-            refusal: Refusal::Fails,
-            refused: 0,
-        };
-        let report = replay_over(&rt, FIRST_SCRIPT, &mut writer, &SETTINGS);
-        assert_eq!(rt; report.end, End::Done);
-        assert_eq!(rt; report.written, 134);
-        assert_eq!(rt; writer.taken.as_slice(), FIRST_ANSWERS.as_bytes());
+            Refusal::Fails,
+            FIRST_ANSWERS.as_bytes(),
+        );
+        assert_eq!(rt; left, Some((End::Done, 134, 0)));
     }
     Ok(())
 }

@@ -1,9 +1,10 @@
 //! The words of a process, of which the first is the program's path.
+ghost use Rattle.std.specs.Prelude.{◌<◌, length};
 
 use super::{FIRST_ANSWERS, FIRST_SCRIPT, words_of};
 use crate::run_program;
+use std::alloc::{AllocError, Global};
 use std::env::FillError;
-use std::process::Abort;
 use std::rt::Env;
 use std::test::Fail;
 
@@ -34,14 +35,39 @@ impl Env for Process {
     }
 }
 
-/// What the program writes as a process of these words, which has to end with this status.
-fn run_as(rt: &(impl Abort + AllocGlobal), line: &[u8], status: u8) -> Result<Vec<u8>, Fail> {
-    let words = words_of(rt.alloc(), line)?;
-    let process = (Process { words }, rt.alloc());
-    let mut out = Vec::new(rt.alloc());
-    let ended = run_program(&process, FIRST_SCRIPT, &mut out);
-    assert_eq!(rt; ended.code(), status);
-    Ok(out)
+/// The status of the program as a process of these words.
+fn run_as(alloc: Global, line: &[u8], out: &mut Vec<u8>) -> Result<u8, AllocError> {
+    let process = (
+        Process {
+            words: words_of(alloc, line)?,
+        },
+        alloc,
+    );
+    Ok(run_program(&process, FIRST_SCRIPT, out).code())
+}
+
+/// Whether a process of these words ends with status 0, after the first script's answers.
+fn replays(alloc: Global, line: &[u8]) -> Result<bool, AllocError> {
+    let mut out = Vec::new(alloc);
+    let ended = run_as(alloc, line, &mut out)?;
+    Ok(ended == 0 && out.as_slice() == FIRST_ANSWERS.as_bytes())
+}
+
+/// Whether a process of these words ends with this status, after a text that is no answer.
+fn answers_words(alloc: Global, line: &[u8], status: u8) -> Result<bool, AllocError> {
+    let mut out = Vec::new(alloc);
+    let ended = run_as(alloc, line, &mut out)?;
+    Ok(ended == status && !out.is_empty() && !out.as_slice().starts_with(b"0 i 5"))
+}
+
+/// Whether a process of these words ends with status 2, after a text that names a word.
+fn tells(alloc: Global, line: &[u8], word: &[u8]) -> Result<bool, AllocError>
+    requires { 0 < length word.now }
+{
+    let mut out = Vec::new(alloc);
+    let ended = run_as(alloc, line, &mut out)?;
+    let is_told = out.as_slice().windows(word.len()).any(|part| part == word);
+    Ok(ended == 2 && is_told)
 }
 
 #[test]
@@ -52,8 +78,7 @@ fn the_path_of_the_program_does_not_matter(rt: HostRuntime) -> Result<(), Fail> 
         b" replay".as_slice(),
     ];
     for line in table {
-        let out = run_as(&rt, line, 0)?;
-        assert_eq!(rt; out.as_slice(), FIRST_ANSWERS.as_bytes());
+        assert!(rt; replays(rt.alloc(), line)?);
     }
     Ok(())
 }
@@ -68,9 +93,7 @@ fn each_word_of_the_process_counts(rt: HostRuntime) -> Result<(), Fail> {
         (b"klsm replay --help".as_slice(), 0),
     ];
     for (line, status) in table {
-        let out = run_as(&rt, line, status)?;
-        assert!(rt; !out.is_empty());
-        assert!(rt; !out.as_slice().starts_with(b"0 i 5"));
+        assert!(rt; answers_words(rt.alloc(), line, status)?);
     }
     Ok(())
 }
@@ -80,9 +103,6 @@ fn a_long_word_is_read_whole(rt: HostRuntime) -> Result<(), Fail> {
     let mut line = Vec::new(rt.alloc());
     line.extend_from_slice(b"klsm ")?;
     line.resize(1000, b'a')?;
-    let out = run_as(&rt, line.as_slice(), 2)?;
-    let word = &line.as_slice()[5..];
-    let is_told = out.as_slice().windows(word.len()).any(|part| part == word);
-    assert!(rt; is_told);
+    assert!(rt; tells(rt.alloc(), line.as_slice(), &line.as_slice()[5..])?);
     Ok(())
 }

@@ -1,15 +1,14 @@
 //! Scripts, their answers and statuses.
 
-use super::{FIRST_ANSWERS, FIRST_SCRIPT, replay};
+use super::{FIRST_ANSWERS, FIRST_SCRIPT, gives};
+use std::alloc::{AllocError, Global};
 use std::test::Fail;
 
 const END: &str = "max skip 0 bound 64\n";
 
 #[test]
 fn answers_the_first_script(rt: HostRuntime) -> Result<(), Fail> {
-    let mut out = Vec::new(rt.alloc());
-    assert_eq!(rt; replay(&rt, FIRST_SCRIPT, &mut out)?, 0);
-    assert_eq!(rt; out.as_slice(), FIRST_ANSWERS.as_bytes());
+    assert!(rt; gives(&rt, b"replay", FIRST_SCRIPT, 0, FIRST_ANSWERS.as_bytes())?);
     Ok(())
 }
 
@@ -37,19 +36,23 @@ fn refuses_rows_in_their_order(rt: HostRuntime) -> Result<(), Fail> {
         ("\"\"", "refused row 1: fields\n"),
     ];
     for (script, want) in table {
-        let mut out = Vec::new(rt.alloc());
-        assert_eq!(rt; replay(&rt, script.as_bytes(), &mut out)?, 1, "{script}");
-        assert_eq!(rt; out.as_slice(), want.as_bytes(), "{script}");
+        let is_so = gives(&rt, b"replay", script.as_bytes(), 1, want.as_bytes())?;
+        assert!(rt; is_so, "{script}");
     }
     Ok(())
 }
 
 #[test]
 fn refuses_bytes_that_are_no_text(rt: HostRuntime) -> Result<(), Fail> {
-    let mut out = Vec::new(rt.alloc());
-    assert_eq!(rt; replay(&rt, b"0,i,5,\xff\n".as_slice(), &mut out)?, 1);
-    assert_eq!(rt; out.as_slice(), b"refused row 1: load\n".as_slice());
+    let script = b"0,i,5,\xff\n".as_slice();
+    assert!(rt; gives(&rt, b"replay", script, 1, b"refused row 1: load\n")?);
     Ok(())
+}
+
+/// Whether the answers to a script are this text and the last line.
+fn ends_well(rt: &impl AllocGlobal, script: &[u8], answers: &str) -> Result<bool, AllocError> {
+    let want = format!(in rt.alloc(); "{answers}{END}")?;
+    gives(rt, b"replay", script, 0, want.as_bytes())
 }
 
 #[test]
@@ -66,26 +69,33 @@ fn accepts_what_csv_reads(rt: HostRuntime) -> Result<(), Fail> {
         ("", ""),
     ];
     for (script, want) in table {
-        let mut out = Vec::new(rt.alloc());
-        assert_eq!(rt; replay(&rt, script.as_bytes(), &mut out)?, 0, "{script}");
-        let want = format!(in rt.alloc(); "{want}{END}")?;
-        assert_eq!(rt; out.as_slice(), want.as_bytes(), "{script}");
+        let is_so = ends_well(&rt, script.as_bytes(), want)?;
+        assert!(rt; is_so, "{script}");
     }
     Ok(())
 }
 
+fn rows(alloc: Global, count: usize) -> Result<String, AllocError> {
+    let mut script = String::new(alloc);
+    for _ in 0..count {
+        script.push_str("0,i,9,9\n")?;
+    }
+    Ok(script)
+}
+
+fn answers_until_full(alloc: Global, count: usize) -> Result<String, AllocError> {
+    let mut want = String::new(alloc);
+    for number in 0..count {
+        want.push_str(format!(in alloc; "0 i 9 0.{number}\n")?.as_str())?;
+    }
+    want.push_str("full row 65\n")?;
+    Ok(want)
+}
+
 #[test]
 fn holds_64_items_and_no_more(rt: HostRuntime) -> Result<(), Fail> {
-    let mut script = String::new(rt.alloc());
-    let mut want = String::new(rt.alloc());
-    for number in 0..64u64 {
-        script.push_str("0,i,9,9\n")?;
-        want.push_str(format!(in rt.alloc(); "0 i 9 0.{number}\n")?.as_str())?;
-    }
-    script.push_str("0,i,9,9\n")?;
-    want.push_str("full row 65\n")?;
-    let mut out = Vec::new(rt.alloc());
-    assert_eq!(rt; replay(&rt, script.as_bytes(), &mut out)?, 3);
-    assert_eq!(rt; out.as_slice(), want.as_bytes());
+    let script = rows(rt.alloc(), 65)?;
+    let want = answers_until_full(rt.alloc(), 64)?;
+    assert!(rt; gives(&rt, b"replay", script.as_bytes(), 3, want.as_bytes())?);
     Ok(())
 }

@@ -23,7 +23,7 @@ impl Read for Failing<'_> {
 }
 
 /// How a writer refuses.
-#[derive(Clone, Copy, Debug, PartialEq, Eq)]
+#[derive(Clone, Copy)]
 pub(crate) enum Refusal {
     /// By an error.
     Fails,

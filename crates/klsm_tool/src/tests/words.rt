@@ -1,19 +1,17 @@
 //! Command lines, and the statuses of the program.
 
-use super::run;
 use super::streams::{Bounded, Refusal};
-use std::process::Abort;
+use super::{gives, run};
+use std::alloc::AllocError;
 use std::test::Fail;
 
 const NOT_TEXT: &[u8] = b"error: a word is not UTF-8\n\nFor more information, try '--help'.\n";
 
-/// Sees to it that the words are answered with a text and this status, and that no script is read.
-fn answers_words(rt: &(impl Abort + AllocGlobal), line: &[u8], status: u8) -> Result<(), Fail> {
+/// Whether the words are answered with a text and this status, and no script is read.
+fn answers_words(rt: &impl AllocGlobal, line: &[u8], status: u8) -> Result<bool, AllocError> {
     let mut out = Vec::new(rt.alloc());
-    assert_eq!(rt; run(rt, line, b"0,d,,\n".as_slice(), &mut out)?, status);
-    assert!(rt; !out.is_empty());
-    assert!(rt; !out.as_slice().starts_with(b"0 d none"));
-    Ok(())
+    let ended = run(rt, line, b"0,d,,\n".as_slice(), &mut out)?;
+    Ok(ended == status && !out.is_empty() && !out.as_slice().starts_with(b"0 d none"))
 }
 
 #[test]
@@ -28,7 +26,7 @@ fn a_fault_of_the_command_line_is_status_2(rt: HostRuntime) -> Result<(), Fail> 
         "help live",
     ];
     for line in table {
-        answers_words(&rt, line.as_bytes(), 2)?;
+        assert!(rt; answers_words(&rt, line.as_bytes(), 2)?, "{line}");
     }
     Ok(())
 }
@@ -36,7 +34,7 @@ fn a_fault_of_the_command_line_is_status_2(rt: HostRuntime) -> Result<(), Fail> 
 #[test]
 fn a_request_for_help_is_status_0(rt: HostRuntime) -> Result<(), Fail> {
     for line in ["--help", "help", "replay --help", "help replay"] {
-        answers_words(&rt, line.as_bytes(), 0)?;
+        assert!(rt; answers_words(&rt, line.as_bytes(), 0)?, "{line}");
     }
     Ok(())
 }
@@ -50,27 +48,33 @@ fn a_word_that_is_not_utf_8_is_status_2(rt: HostRuntime) -> Result<(), Fail> {
         b"repl\xe4y more".as_slice(),
     ];
     for line in table {
-        let mut out = Vec::new(rt.alloc());
-        assert_eq!(rt; run(&rt, line, b"0,d,,\n".as_slice(), &mut out)?, 2);
-        assert_eq!(rt; out.as_slice(), NOT_TEXT);
+        assert!(rt; gives(&rt, line, b"0,d,,\n".as_slice(), 2, NOT_TEXT)?);
     }
     Ok(())
+}
+
+/// The status of the program on the words of a line, over a writer with room for 20 bytes, how many it took, and how many writes it refused.
+fn cut_short(
+    rt: &impl AllocGlobal,
+    line: &[u8],
+    refusal: Refusal,
+) -> Result<(u8, usize, u32), AllocError> {
+    let mut writer = Bounded {
+        taken: Vec::new(rt.alloc()),
+        room: 20,
+        at_a_time: 7,
+        refusal,
+        refused: 0,
+    };
+    let ended = run(rt, line, b"0,d,,\n".as_slice(), &mut writer)?;
+    Ok((ended, writer.taken.len(), writer.refused))
 }
 
 #[test]
 fn a_failed_write_of_a_text_is_status_4(rt: HostRuntime) -> Result<(), Fail> {
     for line in [b"--help".as_slice(), b"live".as_slice(), b"\xff".as_slice()] {
         for refusal in [Refusal::Fails, Refusal::TakesNothing] {
-            let mut writer = Bounded {
-                taken: Vec::new(rt.alloc()),
-                room: 20,
-                at_a_time: 7,
-                refusal,
-                refused: 0,
-            };
-            assert_eq!(rt; run(&rt, line, b"0,d,,\n".as_slice(), &mut writer)?, 4);
-            assert_eq!(rt; writer.taken.len(), 20);
-            assert_eq!(rt; writer.refused, 1);
+            assert_eq!(rt; cut_short(&rt, line, refusal)?, (4, 20, 1));
         }
     }
     Ok(())
