@@ -41,12 +41,12 @@ impl fmt::Display for Refusal {
 
     fn fmt<W: fmt::Write>(&self, f: &mut fmt::Formatter<W>) -> fmt::Result {
         match self {
-            Refusal::Rows => write!(f, "rows"),
-            Refusal::Fields => write!(f, "fields"),
-            Refusal::Thread => write!(f, "thread"),
-            Refusal::Operation => write!(f, "operation"),
-            Refusal::Key => write!(f, "key"),
-            Refusal::Load => write!(f, "load"),
+            Refusal::Rows => f.write_str("rows"),
+            Refusal::Fields => f.write_str("fields"),
+            Refusal::Thread => f.write_str("thread"),
+            Refusal::Operation => f.write_str("operation"),
+            Refusal::Key => f.write_str("key"),
+            Refusal::Load => f.write_str("load"),
         }
     }
 }

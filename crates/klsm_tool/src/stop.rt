@@ -70,8 +70,8 @@ impl fmt::Display for Closing {
             Stop::AtEnd => writeln!(f, "max skip {most} bound {bound}"),
             Stop::Refused(why) => writeln!(f, "refused row {row}: {why}"),
             Stop::Full => writeln!(f, "full row {row}"),
-            Stop::NoMemory => writeln!(f, "no memory"),
-            Stop::ReadFault => writeln!(f, "read fault"),
+            Stop::NoMemory => f.write_str("no memory\n"),
+            Stop::ReadFault => f.write_str("read fault\n"),
             Stop::WriteFault => Ok(()),
         }
     }
