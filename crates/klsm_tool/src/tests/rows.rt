@@ -12,30 +12,32 @@ fn answers_the_first_script(rt: HostRuntime) -> Result<(), Fail> {
     Ok(())
 }
 
+/// Scripts with a row that is refused, and what is written of them.
+const REFUSED: [(&str, &str); 19] = [
+    ("0,x,1,2", "refused row 1: operation\n"),
+    ("1,i,1,2", "refused row 1: thread\n"),
+    ("x,y,z", "refused row 1: fields\n"),
+    ("x,y,z,w", "refused row 1: thread\n"),
+    ("0,y,z,w", "refused row 1: operation\n"),
+    ("0,i,z,w", "refused row 1: key\n"),
+    ("0,i,18446744073709551616,0", "refused row 1: key\n"),
+    ("0,i,5", "refused row 1: fields\n"),
+    ("0,i,5,", "refused row 1: load\n"),
+    ("0,d,1,", "refused row 1: key\n"),
+    ("0,d,,1", "refused row 1: load\n"),
+    ("0,i,5,0\n0,q,,", "0 i 5 0.0\nrefused row 2: operation\n"),
+    ("0,i,+5,0", "refused row 1: key\n"),
+    ("0,i,5,0,", "refused row 1: fields\n"),
+    (" 0,i,5,0", "refused row 1: thread\n"),
+    ("0,I,5,0", "refused row 1: operation\n"),
+    ("0,ii,5,0", "refused row 1: operation\n"),
+    ("-0,i,5,0", "refused row 1: thread\n"),
+    ("\"\"", "refused row 1: fields\n"),
+];
+
 #[test]
 fn refuses_rows_in_their_order(rt: HostRuntime) -> Result<(), Fail> {
-    let table = [
-        ("0,x,1,2", "refused row 1: operation\n"),
-        ("1,i,1,2", "refused row 1: thread\n"),
-        ("x,y,z", "refused row 1: fields\n"),
-        ("x,y,z,w", "refused row 1: thread\n"),
-        ("0,y,z,w", "refused row 1: operation\n"),
-        ("0,i,z,w", "refused row 1: key\n"),
-        ("0,i,18446744073709551616,0", "refused row 1: key\n"),
-        ("0,i,5", "refused row 1: fields\n"),
-        ("0,i,5,", "refused row 1: load\n"),
-        ("0,d,1,", "refused row 1: key\n"),
-        ("0,d,,1", "refused row 1: load\n"),
-        ("0,i,5,0\n0,q,,", "0 i 5 0.0\nrefused row 2: operation\n"),
-        ("0,i,+5,0", "refused row 1: key\n"),
-        ("0,i,5,0,", "refused row 1: fields\n"),
-        (" 0,i,5,0", "refused row 1: thread\n"),
-        ("0,I,5,0", "refused row 1: operation\n"),
-        ("0,ii,5,0", "refused row 1: operation\n"),
-        ("-0,i,5,0", "refused row 1: thread\n"),
-        ("\"\"", "refused row 1: fields\n"),
-    ];
-    for (script, want) in table {
+    for (script, want) in REFUSED {
         let is_so = gives(&rt, b"replay", script.as_bytes(), 1, want.as_bytes())?;
         assert!(rt; is_so, "{script}");
     }

@@ -1,4 +1,4 @@
-use Rattle.std.proofs.Common.{◌≡◌, ℕ, ◌+◌, ◌<◌, ◌∷◌, length, subst, arith}
+use Rattle.std.proofs.Common.{◌≡◌, ℕ, ◌+◌, ◌<◌, ◌∷◌, length, subst, arith, rules}
 use Rattle.csv.specs.Records.{fields_of}
 use Rattle.klsm_tool.specs.declared.stop.Stop.{Stop}
 use Rattle.klsm_tool.specs.Script.{row_limit}
@@ -7,6 +7,12 @@ use Rattle.klsm_tool.proofs.ReplayLemmas.{read_stops, too_many}
 use Rattle.klsm_tool.proofs.TellingLemmas.{stops_told}
 use Rattle.klsm_tool.proofs.replay.answer_rows.Goals as goal
 use Rattle.klsm_tool.proofs.replay.answer_rows.Goals.{in-Ok, in-Err-advance}
+
+pub returns-in-Err-clause-row : goal.returns-in-Err-clause-row
+returns-in-Err-clause-row g c = search rules
+
+pub returns-clause-row : goal.returns-clause-row
+returns-clause-row g c = search rules
 
 pub returns-in-Err-clause-stops : goal.returns-in-Err-clause-stops
 returns-in-Err-clause-stops g c input before stands told =
