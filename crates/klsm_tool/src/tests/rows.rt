@@ -13,7 +13,7 @@ fn answers_the_first_script(rt: HostRuntime) -> Result<(), Fail> {
 }
 
 /// Scripts with a row that is refused, and what is written of them.
-const REFUSED: [(&str, &str); 19] = [
+const REFUSED: &[(&str, &str)] = &[
     ("0,x,1,2", "refused row 1: operation\n"),
     ("1,i,1,2", "refused row 1: thread\n"),
     ("x,y,z", "refused row 1: fields\n"),
