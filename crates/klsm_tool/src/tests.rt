@@ -53,7 +53,8 @@ fn run<R: Read + Drop, W: Write>(
     Ok(run_words(rt, words.as_slice(), reader, writer).code())
 }
 
-/// Whether the program on the words of a line ends with this status, and all that it writes is this text.
+/// Whether the program on the words of a line ends with this status, and this text is all that it
+/// writes.
 fn gives<R: Read + Drop>(
     rt: &impl AllocGlobal,
     line: &[u8],

@@ -32,8 +32,8 @@ fn a_failed_read_follows_the_answers_before_it(rt: HostRuntime) -> Result<(), Fa
     Ok(())
 }
 
-/// How the first script's replay ends over a writer with so much room that takes so much at a time, how many bytes it counts, and how many writes were refused,
-/// where just these bytes were taken.
+/// How the first script's replay ends over a writer with so much room, how many bytes it counts, and
+/// how many writes were refused; `None` where other bytes were taken than these.
 fn leaves(
     rt: &impl AllocGlobal,
     room: usize,
@@ -83,7 +83,8 @@ fn short_writes_give_the_whole_text(rt: HostRuntime) -> Result<(), Fail> {
     Ok(())
 }
 
-/// The status of the program on the first script, over a writer with so much room, where just these bytes were taken.
+/// The status of the program on the first script, over a writer with so much room; `None` where
+/// other bytes were taken than these.
 fn status_over(rt: &impl AllocGlobal, room: usize, want: &[u8]) -> Result<Option<u8>, AllocError> {
     let mut writer = Bounded {
         taken: Vec::new(rt.alloc()),

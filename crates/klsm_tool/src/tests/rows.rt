@@ -85,9 +85,9 @@ fn rows(alloc: Global, count: usize) -> Result<String, AllocError> {
     Ok(script)
 }
 
-fn answers_until_full(alloc: Global, count: usize) -> Result<String, AllocError> {
+fn answers_until_full(alloc: Global) -> Result<String, AllocError> {
     let mut want = String::new(alloc);
-    for number in 0..count {
+    for number in 0..64u64 {
         want.push_str(format!(in alloc; "0 i 9 0.{number}\n")?.as_str())?;
     }
     want.push_str("full row 65\n")?;
@@ -97,7 +97,7 @@ fn answers_until_full(alloc: Global, count: usize) -> Result<String, AllocError>
 #[test]
 fn holds_64_items_and_no_more(rt: HostRuntime) -> Result<(), Fail> {
     let script = rows(rt.alloc(), 65)?;
-    let want = answers_until_full(rt.alloc(), 64)?;
+    let want = answers_until_full(rt.alloc())?;
     assert!(rt; gives(&rt, b"replay", script.as_bytes(), 3, want.as_bytes())?);
     Ok(())
 }

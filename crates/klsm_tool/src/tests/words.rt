@@ -53,7 +53,8 @@ fn a_word_that_is_not_utf_8_is_status_2(rt: HostRuntime) -> Result<(), Fail> {
     Ok(())
 }
 
-/// The status of the program on the words of a line, over a writer with room for 20 bytes, how many it took, and how many writes it refused.
+/// The status of the program on the words of a line, over a writer with room for 20 bytes, how many
+/// of them it took, and how many writes it refused.
 fn cut_short(
     rt: &impl AllocGlobal,
     line: &[u8],
