@@ -19,6 +19,3 @@ pub use command_line::{run_program, run_words};
 pub use replay::replay_over;
 pub use settings::{End, Pick, Report, Settings};
 pub use status::Status;
-
-#[cfg(test)]
-mod tests;

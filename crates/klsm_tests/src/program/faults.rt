@@ -2,7 +2,7 @@
 
 use super::streams::{Bounded, Failing, Refusal};
 use super::{FIRST_ANSWERS, FIRST_SCRIPT, gives, replay};
-use crate::{End, Pick, Settings, replay_over};
+use klsm_tool::{End, Pick, Settings, replay_over};
 use std::alloc::AllocError;
 use std::test::Fail;
 

@@ -6,7 +6,7 @@ mod rows;
 mod streams;
 mod words;
 
-use crate::run_words;
+use klsm_tool::run_words;
 use std::alloc::{AllocError, Global};
 use std::io::{Read, Write};
 

@@ -2,7 +2,7 @@
 ghost use Rattle.std.specs.Prelude.{◌<◌, length};
 
 use super::{FIRST_ANSWERS, FIRST_SCRIPT, words_of};
-use crate::run_program;
+use klsm_tool::run_program;
 use std::alloc::{AllocError, Global};
 use std::env::FillError;
 use std::rt::Env;
