@@ -71,3 +71,6 @@ returns-clause-full g c = tt
 
 pub returns-clause-unchanged : goal.returns-clause-unchanged
 returns-clause-unchanged g c = tt
+
+pub limit-requires-room-R-Run : goal.limit-requires-room-R-Run
+limit-requires-room-R-Run g c κs = search

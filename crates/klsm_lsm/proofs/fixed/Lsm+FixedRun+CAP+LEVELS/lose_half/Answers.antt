@@ -23,3 +23,9 @@ returns-then-kept-eq0 g c = c.discard_largest.ensures ∙ none_left _ _ c.requir
 pub returns-else-kept-eq0 : goal.returns-else-kept-eq0
 returns-else-kept-eq0 g c =
     c.keep_least.ensures ∙ (ap (λ n. take (n / 2) (get_or c.args.self.now 0 []) ∷ []) c.len-kept.ensures.len ∙ half_left _ _ c.requires c.block.ensures.block (λ none. c.if-kept-eq0.false (omega (arith, none, c.len-kept.ensures.len))))
+
+pub block-requires-room-R-Run : goal.block-requires-room-R-Run
+block-requires-room-R-Run g c κs = search
+
+pub discard_largest-requires-room-R-Run : goal.discard_largest-requires-room-R-Run
+discard_largest-requires-room-R-Run g c κs = search

@@ -29,3 +29,12 @@ returns-clause-given g c = ap Some c.upper_half-upper.ensures ∙ half_spied c.a
 
 pub returns-clause-rest : goal.returns-clause-rest
 returns-clause-rest g c = c.lose_half.ensures
+
+pub blocks-requires-room-R-Run : goal.blocks-requires-room-R-Run
+blocks-requires-room-R-Run g c κs = search
+
+pub take_largest-requires-room-R-Run : goal.take_largest-requires-room-R-Run
+take_largest-requires-room-R-Run g c κs = search
+
+pub block-requires-room-R-Run : goal.block-requires-room-R-Run
+block-requires-room-R-Run g c κs = search

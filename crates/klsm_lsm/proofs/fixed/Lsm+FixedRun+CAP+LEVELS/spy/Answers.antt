@@ -62,3 +62,21 @@ returns-clause-rest g c = c.discard_largest.ensures ∙ (first_spied c.args.vict
 
 pub returns-clause-count : goal.returns-clause-count
 returns-clause-count g c = c.len.ensures.len
+
+pub blocks-requires-room-R-Run : goal.blocks-requires-room-R-Run
+blocks-requires-room-R-Run g c κs = search
+
+pub blocks-requires-2-room-R-Run : goal.blocks-requires-2-room-R-Run
+blocks-requires-2-room-R-Run g c κs = search
+
+pub len-limit-requires-room-R-Run : goal.len-limit-requires-room-R-Run
+len-limit-requires-room-R-Run g c κs = search
+
+pub block-requires-room-R-Run : goal.block-requires-room-R-Run
+block-requires-room-R-Run g c κs = search
+
+pub discard_largest-requires-room-R-Run : goal.discard_largest-requires-room-R-Run
+discard_largest-requires-room-R-Run g c κs = search
+
+pub len-requires-room-R-Run : goal.len-requires-room-R-Run
+len-requires-room-R-Run g c κs = search

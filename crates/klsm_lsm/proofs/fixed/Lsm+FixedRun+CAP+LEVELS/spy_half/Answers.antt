@@ -48,3 +48,12 @@ slice_bounds-fill-start g c = omega arith
 
 pub slice_bounds-fill-end : goal.slice_bounds-fill-end
 slice_bounds-fill-end g c = omega arith
+
+pub len-limit-requires-room-R-Run : goal.len-limit-requires-room-R-Run
+len-limit-requires-room-R-Run g c κs = search
+
+pub block-requires-room-R-Run : goal.block-requires-room-R-Run
+block-requires-room-R-Run g c κs = search
+
+pub len-requires-room-R-Run : goal.len-requires-room-R-Run
+len-requires-room-R-Run g c κs = search
