@@ -1,15 +1,35 @@
--- Where a struct has a place in memory, each of its fields has one.
+-- Where a struct has a place in memory, each of its fields has one; and the parts have one, as their arrays are bounded.
 use Rattle.std.proofs.Common.{ℕ, ◌+◌, ◌*◌, ◌<◌, max, arith}
 use prog.Memory.{up}
 use Rattle.klsm_run.specs.Capacity.{IsCapacity}
 use Rattle.klsm_lsm.specs.Limit.{IsLevelCount}
+
+-- the bytes of an array of at most n values, each of a width
+abbrev array_vec : ℕ → ℕ → ℕ
+array_vec n width = up 8 (up 1 (up 8 (0 + up 8 (0 + n * width)) + 8) + 0)
+
+-- of an option of s bytes
+abbrev option : ℕ → ℕ
+option s = up 8 (max 1 (max (8 + s) 1))
+
+-- of an LSM with so many slots
+abbrev lsm : ℕ → ℕ → ℕ
+lsm levels slot = up 8 (up 8 (up 8 (0 + array_vec levels slot) + 8) + 8)
+
+-- of a run of capacity n
+abbrev run : ℕ → ℕ
+run n = up 8 (up 8 (0 + array_vec n 32) + 16)
+
+-- of an own part, of which a run has s bytes
+abbrev local : ℕ → ℕ
+local s = up 8 (up 8 (0 + lsm 8 (option s)) + 8)
 
 -- the last field but one, as the LSM of an own part and the shared part of a queue
 pub field_fits : (a b c s n limit : ℕ) → up a (up 8 (up b c + s) + n) < limit → s < limit
 field_fits a b c s n limit whole = omega (arith, whole)
 
 -- a run in one of the eight slots of an own part
-pub run_fits : (s limit : ℕ) → up 8 (up 8 (0 + up 8 (up 8 (up 8 (0 + up 8 (up 1 (up 8 (0 + up 8 (0 + 8 * up 8 (max 1 (max (8 + s) 1)))) + 8) + 0)) + 8) + 8)) + 8) < limit → s < limit
+pub run_fits : (s limit : ℕ) → local s < limit → s < limit
 run_fits s limit whole = omega (arith, whole)
 
 -- the own part of a queue
@@ -25,29 +45,29 @@ pub pivots_fit : (a b l m p q limit : ℕ) → up a (up b (up 8 (up 8 q + p) + l
 pivots_fit a b l m p q limit whole = omega (arith, whole)
 
 -- a run of any capacity
-run_is_small : (n : ℕ) → IsCapacity n → up 8 (up 8 (0 + up 8 (up 1 (up 8 (0 + up 8 (0 + n * 32)) + 8) + 0)) + 16) < 8192
+run_is_small : (n : ℕ) → IsCapacity n → run n < 8192
 run_is_small n capacity = omega (arith, capacity.at_most)
 
-pub fixed_run_fits : (n : ℕ) → IsCapacity n → up 8 (up 8 (0 + up 8 (up 1 (up 8 (0 + up 8 (0 + n * 32)) + 8) + 0)) + 16) < 9223372036854775808
+pub fixed_run_fits : (n : ℕ) → IsCapacity n → run n < 9223372036854775808
 fixed_run_fits n capacity = omega (arith, run_is_small n capacity)
 
 -- the LSM of an own part of any capacity
-lsm_is_small : (s : ℕ) → s < 8192 → up 8 (up 8 (up 8 (0 + up 8 (up 1 (up 8 (0 + up 8 (0 + 8 * up 8 (max 1 (max (8 + s) 1)))) + 8) + 0)) + 8) + 8) < 131072
-lsm_is_small s run = omega (arith, run)
+lsm_is_small : (s : ℕ) → s < 8192 → lsm 8 (option s) < 131072
+lsm_is_small s small = omega (arith, small)
 
-pub own_lsm_fits : (n : ℕ) → IsCapacity n → up 8 (up 8 (up 8 (0 + up 8 (up 1 (up 8 (0 + up 8 (0 + 8 * up 8 (max 1 (max (8 + up 8 (up 8 (0 + up 8 (up 1 (up 8 (0 + up 8 (0 + n * 32)) + 8) + 0)) + 16)) 1)))) + 8) + 0)) + 8) + 8) < 9223372036854775808
+pub own_lsm_fits : (n : ℕ) → IsCapacity n → lsm 8 (option (run n)) < 9223372036854775808
 own_lsm_fits n capacity = omega (arith, lsm_is_small _ (run_is_small n capacity))
 
--- the part
-pub local_fits : (n : ℕ) → IsCapacity n → up 8 (up 8 (0 + up 8 (up 8 (up 8 (0 + up 8 (up 1 (up 8 (0 + up 8 (0 + 8 * up 8 (max 1 (max (8 + up 8 (up 8 (0 + up 8 (up 1 (up 8 (0 + up 8 (0 + n * 32)) + 8) + 0)) + 16)) 1)))) + 8) + 0)) + 8) + 8)) + 8) < 9223372036854775808
+-- the own part
+pub local_fits : (n : ℕ) → IsCapacity n → local (run n) < 9223372036854775808
 local_fits n capacity = part_fits _ (lsm_is_small _ (run_is_small n capacity)) where
   part_fits : (s : ℕ) → s < 131072 → up 8 (up 8 (0 + s) + 8) < 9223372036854775808
-  part_fits s lsm = omega (arith, lsm)
+  part_fits s small = omega (arith, small)
 
 -- the LSM of a shared part of any number of levels
-pub shared_lsm_fits : (n : ℕ) → IsLevelCount n → up 8 (up 8 (up 8 (0 + up 8 (up 1 (up 8 (0 + up 8 (0 + n * 48)) + 8) + 0)) + 8) + 8) < 9223372036854775808
+pub shared_lsm_fits : (n : ℕ) → IsLevelCount n → lsm n 48 < 9223372036854775808
 shared_lsm_fits n levels = omega (arith, levels.at_most)
 
--- the part
-pub shared_fits : (n : ℕ) → IsLevelCount n → up 8 (up 1 (up 8 (up 8 (up 8 (0 + up 8 (up 8 (up 8 (0 + up 8 (up 1 (up 8 (0 + up 8 (0 + n * 48)) + 8) + 0)) + 8) + 8)) + 8) + up 8 (up 1 (up 8 (0 + up 8 (0 + n * 8)) + 8) + 0)) + 56) + 0) < 9223372036854775808
+-- the shared part
+pub shared_fits : (n : ℕ) → IsLevelCount n → up 8 (up 1 (up 8 (up 8 (up 8 (0 + lsm n 48) + 8) + array_vec n 8) + 56) + 0) < 9223372036854775808
 shared_fits n levels = omega (arith, levels.at_most)
