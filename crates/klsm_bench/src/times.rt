@@ -1,5 +1,5 @@
 //! The run that measures.
-ghost use Rattle.std.specs.Prelude.{◌≤◌};
+ghost use Rattle.std.specs.Prelude.{◌≤◌, ◌<◌};
 
 use crate::rounds::{Calls, ROUNDS, Rounds};
 use crate::trio::Trio;
@@ -36,6 +36,40 @@ pub(crate) fn print<R: Print + Clock + AllocGlobal>(rt: &R) -> io::Result<()> {
     Ok(())
 }
 
+// Draws keys, and times their insertions into all three in a round. Whether there was room for all.
+fn fill<R: Clock + AllocGlobal>(
+    rt: &R,
+    rounds: &mut Rounds,
+    round: usize,
+    trio: &mut Trio,
+    draws: &mut Pcg32,
+    workload: Workload,
+    items: usize,
+) -> io::Result<bool>
+    requires { round < 5 }
+{
+    let keys = workload.keys(rt.alloc(), draws, 0, items)?;
+    let answer = rounds.add(rt, round, trio, Calls::Fill(keys.as_slice()))?;
+    Ok(answer.is_some())
+}
+
+// Draws keys after those of before, and times a round of a workload. Whether there was room for all.
+fn run<R: Clock + AllocGlobal>(
+    rt: &R,
+    rounds: &mut Rounds,
+    round: usize,
+    trio: &mut Trio,
+    draws: &mut Pcg32,
+    workload: Workload,
+    before: u64,
+) -> io::Result<bool>
+    requires { round < 5 }
+{
+    let keys = workload.keys(rt.alloc(), draws, before, PAIRS)?;
+    let answer = rounds.add(rt, round, trio, Calls::Run(workload, keys.as_slice()))?;
+    Ok(answer.is_some())
+}
+
 // Fills all three, and measures a workload on them.
 fn print_workload<R: Print + Clock + AllocGlobal>(
     rt: &R,
@@ -47,14 +81,20 @@ fn print_workload<R: Print + Clock + AllocGlobal>(
 {
     let mut draws = Pcg32::seed_from_u64(42);
     let mut trio = Trio::new(rt.alloc(), k);
-    let keys = workload.keys(rt.alloc(), &mut draws, 0, items)?;
-    let _filled = Rounds::new().add(rt, 0, &mut trio, Calls::Fill(keys.as_slice()))?;
+    let mut untimed = Rounds::new();
+    fill(rt, &mut untimed, 0, &mut trio, &mut draws, workload, items)?;
     let mut rounds = Rounds::new();
     for round in 0..ROUNDS {
         let before = items.wrapping_add(round * PAIRS) as u64;
-        let keys = workload.keys(rt.alloc(), &mut draws, before, PAIRS)?;
-        let calls = Calls::Run(workload, keys.as_slice());
-        if rounds.add(rt, round, &mut trio, calls)?.is_none() {
+        if !run(
+            rt,
+            &mut rounds,
+            round,
+            &mut trio,
+            &mut draws,
+            workload,
+            before,
+        )? {
             return println!(rt; "{} {items} {k}: no room", workload.name());
         }
     }
@@ -73,9 +113,15 @@ fn print_insertions<R: Print + Clock + AllocGlobal>(
     let mut rounds = Rounds::new();
     for round in 0..ROUNDS {
         let mut trio = Trio::new(rt.alloc(), k);
-        let keys = Workload::Uniform.keys(rt.alloc(), &mut draws, 0, items)?;
-        let calls = Calls::Fill(keys.as_slice());
-        if rounds.add(rt, round, &mut trio, calls)?.is_none() {
+        if !fill(
+            rt,
+            &mut rounds,
+            round,
+            &mut trio,
+            &mut draws,
+            Workload::Uniform,
+            items,
+        )? {
             return println!(rt; "insertions {items} {k}: no room");
         }
     }
@@ -92,9 +138,16 @@ fn print_own<R: Print + Clock + AllocGlobal>(rt: &R, k: usize) -> io::Result<()>
     let mut deleted = Rounds::new();
     for round in 0..ROUNDS {
         for _ in 0..FILLINGS {
-            let keys = Workload::Uniform.keys(rt.alloc(), &mut draws, 0, k)?;
-            let _put = inserted.add(rt, round, &mut trio, Calls::Fill(keys.as_slice()))?;
-            let _taken = deleted.add(rt, round, &mut trio, Calls::Drain(k))?;
+            fill(
+                rt,
+                &mut inserted,
+                round,
+                &mut trio,
+                &mut draws,
+                Workload::Uniform,
+                k,
+            )?;
+            deleted.add(rt, round, &mut trio, Calls::Drain(k))?;
         }
     }
     inserted.print(rt, "own-insertions", k, k, FILLINGS * k)?;
