@@ -1,4 +1,4 @@
-use Rattle.std.proofs.Common.{rules, ◌∙◌, ◌≡◌, ◌≤◌, length}
+use Rattle.std.proofs.Common.{rules, ◌∙◌, ◌≤◌, length}
 use Rattle.klsm_run.specs.Content.{IsAscending}
 use Rattle.klsm_run.proofs.StoreLemmas.{fixed_in_room}
 use Rattle.klsm_run.proofs.fixed_run.FixedRunRun.copy_for.Goals as goal
