@@ -6,6 +6,7 @@ use crate::trio::Trio;
 use crate::workloads::Workload;
 use rand_core::SeedableRng;
 use rand_pcg::Pcg32;
+use std::alloc::Global;
 use std::io;
 use std::time::Clock;
 
@@ -36,38 +37,56 @@ pub(crate) fn print<R: Print + Clock + AllocGlobal>(rt: &R) -> io::Result<()> {
     Ok(())
 }
 
-// Draws keys, and times their insertions into all three in a round. Whether there was room for all.
-fn fill<R: Clock + AllocGlobal>(
-    rt: &R,
-    rounds: &mut Rounds,
-    round: usize,
-    trio: &mut Trio,
-    draws: &mut Pcg32,
-    workload: Workload,
-    items: usize,
-) -> io::Result<bool>
-    requires { round < 5 }
-{
-    let keys = workload.keys(rt.alloc(), draws, 0, items)?;
-    let answer = rounds.add(rt, round, trio, Calls::Fill(keys.as_slice()))?;
-    Ok(answer.is_some())
+// The three that are measured, and the generator of their keys.
+#[derive(Drop)]
+struct Bench {
+    trio: Trio,
+    draws: Pcg32,
 }
 
-// Draws keys after those of before, and times a round of a workload. Whether there was room for all.
-fn run<R: Clock + AllocGlobal>(
-    rt: &R,
-    rounds: &mut Rounds,
-    round: usize,
-    trio: &mut Trio,
-    draws: &mut Pcg32,
-    workload: Workload,
-    before: u64,
-) -> io::Result<bool>
-    requires { round < 5 }
-{
-    let keys = workload.keys(rt.alloc(), draws, before, PAIRS)?;
-    let answer = rounds.add(rt, round, trio, Calls::Run(workload, keys.as_slice()))?;
-    Ok(answer.is_some())
+impl Bench {
+    // Empty ones of this k. The keys are the same in each run.
+    fn new(alloc: Global, k: usize) -> Self
+        requires { k ≤ 128 }
+    {
+        Bench {
+            trio: Trio::new(alloc, k),
+            draws: Pcg32::seed_from_u64(42),
+        }
+    }
+
+    // Adds to a round the times of the insertions of so many keys. Whether there was room for all.
+    fn time_fill<R: Clock + AllocGlobal>(
+        &mut self,
+        rt: &R,
+        rounds: &mut Rounds,
+        round: usize,
+        workload: Workload,
+        items: usize,
+    ) -> io::Result<bool>
+        requires { round < 5 }
+    {
+        let keys = workload.keys(rt.alloc(), &mut self.draws, 0, items)?;
+        let answer = rounds.add(rt, round, &mut self.trio, Calls::Fill(keys.as_slice()))?;
+        Ok(answer.is_some())
+    }
+
+    // The same of a workload, with keys that follow those of before.
+    fn time_run<R: Clock + AllocGlobal>(
+        &mut self,
+        rt: &R,
+        rounds: &mut Rounds,
+        round: usize,
+        workload: Workload,
+        before: u64,
+    ) -> io::Result<bool>
+        requires { round < 5 }
+    {
+        let keys = workload.keys(rt.alloc(), &mut self.draws, before, PAIRS)?;
+        let calls = Calls::Run(workload, keys.as_slice());
+        let answer = rounds.add(rt, round, &mut self.trio, calls)?;
+        Ok(answer.is_some())
+    }
 }
 
 // Fills all three, and measures a workload on them.
@@ -79,22 +98,13 @@ fn print_workload<R: Print + Clock + AllocGlobal>(
 ) -> io::Result<()>
     requires { k ≤ 128 }
 {
-    let mut draws = Pcg32::seed_from_u64(42);
-    let mut trio = Trio::new(rt.alloc(), k);
+    let mut bench = Bench::new(rt.alloc(), k);
     let mut untimed = Rounds::new();
-    fill(rt, &mut untimed, 0, &mut trio, &mut draws, workload, items)?;
+    bench.time_fill(rt, &mut untimed, 0, workload, items)?;
     let mut rounds = Rounds::new();
     for round in 0..ROUNDS {
         let before = items.wrapping_add(round * PAIRS) as u64;
-        if !run(
-            rt,
-            &mut rounds,
-            round,
-            &mut trio,
-            &mut draws,
-            workload,
-            before,
-        )? {
+        if !bench.time_run(rt, &mut rounds, round, workload, before)? {
             return println!(rt; "{} {items} {k}: no room", workload.name());
         }
     }
@@ -109,19 +119,11 @@ fn print_insertions<R: Print + Clock + AllocGlobal>(
 ) -> io::Result<()>
     requires { k ≤ 128 }
 {
-    let mut draws = Pcg32::seed_from_u64(42);
+    let mut bench = Bench::new(rt.alloc(), k);
     let mut rounds = Rounds::new();
     for round in 0..ROUNDS {
-        let mut trio = Trio::new(rt.alloc(), k);
-        if !fill(
-            rt,
-            &mut rounds,
-            round,
-            &mut trio,
-            &mut draws,
-            Workload::Uniform,
-            items,
-        )? {
+        bench.trio = Trio::new(rt.alloc(), k);
+        if !bench.time_fill(rt, &mut rounds, round, Workload::Uniform, items)? {
             return println!(rt; "insertions {items} {k}: no room");
         }
     }
@@ -132,22 +134,13 @@ fn print_insertions<R: Print + Clock + AllocGlobal>(
 fn print_own<R: Print + Clock + AllocGlobal>(rt: &R, k: usize) -> io::Result<()>
     requires { k ≤ 128 }
 {
-    let mut draws = Pcg32::seed_from_u64(42);
-    let mut trio = Trio::new(rt.alloc(), k);
+    let mut bench = Bench::new(rt.alloc(), k);
     let mut inserted = Rounds::new();
     let mut deleted = Rounds::new();
     for round in 0..ROUNDS {
         for _ in 0..FILLINGS {
-            fill(
-                rt,
-                &mut inserted,
-                round,
-                &mut trio,
-                &mut draws,
-                Workload::Uniform,
-                k,
-            )?;
-            deleted.add(rt, round, &mut trio, Calls::Drain(k))?;
+            bench.time_fill(rt, &mut inserted, round, Workload::Uniform, k)?;
+            deleted.add(rt, round, &mut bench.trio, Calls::Drain(k))?;
         }
     }
     inserted.print(rt, "own-insertions", k, k, FILLINGS * k)?;

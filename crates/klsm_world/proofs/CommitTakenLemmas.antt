@@ -36,7 +36,7 @@ module _ (before : Running) (limits : Limits) (words : List ℕ) (contents : Lis
     own_within : (event : Event) → MayStep before.limits before.world (Commit t event) → t + 1 < length contents
     own_within event may =
         let legal : MayStep limits (world_of words contents lists) (Commit t event) = may_shown before limits words contents lists (Commit t event) is may in
-        omega (arith, legal.0, kept.contents_are)
+        omega (arith, legal.thread, kept.contents_are)
 
     shared_within : 0 < length contents
     shared_within = omega (arith, kept.contents_are)
@@ -94,7 +94,7 @@ module _ (before : Running) (limits : Limits) (words : List ℕ) (contents : Lis
         → Took (Spy victim moved) (set (set contents own own_after) from left)
     spy_taken victim moved listed own from own_after at read left may noted listed_is own_is from_is own_after_is found copied left_is =
         let legal : MayStep limits (world_of words contents lists) (Commit t (Spy victim moved)) = may_shown before limits words contents lists (Commit t (Spy victim moved)) is may in
-        let named = kept.lawful.agreed.named t (own_part victim) legal.1.1.1 legal.0 legal.1.1.3 in
+        let named = kept.lawful.agreed.named t (own_part victim) legal.commit.held.other legal.thread legal.commit.held.holds_other in
         let within : victim + 1 < length contents = omega (arith, named.0, kept.contents_are) in
         took (Spy victim moved) (set (set contents own own_after) from left) may (noted ∙ ap (λ xs. lists_with lists t (Committed (Spy victim xs))) listed_is)
         (ap (λ i. set (set contents i own_after) from left) own_is

@@ -1,5 +1,5 @@
 -- Each own part keeps at most k items at a legal step.
-use Rattle.std.proofs.Common.{◌≡◌, ℕ, ◌+◌, ◌<◌, ◌≤◌, List, [], ◌∷◌, length, Option, Some, None, refl, sym, ap, ◌∙◌, subst, arith, inl, inr}
+use Rattle.std.proofs.Common.{◌≡◌, ℕ, ◌+◌, ◌<◌, ◌≤◌, List, [], ◌∷◌, length, Option, Some, None, refl, sym, ap, ◌∙◌, subst, arith, inl, inr, unwrap_or}
 use Rattle.std.proofs.lemmas.Bool.{cases_eq}
 use Rattle.klsm_run.specs.declared.item.Item.{Item}
 use Rattle.klsm_parts.specs.Events.{own_after_put, own_after_flush, shared_after_flush, own_after_take, shared_after_take, own_after_spy, victim_after_spy}
@@ -7,7 +7,7 @@ use Rattle.klsm_world.specs.declared.step.Event.{Event}
 use Rattle.klsm_world.specs.declared.step.Event.TheVariants.{Put, Flush, Take, Nothing, Spy}
 use Rattle.klsm_world.specs.declared.step.Step.{Step}
 use Rattle.klsm_world.specs.declared.step.Step.TheVariants.{Acquire, Commit, Release, Miss}
-use Rattle.klsm_world.specs.OwnSteps.{Hand, Holds, found_in, content_or_none, content_in, changed, after_event, own_part, shared_part, inserted}
+use Rattle.klsm_world.specs.OwnSteps.{Hand, Holds, found_in, content_in, changed, after_event, own_part, shared_part, inserted}
 use Rattle.klsm_world.specs.LegalSteps.{MayCommit}
 use Rattle.klsm_world.specs.Worlds.{Limits, World, steps_of, hand_in, content_of}
 use Rattle.klsm_world.specs.LawfulWorlds.{AreAgreed}
@@ -36,27 +36,27 @@ shared_few k hand d few = changed_few k hand shared_part d few (λ u same. let b
 pub few_after_event : (k t n : ℕ) (hand : Hand) (event : Event) → MayCommit k t hand n event → HasFew k hand → HasFew k (after_event t hand event)
 few_after_event k t n hand (Put x) may few =
     let own = content_in hand (own_part t) in
-    let had : length own ≡ length may.0.0 = ap (λ o. length (content_or_none o)) may.0.1 in
-    changed_few k hand (own_part t) (own_after_put own x) few (λ u same. omega (arith, length_plus own (x ∷ []), had, may.0.2))
+    let had : length own ≡ length may.held.own = ap (λ o. length (unwrap_or o [])) may.held.holds_own in
+    changed_few k hand (own_part t) (own_after_put own x) few (λ u same. omega (arith, length_plus own (x ∷ []), had, may.held.fits))
 few_after_event k t n hand (Flush x moved) may few =
     let own = content_in hand (own_part t) in
-    let had : own ≡ may.0.0 = ap content_or_none may.0.2 in
-    let few_stay : length (own_after_flush own x moved) ≤ k = subst (λ z. length (own_after_flush z x moved) ≤ k) (sym had) may.0.4.few_stay in
+    let had : own ≡ may.held.own = ap (λ o. unwrap_or o []) may.held.holds_own in
+    let few_stay : length (own_after_flush own x moved) ≤ k = subst (λ z. length (own_after_flush z x moved) ≤ k) (sym had) may.held.fits.few_stay in
     shared_few k (changed hand (own_part t) (own_after_flush own x moved)) (shared_after_flush (content_in hand shared_part) moved)
     (changed_few k hand (own_part t) (own_after_flush own x moved) few (λ u same. few_stay))
 few_after_event k t n hand (Take x) may few =
     let own = content_in hand (own_part t) in
-    let had : length own ≡ length may.0 = ap (λ o. length (content_or_none o)) may.2 in
+    let had : length own ≡ length may.own = ap (λ o. length (unwrap_or o [])) may.holds_own in
     shared_few k (changed hand (own_part t) (own_after_take own x)) (shared_after_take own (content_in hand shared_part) x)
-    (changed_few k hand (own_part t) (own_after_take own x) few (λ u same. omega (arith, length_without_at_most x own, had, few t may.0 may.2)))
+    (changed_few k hand (own_part t) (own_after_take own x) few (λ u same. omega (arith, length_without_at_most x own, had, few t may.own may.holds_own)))
 few_after_event k t n hand Nothing may few = few
 few_after_event k t n hand (Spy victim moved) may few =
-    let from = may.1.1 in
+    let from = may.held.other in
     let theirs = content_in hand (own_part victim) in
-    let had : theirs ≡ from = ap content_or_none may.1.3 in
+    let had : theirs ≡ from = ap (λ o. unwrap_or o []) may.held.holds_other in
     let left : length (victim_after_spy theirs moved) ≡ length (victim_after_spy from moved) = ap (λ z. length (victim_after_spy z moved)) had in
-    let both = length_minus moved from may.1.4.within in
-    let at_most = few victim from may.1.3 in
+    let both = length_minus moved from may.held.fits.within in
+    let at_most = few victim from may.held.holds_other in
     changed_few k (changed hand (own_part t) (own_after_spy moved)) (own_part victim) (victim_after_spy theirs moved)
     (changed_few k hand (own_part t) (own_after_spy moved) few (λ u same. omega (arith, both, at_most))) (λ u same. omega (arith, both, at_most, left))
 
@@ -71,12 +71,12 @@ few_in_hand limits w t agreed few inside u c has =
 few_committed : (limits : Limits) (w : World) (t : ℕ) (event : Event) → AreAgreed limits w → ((u : ℕ) → u < limits.threads → length (content_of w (own_part u)) ≤ limits.k) → MayStep limits w (Commit t event)
     → (u : ℕ) → u < limits.threads → (o : Option (List Item)) → found_in (hand_in w t) (own_part u) ≡ o → length (content_of (next w (Commit t event)) (own_part u)) ≤ limits.k
 few_committed limits w t event agreed few may u inside None absent =
-    subst (λ z. length z ≤ limits.k) (sym (content_not_held limits w t event (own_part u) agreed may.0 absent)) (few u inside)
+    subst (λ z. length z ≤ limits.k) (sym (content_not_held limits w t event (own_part u) agreed may.thread absent)) (few u inside)
 few_committed limits w t event agreed few may u inside (Some c) has =
     let hand = hand_in w t in
     let later = held_after_event t hand event (own_part u) c has in
-    let small = few_after_event limits.k t (length (inserted (steps_of w t))) hand event may.1 (few_in_hand limits w t agreed few may.0) u later.0 later.1 in
-    let is : content_of (next w (Commit t event)) (own_part u) ≡ later.0 = content_committed limits w t event (own_part u) c agreed may.0 has ∙ ap content_or_none later.1 in
+    let small = few_after_event limits.k t (length (inserted (steps_of w t))) hand event may.commit (few_in_hand limits w t agreed few may.thread) u later.0 later.1 in
+    let is : content_of (next w (Commit t event)) (own_part u) ≡ later.0 = content_committed limits w t event (own_part u) c agreed may.thread has ∙ ap (λ o. unwrap_or o []) later.1 in
     subst (λ z. length z ≤ limits.k) (sym is) small
 
 -- a legal step keeps at most k items in each own part

@@ -3,7 +3,7 @@ use Rattle.std.proofs.Common.{◌≡◌, ◌↔◌, ℕ, ◌+◌, ◌<◌, List,
 use Rattle.std.proofs.lemmas.Option.{same_Some}
 use Rattle.klsm_run.specs.declared.item.Item.{Item}
 use Rattle.klsm_world.specs.LawfulWorlds.{AreAgreed}
-use Rattle.klsm_world.specs.LegalSteps.{HoldsBoth}
+use Rattle.klsm_world.specs.LegalSteps.{HoldsOwn, HoldsBoth}
 use Rattle.klsm_world.specs.OwnSteps.{Holds, shared_part, own_part}
 use Rattle.klsm_world.specs.Worlds.{Limits, World, word_of, hand_in, content_of}
 use Rattle.klsm_world.proofs.RefusalLemmas.{holds_named}
@@ -15,23 +15,23 @@ module _ (limits : Limits) (w : World) (t : ℕ) (agreed : AreAgreed limits w) (
 
   -- what is true of the contents of the own part and the shared one, where the thread holds both, is true of what its hand says
   pub holds_both : (Fits : List Item → List Item → Type 0) (own shared : List Item) → own ≡ content_of w (own_part t) → shared ≡ content_of w shared_part
-      → word_of w (own_part t) ≡ t + 1 → word_of w shared_part ≡ t + 1 → Fits own shared ↔ HoldsBoth t (hand_in w t) Fits
+      → word_of w (own_part t) ≡ t + 1 → word_of w shared_part ≡ t + 1 → Fits own shared ↔ HoldsBoth t shared_part (hand_in w t) Fits
   holds_both Fits own shared own_is shared_is own_word shared_word = (
-    λ fits. (
-      content_of w (own_part t),
-      content_of w shared_part,
-      holds_named limits w t agreed less (own_part t) own_word,
-      holds_named limits w t agreed less shared_part shared_word,
-      subst (λ c. Fits c (content_of w shared_part)) own_is (subst (Fits own) shared_is fits),
-    ),
-    λ both. subst (λ c. Fits c shared) (sym (own_is ∙ held_is (own_part t) both.0 own_word both.2))
-        (subst (Fits both.0) (sym (shared_is ∙ held_is shared_part both.1 shared_word both.3)) both.4),
+    λ fits. record {
+      own = content_of w (own_part t);
+      other = content_of w shared_part;
+      holds_own = holds_named limits w t agreed less (own_part t) own_word;
+      holds_other = holds_named limits w t agreed less shared_part shared_word;
+      fits = subst (λ c. Fits c (content_of w shared_part)) own_is (subst (Fits own) shared_is fits);
+    },
+    λ both. subst (λ c. Fits c shared) (sym (own_is ∙ held_is (own_part t) both.own own_word both.holds_own))
+        (subst (Fits both.own) (sym (shared_is ∙ held_is shared_part both.other shared_word both.holds_other)) both.fits),
   )
 
   -- and of the own part alone
   pub holds_own : (Fits : List Item → Type 0) (own : List Item) → own ≡ content_of w (own_part t) → word_of w (own_part t) ≡ t + 1
-      → Fits own ↔ ((c : List Item) × Holds (hand_in w t) (own_part t) c × Fits c)
+      → Fits own ↔ HoldsOwn t (hand_in w t) Fits
   holds_own Fits own own_is own_word = (
-    λ fits. (content_of w (own_part t), holds_named limits w t agreed less (own_part t) own_word, subst Fits own_is fits),
-    λ has. subst Fits (sym (own_is ∙ held_is (own_part t) has.0 own_word has.1)) has.2,
+    λ fits. record { own = content_of w (own_part t); holds_own = holds_named limits w t agreed less (own_part t) own_word; fits = subst Fits own_is fits },
+    λ has. subst Fits (sym (own_is ∙ held_is (own_part t) has.own own_word has.holds_own)) has.fits,
   )

@@ -1,5 +1,5 @@
 -- What a running world keeps, after a commit.
-use Rattle.std.proofs.Common.{◌≡◌, ◌≢◌, ℕ, ◌+◌, ◌<◌, ◌≤◌, true, false, eqb, cond, List, [], ◌∷◌, ◌++◌, length, get_or, set, refl, sym, ap, ◌∙◌, subst, inl, inr, arith}
+use Rattle.std.proofs.Common.{◌≡◌, ◌≢◌, ℕ, ◌+◌, ◌<◌, ◌≤◌, true, false, eqb, cond, List, [], ◌∷◌, ◌++◌, length, get_or, set, refl, sym, ap, ◌∙◌, subst, inl, inr, arith, unwrap_or}
 use Rattle.std.proofs.lemmas.Bool.{cases_eq, ne_eqb, eq-eqb}
 use Rattle.std.proofs.lemmas.List.{length-set, get_or-set_same, get_or-set_other, set-get_or}
 use Rattle.klsm_run.specs.declared.item.Item.{Item}
@@ -14,7 +14,7 @@ use Rattle.klsm_world.specs.declared.step.Step.TheVariants.{Commit}
 use Rattle.klsm_world.specs.declared.step.Entry.{Entry}
 use Rattle.klsm_world.specs.declared.step.Entry.TheVariants.{Committed}
 use Rattle.klsm_world.specs.Kept.{IsKept, homes_of, world_of}
-use Rattle.klsm_world.specs.OwnSteps.{Hand, Holds, content_or_none, content_in, changed, after_event, own_part, shared_part}
+use Rattle.klsm_world.specs.OwnSteps.{Hand, Holds, content_in, changed, after_event, own_part, shared_part}
 use Rattle.klsm_world.specs.Worlds.{Limits, World, hand_in}
 use Rattle.klsm_world.specs.Schedules.{MayStep, next}
 use Rattle.klsm_world.proofs.EventCountLemmas.{without_uncounted}
@@ -90,7 +90,7 @@ module _ (limits : Limits) (words : List ℕ) (contents : List (List Item)) (lis
                 | inl mine ↦
                     let has = hand_has limits words contents lists t p kept less within mine in
                     let after = held_after_event t (hand_in w t) event p (get_or contents p []) has in
-                    content_committed limits w t event p (get_or contents p []) kept.lawful.agreed less has ∙ (ap content_or_none after.1 ∙ as_hand.shown p after.0 within after.1)
+                    content_committed limits w t event p (get_or contents p []) kept.lawful.agreed less has ∙ (ap (λ o. unwrap_or o []) after.1 ∙ as_hand.shown p after.0 within after.1)
                 | inr other ↦
                     content_not_held limits w t event p kept.lawful.agreed less (not_held limits w t p kept.lawful.agreed less other)
                     ∙ (kept.current p within ∙ sym (as_hand.others p other))
@@ -119,7 +119,7 @@ module _ (limits : Limits) (words : List ℕ) (contents : List (List Item)) (lis
   named p c less has = kept.lawful.agreed.named t p c less has
 
   at_hand : (p : ℕ) → t < limits.threads → p ≤ limits.threads → get_or words p 0 ≡ t + 1 → content_in hand p ≡ content p
-  at_hand p less within word = ap content_or_none (hand_has limits words contents lists t p kept less within word)
+  at_hand p less within word = ap (λ o. unwrap_or o []) (hand_has limits words contents lists t p kept less within word)
 
   one_part : t < limits.threads → (p : ℕ) (c : List Item) → p ≤ limits.threads → get_or words p 0 ≡ t + 1 → sorted c ≡ c
       → IsAsHand limits words contents lists t (changed hand p c) (set contents p c)
@@ -134,35 +134,35 @@ module _ (limits : Limits) (words : List ℕ) (contents : List (List Item)) (lis
   by_event : (event : Event) → MayStep limits (world_of words contents lists) (Commit t event)
       → IsAsHand limits words contents lists t (after_event t (hand_in (world_of words contents lists) t) event) (contents_after contents t event)
   by_event (Put x) may =
-      let own = named (own_part t) may.1.0.0 may.0 may.1.0.1 in
-      subst (λ c. IsAsHand limits words contents lists t (changed hand (own_part t) (own_after_put c x)) (contents_after contents t (Put x))) (sym (at_hand (own_part t) may.0 own.0 own.1))
-      (one_part may.0 (own_part t) (own_after_put (content (own_part t)) x) own.0 own.1 (sorted_itself (x ∷ content (own_part t))))
+      let own = named (own_part t) may.commit.held.own may.thread may.commit.held.holds_own in
+      subst (λ c. IsAsHand limits words contents lists t (changed hand (own_part t) (own_after_put c x)) (contents_after contents t (Put x))) (sym (at_hand (own_part t) may.thread own.0 own.1))
+      (one_part may.thread (own_part t) (own_after_put (content (own_part t)) x) own.0 own.1 (sorted_itself (x ∷ content (own_part t))))
   by_event (Flush x moved) may =
-      let own = named (own_part t) may.1.0.0 may.0 may.1.0.2 in
-      let shared = named shared_part may.1.0.1 may.0 may.1.0.3 in
+      let own = named (own_part t) may.commit.held.own may.thread may.commit.held.holds_own in
+      let shared = named shared_part may.commit.held.other may.thread may.commit.held.holds_other in
       subst (λ c. IsAsHand limits words contents lists t (changed (changed hand (own_part t) (own_after_flush c x moved)) shared_part (shared_after_flush (content_in hand shared_part) moved)) (contents_after contents t (Flush x moved)))
-      (sym (at_hand (own_part t) may.0 own.0 own.1))
+      (sym (at_hand (own_part t) may.thread own.0 own.1))
       (subst (λ c. IsAsHand limits words contents lists t (changed (changed hand (own_part t) (own_after_flush (content (own_part t)) x moved)) shared_part (shared_after_flush c moved)) (contents_after contents t (Flush x moved)))
-      (sym (at_hand shared_part may.0 shared.0 shared.1))
-      (two_parts may.0 (own_part t) shared_part (own_after_flush (content (own_part t)) x moved) (shared_after_flush (content shared_part) moved) own.0 own.1 shared.0 shared.1
+      (sym (at_hand shared_part may.thread shared.0 shared.1))
+      (two_parts may.thread (own_part t) shared_part (own_after_flush (content (own_part t)) x moved) (shared_after_flush (content shared_part) moved) own.0 own.1 shared.0 shared.1
       (sorted_minus moved (plus (content (own_part t)) (x ∷ [])) (sorted_itself (x ∷ content (own_part t)))) (sorted_itself (moved ++ content shared_part))))
   by_event (Take x) may =
-      let own = named (own_part t) may.1.0 may.0 may.1.2 in
-      let shared = named shared_part may.1.1 may.0 may.1.3 in
+      let own = named (own_part t) may.commit.own may.thread may.commit.holds_own in
+      let shared = named shared_part may.commit.other may.thread may.commit.holds_other in
       subst (λ c. IsAsHand limits words contents lists t (changed (changed hand (own_part t) (own_after_take c x)) shared_part (shared_after_take c (content_in hand shared_part) x)) (contents_after contents t (Take x)))
-      (sym (at_hand (own_part t) may.0 own.0 own.1))
+      (sym (at_hand (own_part t) may.thread own.0 own.1))
       (subst (λ c. IsAsHand limits words contents lists t (changed (changed hand (own_part t) (own_after_take (content (own_part t)) x)) shared_part (shared_after_take (content (own_part t)) c x)) (contents_after contents t (Take x)))
-      (sym (at_hand shared_part may.0 shared.0 shared.1))
-      (two_parts may.0 (own_part t) shared_part (own_after_take (content (own_part t)) x) (shared_after_take (content (own_part t)) (content shared_part) x) own.0 own.1 shared.0 shared.1
+      (sym (at_hand shared_part may.thread shared.0 shared.1))
+      (two_parts may.thread (own_part t) shared_part (own_after_take (content (own_part t)) x) (shared_after_take (content (own_part t)) (content shared_part) x) own.0 own.1 shared.0 shared.1
       (sorted_minus (x ∷ []) (content (own_part t)) (kept.ascending (own_part t) own.0)) (shared_taken x (content (own_part t)) (content shared_part) (kept.ascending shared_part shared.0))))
-  by_event Nothing may = as_hand_first limits words contents lists t kept may.0
+  by_event Nothing may = as_hand_first limits words contents lists t kept may.thread
   by_event (Spy victim moved) may =
-      let own = named (own_part t) may.1.1.0 may.0 may.1.1.2 in
-      let from = named (own_part victim) may.1.1.1 may.0 may.1.1.3 in
+      let own = named (own_part t) may.commit.held.own may.thread may.commit.held.holds_own in
+      let from = named (own_part victim) may.commit.held.other may.thread may.commit.held.holds_other in
       subst (λ c. IsAsHand limits words contents lists t (changed (changed hand (own_part t) (own_after_spy moved)) (own_part victim) (victim_after_spy c moved)) (contents_after contents t (Spy victim moved)))
-      (sym (at_hand (own_part victim) may.0 from.0 from.1))
-      (two_parts may.0 (own_part t) (own_part victim) (own_after_spy moved) (victim_after_spy (content (own_part victim)) moved) own.0 own.1 from.0 from.1
-      (sorted_ascending moved may.1.1.4.ascending) (sorted_minus moved (content (own_part victim)) (kept.ascending (own_part victim) from.0)))
+      (sym (at_hand (own_part victim) may.thread from.0 from.1))
+      (two_parts may.thread (own_part t) (own_part victim) (own_after_spy moved) (victim_after_spy (content (own_part victim)) moved) own.0 own.1 from.0 from.1
+      (sorted_ascending moved may.commit.held.fits.ascending) (sorted_minus moved (content (own_part victim)) (kept.ascending (own_part victim) from.0)))
 
 -- after a commit
 pub kept_committed : (limits : Limits) (words : List ℕ) (contents : List (List Item)) (lists : List (List Entry)) (t : ℕ) (event : Event)
@@ -170,7 +170,7 @@ pub kept_committed : (limits : Limits) (words : List ℕ) (contents : List (List
     → (world_of words (contents_after contents t event) (lists_with lists t (Committed event)) ≡ next (world_of words contents lists) (Commit t event))
     × IsKept limits words (contents_after contents t event) (lists_with lists t (Committed event))
 kept_committed limits words contents lists t event kept may =
-    as_hand_committed limits words contents lists t kept may.0 event (contents_after contents t event) may (by_event limits words contents lists t kept event may)
+    as_hand_committed limits words contents lists t kept may.thread event (contents_after contents t event) may (by_event limits words contents lists t kept event may)
 
 -- the contents after a Take of an item that the own part has
 pub contents_taken : (contents : List (List Item)) (t : ℕ) (x : Item) → 0 < times x (get_or contents (t + 1) []) → contents_after contents t (Take x) ≡ set contents (t + 1) (minus (get_or contents (t + 1) []) (x ∷ []))

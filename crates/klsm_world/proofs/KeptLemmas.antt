@@ -1,5 +1,5 @@
 -- What a running world keeps, after each kind of step but a commit.
-use Rattle.std.proofs.Common.{◌≡◌, ◌≢◌, ℕ, ◌+◌, ◌-◌, ◌<◌, ◌≤◌, List, [], ◌∷◌, ◌++◌, length, get_or, set, Option, Some, None, refl, sym, ap, ◌∙◌, subst, arith}
+use Rattle.std.proofs.Common.{◌≡◌, ◌≢◌, ℕ, ◌+◌, ◌-◌, ◌<◌, ◌≤◌, List, [], ◌∷◌, ◌++◌, length, get_or, set, Option, Some, None, refl, sym, ap, ◌∙◌, subst, arith, unwrap_or}
 use Rattle.klsm_run.specs.declared.item.Item.{Item}
 use Rattle.klsm_run.specs.Content.{sorted}
 use Rattle.klsm_world.specs.declared.step.Step.{Step}
@@ -7,7 +7,7 @@ use Rattle.klsm_world.specs.declared.step.Step.TheVariants.{Acquire, Release, Mi
 use Rattle.klsm_world.specs.declared.step.Entry.{Entry}
 use Rattle.klsm_world.specs.declared.step.Entry.TheVariants.{Acquired, Released, Missed}
 use Rattle.klsm_world.specs.Kept.{IsKept, homes_of, world_of}
-use Rattle.klsm_world.specs.OwnSteps.{Holds, content_or_none, content_in}
+use Rattle.klsm_world.specs.OwnSteps.{Holds, content_in}
 use Rattle.klsm_world.specs.Worlds.{Limits, World, word_of, home_of, hand_in, content_of}
 use Rattle.klsm_world.specs.LawfulWorlds.{IsLawful}
 use Rattle.klsm_world.specs.Schedules.{MayStep, next}
@@ -42,10 +42,10 @@ hand_has limits words contents lists t p kept less within word =
     let w : World = world_of words contents lists in
     let away : word_of w p ≢ 0 = λ zeros. (let bad : 0 ≡ t + 1 = sym zeros ∙ word in omega (arith, bad)) in
     let at = kept.lawful.agreed.held p within away in
-    let both : t + 1 ≡ at.0 + 1 = sym word ∙ at.2 in
-    let one : at.0 ≡ t = omega (arith, both) in
-    let has : Holds (hand_in w t) p at.4.0 = subst (λ u. Holds (hand_in w u) p at.4.0) one at.4.1 in
-    subst (λ c. Holds (hand_in w t) p c) (sym (content_held limits w t p at.4.0 kept.lawful.agreed less has) ∙ kept.current p within) has
+    let both : t + 1 ≡ at.by + 1 = sym word ∙ at.word in
+    let one : at.by ≡ t = omega (arith, both) in
+    let has : Holds (hand_in w t) p at.held.content = subst (λ u. Holds (hand_in w u) p at.held.content) one at.held.holds in
+    subst (λ c. Holds (hand_in w t) p c) (sym (content_held limits w t p at.held.content kept.lawful.agreed less has) ∙ kept.current p within) has
 
 -- after an acquire
 pub kept_acquired : (limits : Limits) (words : List ℕ) (contents : List (List Item)) (lists : List (List Entry)) (t p : ℕ)
@@ -57,7 +57,7 @@ kept_acquired limits words contents lists t p kept may =
     let words' : List ℕ = set words p (t + 1) in
     let lists' : List (List Entry) = lists_with lists t (Acquired p (get_or contents p [])) in
     let homes : homes_of words' contents ≡ set w.homes p None = homes_taken words contents p (t + 1) (λ bad. omega (arith, bad)) in
-    let found : get_or contents p [] ≡ content_or_none (home_of w p) = sym (found_at_home limits w p kept.lawful.agreed may.1 may.2 ∙ kept.current p may.1) in
+    let found : get_or contents p [] ≡ unwrap_or (home_of w p) [] = sym (found_at_home limits w p kept.lawful.agreed may.part may.free ∙ kept.current p may.part) in
     let is : world_of words' contents lists' ≡ next w (Acquire t p) =
     ap (λ (hs : List (Option (List Item))). record { words = words'; homes = hs; lists = lists' }) homes
     ∙ ap (λ (c : List Item). record { words = words'; homes = set w.homes p None; lists = lists_with lists t (Acquired p c) }) found in (
@@ -75,8 +75,8 @@ kept_released limits words contents lists t p kept may =
     let w : World = world_of words contents lists in
     let words' : List ℕ = set words p 0 in
     let lists' : List (List Entry) = lists_with lists t (Released p) in
-    let named = kept.lawful.agreed.named t p may.1.0 may.0 may.1.1 in
-    let held : content_in (hand_in w t) p ≡ get_or contents p [] = ap content_or_none (hand_has limits words contents lists t p kept may.0 named.0 named.1) in
+    let named = kept.lawful.agreed.named t p may.held.content may.thread may.held.holds in
+    let held : content_in (hand_in w t) p ≡ get_or contents p [] = ap (λ o. unwrap_or o []) (hand_has limits words contents lists t p kept may.thread named.0 named.1) in
     let is : world_of words' contents lists' ≡ next w (Release t p) =
     ap (λ (hs : List (Option (List Item))). record { words = words'; homes = hs; lists = lists' }) (homes_freed words contents p ∙ ap (λ (c : List Item). set w.homes p (Some c)) (sym held)) in (
       is,

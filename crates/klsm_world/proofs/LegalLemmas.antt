@@ -1,5 +1,5 @@
 -- Each legal step keeps every thread's list of own steps legal.
-use Rattle.std.proofs.Common.{ℕ, zero, suc, ◌≡◌, ◌≢◌, ◌+◌, ◌-◌, ◌<◌, ◌≤◌, ◌⊎◌, List, [], ◌∷◌, ◌++◌, length, take, Option, Some, None, refl, sym, ap, ◌∙◌, subst, inl, inr, arith}
+use Rattle.std.proofs.Common.{ℕ, zero, suc, ◌≡◌, ◌≢◌, ◌+◌, ◌-◌, ◌<◌, ◌≤◌, ◌⊎◌, List, [], ◌∷◌, ◌++◌, length, take, Option, Some, None, refl, sym, ap, ◌∙◌, subst, inl, inr, arith, unwrap_or}
 use Rattle.std.specs.List.{slice_get}
 use Rattle.std.proofs.lemmas.Bool.{cases_eq}
 use Rattle.std.proofs.lemmas.Option.{none-some, same_Some}
@@ -8,9 +8,9 @@ use Rattle.klsm_world.specs.declared.step.Step.{Step}
 use Rattle.klsm_world.specs.declared.step.Step.TheVariants.{Acquire, Commit, Release, Miss}
 use Rattle.klsm_world.specs.declared.step.Entry.{Entry}
 use Rattle.klsm_world.specs.declared.step.Entry.TheVariants.{Acquired, Committed, Released, Missed}
-use Rattle.klsm_world.specs.OwnSteps.{content_or_none, own_part, shared_part, found_in}
+use Rattle.klsm_world.specs.OwnSteps.{own_part, shared_part, found_in}
 use Rattle.klsm_world.specs.LegalSteps.{MayFollow, IsLegal}
-use Rattle.klsm_world.specs.Worlds.{Limits, World, word_of, home_of, steps_of, hand_in, content_of, first_world}
+use Rattle.klsm_world.specs.Worlds.{Limits, World, word_of, home_of, steps_of, hand_in, content_of, first_world, holder_of}
 use Rattle.klsm_world.specs.Schedules.{MayStep, noted, next}
 use Rattle.klsm_world.specs.LawfulWorlds.{AreAgreed}
 use Rattle.klsm_world.proofs.NotedLemmas.{steps_noted, steps_else}
@@ -56,14 +56,14 @@ not_held limits w t p agreed less other = by_option (found_in (hand_in w t) p) (
     by_option (Some c) absent = absurd (absent c refl)
 
 -- the content found at an acquire is that of the part
-pub found_at_home : (limits : Limits) (w : World) (p : ℕ) → AreAgreed limits w → p ≤ limits.threads → word_of w p ≡ 0 → content_or_none (home_of w p) ≡ content_of w p
+pub found_at_home : (limits : Limits) (w : World) (p : ℕ) → AreAgreed limits w → p ≤ limits.threads → word_of w p ≡ 0 → unwrap_or (home_of w p) [] ≡ content_of w p
 found_at_home limits w p agreed at_most zeros =
     let here = agreed.free p at_most zeros in
-    ap content_or_none here.1 ∙ sym (content_at_home w p here.0 here.1)
+    ap (λ o. unwrap_or o []) here.1 ∙ sym (content_at_home w p here.0 here.1)
 
 -- an own part found at home has at most k items
 few_found : (limits : Limits) (w : World) (p : ℕ) → AreAgreed limits w → ((t : ℕ) → t < limits.threads → length (content_of w (own_part t)) ≤ limits.k)
-    → p ≤ limits.threads → word_of w p ≡ 0 → p ≢ shared_part → length (content_or_none (home_of w p)) ≤ limits.k
+    → p ≤ limits.threads → word_of w p ≡ 0 → p ≢ shared_part → length (unwrap_or (home_of w p) []) ≤ limits.k
 few_found limits w p agreed few at_most zeros own =
     let owner : p - 1 < limits.threads = omega (arith, at_most, own) in
     let part : own_part (p - 1) ≡ p = omega (arith, own) in
@@ -75,17 +75,17 @@ pub legal_kept : (limits : Limits) (w : World) (step : Step) → AreAgreed limit
     → ((t : ℕ) → t < limits.threads → length (content_of w (own_part t)) ≤ limits.k)
     → MayStep limits w step → (t : ℕ) → t < limits.threads → IsLegal limits.k t (steps_of (next w step) t)
 legal_kept limits w (Acquire t p) agreed legal few may =
-    let zeros : word_of w p ≡ 0 = may.2 in
+    let zeros : word_of w p ≡ 0 = may.free in
     let other : word_of w p ≢ t + 1 = λ named. omega (arith, zeros, named) in
-    legal_noted limits w (next w (Acquire t p)) t (Acquired p (content_or_none (home_of w p))) (omega (arith, agreed.lists_are, may.0)) refl legal may.0
-    (not_held limits w t p agreed may.0 other, few_found limits w p agreed few may.1 zeros)
+    legal_noted limits w (next w (Acquire t p)) t (Acquired p (unwrap_or (home_of w p) [])) (omega (arith, agreed.lists_are, may.thread)) refl legal may.thread
+    (record { lacking = not_held limits w t p agreed may.thread other; few = few_found limits w p agreed few may.part zeros })
 legal_kept limits w (Commit t event) agreed legal few may =
-    legal_noted limits w (next w (Commit t event)) t (Committed event) (omega (arith, agreed.lists_are, may.0)) refl legal may.0 may.1
+    legal_noted limits w (next w (Commit t event)) t (Committed event) (omega (arith, agreed.lists_are, may.thread)) refl legal may.thread may.commit
 legal_kept limits w (Release t p) agreed legal few may =
-    legal_noted limits w (next w (Release t p)) t (Released p) (omega (arith, agreed.lists_are, may.0)) refl legal may.0 may.1
+    legal_noted limits w (next w (Release t p)) t (Released p) (omega (arith, agreed.lists_are, may.thread)) refl legal may.thread may.held
 legal_kept limits w (Miss t p) agreed legal few may =
-    legal_noted limits w (next w (Miss t p)) t (Missed p (word_of w p - 1)) (omega (arith, agreed.lists_are, may.0)) refl legal may.0
-    (not_held limits w t p agreed may.0 may.3)
+    legal_noted limits w (next w (Miss t p)) t (Missed p (holder_of w p)) (omega (arith, agreed.lists_are, may.thread)) refl legal may.thread
+    (not_held limits w t p agreed may.thread may.by_another)
 
 -- each list of the first world is legal
 pub legal_first : (limits : Limits) (t : ℕ) → t < limits.threads → IsLegal limits.k t (steps_of (first_world limits) t)

@@ -1,11 +1,11 @@
 -- How often an item is live after each event that a thread may commit.
-use Rattle.std.proofs.Common.{◌≡◌, ◌≢◌, ℕ, ◌+◌, ◌<◌, List, [], ◌∷◌, length, refl, sym, ap, ◌∙◌, arith}
+use Rattle.std.proofs.Common.{◌≡◌, ◌≢◌, ℕ, ◌+◌, ◌<◌, List, [], ◌∷◌, length, refl, sym, ap, ◌∙◌, arith, unwrap_or}
 use Rattle.klsm_run.specs.declared.item.Item.{Item}
 use Rattle.klsm_parts.specs.Events.{times, own_after_put, own_after_flush, shared_after_flush, own_after_take, shared_after_take, own_after_spy, victim_after_spy}
 use Rattle.klsm_world.specs.declared.step.Event.{Event}
 use Rattle.klsm_world.specs.declared.step.Event.TheVariants.{Put, Flush, Take, Nothing, Spy}
 use Rattle.klsm_world.specs.declared.step.Step.TheVariants.{Commit}
-use Rattle.klsm_world.specs.OwnSteps.{Hand, Holds, found_in, content_or_none, content_in, changed, after_event, own_part, shared_part}
+use Rattle.klsm_world.specs.OwnSteps.{Hand, Holds, found_in, content_in, changed, after_event, own_part, shared_part}
 use Rattle.klsm_world.specs.LegalSteps.{MayCommit}
 use Rattle.klsm_world.specs.Worlds.{Limits, World, hand_in, content_of, live}
 use Rattle.klsm_world.specs.LawfulWorlds.{AreAgreed}
@@ -36,7 +36,7 @@ module _ (limits : Limits) (w : World) (agreed : AreAgreed limits w) (t : ℕ) (
   live_after_one event q c d has later else =
       let v = next w (Commit t event) in
       let before : times x (content_of w q) ≡ times x c = ap (times x) (content_held limits w t q c agreed inside has) in
-      let after : times x (content_of v q) ≡ times x d = ap (times x) (content_committed limits w t event q c agreed inside has ∙ ap content_or_none later) in
+      let after : times x (content_of v q) ≡ times x d = ap (times x) (content_committed limits w t event q c agreed inside has ∙ ap (λ o. unwrap_or o []) later) in
       omega (
         arith,
         before,
@@ -53,8 +53,8 @@ module _ (limits : Limits) (w : World) (agreed : AreAgreed limits w) (t : ℕ) (
       let v = next w (Commit t event) in
       let before_q : times x (content_of w q) ≡ times x c = ap (times x) (content_held limits w t q c agreed inside has_q) in
       let before_r : times x (content_of w r) ≡ times x d = ap (times x) (content_held limits w t r d agreed inside has_r) in
-      let after_q : times x (content_of v q) ≡ times x c' = ap (times x) (content_committed limits w t event q c agreed inside has_q ∙ ap content_or_none later_q) in
-      let after_r : times x (content_of v r) ≡ times x d' = ap (times x) (content_committed limits w t event r d agreed inside has_r ∙ ap content_or_none later_r) in
+      let after_q : times x (content_of v q) ≡ times x c' = ap (times x) (content_committed limits w t event q c agreed inside has_q ∙ ap (λ o. unwrap_or o []) later_q) in
+      let after_r : times x (content_of v r) ≡ times x d' = ap (times x) (content_committed limits w t event r d agreed inside has_r ∙ ap (λ o. unwrap_or o []) later_r) in
       omega (
         arith,
         before_q,
@@ -69,35 +69,35 @@ module _ (limits : Limits) (w : World) (agreed : AreAgreed limits w) (t : ℕ) (
   pub live_after_put : (n : ℕ) (y : Item) → MayCommit limits.k t (hand_in w t) n (Put y) → times x (live (next w (Commit t (Put y)))) ≡ times x (live w) + times x (y ∷ [])
   live_after_put n y may =
       let hand = hand_in w t in
-      let own = may.0.0 in
-      let had : content_in hand (own_part t) ≡ own = ap content_or_none may.0.1 in
+      let own = may.held.own in
+      let had : content_in hand (own_part t) ≡ own = ap (λ o. unwrap_or o []) may.held.holds_own in
       let left : List Item = own_after_put (content_in hand (own_part t)) y in
       let left_is : times x left ≡ times x (own_after_put own y) = ap (λ c. times x (own_after_put c y)) had in
       omega (
         arith,
         left_is,
         put_counts y x own,
-        live_after_one (Put y) (own_part t) own left may.0.1 (found_changed hand (own_part t) left own may.0.1) (λ p other. found_elsewhere hand (own_part t) p left other),
+        live_after_one (Put y) (own_part t) own left may.held.holds_own (found_changed hand (own_part t) left own may.held.holds_own) (λ p other. found_elsewhere hand (own_part t) p left other),
       )
 
   -- so does a Flush
   pub live_after_flush : (n : ℕ) (y : Item) (moved : List Item) → MayCommit limits.k t (hand_in w t) n (Flush y moved) → times x (live (next w (Commit t (Flush y moved)))) ≡ times x (live w) + times x (y ∷ [])
   live_after_flush n y moved may =
       let hand = hand_in w t in
-      let own = may.0.0 in
-      let shared = may.0.1 in
-      let has_own = may.0.2 in
-      let has_shared = may.0.3 in
+      let own = may.held.own in
+      let shared = may.held.other in
+      let has_own = may.held.holds_own in
+      let has_shared = may.held.holds_other in
       let left_own : List Item = own_after_flush (content_in hand (own_part t)) y moved in
       let left_shared : List Item = shared_after_flush (content_in hand shared_part) moved in
-      let own_is : times x left_own ≡ times x (own_after_flush own y moved) = ap (λ o. times x (own_after_flush (content_or_none o) y moved)) has_own in
-      let shared_is : times x left_shared ≡ times x (shared_after_flush shared moved) = ap (λ o. times x (shared_after_flush (content_or_none o) moved)) has_shared in
+      let own_is : times x left_own ≡ times x (own_after_flush own y moved) = ap (λ o. times x (own_after_flush (unwrap_or o []) y moved)) has_own in
+      let shared_is : times x left_shared ≡ times x (shared_after_flush shared moved) = ap (λ o. times x (shared_after_flush (unwrap_or o []) moved)) has_shared in
       let apart : own_part t ≢ shared_part = λ same. let bad : t + 1 ≡ 0 = same in absurd (omega (arith, bad)) in
       omega (
         arith,
         own_is,
         shared_is,
-        flush_counts limits.k own shared y x moved may.0.4,
+        flush_counts limits.k own shared y x moved may.held.fits,
         live_after_two (Flush y moved) (own_part t) shared_part own shared left_own left_shared apart has_own has_shared
             (first_of_two hand (own_part t) shared_part own left_own left_shared apart has_own) (second_of_two hand (own_part t) shared_part shared left_own left_shared apart has_shared)
             (neither_of_two hand (own_part t) shared_part left_own left_shared),
@@ -107,21 +107,21 @@ module _ (limits : Limits) (w : World) (agreed : AreAgreed limits w) (t : ℕ) (
   pub live_after_take : (n : ℕ) (y : Item) → MayCommit limits.k t (hand_in w t) n (Take y) → times x (live (next w (Commit t (Take y)))) + times x (y ∷ []) ≡ times x (live w)
   live_after_take n y may =
       let hand = hand_in w t in
-      let own = may.0 in
-      let shared = may.1 in
-      let has_own = may.2 in
-      let has_shared = may.3 in
+      let own = may.own in
+      let shared = may.other in
+      let has_own = may.holds_own in
+      let has_shared = may.holds_other in
       let left_own : List Item = own_after_take (content_in hand (own_part t)) y in
       let left_shared : List Item = shared_after_take (content_in hand (own_part t)) (content_in hand shared_part) y in
-      let own_is : times x left_own ≡ times x (own_after_take own y) = ap (λ o. times x (own_after_take (content_or_none o) y)) has_own in
+      let own_is : times x left_own ≡ times x (own_after_take own y) = ap (λ o. times x (own_after_take (unwrap_or o []) y)) has_own in
       let shared_is : times x left_shared ≡ times x (shared_after_take own shared y) =
-      ap (λ o. times x (shared_after_take (content_or_none o) (content_in hand shared_part) y)) has_own ∙ ap (λ o. times x (shared_after_take own (content_or_none o) y)) has_shared in
+      ap (λ o. times x (shared_after_take (unwrap_or o []) (content_in hand shared_part) y)) has_own ∙ ap (λ o. times x (shared_after_take own (unwrap_or o []) y)) has_shared in
       let apart : own_part t ≢ shared_part = λ same. let bad : t + 1 ≡ 0 = same in absurd (omega (arith, bad)) in
       omega (
         arith,
         own_is,
         shared_is,
-        take_counts limits.k own shared y x may.4,
+        take_counts limits.k own shared y x may.fits,
         live_after_two (Take y) (own_part t) shared_part own shared left_own left_shared apart has_own has_shared
             (first_of_two hand (own_part t) shared_part own left_own left_shared apart has_own) (second_of_two hand (own_part t) shared_part shared left_own left_shared apart has_shared)
             (neither_of_two hand (own_part t) shared_part left_own left_shared),
@@ -131,17 +131,17 @@ module _ (limits : Limits) (w : World) (agreed : AreAgreed limits w) (t : ℕ) (
   pub live_after_spy : (n victim : ℕ) (moved : List Item) → MayCommit limits.k t (hand_in w t) n (Spy victim moved) → times x (live (next w (Commit t (Spy victim moved)))) ≡ times x (live w)
   live_after_spy n victim moved may =
       let hand = hand_in w t in
-      let own = may.1.0 in
-      let from = may.1.1 in
-      let has_own = may.1.2 in
-      let has_from = may.1.3 in
+      let own = may.held.own in
+      let from = may.held.other in
+      let has_own = may.held.holds_own in
+      let has_from = may.held.holds_other in
       let left : List Item = victim_after_spy (content_in hand (own_part victim)) moved in
-      let left_is : times x left ≡ times x (victim_after_spy from moved) = ap (λ o. times x (victim_after_spy (content_or_none o) moved)) has_from in
-      let apart : own_part t ≢ own_part victim = λ same. let equal : t + 1 ≡ victim + 1 = same in may.0 (omega (arith, equal)) in
+      let left_is : times x left ≡ times x (victim_after_spy from moved) = ap (λ o. times x (victim_after_spy (unwrap_or o []) moved)) has_from in
+      let apart : own_part t ≢ own_part victim = λ same. let equal : t + 1 ≡ victim + 1 = same in may.another (omega (arith, equal)) in
       omega (
         arith,
         left_is,
-        spy_counts own from x moved may.1.4,
+        spy_counts own from x moved may.held.fits,
         live_after_two (Spy victim moved) (own_part t) (own_part victim) own from (own_after_spy moved) left apart has_own has_from
             (first_of_two hand (own_part t) (own_part victim) own (own_after_spy moved) left apart has_own) (second_of_two hand (own_part t) (own_part victim) from (own_after_spy moved) left apart has_from)
             (neither_of_two hand (own_part t) (own_part victim) (own_after_spy moved) left),

@@ -1,47 +1,45 @@
 -- How often an item is in the lists' items where one list gains an entry, and among the live items where parts change.
-use Rattle.std.proofs.Common.{◌≡◌, ◌≢◌, ℕ, ◌+◌, ◌<◌, List, [], ◌∷◌, ◌++◌, length, get_or, set, refl, ap, arith, zero, suc, inl, inr}
+use Rattle.std.proofs.Common.{◌≡◌, ◌≢◌, ℕ, ◌+◌, ◌<◌, List, [], ◌∷◌, ◌++◌, length, get_or, set, refl, ap, arith, zero, suc, inl, inr, ◌∙◌}
 use Rattle.std.specs.List.{flat_map}
 use Rattle.std.proofs.lemmas.Bool.{cases_eq}
-use Rattle.std.proofs.lemmas.Grind.{flat_map-append}
 use Rattle.klsm_run.specs.declared.item.Item.{Item}
 use Rattle.klsm_parts.specs.Events.{times}
+use Rattle.klsm_world.specs.declared.step.Event.{Event}
 use Rattle.klsm_world.specs.declared.step.Entry.{Entry}
-use Rattle.klsm_world.specs.OwnSteps.{inserted, deleted, inserted_at, deleted_at}
+use Rattle.klsm_world.specs.OwnSteps.{inserted_by, deleted_by, event_at, inserted, deleted}
 use Rattle.klsm_world.specs.Worlds.{World, content_of, live_below}
 use Rattle.klsm_world.proofs.EventCountLemmas.{times_append}
+use Rattle.klsm_world.proofs.ItemGrowthLemmas.{items_grow}
 
--- the items that one entry more adds to a list's
-items_more : (x : Item) (items_at : Entry → List Item) (own : List Entry) (entry : Entry) → times x (flat_map items_at (own ++ entry ∷ [])) ≡ times x (flat_map items_at own) + times x (items_at entry)
-items_more x items_at own entry =
-    let whole : times x (flat_map items_at (own ++ entry ∷ [])) ≡ times x (flat_map items_at own ++ (items_at entry ++ [])) = ap (times x) (flat_map-append items_at own (entry ∷ [])) in
-    let none : times x [] ≡ 0 = refl in
-    omega (arith, whole, times_append x (flat_map items_at own) (items_at entry ++ []), times_append x (items_at entry) [], none)
+-- one list of several gains an entry
+module _ (x : Item) (items_by : Event → List Item) where
+  abbrev items_of : List Entry → List Item
+  items_of own = flat_map items_by (flat_map event_at own)
 
-module _ (x : Item) (items_at : Entry → List Item) where
-  -- one list of a list of lists gains an entry
-  pub items_noted : (lists : List (List Entry)) (t : ℕ) (entry : Entry) → t < length lists
-      → times x (flat_map (λ own. flat_map items_at own) (set lists t (get_or lists t [] ++ entry ∷ []))) ≡ times x (flat_map (λ own. flat_map items_at own) lists) + times x (items_at entry)
+  items_noted : (lists : List (List Entry)) (t : ℕ) (entry : Entry) → t < length lists
+      → times x (flat_map items_of (set lists t (get_or lists t [] ++ entry ∷ []))) ≡ times x (flat_map items_of lists) + times x (flat_map items_by (event_at entry))
   items_noted [] t entry within = absurd (omega (arith, within))
   items_noted (own ∷ lists) zero entry within =
-      let others = flat_map (λ own. flat_map items_at own) lists in
-      omega (arith, times_append x (flat_map items_at (own ++ entry ∷ [])) others, times_append x (flat_map items_at own) others, items_more x items_at own entry)
+      let others = flat_map items_of lists in
+      let more = ap (times x) (items_grow items_by own entry) ∙ times_append x (items_of own) (flat_map items_by (event_at entry)) in
+      omega (arith, times_append x (items_of (own ++ entry ∷ [])) others, times_append x (items_of own) others, more)
   items_noted (own ∷ lists) (suc t) entry within =
       omega (
         arith,
-        times_append x (flat_map items_at own) (flat_map (λ own. flat_map items_at own) (set lists t (get_or lists t [] ++ entry ∷ []))),
-        times_append x (flat_map items_at own) (flat_map (λ own. flat_map items_at own) lists),
+        times_append x (items_of own) (flat_map items_of (set lists t (get_or lists t [] ++ entry ∷ []))),
+        times_append x (items_of own) (flat_map items_of lists),
         items_noted lists t entry (omega (arith, within)),
       )
 
 -- what is inserted, where one list gains an entry
 pub inserted_noted : (x : Item) (lists : List (List Entry)) (t : ℕ) (entry : Entry) → t < length lists
-    → times x (flat_map inserted (set lists t (get_or lists t [] ++ entry ∷ []))) ≡ times x (flat_map inserted lists) + times x (inserted_at entry)
-inserted_noted x lists t entry within = items_noted x inserted_at lists t entry within
+    → times x (flat_map inserted (set lists t (get_or lists t [] ++ entry ∷ []))) ≡ times x (flat_map inserted lists) + times x (flat_map inserted_by (event_at entry))
+inserted_noted x lists t entry within = items_noted x inserted_by lists t entry within
 
 -- and what is deleted
 pub deleted_noted : (x : Item) (lists : List (List Entry)) (t : ℕ) (entry : Entry) → t < length lists
-    → times x (flat_map deleted (set lists t (get_or lists t [] ++ entry ∷ []))) ≡ times x (flat_map deleted lists) + times x (deleted_at entry)
-deleted_noted x lists t entry within = items_noted x deleted_at lists t entry within
+    → times x (flat_map deleted (set lists t (get_or lists t [] ++ entry ∷ []))) ≡ times x (flat_map deleted lists) + times x (flat_map deleted_by (event_at entry))
+deleted_noted x lists t entry within = items_noted x deleted_by lists t entry within
 
 module _ (w v : World) (x : Item) where
   -- the parts up to one count as its content and those below it

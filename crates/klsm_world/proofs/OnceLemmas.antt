@@ -1,5 +1,5 @@
 -- What was inserted is what was deleted and what is live, each item as often, also after a legal step.
-use Rattle.std.proofs.Common.{◌≡◌, ℕ, ◌+◌, ◌-◌, ◌<◌, [], length, Some, None, refl, ap, ◌∙◌, arith}
+use Rattle.std.proofs.Common.{◌≡◌, ℕ, ◌+◌, ◌-◌, ◌<◌, [], length, Some, None, refl, ap, ◌∙◌, arith, unwrap_or}
 use Rattle.std.specs.List.{flat_map}
 use Rattle.std.proofs.lemmas.List.{length-set}
 use Rattle.klsm_run.specs.declared.item.Item.{Item}
@@ -10,9 +10,9 @@ use Rattle.klsm_world.specs.declared.step.Step.{Step}
 use Rattle.klsm_world.specs.declared.step.Step.TheVariants.{Acquire, Commit, Release, Miss}
 use Rattle.klsm_world.specs.declared.step.Entry.{Entry}
 use Rattle.klsm_world.specs.declared.step.Entry.TheVariants.{Acquired, Committed, Released, Missed}
-use Rattle.klsm_world.specs.OwnSteps.{content_or_none, content_in, inserted, deleted, inserted_at, deleted_at}
+use Rattle.klsm_world.specs.OwnSteps.{content_in, inserted, deleted, inserted_by, deleted_by, event_at}
 use Rattle.klsm_world.specs.LegalSteps.{MayCommit}
-use Rattle.klsm_world.specs.Worlds.{Limits, World, word_of, home_of, steps_of, hand_in, content_of, live_below, live}
+use Rattle.klsm_world.specs.Worlds.{Limits, World, home_of, steps_of, hand_in, content_of, live_below, live, holder_of}
 use Rattle.klsm_world.specs.LawfulWorlds.{AreAgreed}
 use Rattle.klsm_world.specs.Schedules.{MayStep, noted, next}
 use Rattle.klsm_world.proofs.LiveAfterLemmas.{live_after_put, live_after_flush, live_after_take, live_after_spy, live_after_nothing}
@@ -25,7 +25,7 @@ IsOnce w x = times x (flat_map inserted w.lists) ≡ times x (flat_map deleted w
 
 -- where a list gains an entry, and the live items change by what it inserts and deletes, this stays so
 pub once_noted : (w v : World) (t : ℕ) (entry : Entry) (x : Item) → t < length w.lists → v.lists ≡ noted w t entry
-    → times x (live v) + times x (deleted_at entry) ≡ times x (live w) + times x (inserted_at entry) → IsOnce w x → IsOnce v x
+    → times x (live v) + times x (flat_map deleted_by (event_at entry)) ≡ times x (live w) + times x (flat_map inserted_by (event_at entry)) → IsOnce w x → IsOnce v x
 once_noted w v t entry x within lists moved old =
     omega (
       arith,
@@ -43,7 +43,7 @@ live_unchanged w v x homes each = ap (λ n. times x (live_below v n)) homes ∙ 
 
 -- what a commit does to the live items
 live_committed : (limits : Limits) (w : World) (t n : ℕ) (event : Event) (x : Item) → AreAgreed limits w → t < limits.threads → MayCommit limits.k t (hand_in w t) n event
-    → times x (live (next w (Commit t event))) + times x (deleted_at (Committed event)) ≡ times x (live w) + times x (inserted_at (Committed event))
+    → times x (live (next w (Commit t event))) + times x (flat_map deleted_by (event_at (Committed event))) ≡ times x (live w) + times x (flat_map inserted_by (event_at (Committed event)))
 live_committed limits w t n (Put y) x agreed inside may = let none : times x [] ≡ 0 = refl in omega (arith, none, live_after_put limits w agreed t inside x n y may)
 live_committed limits w t n (Flush y moved) x agreed inside may = let none : times x [] ≡ 0 = refl in omega (arith, none, live_after_flush limits w agreed t inside x n y moved may)
 live_committed limits w t n (Take y) x agreed inside may = let none : times x [] ≡ 0 = refl in omega (arith, none, live_after_take limits w agreed t inside x n y may)
@@ -57,17 +57,17 @@ once_kept limits w (Acquire t p) agreed once may x =
     let v = next w (Acquire t p) in
     let none : times x [] ≡ 0 = refl in
     let same = live_unchanged w v x (length-set w.homes p None) (λ q. content_acquired limits w t p q agreed may) in
-    once_noted w v t (Acquired p (content_or_none (home_of w p))) x (listed limits w t agreed may.0) refl (omega (arith, none, same)) (once x)
+    once_noted w v t (Acquired p (unwrap_or (home_of w p) [])) x (listed limits w t agreed may.thread) refl (omega (arith, none, same)) (once x)
 once_kept limits w (Commit t event) agreed once may x =
-    once_noted w (next w (Commit t event)) t (Committed event) x (listed limits w t agreed may.0) refl
-    (live_committed limits w t (length (inserted (steps_of w t))) event x agreed may.0 may.1) (once x)
+    once_noted w (next w (Commit t event)) t (Committed event) x (listed limits w t agreed may.thread) refl
+    (live_committed limits w t (length (inserted (steps_of w t))) event x agreed may.thread may.commit) (once x)
 once_kept limits w (Release t p) agreed once may x =
     let v = next w (Release t p) in
     let none : times x [] ≡ 0 = refl in
     let same = live_unchanged w v x (length-set w.homes p (Some (content_in (hand_in w t) p))) (λ q. content_released limits w t p q agreed may) in
-    once_noted w v t (Released p) x (listed limits w t agreed may.0) refl (omega (arith, none, same)) (once x)
+    once_noted w v t (Released p) x (listed limits w t agreed may.thread) refl (omega (arith, none, same)) (once x)
 once_kept limits w (Miss t p) agreed once may x =
     let v = next w (Miss t p) in
     let none : times x [] ≡ 0 = refl in
     let same = live_unchanged w v x refl (λ q. content_missed limits w t p q agreed may) in
-    once_noted w v t (Missed p (word_of w p - 1)) x (listed limits w t agreed may.0) refl (omega (arith, none, same)) (once x)
+    once_noted w v t (Missed p (holder_of w p)) x (listed limits w t agreed may.thread) refl (omega (arith, none, same)) (once x)

@@ -1,5 +1,5 @@
 -- The content of a part in a world, and what each step leaves of it.
-use Rattle.std.proofs.Common.{◌≡◌, ℕ, ◌+◌, ◌-◌, ◌<◌, ◌≤◌, List, length, Option, Some, None, refl, sym, ap, ◌∙◌, subst, arith, inl, inr}
+use Rattle.std.proofs.Common.{◌≡◌, ℕ, ◌+◌, ◌-◌, ◌<◌, ◌≤◌, List, length, Option, Some, None, refl, sym, ap, ◌∙◌, subst, arith, inl, inr, unwrap_or, []}
 use Rattle.std.proofs.lemmas.Bool.{cases_eq}
 use Rattle.std.proofs.lemmas.List.{get_or-set_same, get_or-set_other}
 use Rattle.std.proofs.lemmas.Option.{none-some}
@@ -8,8 +8,8 @@ use Rattle.klsm_world.specs.declared.step.Event.{Event}
 use Rattle.klsm_world.specs.declared.step.Step.TheVariants.{Acquire, Commit, Release, Miss}
 use Rattle.klsm_world.specs.declared.step.Entry.{Entry}
 use Rattle.klsm_world.specs.declared.step.Entry.TheVariants.{Acquired, Committed, Released, Missed}
-use Rattle.klsm_world.specs.OwnSteps.{Hand, Holds, found_in, content_or_none, content_in, after_event, after_entry}
-use Rattle.klsm_world.specs.Worlds.{Limits, World, word_of, home_of, hand_in, home_or, content_of}
+use Rattle.klsm_world.specs.OwnSteps.{Hand, Holds, found_in, content_in, after_event, after_entry}
+use Rattle.klsm_world.specs.Worlds.{Limits, World, word_of, home_of, hand_in, content_of, holder_of}
 use Rattle.klsm_world.specs.LawfulWorlds.{AreAgreed}
 use Rattle.klsm_world.specs.Schedules.{MayStep, noted, next}
 use Rattle.klsm_world.proofs.AgreeLemmas.{content_at_home}
@@ -19,27 +19,27 @@ use Rattle.klsm_world.proofs.NotedLemmas.{hand_noted, hand_else}
 -- a part that is not at home, and whose word names a thread, has the content that the thread's hand says
 pub content_away : (w : World) (t p : ℕ) → home_of w p ≡ None → word_of w p ≡ t + 1 → content_of w p ≡ content_in (hand_in w t) p
 content_away w t p away word =
-    let number : word_of w p - 1 ≡ t = omega (arith, word) in
-    ap (λ home. home_or home (content_in (hand_in w (word_of w p - 1)) p)) away ∙ ap (λ u. content_in (hand_in w u) p) number
+    let number : holder_of w p ≡ t = omega (arith, word) in
+    ap (λ home. unwrap_or home (content_in (hand_in w (holder_of w p)) p)) away ∙ ap (λ u. content_in (hand_in w u) p) number
 
 -- a part that a thread's hand has is not at home, and its word names the thread
 pub held_away : (limits : Limits) (w : World) (t p : ℕ) (c : List Item) → AreAgreed limits w → t < limits.threads → Holds (hand_in w t) p c → (p ≤ limits.threads) × (word_of w p ≡ t + 1) × (home_of w p ≡ None)
 held_away limits w t p c agreed inside has =
     let name = agreed.named t p c inside has in
     let by = agreed.held p name.0 (λ free. omega (arith, free, name.1)) in
-    (name.0, name.1, by.3)
+    (name.0, name.1, by.away)
 
 -- a part has the content that is in a hand
 pub content_held : (limits : Limits) (w : World) (t p : ℕ) (c : List Item) → AreAgreed limits w → t < limits.threads → Holds (hand_in w t) p c → content_of w p ≡ c
 content_held limits w t p c agreed inside has =
     let away = held_away limits w t p c agreed inside has in
-    content_away w t p away.2 away.1 ∙ ap content_or_none has
+    content_away w t p away.2 away.1 ∙ ap (λ o. unwrap_or o []) has
 
 -- in two worlds a part has one content where its word, its home and what each hand has of it are the same
 pub content_same : (w v : World) (p : ℕ) → word_of v p ≡ word_of w p → home_of v p ≡ home_of w p → ((u : ℕ) → found_in (hand_in v u) p ≡ found_in (hand_in w u) p) → content_of v p ≡ content_of w p
 content_same w v p word home hands =
-    ap (λ n. home_or (home_of v p) (content_in (hand_in v (n - 1)) p)) word
-    ∙ (ap (λ o. home_or o (content_in (hand_in v (word_of w p - 1)) p)) home ∙ ap (λ o. home_or (home_of w p) (content_or_none o)) (hands (word_of w p - 1)))
+    ap (λ n. unwrap_or (home_of v p) (content_in (hand_in v (n - 1)) p)) word
+    ∙ (ap (λ o. unwrap_or o (content_in (hand_in v (holder_of w p)) p)) home ∙ ap (λ o. unwrap_or (home_of w p) (unwrap_or o [])) (hands (holder_of w p)))
 
 -- an entry that leaves a part in its thread's hand as it was leaves it so in each hand
 pub found_same : (w v : World) (t : ℕ) (entry : Entry) (p : ℕ) → t < length w.lists → v.lists ≡ noted w t entry → found_in (after_entry t (hand_in w t) entry) p ≡ found_in (hand_in w t) p
@@ -57,20 +57,20 @@ listed limits w t agreed inside = omega (arith, inside, agreed.lists_are)
 pub content_acquired : (limits : Limits) (w : World) (t p q : ℕ) → AreAgreed limits w → MayStep limits w (Acquire t p) → content_of (next w (Acquire t p)) q ≡ content_of w q
 content_acquired limits w t p q agreed may =
     let v = next w (Acquire t p) in
-    let entry : Entry = Acquired p (content_or_none (home_of w p)) in
-    let in_lists = listed limits w t agreed may.0 in
+    let entry : Entry = Acquired p (unwrap_or (home_of w p) []) in
+    let in_lists = listed limits w t agreed may.thread in
     elim (cases_eq q p) [
       | inl same ↦
-          let at_home = agreed.free p may.1 may.2 in
-          let word : word_of v p ≡ t + 1 = get_or-set_same w.words p (t + 1) 0 (omega (arith, may.1, agreed.words_are)) in
-          let home : home_of v p ≡ None = get_or-set_same w.homes p None None (omega (arith, may.1, agreed.homes_are)) in
-          let hand : content_in (hand_in v t) p ≡ content_or_none (home_of w p) =
-          ap (λ h. content_in h p) (hand_noted w v t entry in_lists refl) ∙ ap content_or_none (found_first (hand_in w t) p (content_or_none (home_of w p))) in
-          let before : content_of w p ≡ content_or_none (home_of w p) = content_at_home w p at_home.0 at_home.1 ∙ sym (ap content_or_none at_home.1) in
+          let at_home = agreed.free p may.part may.free in
+          let word : word_of v p ≡ t + 1 = get_or-set_same w.words p (t + 1) 0 (omega (arith, may.part, agreed.words_are)) in
+          let home : home_of v p ≡ None = get_or-set_same w.homes p None None (omega (arith, may.part, agreed.homes_are)) in
+          let hand : content_in (hand_in v t) p ≡ unwrap_or (home_of w p) [] =
+          ap (λ h. content_in h p) (hand_noted w v t entry in_lists refl) ∙ ap (λ o. unwrap_or o []) (found_first (hand_in w t) p (unwrap_or (home_of w p) [])) in
+          let before : content_of w p ≡ unwrap_or (home_of w p) [] = content_at_home w p at_home.0 at_home.1 ∙ sym (ap (λ o. unwrap_or o []) at_home.1) in
           subst (λ z. content_of v z ≡ content_of w z) (sym same) (content_away v t p home word ∙ (hand ∙ sym before))
       | inr other ↦
           content_same w v q (get_or-set_other w.words p q (t + 1) 0 other) (get_or-set_other w.homes p q None None other)
-          (found_same w v t entry q in_lists refl (found_behind (hand_in w t) p q (content_or_none (home_of w p)) other))
+          (found_same w v t entry q in_lists refl (found_behind (hand_in w t) p q (unwrap_or (home_of w p) []) other))
     ]
 
 -- so does a release
@@ -78,21 +78,21 @@ pub content_released : (limits : Limits) (w : World) (t p q : ℕ) → AreAgreed
 content_released limits w t p q agreed may =
     let v = next w (Release t p) in
     let left = content_in (hand_in w t) p in
-    let away = held_away limits w t p may.1.0 agreed may.0 may.1.1 in
+    let away = held_away limits w t p may.held.content agreed may.thread may.held.holds in
     elim (cases_eq q p) [
       | inl same ↦
           let home : home_of v p ≡ Some left = get_or-set_same w.homes p (Some left) None (omega (arith, away.0, agreed.homes_are)) in
           subst (λ z. content_of v z ≡ content_of w z) (sym same) (content_at_home v p left home ∙ sym (content_away w t p away.2 away.1))
       | inr other ↦
           content_same w v q (get_or-set_other w.words p q 0 0 other) (get_or-set_other w.homes p q (Some left) None other)
-          (found_same w v t (Released p) q (listed limits w t agreed may.0) refl (given_back_elsewhere (hand_in w t) p q other))
+          (found_same w v t (Released p) q (listed limits w t agreed may.thread) refl (given_back_elsewhere (hand_in w t) p q other))
     ]
 
 -- and a miss
 pub content_missed : (limits : Limits) (w : World) (t p q : ℕ) → AreAgreed limits w → MayStep limits w (Miss t p) → content_of (next w (Miss t p)) q ≡ content_of w q
 content_missed limits w t p q agreed may =
     content_same w (next w (Miss t p)) q refl refl
-    (found_same w (next w (Miss t p)) t (Missed p (word_of w p - 1)) q (listed limits w t agreed may.0) refl refl)
+    (found_same w (next w (Miss t p)) t (Missed p (holder_of w p)) q (listed limits w t agreed may.thread) refl refl)
 
 -- a commit leaves a content as it was where the event leaves in the hand what was there
 pub content_unchanged : (limits : Limits) (w : World) (t : ℕ) (event : Event) (q : ℕ) → AreAgreed limits w → t < limits.threads → found_in (after_event t (hand_in w t) event) q ≡ found_in (hand_in w t) q

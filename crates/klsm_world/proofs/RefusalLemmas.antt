@@ -35,10 +35,10 @@ module _ (limits : Limits) (w : World) (t : ℕ) (agreed : AreAgreed limits w) (
   holds_named p word =
       let away : word_of w p ≢ 0 = λ zeros. (let bad : 0 ≡ t + 1 = sym zeros ∙ word in omega (arith, bad)) in
       let at = agreed.held p (named_part p word) away in
-      let both : t + 1 ≡ at.0 + 1 = sym word ∙ at.2 in
-      let one : at.0 ≡ t = omega (arith, both) in
-      let has : Holds (hand_in w t) p at.4.0 = subst (λ u. Holds (hand_in w u) p at.4.0) one at.4.1 in
-      subst (Holds (hand_in w t) p) (sym (content_held limits w t p at.4.0 agreed less has)) has
+      let both : t + 1 ≡ at.by + 1 = sym word ∙ at.word in
+      let one : at.by ≡ t = omega (arith, both) in
+      let has : Holds (hand_in w t) p at.held.content = subst (λ u. Holds (hand_in w u) p at.held.content) one at.held.holds in
+      subst (Holds (hand_in w t) p) (sym (content_held limits w t p at.held.content agreed less has)) has
 
   -- where the thread does not hold each of some parts, it lacks one
   pub lacks_one : (parts : List ℕ) → (HoldsAll w t parts → ⊥) → LacksOne w t parts

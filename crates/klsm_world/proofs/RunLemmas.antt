@@ -1,5 +1,5 @@
 -- The events of a schedule are a run of the relaxed queue, which holds what is live.
-use Rattle.std.proofs.Common.{◌≡◌, ◌⊎◌, inl, inr, ℕ, zero, suc, ◌+◌, ◌-◌, ◌*◌, ◌<◌, ◌≤◌, List, [], ◌∷◌, length, sym, refl, ap, ◌∙◌, subst, arith}
+use Rattle.std.proofs.Common.{◌≡◌, ◌⊎◌, inl, inr, ℕ, zero, suc, ◌+◌, ◌-◌, ◌*◌, ◌<◌, ◌≤◌, List, [], ◌∷◌, length, unwrap_or, sym, refl, ap, ◌∙◌, subst, arith}
 use Rattle.std.specs.List.{Contains, flat_map}
 use Rattle.std.proofs.lemmas.List.Elements.{Contains-append_left, Contains-append_right}
 use Rattle.std.proofs.lemmas.List.Concat.{flat_map-cons}
@@ -21,11 +21,11 @@ use Rattle.klsm_world.specs.declared.step.Step.{Step}
 use Rattle.klsm_world.specs.declared.step.Step.TheVariants.{Acquire, Commit, Release, Miss}
 use Rattle.klsm_world.specs.declared.step.Entry.{Entry}
 use Rattle.klsm_world.specs.declared.step.Entry.TheVariants.{Acquired, Committed, Released, Missed}
-use Rattle.klsm_world.specs.OwnSteps.{Holds, content_or_none, own_part, shared_part, inserted_at, deleted_at}
-use Rattle.klsm_world.specs.Worlds.{Limits, World, word_of, home_of, hand_in, content_of, live_below, live, first_world}
+use Rattle.klsm_world.specs.OwnSteps.{Holds, own_part, shared_part, inserted_by, deleted_by, event_at}
+use Rattle.klsm_world.specs.Worlds.{Limits, World, home_of, holder_of, hand_in, content_of, live_below, live, first_world}
 use Rattle.klsm_world.specs.LawfulWorlds.{IsLawful}
 use Rattle.klsm_world.specs.Schedules.{MayStep, noted, next, Leads}
-use Rattle.klsm_world.specs.RelaxedQueue.{queue_after, MayMove, queue_of, IsRun, event_of, events_of, inserted_by, deleted_by}
+use Rattle.klsm_world.specs.RelaxedQueue.{queue_after, MayMove, queue_of, IsRun, event_of, events_of}
 use Rattle.klsm_world.specs.Laws.{SchedulesAreRuns}
 use Rattle.klsm_world.proofs.EventCountLemmas.{times_append, times_contained, times_plus, times_without}
 use Rattle.klsm_world.proofs.SameLemmas.{same_if_counted}
@@ -37,7 +37,7 @@ use Rattle.klsm_world.proofs.FirstLemmas.{first_is_lawful, none_live_first}
 use Rattle.klsm_world.proofs.LawfulLemmas.{lawful_kept}
 
 -- an item of a part is live
-live_part : (w : World) (n p : ℕ) (x : Item) → p < n → Contains (content_of w p) x → Contains (live_below w n) x
+pub live_part : (w : World) (n p : ℕ) (x : Item) → p < n → Contains (content_of w p) x → Contains (live_below w n) x
 live_part w zero p x less within = absurd (omega (arith, less))
 live_part w (suc n) p x less within = elim (same_or_less n p less) [
   | inl same ↦ Contains-append_right (live_below w n) (content_of w n) x (subst (λ q. Contains (content_of w q) x) same within)
@@ -70,19 +70,19 @@ taken_from k own shared x (inr taken) = by_place (is_in x (taken.0 ∷ own) take
 -- in a lawful world a taken item is live
 pub taken_is_live : (limits : Limits) (w : World) (t : ℕ) (x : Item) → IsLawful limits w → MayStep limits w (Commit t (Take x)) → Contains (live w) x
 taken_is_live limits w t x lawful may =
-    let both = may.1 in
+    let both = may.commit in
     let part : (p : ℕ) (c : List Item) → p ≤ limits.threads → Holds (hand_in w t) p c → Contains c x → Contains (live w) x = λ p c inside holds within.
     live_part w (length w.homes) p x (omega (arith, inside, lawful.agreed.homes_are))
-    (subst (λ d. Contains d x) (sym (content_held limits w t p c lawful.agreed may.0 holds)) within) in
-    elim (taken_from limits.k both.0 both.1 x both.4) [
-      | inl own ↦ part (own_part t) both.0 (omega (arith, may.0)) both.2 own
-      | inr shared ↦ part shared_part both.1 (omega arith) both.3 shared
+    (subst (λ d. Contains d x) (sym (content_held limits w t p c lawful.agreed may.thread holds)) within) in
+    elim (taken_from limits.k both.own both.other x both.fits) [
+      | inl own ↦ part (own_part t) both.own (omega (arith, may.thread)) both.holds_own own
+      | inr shared ↦ part shared_part both.other (omega arith) both.holds_other shared
     ]
 
 -- in a lawful world the queue of live items may move by an event that a thread may commit
 pub live_may_move : (limits : Limits) (w : World) (t : ℕ) (event : Event) → IsLawful limits w → MayStep limits w (Commit t event) → MayMove limits (sorted (live w)) event
-live_may_move limits w t (Put x) lawful may = λ within. next_is_not_live limits w t x lawful may.1.1 (contains_unsorted x (live w) within)
-live_may_move limits w t (Flush x moved) lawful may = λ within. next_is_not_live limits w t x lawful may.1.1 (contains_unsorted x (live w) within)
+live_may_move limits w t (Put x) lawful may = λ within. next_is_not_live limits w t x lawful may.commit.stamp (contains_unsorted x (live w) within)
+live_may_move limits w t (Flush x moved) lawful may = λ within. next_is_not_live limits w t x lawful may.commit.stamp (contains_unsorted x (live w) within)
 live_may_move limits w t (Take x) lawful may = (
   contains_sorted x (live w) (taken_is_live limits w t x lawful may),
   subst (λ n. n ≤ limits.threads * limits.k) (sym (count_sorted (λ y. is_smaller y x) (live w))) (live_takes_skip_few limits w t x lawful may),
@@ -94,28 +94,28 @@ live_may_move limits w t (Spy victim moved) lawful may = tt
 -- what an entry inserts or deletes, done to the queue of live items, gives those of the next world
 module _ (limits : Limits) (v w : World) (t : ℕ) (lawful : IsLawful limits v) (after : IsLawful limits w) (within : t < limits.threads) where
   -- an entry that neither inserts nor deletes
-  quiet : (entry : Entry) → w.lists ≡ noted v t entry → inserted_at entry ≡ [] → deleted_at entry ≡ [] → sorted (live v) ≡ sorted (live w)
+  quiet : (entry : Entry) → w.lists ≡ noted v t entry → flat_map inserted_by (event_at entry) ≡ [] → flat_map deleted_by (event_at entry) ≡ [] → sorted (live v) ≡ sorted (live w)
   quiet entry lists none_in none_out = same_if_counted (live v) (live w) (λ x.
       let gains = live_gains limits v w t entry lawful after within lists x in
-      let came : times x (inserted_at entry) ≡ 0 = ap (times x) none_in in
-      let went : times x (deleted_at entry) ≡ 0 = ap (times x) none_out in
+      let came : times x (flat_map inserted_by (event_at entry)) ≡ 0 = ap (times x) none_in in
+      let went : times x (flat_map deleted_by (event_at entry)) ≡ 0 = ap (times x) none_out in
       omega (arith, gains, came, went))
 
-  inserts : (entry : Entry) (y : Item) → w.lists ≡ noted v t entry → inserted_at entry ≡ y ∷ [] → deleted_at entry ≡ [] → placed y (sorted (sorted (live v))) ≡ sorted (live w)
+  inserts : (entry : Entry) (y : Item) → w.lists ≡ noted v t entry → flat_map inserted_by (event_at entry) ≡ y ∷ [] → flat_map deleted_by (event_at entry) ≡ [] → placed y (sorted (sorted (live v))) ≡ sorted (live w)
   inserts entry y lists one_in none_out =
       ap (placed y) (sorted_itself (live v))
       ∙ same_if_counted (y ∷ live v) (live w) (λ x.
       let gains = live_gains limits v w t entry lawful after within lists x in
-      let came : times x (inserted_at entry) ≡ times x (y ∷ []) = ap (times x) one_in in
-      let went : times x (deleted_at entry) ≡ 0 = ap (times x) none_out in
+      let came : times x (flat_map inserted_by (event_at entry)) ≡ times x (y ∷ []) = ap (times x) one_in in
+      let went : times x (flat_map deleted_by (event_at entry)) ≡ 0 = ap (times x) none_out in
       omega (arith, gains, came, went, times_append x (y ∷ []) (live v)))
 
-  deletes : (entry : Entry) (y : Item) → w.lists ≡ noted v t entry → inserted_at entry ≡ [] → deleted_at entry ≡ y ∷ [] → without y (sorted (live v)) ≡ sorted (live w)
+  deletes : (entry : Entry) (y : Item) → w.lists ≡ noted v t entry → flat_map inserted_by (event_at entry) ≡ [] → flat_map deleted_by (event_at entry) ≡ y ∷ [] → without y (sorted (live v)) ≡ sorted (live w)
   deletes entry y lists none_in one_out =
       let back : sorted (live v) ≡ sorted (y ∷ live w) = same_if_counted (live v) (y ∷ live w) (λ x.
       let gains = live_gains limits v w t entry lawful after within lists x in
-      let came : times x (inserted_at entry) ≡ 0 = ap (times x) none_in in
-      let went : times x (deleted_at entry) ≡ times x (y ∷ []) = ap (times x) one_out in
+      let came : times x (flat_map inserted_by (event_at entry)) ≡ 0 = ap (times x) none_in in
+      let went : times x (flat_map deleted_by (event_at entry)) ≡ times x (y ∷ []) = ap (times x) one_out in
       omega (arith, gains, came, went, times_append x (y ∷ []) (live w))) in
       ap (without y) back ∙ without_placed y (sorted (live w))
 
@@ -145,7 +145,7 @@ module _ (before : List Step) where
 pub schedules_keep_lawful : (limits : Limits) (steps : List Step) (w : World) → Leads limits steps w → IsLawful limits w
 schedules_keep_lawful limits [] w leads = subst (IsLawful limits) (sym leads) (first_is_lawful limits)
 schedules_keep_lawful limits (step ∷ before) w leads =
-    subst (IsLawful limits) (sym leads.3) (lawful_kept limits leads.0 step (schedules_keep_lawful limits before leads.0 leads.1) leads.2)
+    subst (IsLawful limits) (sym leads.after) (lawful_kept limits leads.before step (schedules_keep_lawful limits before leads.before leads.led) leads.legal)
 
 -- no item is live in the first world
 first_is_empty : (limits : Limits) → [] ≡ sorted (live (first_world limits))
@@ -155,34 +155,34 @@ first_is_empty limits = ap sorted (sym (none_live_first limits))
 pub queue_is_live : (limits : Limits) (steps : List Step) (w : World) → Leads limits steps w → queue_of (events_of steps) ≡ sorted (live w)
 queue_is_live limits [] w leads = first_is_empty limits ∙ ap (λ u. sorted (live u)) (sym leads)
 queue_is_live limits (step ∷ before) w leads =
-    let v = leads.0 in
-    let lawful = schedules_keep_lawful limits before v leads.1 in
-    let old : queue_of (events_of before) ≡ sorted (live v) = queue_is_live limits before v leads.1 in
-    let after : IsLawful limits (next v step) = lawful_kept limits v step lawful leads.2 in
-    by_step step lawful leads.2 after old ∙ ap (λ u. sorted (live u)) (sym leads.3)
+    let v = leads.before in
+    let lawful = schedules_keep_lawful limits before v leads.led in
+    let old : queue_of (events_of before) ≡ sorted (live v) = queue_is_live limits before v leads.led in
+    let after : IsLawful limits (next v step) = lawful_kept limits v step lawful leads.legal in
+    by_step step lawful leads.legal after old ∙ ap (λ u. sorted (live u)) (sym leads.after)
   where
     by_step : (step : Step) → {v : World} → IsLawful limits v → MayStep limits v step → IsLawful limits (next v step) → queue_of (events_of before) ≡ sorted (live v)
         → queue_of (events_of (step ∷ before)) ≡ sorted (live (next v step))
     by_step (Acquire t p) {v} lawful may after old =
-        ap queue_of (acquire_adds_none before t p) ∙ (old ∙ quiet limits v (next v (Acquire t p)) t lawful after may.0 (Acquired p (content_or_none (home_of v p))) refl refl refl)
+        ap queue_of (acquire_adds_none before t p) ∙ (old ∙ quiet limits v (next v (Acquire t p)) t lawful after may.thread (Acquired p (unwrap_or (home_of v p) [])) refl refl refl)
     by_step (Commit t event) {v} lawful may after old =
-        ap queue_of (commit_adds before t event) ∙ (ap (λ c. queue_after c event) old ∙ committed limits v (next v (Commit t event)) t lawful after may.0 event refl)
+        ap queue_of (commit_adds before t event) ∙ (ap (λ c. queue_after c event) old ∙ committed limits v (next v (Commit t event)) t lawful after may.thread event refl)
     by_step (Release t p) {v} lawful may after old =
-        ap queue_of (release_adds_none before t p) ∙ (old ∙ quiet limits v (next v (Release t p)) t lawful after may.0 (Released p) refl refl refl)
+        ap queue_of (release_adds_none before t p) ∙ (old ∙ quiet limits v (next v (Release t p)) t lawful after may.thread (Released p) refl refl refl)
     by_step (Miss t p) {v} lawful may after old =
-        ap queue_of (miss_adds_none before t p) ∙ (old ∙ quiet limits v (next v (Miss t p)) t lawful after may.0 (Missed p (word_of v p - 1)) refl refl refl)
+        ap queue_of (miss_adds_none before t p) ∙ (old ∙ quiet limits v (next v (Miss t p)) t lawful after may.thread (Missed p (holder_of v p)) refl refl refl)
 
 -- the events of a schedule are a run of the relaxed queue
 pub schedules_are_runs : SchedulesAreRuns
 schedules_are_runs limits [] w leads = tt
-schedules_are_runs limits (Acquire t p ∷ before) w leads = subst (IsRun limits) (sym (acquire_adds_none before t p)) (schedules_are_runs limits before leads.0 leads.1)
+schedules_are_runs limits (Acquire t p ∷ before) w leads = subst (IsRun limits) (sym (acquire_adds_none before t p)) (schedules_are_runs limits before leads.before leads.led)
 schedules_are_runs limits (Commit t event ∷ before) w leads =
-    let v = leads.0 in
-    let moves : MayMove limits (sorted (live v)) event = live_may_move limits v t event (schedules_keep_lawful limits before v leads.1) leads.2 in
+    let v = leads.before in
+    let moves : MayMove limits (sorted (live v)) event = live_may_move limits v t event (schedules_keep_lawful limits before v leads.led) leads.legal in
     subst (IsRun limits) (sym (commit_adds before t event))
-    (schedules_are_runs limits before v leads.1, subst (λ c. MayMove limits c event) (sym (queue_is_live limits before v leads.1)) moves)
-schedules_are_runs limits (Release t p ∷ before) w leads = subst (IsRun limits) (sym (release_adds_none before t p)) (schedules_are_runs limits before leads.0 leads.1)
-schedules_are_runs limits (Miss t p ∷ before) w leads = subst (IsRun limits) (sym (miss_adds_none before t p)) (schedules_are_runs limits before leads.0 leads.1)
+    (schedules_are_runs limits before v leads.led, subst (λ c. MayMove limits c event) (sym (queue_is_live limits before v leads.led)) moves)
+schedules_are_runs limits (Release t p ∷ before) w leads = subst (IsRun limits) (sym (release_adds_none before t p)) (schedules_are_runs limits before leads.before leads.led)
+schedules_are_runs limits (Miss t p ∷ before) w leads = subst (IsRun limits) (sym (miss_adds_none before t p)) (schedules_are_runs limits before leads.before leads.led)
 
 -- in a run each item inserted is one deleted or one that the queue still has, each as often
 pub queue_counts_insertions : (limits : Limits) (events : List Event) → IsRun limits events

@@ -73,26 +73,26 @@ both_parts f none adds most limits w t own shared lawful within holds_own holds_
 -- a deletion skips at most T·k live items
 pub live_takes_skip_few : TakesSkipFew
 live_takes_skip_few limits w t x lawful may =
-    let both = may.1 in
-    let taken : skipped (both.0 ++ both.1) x ≤ limits.k = take_skips_few limits.k both.0 both.1 x both.4 in
+    let both = may.commit in
+    let taken : skipped (both.own ++ both.other) x ≤ limits.k = take_skips_few limits.k both.own both.other x both.fits in
     let bound = both_parts (λ c. skipped c x) refl (λ c d. skipped_append c d x) (λ c. count_by-le-length (λ y. is_smaller y x) c)
-    limits w t both.0 both.1 lawful may.0 both.2 both.3 in
+    limits w t both.own both.other lawful may.thread both.holds_own both.holds_other in
     let some : ℕ = limits.threads * limits.k in
-    let bound' : skipped (live w) x + limits.k ≤ (skipped both.0 x + skipped both.1 x) + some = bound in
-    let few : skipped (live w) x ≤ some = omega (arith, bound', taken, skipped_append both.0 both.1 x) in
+    let bound' : skipped (live w) x + limits.k ≤ (skipped both.own x + skipped both.other x) + some = bound in
+    let few : skipped (live w) x ≤ some = omega (arith, bound', taken, skipped_append both.own both.other x) in
     few
 
 -- where nothing is answered at most (T-1)·k items live
 pub live_nothing_leaves_few : NothingLeavesFew
 live_nothing_leaves_few limits w t lawful may =
-    let both = may.1 in
-    let bound = both_parts length refl length-append (λ c. omega arith) limits w t both.0 both.1 lawful may.0 both.2 both.3 in
-    let own_none : length both.0 ≡ 0 = ap length both.4.own_empty in
-    let shared_none : length both.1 ≡ 0 = ap length both.4.shared_empty in
+    let both = may.commit in
+    let bound = both_parts length refl length-append (λ c. omega arith) limits w t both.own both.other lawful may.thread both.holds_own both.holds_other in
+    let own_none : length both.own ≡ 0 = ap length both.fits.own_empty in
+    let shared_none : length both.other ≡ 0 = ap length both.fits.shared_empty in
     let others : ℕ = (limits.threads - 1) * limits.k in
-    let threads : limits.threads ≡ suc (limits.threads - 1) = omega (arith, may.0) in
+    let threads : limits.threads ≡ suc (limits.threads - 1) = omega (arith, may.thread) in
     let some : ℕ = limits.threads * limits.k in
     let more : some ≡ others + limits.k = ap (λ n. n * limits.k) threads ∙ suc-mul (limits.threads - 1) limits.k in
-    let bound' : length (live w) + limits.k ≤ (length both.0 + length both.1) + some = bound in
+    let bound' : length (live w) + limits.k ≤ (length both.own + length both.other) + some = bound in
     let few : length (live w) ≤ others = omega (arith, bound', own_none, shared_none, more) in
     few

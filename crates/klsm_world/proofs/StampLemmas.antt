@@ -10,12 +10,12 @@ use Rattle.klsm_run.specs.declared.item.Item.{Item}
 use Rattle.klsm_world.specs.declared.step.Event.TheVariants.{Put, Flush, Take, Nothing, Spy}
 use Rattle.klsm_world.specs.declared.step.Entry.{Entry}
 use Rattle.klsm_world.specs.declared.step.Entry.TheVariants.{Acquired, Committed, Released, Missed}
-use Rattle.klsm_world.specs.OwnSteps.{inserted_at, inserted}
+use Rattle.klsm_world.specs.OwnSteps.{inserted_by, event_at, inserted}
 use Rattle.klsm_world.specs.LegalSteps.{BearsStamp, MayFollow, IsLegal}
 use Rattle.klsm_world.specs.Worlds.{Limits, World, steps_of, live}
 use Rattle.klsm_world.specs.LawfulWorlds.{IsLawful}
 use Rattle.klsm_world.proofs.EventCountLemmas.{times_contained, contained_if_counted}
-use Rattle.klsm_world.proofs.GainLemmas.{items_grow}
+use Rattle.klsm_world.proofs.ItemGrowthLemmas.{items_grow}
 
 -- an item bears the stamp of one of a thread's first n insertions
 pub record BearsEarlier (t n : ℕ) (x : Item) : Type 0 where
@@ -30,27 +30,27 @@ contains_one x y (zero, less, same) = same
 contains_one x y (suc i, less, same) = absurd (omega (arith, less))
 
 -- what an entry inserts bears the next stamp
-stamp_at : (k t : ℕ) (before : List Entry) (entry : Entry) (x : Item) → MayFollow k t before entry → Contains (inserted_at entry) x
-    → BearsStamp t (length (inserted before)) x × (length (inserted_at entry) ≡ 1)
+pub stamp_at : (k t : ℕ) (before : List Entry) (entry : Entry) (x : Item) → MayFollow k t before entry → Contains (flat_map inserted_by (event_at entry)) x
+    → BearsStamp t (length (inserted before)) x × (length (flat_map inserted_by (event_at entry)) ≡ 1)
 stamp_at k t before (Acquired p found) x may within = absurd (contains_none x within)
-stamp_at k t before (Committed (Put y)) x may within = (subst (BearsStamp t (length (inserted before))) (contains_one x y within) may.1, refl)
-stamp_at k t before (Committed (Flush y moved)) x may within = (subst (BearsStamp t (length (inserted before))) (contains_one x y within) may.1, refl)
+stamp_at k t before (Committed (Put y)) x may within = (subst (BearsStamp t (length (inserted before))) (contains_one x y within) may.stamp, refl)
+stamp_at k t before (Committed (Flush y moved)) x may within = (subst (BearsStamp t (length (inserted before))) (contains_one x y within) may.stamp, refl)
 stamp_at k t before (Committed (Take y)) x may within = absurd (contains_none x within)
 stamp_at k t before (Committed Nothing) x may within = absurd (contains_none x within)
 stamp_at k t before (Committed (Spy victim moved)) x may within = absurd (contains_none x within)
 stamp_at k t before (Released p) x may within = absurd (contains_none x within)
 stamp_at k t before (Missed p by) x may within = absurd (contains_none x within)
 
-stamps_below : (k t : ℕ) (own : List Entry) → IsLegal k t own → (n : ℕ) → n ≤ length own → (x : Item) → Contains (inserted (take n own)) x
+pub stamps_below : (k t : ℕ) (own : List Entry) → IsLegal k t own → (n : ℕ) → n ≤ length own → (x : Item) → Contains (inserted (take n own)) x
     → BearsEarlier t (length (inserted (take n own))) x
 stamps_below k t own legal zero some x within = absurd (contains_none x within)
 stamps_below k t own legal (suc n) some x within =
     let entry : Entry = get_or own n (Released 0) in
     let inside : n < length own = omega (arith, some) in
-    let longer : inserted (take (suc n) own) ≡ inserted (take n own) ++ inserted_at entry = ap inserted (take-suc own n (Released 0) inside) ∙ items_grow inserted_at (take n own) entry in
-    let count : length (inserted (take (suc n) own)) ≡ length (inserted (take n own)) + length (inserted_at entry) =
-    ap length longer ∙ length-append (inserted (take n own)) (inserted_at entry) in
-    elim (Contains-append_cases (inserted (take n own)) (inserted_at entry) x (subst (λ c. Contains c x) longer within)) [
+    let longer : inserted (take (suc n) own) ≡ inserted (take n own) ++ flat_map inserted_by (event_at entry) = ap inserted (take-suc own n (Released 0) inside) ∙ items_grow inserted_by (take n own) entry in
+    let count : length (inserted (take (suc n) own)) ≡ length (inserted (take n own)) + length (flat_map inserted_by (event_at entry)) =
+    ap length longer ∙ length-append (inserted (take n own)) (flat_map inserted_by (event_at entry)) in
+    elim (Contains-append_cases (inserted (take n own)) (flat_map inserted_by (event_at entry)) x (subst (λ c. Contains c x) longer within)) [
       | inl earlier ↦
           let old = stamps_below k t own legal n (omega (arith, some)) x earlier in
           record { owner = old.owner; number = omega (arith, count, old.number) }
@@ -67,7 +67,7 @@ inserted_bears k t own legal x within =
     (stamps_below k t own legal (length own) (omega arith) x (subst (λ o. Contains (inserted o) x) (sym all) within))
 
 -- an item that all lists inserted is one that some list inserted
-inserted_somewhere : (lists : List (List Entry)) (x : Item) → Contains (flat_map inserted lists) x
+pub inserted_somewhere : (lists : List (List Entry)) (x : Item) → Contains (flat_map inserted lists) x
     → (t : ℕ) × (t < length lists) × Contains (inserted (get_or lists t [])) x
 inserted_somewhere [] x within = absurd (contains_none x within)
 inserted_somewhere (own ∷ lists) x within =

@@ -28,7 +28,7 @@ is_k limits most bad = omega (arith, most, bad.2)
 
 pub are_limits : (limits : Limits) → (AreBadThreads limits → ⊥) → (IsBadK limits → ⊥) → AreLimits limits
 are_limits limits threads k =
-    let some : 1 ≤ limits.threads = elim (cases_lt limits.threads 1) [ inl none ↦ absurd (threads (inl (omega (arith, none)))) | inr some ↦ some ] in
+    let some = some_thread limits (λ none. threads (inl none)) in
     let most : limits.threads ≤ 16 = elim (cases_lt 16 limits.threads) [ inl many ↦ absurd (threads (inr many)) | inr few ↦ few ] in
     record {
       some_threads = some;

@@ -44,7 +44,7 @@ module _ (before : Running) (limits : Limits) (words : List ℕ) (contents : Lis
         → IsKept limits (set words p (t + 1)) contents lists'' × IsStepped before (Acquire t p) (Ok tt) (shown limits (set words p (t + 1)) contents lists'')
     acquire_taken p found may noted copy =
         let legal : MayStep limits (world_of words contents lists) (Acquire t p) = may_shown before limits words contents lists (Acquire t p) is may in
-        let within : p < length contents = omega (arith, legal.1, kept.contents_are) in
+        let within : p < length contents = omega (arith, legal.part, kept.contents_are) in
         step_taken before limits words (set words p (t + 1)) contents contents contents lists (lists_with lists t (Acquired p (get_or contents p []))) lists'' (Acquire t p) is may refl
         (noted ∙ ap (λ xs. lists_with lists t (Acquired p xs)) (copy within)) (kept_acquired limits words contents lists t p kept legal)
 
@@ -61,7 +61,7 @@ module _ (before : Running) (limits : Limits) (words : List ℕ) (contents : Lis
         → IsKept limits words contents lists'' × IsStepped before (Miss t p) (Ok tt) (shown limits words contents lists'')
     miss_taken p word may noted read =
         let legal : MayStep limits (world_of words contents lists) (Miss t p) = may_shown before limits words contents lists (Miss t p) is may in
-        let within : p < length words = omega (arith, legal.1, kept.lawful.agreed.words_are) in
+        let within : p < length words = omega (arith, legal.part, kept.lawful.agreed.words_are) in
         step_taken before limits words words contents contents contents lists (lists_with lists t (Missed p (get_or words p 0 - 1))) lists'' (Miss t p) is may refl
         (noted ∙ ap (λ v. lists_with lists t (Missed p (v - 1))) (read within)) (kept_missed limits words contents lists t p kept legal)
 

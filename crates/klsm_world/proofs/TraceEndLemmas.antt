@@ -24,7 +24,8 @@ use Rattle.klsm_world.specs.declared.errors.WorldError.TheVariants.{At, NoMemory
 use Rattle.klsm_world.specs.Refusals.{Refuses}
 use Rattle.klsm_world.specs.Worlds.{Limits, World, live}
 use Rattle.klsm_world.specs.Schedules.{Leads}
-use Rattle.klsm_world.specs.RelaxedQueue.{IsRun, event_of, events_of, inserted_by, deleted_by, queue_of, most_skipped}
+use Rattle.klsm_world.specs.OwnSteps.{inserted_by, deleted_by}
+use Rattle.klsm_world.specs.RelaxedQueue.{IsRun, event_of, events_of, queue_of, most_skipped}
 use Rattle.klsm_world.specs.Running.{AreLimits}
 use Rattle.klsm_world.specs.Traces.{IsTrace, RefusesRun}
 use Rattle.klsm_world.proofs.EventCountLemmas.{times_append}
@@ -100,13 +101,16 @@ trace_of_run limits steps count w inserted deleted left most are has_run all lef
     let run : IsRun limits (events_of (reverse steps)) = schedules_are_runs limits (reverse steps) w leads in
     record {
       limits_are = are;
-      schedule = (w, leads);
+      schedule = record {
+        world = w;
+        leads = leads;
+        run = run;
+        most_is = most_is;
+        bound = subst (λ (m : ℕ). m ≤ limits.threads * limits.k) (sym most_is) (most_few limits (events_of (reverse steps)) run);
+      };
       inserted_are = inserted_is;
       deleted_are = deleted_is;
       left_are = left_is ∙ (sym (left_by_run limits steps w leads) ∙ (ap (λ items. minus (sorted items) (flat_map deleted_by (events_of steps))) (sym inserted_is) ∙ ap (minus (sorted inserted)) (sym deleted_is)));
-      most_is = most_is;
-      run = run;
-      bound = subst (λ (m : ℕ). m ≤ limits.threads * limits.k) (sym most_is) (most_few limits (events_of (reverse steps)) run);
     }
 
 -- a run is refused where a step of it is

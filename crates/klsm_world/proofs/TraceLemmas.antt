@@ -1,7 +1,7 @@
 -- What a run of steps has done so far, and how one step more adds to it.
 use Rattle.std.proofs.Common.{◌≡◌, ℕ, ◌+◌, ◌<◌, List, [], ◌∷◌, ◌++◌, length, get_or, take, max, sym, ap, ◌∙◌, subst, arith}
 use Rattle.std.specs.Prelude.{reverse}
-use Rattle.std.specs.List.{flat_map}
+use Rattle.std.specs.List.{flat_map, sum_by}
 use Rattle.std.proofs.lemmas.Grind.{flat_map-append}
 use Rattle.std.proofs.lemmas.List.{take_more, reverse-append}
 use Rattle.klsm_run.specs.declared.item.Item.{Item}
@@ -14,8 +14,8 @@ use Rattle.klsm_world.specs.declared.step.Step.{Step}
 use Rattle.klsm_world.specs.declared.step.Step.TheVariants.{Acquire, Commit, Release, Miss}
 use Rattle.klsm_world.specs.Worlds.{Limits, World, live}
 use Rattle.klsm_world.specs.Schedules.{MayStep, next, Leads}
-use Rattle.klsm_world.specs.RelaxedQueue.{event_of, events_of, inserted_by, deleted_by, queue_of, most_skipped}
-use Rattle.klsm_world.specs.Traces.{skipped_by}
+use Rattle.klsm_world.specs.OwnSteps.{inserted_by, deleted_by}
+use Rattle.klsm_world.specs.RelaxedQueue.{event_of, events_of, queue_of, most_skipped}
 use Rattle.klsm_world.proofs.LiveListLemmas.{items_more}
 use Rattle.klsm_world.proofs.RunLemmas.{queue_is_live, commit_adds, acquire_adds_none, release_adds_none, miss_adds_none}
 
@@ -42,7 +42,7 @@ items_run items_by steps count step before more within is old new =
 
 -- a schedule with one step more has skipped the more of what it had and of what this step skips
 pub most_run : (limits : Limits) (before : List Step) (w : World) (step : Step) → Leads limits before w
-    → most_skipped (events_of (step ∷ before)) ≡ max (most_skipped (events_of before)) (skipped_by (live w) (flat_map deleted_by (event_of step)))
+    → most_skipped (events_of (step ∷ before)) ≡ max (most_skipped (events_of before)) (sum_by (skipped (live w)) (flat_map deleted_by (event_of step)))
 most_run limits before w (Acquire t p) leads = ap most_skipped (acquire_adds_none before t p) ∙ omega arith
 most_run limits before w (Release t p) leads = ap most_skipped (release_adds_none before t p) ∙ omega arith
 most_run limits before w (Miss t p) leads = ap most_skipped (miss_adds_none before t p) ∙ omega arith
@@ -58,15 +58,15 @@ most_run limits before w (Commit t (Take x)) leads =
 -- one step more
 pub has_run_more : (limits : Limits) (steps : List Step) (count : ℕ) (v w : World) (step : Step) (inserted deleted came went : List Item) (most now : ℕ)
     → HasRun limits steps count v inserted deleted most → count < length steps → step ≡ get_or steps count step → MayStep limits v step → w ≡ next v step
-    → came ≡ flat_map inserted_by (event_of step) → went ≡ flat_map deleted_by (event_of step) → now ≡ max most (skipped_by (live v) (flat_map deleted_by (event_of step)))
+    → came ≡ flat_map inserted_by (event_of step) → went ≡ flat_map deleted_by (event_of step) → now ≡ max most (sum_by (skipped (live v)) (flat_map deleted_by (event_of step)))
     → HasRun limits steps (count + 1) w (inserted ++ came) (deleted ++ went) now
 has_run_more limits steps count v w step inserted deleted came went most now run within is may led in_items out_items skips =
     let latest = latest_first steps count step within is in
     record {
-      leads = subst (λ schedule. Leads limits schedule w) (sym latest) (v, run.leads, may, led);
+      leads = subst (λ schedule. Leads limits schedule w) (sym latest) (record { before = v; led = run.leads; legal = may; after = led });
       inserted_are = items_run inserted_by steps count step inserted came within is run.inserted_are in_items;
       deleted_are = items_run deleted_by steps count step deleted went within is run.deleted_are out_items;
       most_is = skips
-          ∙ (ap (λ m. max m (skipped_by (live v) (flat_map deleted_by (event_of step)))) run.most_is
+          ∙ (ap (λ m. max m (sum_by (skipped (live v)) (flat_map deleted_by (event_of step)))) run.most_is
           ∙ (sym (most_run limits (reverse (take count steps)) v step run.leads) ∙ ap (λ schedule. most_skipped (events_of schedule)) (sym latest)));
     }

@@ -3,9 +3,17 @@ use Rattle.std.specs.Prelude.{ℕ, ◌≡◌, ◌≢◌, ◌+◌, ◌<◌, ◌�
 use Rattle.std.specs.List.{flat_map}
 use Rattle.klsm_run.specs.declared.item.Item.{Item}
 use Rattle.klsm_parts.specs.Events.{times}
-use Rattle.klsm_world.specs.OwnSteps.{Holds, own_part, inserted, deleted}
+use Rattle.klsm_world.specs.OwnSteps.{Holds, HoldsSome, own_part, inserted, deleted}
 use Rattle.klsm_world.specs.LegalSteps.{IsLegal}
 use Rattle.klsm_world.specs.Worlds.{Limits, World, word_of, home_of, steps_of, hand_in, content_of, live}
+
+-- part p is not at home, but in the hand of the thread that its word names
+pub record IsHeld (limits : Limits) (w : World) (p : ℕ) : Type 0 where
+  pub by : ℕ
+  pub thread : by < limits.threads
+  pub word : word_of w p ≡ by + 1
+  pub away : home_of w p ≡ None
+  pub held : HoldsSome (hand_in w by) p
 
 -- the words, the contents at home and the hands agree
 pub record AreAgreed (limits : Limits) (w : World) : Type 0 where
@@ -15,9 +23,8 @@ pub record AreAgreed (limits : Limits) (w : World) : Type 0 where
   pub lists_are : length w.lists ≡ limits.threads
   -- a free part is at home
   pub free : (p : ℕ) → p ≤ limits.threads → word_of w p ≡ 0 → (c : List Item) × (home_of w p ≡ Some c)
-  -- another part is in the hand of the thread that its word names, and not at home
-  pub held : (p : ℕ) → p ≤ limits.threads → word_of w p ≢ 0
-      → (t : ℕ) × (t < limits.threads) × (word_of w p ≡ t + 1) × (home_of w p ≡ None) × ((c : List Item) × Holds (hand_in w t) p c)
+  -- and another part is held
+  pub held : (p : ℕ) → p ≤ limits.threads → word_of w p ≢ 0 → IsHeld limits w p
   -- what a thread's hand has bears its word
   pub named : (t p : ℕ) (c : List Item) → t < limits.threads → Holds (hand_in w t) p c → (p ≤ limits.threads) × (word_of w p ≡ t + 1)
 

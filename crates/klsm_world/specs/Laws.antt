@@ -1,16 +1,23 @@
 -- What follows from the definitions alone, for every number of threads and every k.
-use Rattle.std.specs.Prelude.{ℕ, ◌≡◌, ◌*◌, ◌-◌, ◌+◌, ◌<◌, ◌≤◌, List, length, slice_set, Some, None}
+use Rattle.std.specs.Prelude.{ℕ, ◌≡◌, ◌≢◌, ◌*◌, ◌-◌, ◌+◌, ◌<◌, ◌≤◌, ◌==◌, if◌then◌else◌, List, [], ◌∷◌, length, reverse, slice_set, Some, None}
+use Rattle.std.specs.List.{flat_map}
 use Rattle.klsm_run.specs.declared.item.Item.{Item}
-use Rattle.klsm_run.specs.Content.{sorted, skipped}
+use Rattle.klsm_run.specs.Content.{sorted, skipped, ShareNone}
+use Rattle.klsm_parts.specs.Events.{times}
+use Rattle.klsm_world.specs.declared.step.Event.{Event}
 use Rattle.klsm_world.specs.declared.step.Event.TheVariants.{Take, Nothing}
 use Rattle.klsm_world.specs.declared.step.Step.{Step}
-use Rattle.klsm_world.specs.declared.step.Step.TheVariants.{Commit}
+use Rattle.klsm_world.specs.declared.step.Step.TheVariants.{Acquire, Commit, Release, Miss}
 use Rattle.klsm_world.specs.declared.step.Entry.TheVariants.{Acquired}
-use Rattle.klsm_world.specs.Worlds.{Limits, World, word_of, home_of, live, first_world}
+use Rattle.klsm_world.specs.declared.errors.StepError.{StepError}
+use Rattle.klsm_world.specs.declared.errors.StepError.TheVariants.{NoMemory}
+use Rattle.klsm_world.specs.OwnSteps.{event_at, inserted}
+use Rattle.klsm_world.specs.Worlds.{Limits, World, word_of, home_of, steps_of, content_of, live, first_world}
 use Rattle.klsm_world.specs.LawfulWorlds.{IsLawful}
 use Rattle.klsm_world.specs.Schedules.{MayStep, noted, next, Leads}
 use Rattle.klsm_world.specs.RelaxedQueue.{IsRun, events_of}
 use Rattle.klsm_world.specs.Account.{account}
+use Rattle.klsm_world.specs.Refusals.{Refuses}
 
 -- the first world is lawful
 abbrev pub FirstWorldIsLawful : Type 0
@@ -19,6 +26,10 @@ FirstWorldIsLawful = (limits : Limits) → IsLawful limits (first_world limits)
 -- a legal step leads from a lawful world to a lawful one
 abbrev pub StepsKeepLawful : Type 0
 StepsKeepLawful = (limits : Limits) (w : World) (step : Step) → IsLawful limits w → MayStep limits w step → IsLawful limits (next w step)
+
+-- so each world to which a schedule leads is lawful
+abbrev pub SchedulesKeepLawful : Type 0
+SchedulesKeepLawful = (limits : Limits) (steps : List Step) (w : World) → Leads limits steps w → IsLawful limits w
 
 -- in a lawful world a deletion that thread t may commit skips at most T·k live items
 abbrev pub TakesSkipFew : Type 0
@@ -44,3 +55,43 @@ AcquiresFindContents = (limits : Limits) (v w : World) (t p : ℕ) (found : List
 -- in a lawful world the items left by the account are the live ones
 abbrev pub AccountsLeaveLive : Type 0
 AccountsLeaveLive = (limits : Limits) (w : World) → IsLawful limits w → (account w.lists).left ≡ sorted (live w)
+
+-- in a lawful world no item is live twice
+abbrev pub LiveItemsDiffer : Type 0
+LiveItemsDiffer = (limits : Limits) (w : World) (x : Item) → IsLawful limits w → times x (live w) ≤ 1
+
+-- in a lawful world no two parts share an item
+abbrev pub PartsShareNone : Type 0
+PartsShareNone = (limits : Limits) (w : World) (p q : ℕ) → IsLawful limits w → p ≤ limits.threads → q ≤ limits.threads → p ≢ q
+    → ShareNone (content_of w p) (content_of w q)
+
+-- in a lawful world as many items were inserted as were deleted and are left
+abbrev pub AccountsAddUp : Type 0
+AccountsAddUp = (limits : Limits) (w : World) → IsLawful limits w
+    → (account w.lists).inserted ≡ (account w.lists).deleted + length (account w.lists).left
+
+-- no thread made more insertions than the quota
+abbrev pub IsWithinQuota : Limits → ℕ → World → Type 0
+IsWithinQuota limits quota w = (t : ℕ) → t < limits.threads → length (inserted (steps_of w t)) ≤ quota
+
+-- then all deletions together are at most T times the quota
+abbrev pub DeletionsAreFew : Type 0
+DeletionsAreFew = (limits : Limits) (quota : ℕ) (w : World) → IsLawful limits w → IsWithinQuota limits quota w
+    → (account w.lists).deleted ≤ limits.threads * quota
+
+-- the event that a step commits, where thread t makes it
+abbrev pub event_by : ℕ → Step → List Event
+event_by t (Acquire u p) = []
+event_by t (Commit u event) = if u == t then event ∷ [] else []
+event_by t (Release u p) = []
+event_by t (Miss u p) = []
+
+-- a thread's own steps have its events of the schedule, in their order
+abbrev pub ListsHaveEvents : Type 0
+ListsHaveEvents = (limits : Limits) (steps : List Step) (w : World) (t : ℕ) → Leads limits steps w → t < limits.threads
+    → flat_map event_at (steps_of w t) ≡ flat_map (event_by t) (reverse steps)
+
+-- in a lawful world a step that is refused for another cause than memory is not legal
+abbrev pub RefusedIsNotLegal : Type 0
+RefusedIsNotLegal = (limits : Limits) (w : World) (step : Step) (why : StepError) → IsLawful limits w → Refuses limits w step why
+    → why ≢ NoMemory → MayStep limits w step → ⊥

@@ -6,31 +6,55 @@ use Rattle.klsm_world.specs.declared.step.Event.{Event}
 use Rattle.klsm_world.specs.declared.step.Event.TheVariants.{Put, Flush, Take, Nothing, Spy}
 use Rattle.klsm_world.specs.declared.step.Entry.{Entry}
 use Rattle.klsm_world.specs.declared.step.Entry.TheVariants.{Acquired, Committed, Released, Missed}
-use Rattle.klsm_world.specs.OwnSteps.{Hand, Holds, found_in, shared_part, own_part, hand_of, inserted}
+use Rattle.klsm_world.specs.OwnSteps.{Hand, Holds, HoldsSome, found_in, shared_part, own_part, hand_of, inserted}
 
 -- an item bears the stamp of a thread's next insertion, after n of them
 pub record BearsStamp (t n : ℕ) (x : Item) : Type 0 where
   pub owner : x.stamp.owner ≡ t
   pub number : x.stamp.number ≡ n
 
--- thread t holds its own part and the shared one, and this is true of their contents
-abbrev pub HoldsBoth : ℕ → Hand → (List Item → List Item → Type 0) → Type 0
-HoldsBoth t hand Fits = (own : List Item) × (shared : List Item) × Holds hand (own_part t) own × Holds hand shared_part shared × Fits own shared
+-- thread t holds its own part, and this is true of its content
+pub record HoldsOwn (t : ℕ) (hand : Hand) (Fits : List Item → Type 0) : Type 0 where
+  pub own : List Item
+  pub holds_own : Holds hand (own_part t) own
+  pub fits : Fits own
+
+-- thread t holds its own part and another, p, and this is true of their contents
+pub record HoldsBoth (t p : ℕ) (hand : Hand) (Fits : List Item → List Item → Type 0) : Type 0 where
+  pub own : List Item
+  pub other : List Item
+  pub holds_own : Holds hand (own_part t) own
+  pub holds_other : Holds hand p other
+  pub fits : Fits own other
+
+-- thread t, after n insertions, may insert an item into parts that it holds so
+pub record MayInsert (t n : ℕ) (x : Item) (Held : Type 0) : Type 0 where
+  pub held : Held
+  pub stamp : BearsStamp t n x
+
+-- thread t may spy on another one, by parts that it holds so
+pub record MaySpyOn (t victim : ℕ) (Held : Type 0) : Type 0 where
+  pub held : Held
+  pub another : victim ≢ t
 
 -- thread t, with this hand and after n insertions, may commit an event
 abbrev pub MayCommit : ℕ → ℕ → Hand → ℕ → Event → Type 0
-MayCommit k t hand n (Put x) = ((own : List Item) × Holds hand (own_part t) own × MayPut k own) × BearsStamp t n x
-MayCommit k t hand n (Flush x moved) = HoldsBoth t hand (λ own shared. MayFlush k own x moved) × BearsStamp t n x
-MayCommit k t hand n (Take x) = HoldsBoth t hand (λ own shared. MayTake k own shared x)
-MayCommit k t hand n Nothing = HoldsBoth t hand MayFindNothing
-MayCommit k t hand n (Spy victim moved) =
-    (victim ≢ t) × ((own : List Item) × (from : List Item) × Holds hand (own_part t) own × Holds hand (own_part victim) from × MaySpy own from moved)
+MayCommit k t hand n (Put x) = MayInsert t n x (HoldsOwn t hand (λ own. MayPut k own))
+MayCommit k t hand n (Flush x moved) = MayInsert t n x (HoldsBoth t shared_part hand (λ own shared. MayFlush k own x moved))
+MayCommit k t hand n (Take x) = HoldsBoth t shared_part hand (λ own shared. MayTake k own shared x)
+MayCommit k t hand n Nothing = HoldsBoth t shared_part hand MayFindNothing
+MayCommit k t hand n (Spy victim moved) = MaySpyOn t victim (HoldsBoth t (own_part victim) hand (λ own from. MaySpy own from moved))
+
+-- a part that is not in the hand was found with this content; an own part has at most k items
+pub record MayFind (k : ℕ) (hand : Hand) (p : ℕ) (found : List Item) : Type 0 where
+  pub lacking : found_in hand p ≡ None
+  pub few : p ≢ shared_part → length found ≤ k
 
 -- thread t may go on from its own steps so far with this one
 abbrev pub MayFollow : ℕ → ℕ → List Entry → Entry → Type 0
-MayFollow k t before (Acquired p found) = (found_in (hand_of t before) p ≡ None) × (p ≢ shared_part → length found ≤ k)
+MayFollow k t before (Acquired p found) = MayFind k (hand_of t before) p found
 MayFollow k t before (Committed event) = MayCommit k t (hand_of t before) (length (inserted before)) event
-MayFollow k t before (Released p) = (c : List Item) × Holds (hand_of t before) p c
+MayFollow k t before (Released p) = HoldsSome (hand_of t before) p
 MayFollow k t before (Missed p by) = found_in (hand_of t before) p ≡ None
 
 -- each entry of thread t's list may follow those before it

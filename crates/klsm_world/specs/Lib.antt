@@ -3,7 +3,9 @@ pub mod Kept
 pub mod LawfulWorlds
 pub mod Laws
 pub mod LegalSteps
+pub mod OwnListLaws
 pub mod OwnSteps
+pub mod Reached
 pub mod Refusals
 pub mod RelaxedQueue
 pub mod Running

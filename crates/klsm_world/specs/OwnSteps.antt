@@ -1,6 +1,6 @@
 -- A thread's own steps, and the hand that they leave: the parts that the thread holds, each with its content.
 -- A content is given by its ascending list. Part 0 is the shared one, and part t + 1 is thread t's own.
-use Rattle.std.specs.Prelude.{ℕ, ◌≡◌, ◌+◌, ◌==◌, if◌then◌else◌, List, [], ◌∷◌, Option, Some, None}
+use Rattle.std.specs.Prelude.{ℕ, ◌≡◌, ◌+◌, ◌==◌, if◌then◌else◌, List, [], ◌∷◌, Option, Some, None, unwrap_or}
 use Rattle.std.specs.List.{fold, flat_map}
 use Rattle.klsm_run.specs.declared.item.Item.{Item}
 use Rattle.klsm_parts.specs.Events.{own_after_put, own_after_flush, shared_after_flush, own_after_take, shared_after_take, own_after_spy, victim_after_spy}
@@ -28,13 +28,14 @@ found_in (held ∷ hand) p = if held.0 == p then Some held.1 else found_in hand 
 abbrev pub Holds : Hand → ℕ → List Item → Type 0
 Holds hand p c = found_in hand p ≡ Some c
 
-abbrev pub content_or_none : Option (List Item) → List Item
-content_or_none None = []
-content_or_none (Some c) = c
+-- a hand holds a part
+pub record HoldsSome (hand : Hand) (p : ℕ) : Type 0 where
+  pub content : List Item
+  pub holds : Holds hand p content
 
 -- the content of a part in a hand, and none where it is not there
 abbrev pub content_in : Hand → ℕ → List Item
-content_in hand p = content_or_none (found_in hand p)
+content_in hand p = unwrap_or (found_in hand p) []
 
 -- a hand in which a part that it holds has another content
 abbrev pub changed : Hand → ℕ → List Item → Hand
@@ -74,18 +75,31 @@ after_entry t hand (Missed p by) = hand
 abbrev pub hand_of : ℕ → List Entry → Hand
 hand_of t own = fold (after_entry t) [] own
 
+-- the item that an event inserts, and the one that it deletes
+abbrev pub inserted_by : Event → List Item
+inserted_by (Put x) = x ∷ []
+inserted_by (Flush x moved) = x ∷ []
+inserted_by (Take x) = []
+inserted_by Nothing = []
+inserted_by (Spy victim moved) = []
+
+abbrev pub deleted_by : Event → List Item
+deleted_by (Put x) = []
+deleted_by (Flush x moved) = []
+deleted_by (Take x) = x ∷ []
+deleted_by Nothing = []
+deleted_by (Spy victim moved) = []
+
+-- the event that an entry commits
+abbrev pub event_at : Entry → List Event
+event_at (Acquired p found) = []
+event_at (Committed event) = event ∷ []
+event_at (Released p) = []
+event_at (Missed p by) = []
+
 -- the items that a thread inserted, and those that it deleted, in order
-abbrev pub inserted_at : Entry → List Item
-inserted_at (Committed (Put x)) = x ∷ []
-inserted_at (Committed (Flush x moved)) = x ∷ []
-inserted_at _ = []
-
-abbrev pub deleted_at : Entry → List Item
-deleted_at (Committed (Take x)) = x ∷ []
-deleted_at _ = []
-
 abbrev pub inserted : List Entry → List Item
-inserted own = flat_map inserted_at own
+inserted own = flat_map inserted_by (flat_map event_at own)
 
 abbrev pub deleted : List Entry → List Item
-deleted own = flat_map deleted_at own
+deleted own = flat_map deleted_by (flat_map event_at own)

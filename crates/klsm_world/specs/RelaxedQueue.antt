@@ -8,7 +8,7 @@ use Rattle.klsm_parts.specs.Events.{plus}
 use Rattle.klsm_world.specs.declared.step.Event.{Event}
 use Rattle.klsm_world.specs.declared.step.Event.TheVariants.{Put, Flush, Take, Nothing, Spy}
 use Rattle.klsm_world.specs.declared.step.Step.{Step}
-use Rattle.klsm_world.specs.declared.step.Step.TheVariants.{Commit}
+use Rattle.klsm_world.specs.declared.step.Step.TheVariants.{Acquire, Commit, Release, Miss}
 use Rattle.klsm_world.specs.Worlds.{Limits}
 
 -- what an event does to the multiset: it inserts an item, deletes one, or leaves all as it is
@@ -39,24 +39,19 @@ IsRun limits (event ∷ before) = IsRun limits before × MayMove limits (queue_o
 
 -- the events that steps commit
 abbrev pub event_of : Step → List Event
+event_of (Acquire t p) = []
 event_of (Commit t event) = event ∷ []
-event_of _ = []
+event_of (Release t p) = []
+event_of (Miss t p) = []
 
 abbrev pub events_of : List Step → List Event
 events_of steps = flat_map event_of steps
 
--- the items that events insert, and those that they delete
-abbrev pub inserted_by : Event → List Item
-inserted_by (Put x) = x ∷ []
-inserted_by (Flush x moved) = x ∷ []
-inserted_by _ = []
-
-abbrev pub deleted_by : Event → List Item
-deleted_by (Take x) = x ∷ []
-deleted_by _ = []
-
 -- the greatest number of items that a deletion among the events skipped, and 0 where there is none
 abbrev pub most_skipped : List Event → ℕ
 most_skipped [] = 0
+most_skipped (Put x ∷ before) = most_skipped before
+most_skipped (Flush x moved ∷ before) = most_skipped before
 most_skipped (Take x ∷ before) = max (skipped (queue_of before) x) (most_skipped before)
-most_skipped (event ∷ before) = most_skipped before
+most_skipped (Nothing ∷ before) = most_skipped before
+most_skipped (Spy victim moved ∷ before) = most_skipped before

@@ -1,20 +1,43 @@
 -- Steps of a world: which are legal, to which world each leads, and schedules of them.
-use Rattle.std.specs.Prelude.{ℕ, ◌≡◌, ◌≢◌, ◌+◌, ◌-◌, ◌<◌, ◌≤◌, List, [], ◌∷◌, ◌++◌, length, slice_set, Some, None}
-use Rattle.klsm_run.specs.declared.item.Item.{Item}
+use Rattle.std.specs.Prelude.{ℕ, ◌≡◌, ◌≢◌, ◌+◌, ◌<◌, ◌≤◌, List, [], ◌∷◌, ◌++◌, length, slice_set, Some, None, unwrap_or}
+use Rattle.klsm_world.specs.declared.step.Event.{Event}
 use Rattle.klsm_world.specs.declared.step.Step.{Step}
 use Rattle.klsm_world.specs.declared.step.Step.TheVariants.{Acquire, Commit, Release, Miss}
 use Rattle.klsm_world.specs.declared.step.Entry.{Entry}
 use Rattle.klsm_world.specs.declared.step.Entry.TheVariants.{Acquired, Committed, Released, Missed}
-use Rattle.klsm_world.specs.OwnSteps.{Holds, content_or_none, content_in, inserted}
+use Rattle.klsm_world.specs.OwnSteps.{HoldsSome, content_in, inserted}
 use Rattle.klsm_world.specs.LegalSteps.{MayCommit}
-use Rattle.klsm_world.specs.Worlds.{Limits, World, word_of, home_of, steps_of, hand_in, first_world}
+use Rattle.klsm_world.specs.Worlds.{Limits, World, word_of, home_of, holder_of, steps_of, hand_in, first_world}
+
+-- thread t may take part p, which is free
+pub record MayAcquire (limits : Limits) (w : World) (t p : ℕ) : Type 0 where
+  pub thread : t < limits.threads
+  pub part : p ≤ limits.threads
+  pub free : word_of w p ≡ 0
+
+-- an event may take effect on parts that thread t holds
+pub record MayTakeEffect (limits : Limits) (w : World) (t : ℕ) (event : Event) : Type 0 where
+  pub thread : t < limits.threads
+  pub commit : MayCommit limits.k t (hand_in w t) (length (inserted (steps_of w t))) event
+
+-- thread t may give part p back, which it holds
+pub record MayRelease (limits : Limits) (w : World) (t p : ℕ) : Type 0 where
+  pub thread : t < limits.threads
+  pub held : HoldsSome (hand_in w t) p
+
+-- thread t may try part p in vain, which another thread holds
+pub record MayMiss (limits : Limits) (w : World) (t p : ℕ) : Type 0 where
+  pub thread : t < limits.threads
+  pub part : p ≤ limits.threads
+  pub taken : word_of w p ≢ 0
+  pub by_another : word_of w p ≢ t + 1
 
 -- a step is legal in a world
 abbrev pub MayStep : Limits → World → Step → Type 0
-MayStep limits w (Acquire t p) = (t < limits.threads) × (p ≤ limits.threads) × (word_of w p ≡ 0)
-MayStep limits w (Commit t event) = (t < limits.threads) × MayCommit limits.k t (hand_in w t) (length (inserted (steps_of w t))) event
-MayStep limits w (Release t p) = (t < limits.threads) × ((c : List Item) × Holds (hand_in w t) p c)
-MayStep limits w (Miss t p) = (t < limits.threads) × (p ≤ limits.threads) × (word_of w p ≢ 0) × (word_of w p ≢ t + 1)
+MayStep limits w (Acquire t p) = MayAcquire limits w t p
+MayStep limits w (Commit t event) = MayTakeEffect limits w t event
+MayStep limits w (Release t p) = MayRelease limits w t p
+MayStep limits w (Miss t p) = MayMiss limits w t p
 
 -- thread t's list gains an entry
 abbrev pub noted : World → ℕ → Entry → List (List Entry)
@@ -25,7 +48,7 @@ abbrev pub next : World → Step → World
 next w (Acquire t p) = record {
   words = slice_set w.words p (t + 1);
   homes = slice_set w.homes p None;
-  lists = noted w t (Acquired p (content_or_none (home_of w p)));
+  lists = noted w t (Acquired p (unwrap_or (home_of w p) []));
 }
 next w (Commit t event) = record {
   words = w.words;
@@ -40,10 +63,17 @@ next w (Release t p) = record {
 next w (Miss t p) = record {
   words = w.words;
   homes = w.homes;
-  lists = noted w t (Missed p (word_of w p - 1));
+  lists = noted w t (Missed p (holder_of w p));
 }
+
+-- a legal step leads to this world from one of which this is true
+pub record LeadsOn (limits : Limits) (Led : World → Type 0) (step : Step) (w : World) : Type 0 where
+  pub before : World
+  pub led : Led before
+  pub legal : MayStep limits before step
+  pub after : w ≡ next before step
 
 -- a schedule, its latest step first: each step is legal in the world to which those before it lead, and all lead to this one
 abbrev pub Leads : Limits → List Step → World → Type 0
 Leads limits [] w = w ≡ first_world limits
-Leads limits (step ∷ before) w = (v : World) × Leads limits before v × MayStep limits v step × (w ≡ next v step)
+Leads limits (step ∷ before) w = LeadsOn limits (Leads limits before) step w

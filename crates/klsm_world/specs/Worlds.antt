@@ -1,5 +1,5 @@
 -- Worlds of T threads and T + 1 parts.
-use Rattle.std.specs.Prelude.{ℕ, zero, suc, ◌+◌, ◌-◌, List, [], ◌++◌, length, replicate, slice_index_or, Option, Some, None}
+use Rattle.std.specs.Prelude.{ℕ, zero, suc, ◌+◌, ◌-◌, List, [], ◌++◌, length, replicate, slice_index_or, Option, Some, None, unwrap_or}
 use Rattle.klsm_run.specs.declared.item.Item.{Item}
 use Rattle.klsm_world.specs.declared.step.Entry.{Entry}
 use Rattle.klsm_world.specs.OwnSteps.{Hand, content_in, hand_of}
@@ -29,13 +29,13 @@ steps_of w t = slice_index_or w.lists t []
 abbrev pub hand_in : World → ℕ → Hand
 hand_in w t = hand_of t (steps_of w t)
 
-abbrev pub home_or : Option (List Item) → List Item → List Item
-home_or None held = held
-home_or (Some c) held = c
+-- the thread that holds a part which is not free
+abbrev pub holder_of : World → ℕ → ℕ
+holder_of w p = word_of w p - 1
 
 -- the content of a part: the one at home, or else the one in its holder's hand
 abbrev pub content_of : World → ℕ → List Item
-content_of w p = home_or (home_of w p) (content_in (hand_in w (word_of w p - 1)) p)
+content_of w p = unwrap_or (home_of w p) (content_in (hand_in w (holder_of w p)) p)
 
 -- the live items of the first n parts
 abbrev pub live_below : World → ℕ → List Item

@@ -1,8 +1,10 @@
 //! A list of steps, run from the first world.
-ghost use Rattle.std.specs.Prelude.{◌≡◌, ◌≢◌, ◌++◌, [], ◌∷◌, IfErr, IfOk, OnOk};
-ghost use Rattle.std.specs.List.{flat_map};
-ghost use Rattle.klsm_world.specs.RelaxedQueue.{event_of, inserted_by, deleted_by};
-ghost use Rattle.klsm_world.specs.Traces.{IsTrace, RefusesRun, listed, skipped_by};
+ghost use Rattle.std.specs.Prelude.{◌≡◌, ◌≢◌, ◌++◌, [], ◌∷◌, IfErr, IfOk, OnOk, option_to_list};
+ghost use Rattle.std.specs.List.{flat_map, sum_by};
+ghost use Rattle.klsm_run.specs.Content.{skipped};
+ghost use Rattle.klsm_world.specs.OwnSteps.{inserted_by, deleted_by};
+ghost use Rattle.klsm_world.specs.RelaxedQueue.{event_of};
+ghost use Rattle.klsm_world.specs.Traces.{IsTrace, RefusesRun};
 ghost use Rattle.klsm_world.specs.Worlds.{live};
 
 use crate::errors::{StepError, WorldError};
@@ -73,7 +75,7 @@ fn refused_at(index: usize, why: StepError) -> WorldError
 
 // The item that a step inserts.
 fn inserted_item(step: &Step) -> Option<Item>
-    ensures { listed result ≡ flat_map inserted_by (event_of step.now) }
+    ensures { option_to_list result ≡ flat_map inserted_by (event_of step.now) }
 {
     match step {
         Step::Commit { thread: _, event } => match event {
@@ -87,7 +89,7 @@ fn inserted_item(step: &Step) -> Option<Item>
 
 // The item that a step deletes.
 fn deleted_item(step: &Step) -> Option<Item>
-    ensures { listed result ≡ flat_map deleted_by (event_of step.now) }
+    ensures { option_to_list result ≡ flat_map deleted_by (event_of step.now) }
 {
     match step {
         Step::Commit { thread: _, event } => match event {
@@ -100,7 +102,7 @@ fn deleted_item(step: &Step) -> Option<Item>
 
 // How many live items a step skips, before it is taken.
 fn skip_of<A: Allocator + Copy>(world: &World<A>, step: &Step) -> usize
-    ensures { result ≡ skipped_by (live world.now.world) (flat_map deleted_by (event_of step.now)) }
+    ensures { result ≡ sum_by (skipped (live world.now.world)) (flat_map deleted_by (event_of step.now)) }
 {
     match deleted_item(step) {
         Some(item) => world.skipped(item),
@@ -110,7 +112,7 @@ fn skip_of<A: Allocator + Copy>(world: &World<A>, step: &Step) -> usize
 
 // Adds an item, where there is one.
 fn push_some<A: Allocator>(items: &mut Vec<Item, A>, item: Option<Item>) -> Result<(), WorldError>
-    ensures pushed { OnOk result (items.new.items ≡ items.old.items ++ listed item) }
+    ensures pushed { OnOk result (items.new.items ≡ items.old.items ++ option_to_list item) }
     ensures refused { IfErr result (λ why. why ≡ WorldError.NoMemory) }
 {
     let Some(item) = item else {

@@ -1,10 +1,11 @@
+use Rattle.std.specs.Option.{option_to_list}
 use Rattle.std.proofs.Common.{◌≡◌, ◌∙◌, ap, sym, subst, List, max, ◌+◌, ◌++◌, refl}
 use Rattle.std.proofs.lemmas.Result.{IfOk-from_err}
 use Rattle.klsm_run.specs.declared.item.Item.{Item}
 use Rattle.klsm_world.specs.Refusals.{Refuses}
 use Rattle.klsm_world.specs.Running.{Running}
 use Rattle.klsm_world.specs.Schedules.{MayStep, next}
-use Rattle.klsm_world.specs.Traces.{IsTrace, listed}
+use Rattle.klsm_world.specs.Traces.{IsTrace}
 use Rattle.klsm_world.specs.Worlds.{Limits, first_world}
 use Rattle.klsm_world.proofs.StartLemmas.{are_limits, run_lacks_memory, run_not_started}
 use Rattle.klsm_world.proofs.TraceLemmas.{HasRun, has_run_more}
@@ -42,7 +43,7 @@ loop-index-preserved g c =
       limits = ap (λ (r : Running). r.limits) taken.1 ∙ c.loop-index.invariant.limits;
       limits_are = c.loop-index.invariant.limits_are;
       run = subst (λ (d : List Item). HasRun limits steps (count + 1) after.world inserted d c.max-most.result) (sym c.in_ok-push_some-2.ensures.pushed)
-          (subst (λ (i : List Item). HasRun limits steps (count + 1) after.world i (c.loop-index.deleted.items ++ listed c.deleted_item.result) c.max-most.result) (sym c.in_ok-push_some.ensures.pushed) run);
+          (subst (λ (i : List Item). HasRun limits steps (count + 1) after.world i (c.loop-index.deleted.items ++ option_to_list c.deleted_item.result) c.max-most.result) (sym c.in_ok-push_some.ensures.pushed) run);
     }
 
 pub returns-clause-trace : goal.returns-clause-trace

@@ -9,4 +9,4 @@ returns-in-Some-clause-refused g c =
 pub returns-in-None-clause-legal : goal.returns-in-None-clause-legal
 returns-in-None-clause-legal g c =
     let free : c.word.result ≡ 0 = omega (arith, c.in-None.ensures) in
-    (search (rules, c.requires), search (rules, c.requires), sym c.word.ensures ∙ free)
+    record { thread = search (rules, c.requires); part = search (rules, c.requires); free = sym c.word.ensures ∙ free }

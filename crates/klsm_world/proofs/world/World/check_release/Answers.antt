@@ -16,4 +16,5 @@ pub returns-clause-legal : goal.returns-clause-legal
 returns-clause-legal g c =
     let w = c.args.self.now in
     let less : c.args.thread < w.limits.threads = named_thread w.limits c.args.thread (w.limits.threads < c.args.part) c.requires in
-    (less, (content_of w.world c.args.part, holds_named w.limits w.world c.args.thread c.holds.ensures.lawful.agreed less c.args.part (c.if-not-holds.ensures.held.0 refl)))
+    let has = holds_named w.limits w.world c.args.thread c.holds.ensures.lawful.agreed less c.args.part (c.if-not-holds.ensures.held.0 refl) in
+    record { thread = less; held = record { content = content_of w.world c.args.part; holds = has } }

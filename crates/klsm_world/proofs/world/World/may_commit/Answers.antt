@@ -43,7 +43,7 @@ returns-then-own-self g c =
     let has = (holds_own r.limits r.world c.args.thread lawful.agreed c.requires.thread (MayPut r.limits.k) own
     (subst (λ p. own ≡ content_of r.world p) c.own_part.ensures c.items_of-own.ensures.content) held.0).0 fits in
     subst (λ event. IsTrue c.bears_stamp.result ↔ MayCommit r.limits.k c.args.thread (hand_in r.world c.args.thread) n event) (sym c.in-Put.is)
-    (λ stamp. (has, c.bears_stamp.ensures.0 stamp), λ may. c.bears_stamp.ensures.1 may.1)
+    (λ stamp. record { held = has; stamp = c.bears_stamp.ensures.0 stamp }, λ may. c.bears_stamp.ensures.1 may.stamp)
 
 pub returns-then-is_empty : goal.returns-then-is_empty
 returns-then-is_empty g c =

@@ -32,20 +32,20 @@ returns-in_err-note g c =
     (lists_kept c.self.inside.words.items c.self.inside.contents.items c.in_err-note.ensures.unchanged c.self.view_is)
 
 pub index-requires : goal.index-requires
-index-requires g c = own_place c.self.invariant c.self.view_is c.requires.0 c.own_part-own.ensures c.self.inside.contents.ok.0
+index-requires g c = own_place c.self.invariant c.self.view_is c.requires.thread c.own_part-own.ensures c.self.inside.contents.ok.0
 
 pub slice_bounds-with_all-end : goal.slice_bounds-with_all-end
 slice_bounds-with_all-end g c = refl
 
 pub with_all-requires-clause-sorted : goal.with_all-requires-clause-sorted
 with_all-requires-clause-sorted g c =
-    ascending_place c.self.invariant (own_place c.self.invariant c.self.view_is c.requires.0 c.own_part-own.ensures refl) c.index.ensures c.as_slice.ensures
+    ascending_place c.self.invariant (own_place c.self.invariant c.self.view_is c.requires.thread c.own_part-own.ensures refl) c.index.ensures c.as_slice.ensures
 
 pub with_all-requires-clause-joining_sorted : goal.with_all-requires-clause-joining_sorted
 with_all-requires-clause-joining_sorted g c = refl
 
 pub note-requires : goal.note-requires
-note-requires g c = list_place c.self.invariant c.self.view_is c.requires.0 c.self.inside.lists.ok.0
+note-requires g c = list_place c.self.invariant c.self.view_is c.requires.thread c.self.inside.lists.ok.0
 
 pub index_mut-requires : goal.index_mut-requires
-index_mut-requires g c = own_place c.self.invariant c.self.view_is c.requires.0 c.own_part-own.ensures c.self.inside.contents.ok.0
+index_mut-requires g c = own_place c.self.invariant c.self.view_is c.requires.thread c.own_part-own.ensures c.self.inside.contents.ok.0

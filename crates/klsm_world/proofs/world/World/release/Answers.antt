@@ -27,4 +27,4 @@ returns-in_err-note g c =
     (lists_kept c.self.inside.words.items c.self.inside.contents.items c.in_err-note.ensures.unchanged c.self.view_is)
 
 pub note-requires : goal.note-requires
-note-requires g c = list_place c.self.invariant c.self.view_is c.requires.0 c.self.inside.lists.ok.0
+note-requires g c = list_place c.self.invariant c.self.view_is c.requires.thread c.self.inside.lists.ok.0

@@ -40,13 +40,13 @@ returns-in_err-note g c =
     (lists_kept c.self.inside.words.items c.self.inside.contents.items c.in_err-note.ensures.unchanged c.self.view_is)
 
 pub note-requires : goal.note-requires
-note-requires g c = list_place c.self.invariant c.self.view_is c.requires.0 c.self.inside.lists.ok.0
+note-requires g c = list_place c.self.invariant c.self.view_is c.requires.thread c.self.inside.lists.ok.0
 
 pub index_mut-requires : goal.index_mut-requires
-index_mut-requires g c = own_place c.self.invariant c.self.view_is c.requires.0 c.own_part.ensures c.self.inside.contents.ok.0
+index_mut-requires g c = own_place c.self.invariant c.self.view_is c.requires.thread c.own_part.ensures c.self.inside.contents.ok.0
 
 pub index-requires : goal.index-requires
-index-requires g c = held_place c.self.invariant c.self.view_is c.requires.0 c.own_part-from.ensures c.requires.1.1.3 c.self.inside.contents.ok.0
+index-requires g c = held_place c.self.invariant c.self.view_is c.requires.thread c.own_part-from.ensures c.requires.commit.held.holds_other c.self.inside.contents.ok.0
 
 pub index_mut-requires-2 : goal.index_mut-requires-2
-index_mut-requires-2 g c = held_place c.self.invariant c.self.view_is c.requires.0 c.own_part-from.ensures c.requires.1.1.3 c.self.inside.contents.ok.0
+index_mut-requires-2 g c = held_place c.self.invariant c.self.view_is c.requires.thread c.own_part-from.ensures c.requires.commit.held.holds_other c.self.inside.contents.ok.0

@@ -39,10 +39,10 @@ returns-in_err-note g c =
     (lists_kept c.self.inside.words.items c.self.inside.contents.items c.in_err-note.ensures.unchanged c.self.view_is)
 
 pub index-requires : goal.index-requires
-index-requires g c = own_place c.self.invariant c.self.view_is c.requires.0 c.own_part-own.ensures c.self.inside.contents.ok.0
+index-requires g c = own_place c.self.invariant c.self.view_is c.requires.thread c.own_part-own.ensures c.self.inside.contents.ok.0
 
 pub slice_bounds-without_all-end : goal.slice_bounds-without_all-end
 slice_bounds-without_all-end g c = refl
 
 pub note-requires : goal.note-requires
-note-requires g c = list_place c.self.invariant c.self.view_is c.requires.0 c.self.inside.lists.ok.0
+note-requires g c = list_place c.self.invariant c.self.view_is c.requires.thread c.self.inside.lists.ok.0

@@ -1,0 +1,17 @@
+use Rattle.klsm_world.proofs.OwnListLemmas.{hands_are_apart, next_is_new_in_hand, own_deletions_are_few, lists_skip_few, lists_leave_few}
+use Rattle.klsm_world.proofs.laws.own_lists_tell.Goals as goal
+
+pub returns-clause-takes : goal.returns-clause-takes
+returns-clause-takes c = lists_skip_few
+
+pub returns-clause-nothing : goal.returns-clause-nothing
+returns-clause-nothing c = lists_leave_few
+
+pub returns-clause-apart : goal.returns-clause-apart
+returns-clause-apart c = hands_are_apart
+
+pub returns-clause-new : goal.returns-clause-new
+returns-clause-new c = next_is_new_in_hand
+
+pub returns-clause-deletions : goal.returns-clause-deletions
+returns-clause-deletions c = own_deletions_are_few

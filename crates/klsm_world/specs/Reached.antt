@@ -1,0 +1,32 @@
+-- Schedules that reach the bounds of the laws, so that none of the laws is empty.
+use Rattle.std.specs.Prelude.{ℕ, ◌≡◌, ◌*◌, ◌-◌, List, length}
+use Rattle.klsm_run.specs.declared.item.Item.{Item}
+use Rattle.klsm_run.specs.Content.{skipped}
+use Rattle.klsm_world.specs.declared.step.Event.TheVariants.{Take, Nothing}
+use Rattle.klsm_world.specs.declared.step.Step.{Step}
+use Rattle.klsm_world.specs.declared.step.Step.TheVariants.{Commit}
+use Rattle.klsm_world.specs.Worlds.{Limits, World, live}
+use Rattle.klsm_world.specs.Schedules.{MayStep, Leads}
+
+-- two threads, and at most one item in an own part
+abbrev pub two_threads : Limits
+two_threads = record { threads = 2; k = 1 }
+
+-- a schedule, its latest step first, after which a thread may delete an item that skips T·k live ones
+pub record ReachesMostSkipped (limits : Limits) : Type 0 where
+  pub steps : List Step
+  pub world : World
+  pub thread : ℕ
+  pub item : Item
+  pub leads : Leads limits steps world
+  pub legal : MayStep limits world (Commit thread (Take item))
+  pub reached : skipped (live world) item ≡ limits.threads * limits.k
+
+-- a schedule after which a thread may answer "nothing" while (T-1)·k items live
+pub record ReachesMostLeft (limits : Limits) : Type 0 where
+  pub steps : List Step
+  pub world : World
+  pub thread : ℕ
+  pub leads : Leads limits steps world
+  pub legal : MayStep limits world (Commit thread Nothing)
+  pub reached : length (live world) ≡ (limits.threads - 1) * limits.k
