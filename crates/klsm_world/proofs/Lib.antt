@@ -1,45 +1,8 @@
-pub mod AccountLemmas
-pub mod AgreeLemmas
-pub mod CommitTakenLemmas
-pub mod ConditionLemmas
-pub mod EventCountLemmas
-pub mod FewLemmas
-pub mod FirstLemmas
-pub mod FoundContentLemmas
-pub mod GainLemmas
-pub mod HandLemmas
-pub mod HeldLemmas
-pub mod HomesLemmas
-pub mod InsertionLemmas
-pub mod ItemGrowthLemmas
-pub mod KeptCommitLemmas
-pub mod KeptLemmas
-pub mod LawfulLemmas
-pub mod LegalLemmas
-pub mod LiveAfterLemmas
-pub mod LiveCountLemmas
-pub mod LiveListLemmas
-pub mod LiveOnceLemmas
-pub mod MemoryLemmas
-pub mod NewLemmas
-pub mod NotedLemmas
-pub mod OnceLemmas
-pub mod OwnEventLemmas
-pub mod OwnListLemmas
-pub mod PartContentLemmas
-pub mod PlaceLemmas
-pub mod PlacingLemmas
-pub mod ReachedLemmas
-pub mod RefusalLemmas
-pub mod RefusedLemmas
-pub mod RestLemmas
-pub mod RisingLemmas
-pub mod RunLemmas
-pub mod SameLemmas
-pub mod SkipLemmas
-pub mod StampLemmas
-pub mod StartLemmas
-pub mod TakeConditionLemmas
-pub mod TakenLemmas
-pub mod TraceEndLemmas
-pub mod TraceLemmas
+-- Lemmas, in a folder for each subject. What is not listed here has the proofs of the functions of a file of src.
+pub mod counts  -- how often an item is in a content, and in the contents of a world
+pub mod hands  -- words, contents at home and hands, and the content of each part
+pub mod lawful  -- the first world is lawful, and each legal step keeps a world so
+pub mod theorems  -- the laws that the functions of src/laws.rt ensure
+pub mod lists  -- tests on lists of items, and lists that are merged
+pub mod kept  -- what a running world keeps, and each step that it takes
+pub mod traces  -- runs of steps

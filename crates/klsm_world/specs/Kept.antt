@@ -9,7 +9,7 @@ use Rattle.klsm_world.specs.declared.own_steps.KeptStep.{KeptStep}
 use Rattle.klsm_world.specs.declared.own_steps.KeptStep.TheVariants.{Acquired, Put, Flush, Take, Nothing, Spy, Released, Missed}
 use Rattle.klsm_world.specs.Worlds.{Limits, World, word_of, content_of}
 use Rattle.klsm_world.specs.LawfulWorlds.{IsLawful}
-use Rattle.klsm_world.specs.Running.{AreLimits}
+use Rattle.klsm_world.specs.WorldView.{AreLimits}
 
 -- an entry of a thread's list, by its kind and the items found or moved
 abbrev pub entry_of : KeptStep → List Item → Entry

@@ -13,7 +13,7 @@ use Rattle.klsm_world.specs.Schedules.{Leads}
 use Rattle.klsm_world.specs.OwnSteps.{inserted_by, deleted_by}
 use Rattle.klsm_world.specs.RelaxedQueue.{IsRun, events_of, most_skipped}
 use Rattle.klsm_world.specs.Refusals.{Refuses}
-use Rattle.klsm_world.specs.Running.{AreLimits}
+use Rattle.klsm_world.specs.WorldView.{AreLimits}
 
 -- steps, the latest first, are a schedule whose events are a run of the relaxed queue, and this is the greatest skip, over the
 -- insertions less the deletions before each deletion

@@ -3,7 +3,7 @@ ghost use Rattle.std.specs.Prelude.{ℕ, ◌≡◌, ◌≢◌, ◌<◌, ◌≤�
 ghost use Rattle.klsm_run.specs.Content.{sorted, skipped};
 ghost use Rattle.klsm_world.specs.Kept.{IsKept, world_of};
 ghost use Rattle.klsm_world.specs.LawfulWorlds.{IsLawful};
-ghost use Rattle.klsm_world.specs.Running.{IsStepped, Running};
+ghost use Rattle.klsm_world.specs.WorldView.{IsStepped, WorldView};
 ghost use Rattle.klsm_world.specs.Worlds.{first_world, live};
 
 mod checking;
@@ -39,7 +39,7 @@ pub struct World<A: Allocator + Copy = Global> {
 }
 
 impl<A: Allocator + Copy> Model for World<A> {
-    ghost Value = { Running };
+    ghost Value = { WorldView };
 
     ghost view = { λ w. record { limits = record { threads = w.threads; k = w.k }; world = world_of w.words.items w.contents.items w.lists.items } };
 

@@ -4,7 +4,7 @@ ghost use Rattle.std.specs.Vec.{vec_len};
 ghost use Rattle.klsm_world.specs.declared.step.Event.TheVariants.{Put, Flush, Take, Nothing, Spy};
 ghost use Rattle.klsm_world.specs.declared.step.Step.TheVariants.{Acquire, Commit, Release, Miss};
 ghost use Rattle.klsm_world.specs.Kept.{entry_of};
-ghost use Rattle.klsm_world.specs.Running.{IsStepped};
+ghost use Rattle.klsm_world.specs.WorldView.{IsStepped};
 ghost use Rattle.klsm_world.specs.Schedules.{MayStep};
 
 use super::World;

@@ -3,7 +3,7 @@ use Rattle.klsm_run.specs.declared.item.Item.{Item}
 use Rattle.std.proofs.lemmas.List.Sums.{count_by-le-length}
 use Rattle.klsm_run.specs.ItemOrder.{is_smaller}
 use Rattle.klsm_run.specs.Content.{skipped}
-use Rattle.klsm_world.proofs.LiveListLemmas.{skipped_more}
+use Rattle.klsm_world.proofs.kept.LiveListLemmas.{skipped_more}
 use Rattle.klsm_world.proofs.contents.count_all_smaller.Goals as goal
 
 pub loop-content-preserved : goal.loop-content-preserved

@@ -3,13 +3,13 @@ use Rattle.std.proofs.Common.{◌≡◌, ◌∙◌, ap, sym, subst, List, max, �
 use Rattle.std.proofs.lemmas.Result.{IfOk-from_err}
 use Rattle.klsm_run.specs.declared.item.Item.{Item}
 use Rattle.klsm_world.specs.Refusals.{Refuses}
-use Rattle.klsm_world.specs.Running.{Running}
+use Rattle.klsm_world.specs.WorldView.{WorldView}
 use Rattle.klsm_world.specs.Schedules.{MayStep, next}
 use Rattle.klsm_world.specs.Traces.{IsTrace}
 use Rattle.klsm_world.specs.Worlds.{Limits, first_world}
-use Rattle.klsm_world.proofs.StartLemmas.{are_limits, run_lacks_memory, run_not_started}
-use Rattle.klsm_world.proofs.TraceLemmas.{HasRun, has_run_more}
-use Rattle.klsm_world.proofs.TraceEndLemmas.{trace_of_run, refused_by_step, greater_of}
+use Rattle.klsm_world.proofs.traces.StartLemmas.{are_limits, run_lacks_memory, run_not_started}
+use Rattle.klsm_world.proofs.traces.TraceLemmas.{HasRun, has_run_more}
+use Rattle.klsm_world.proofs.traces.TraceEndLemmas.{trace_of_run, refused_by_step, greater_of}
 use Rattle.klsm_world.proofs.running.run.Goals as goal
 
 pub returns-in-Err : goal.returns-in-Err
@@ -34,13 +34,13 @@ loop-index-preserved g c =
     let step = c.index-steps-index.result in
     let taken = c.in_default.ensures.taken in
     let may : MayStep limits before.world step = subst (λ (l : Limits). MayStep l before.world step) c.loop-index.invariant.limits taken.0 in
-    let led : after.world ≡ next before.world step = ap (λ (r : Running). r.world) taken.1 in
+    let led : after.world ≡ next before.world step = ap (λ (r : WorldView). r.world) taken.1 in
     let skips = c.max-most.ensures ∙ (greater_of c.loop-index.most c.skip_of-skip.result ∙ ap (max c.loop-index.most) c.skip_of-skip.ensures) in
     let run = has_run_more limits steps count before.world after.world step c.loop-index.inserted.items c.loop-index.deleted.items _ _ c.loop-index.most c.max-most.result
     c.loop-index.invariant.run c.loop-index-test.true c.index-steps-index.is may led c.inserted_item.ensures c.deleted_item.ensures skips in
     let inserted = c.push_some.new.items.items in
     record {
-      limits = ap (λ (r : Running). r.limits) taken.1 ∙ c.loop-index.invariant.limits;
+      limits = ap (λ (r : WorldView). r.limits) taken.1 ∙ c.loop-index.invariant.limits;
       limits_are = c.loop-index.invariant.limits_are;
       run = subst (λ (d : List Item). HasRun limits steps (count + 1) after.world inserted d c.max-most.result) (sym c.in_ok-push_some-2.ensures.pushed)
           (subst (λ (i : List Item). HasRun limits steps (count + 1) after.world i (c.loop-index.deleted.items ++ option_to_list c.deleted_item.result) c.max-most.result) (sym c.in_ok-push_some.ensures.pushed) run);
@@ -64,9 +64,9 @@ loop-index-init g c =
     let limits : Limits = record { threads = c.args.threads; k = c.args.k } in
     let made : c.in_ok-world.world ≡ record { limits = limits; world = first_world limits } = c.in_ok-world.ensures.made in
     record {
-      limits = ap (λ (r : Running). r.limits) made;
+      limits = ap (λ (r : WorldView). r.limits) made;
       limits_are = are_limits limits c.in_ok-world.ensures.bad_threads.1 c.in_ok-world.ensures.bad_k.1;
-      run = record { leads = ap (λ (r : Running). r.world) made; inserted_are = c.new-inserted.ensures.items; deleted_are = c.new-deleted.ensures.items; most_is = refl };
+      run = record { leads = ap (λ (r : WorldView). r.world) made; inserted_are = c.new-inserted.ensures.items; deleted_are = c.new-deleted.ensures.items; most_is = refl };
     }
 
 pub returns-in_err-push_some-clause-refused : goal.returns-in_err-push_some-clause-refused

@@ -1,6 +1,6 @@
 use Rattle.std.proofs.Common.{◌≡◌}
-use Rattle.klsm_world.specs.Running.{AreLimits}
-use Rattle.klsm_world.proofs.TraceLemmas.{HasRun}
+use Rattle.klsm_world.specs.WorldView.{AreLimits}
+use Rattle.klsm_world.proofs.traces.TraceLemmas.{HasRun}
 use Rattle.klsm_world.proofs.running.run.Given as goal
 
 -- the steps before `index` have run

@@ -2,9 +2,9 @@ use Rattle.std.proofs.Common.{sym, subst}
 use Rattle.std.proofs.lemmas.List.{get_or_read}
 use Rattle.klsm_world.specs.Kept.{IsKept}
 use Rattle.klsm_world.specs.Worlds.{Limits}
-use Rattle.klsm_world.proofs.TakenLemmas.{miss_taken}
-use Rattle.klsm_world.proofs.MemoryLemmas.{lists_kept, refused_for_memory}
-use Rattle.klsm_world.proofs.PlaceLemmas.{list_place}
+use Rattle.klsm_world.proofs.kept.TakenLemmas.{miss_taken}
+use Rattle.klsm_world.proofs.kept.MemoryLemmas.{lists_kept, refused_for_memory}
+use Rattle.klsm_world.proofs.kept.PlaceLemmas.{list_place}
 use Rattle.klsm_world.proofs.world.World.miss.Goals as goal
 
 pub invariant_of-self-2 : goal.invariant_of-self-2

@@ -2,9 +2,9 @@ use Rattle.std.proofs.Common.{◌∙◌, List, ap, sym}
 use Rattle.std.specs.List.{flat_map}
 use Rattle.klsm_run.specs.declared.item.Item.{Item}
 use Rattle.klsm_run.specs.Content.{skipped}
-use Rattle.klsm_world.specs.Running.{Running}
+use Rattle.klsm_world.specs.WorldView.{WorldView}
 use Rattle.klsm_world.specs.Worlds.{live}
-use Rattle.klsm_world.proofs.LiveListLemmas.{live_joined}
+use Rattle.klsm_world.proofs.kept.LiveListLemmas.{live_joined}
 use Rattle.klsm_world.proofs.world.World.skipped.Goals as goal
 
 pub returns-clause-skipped : goal.returns-clause-skipped
@@ -12,4 +12,4 @@ returns-clause-skipped g c =
     c.count_all_smaller.ensures
     ∙ (ap (λ (contents : List (List Item)). skipped (flat_map (λ c. c) contents) c.args.item) c.deref.ensures.value
     ∙ (ap (λ (all : List Item). skipped all c.args.item) (sym (live_joined _ c.self.inside.words.items c.self.inside.contents.items c.self.inside.lists.items c.self.invariant))
-    ∙ ap (λ (r : Running). skipped (live r.world) c.args.item) c.self.view_is))
+    ∙ ap (λ (r : WorldView). skipped (live r.world) c.args.item) c.self.view_is))

@@ -1,0 +1,18 @@
+-- Each legal step keeps a world lawful.
+use Rattle.klsm_world.specs.declared.step.Step.{Step}
+use Rattle.klsm_world.specs.Worlds.{Limits, World}
+use Rattle.klsm_world.specs.LawfulWorlds.{IsLawful}
+use Rattle.klsm_world.specs.Schedules.{MayStep, next}
+use Rattle.klsm_world.proofs.hands.AgreeLemmas.{agreed_kept}
+use Rattle.klsm_world.proofs.lawful.LegalLemmas.{legal_kept}
+use Rattle.klsm_world.proofs.lawful.FewLemmas.{few_kept}
+use Rattle.klsm_world.proofs.lawful.OnceLemmas.{once_kept}
+
+-- a legal step leads from a lawful world to a lawful one
+pub lawful_kept : (limits : Limits) (w : World) (step : Step) → IsLawful limits w → MayStep limits w step → IsLawful limits (next w step)
+lawful_kept limits w step lawful may = record {
+  legal = legal_kept limits w step lawful.agreed lawful.legal lawful.few may;
+  agreed = agreed_kept limits w step lawful.agreed may;
+  few = few_kept limits w step lawful.agreed lawful.few may;
+  each_once = once_kept limits w step lawful.agreed lawful.each_once may;
+}

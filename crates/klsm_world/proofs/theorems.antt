@@ -1,0 +1,11 @@
+-- The laws that the functions of src/laws.rt ensure.
+pub mod SkipLemmas  -- a deletion skips few, and "nothing" leaves few
+pub mod ReachedLemmas  -- a schedule that reaches both bounds
+pub mod StampLemmas  -- the item of the next insertion is new
+pub mod RunLemmas  -- a schedule is a run of the relaxed queue
+pub mod FoundContentLemmas  -- an acquire records the content at home
+pub mod LiveOnceLemmas  -- no item is live twice
+pub mod OwnListLemmas  -- what a list of own steps tells
+pub mod OwnEventLemmas  -- lists have the events of a schedule
+pub mod AccountLemmas  -- the account
+pub mod RefusedLemmas  -- a refused step is not legal
