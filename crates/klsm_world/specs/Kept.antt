@@ -24,19 +24,28 @@ entry_of (Missed p by) items = entry.Missed p by
 
 -- what is at home, by the words and what each part has now, free or held
 abbrev pub homes_of : List ℕ → List (List Item) → List (Option (List Item))
-homes_of (word ∷ words) (c ∷ contents) = (if word == 0 then Some c else None) ∷ homes_of words contents
+homes_of (word ∷ words) (c ∷ contents) =
+    (if word == 0 then Some c else None) ∷ homes_of words contents
 homes_of _ _ = []
 
 abbrev pub world_of : List ℕ → List (List Item) → List (List Entry) → World
-world_of words contents lists = record { words = words; homes = homes_of words contents; lists = lists }
+world_of words contents lists = record {
+  words = words;
+  homes = homes_of words contents;
+  lists = lists;
+}
 
--- what the running world keeps is a lawful world, with each part's content at hand in ascending order
-pub record IsKept (limits : Limits) (words : List ℕ) (contents : List (List Item)) (lists : List (List Entry)) : Type 0 where
+-- what the running world keeps is a lawful world, with each part's content at hand in ascending
+-- order
+pub record IsKept (limits : Limits) (words : List ℕ) (contents : List (List Item))
+    (lists : List (List Entry)) : Type 0 where
   pub limits_are : AreLimits limits
   pub lawful : IsLawful limits (world_of words contents lists)
   pub contents_are : length contents ≡ limits.threads + 1
-  pub current : (p : ℕ) → p ≤ limits.threads → content_of (world_of words contents lists) p ≡ slice_index_or contents p []
-  pub ascending : (p : ℕ) → p ≤ limits.threads → sorted (slice_index_or contents p []) ≡ slice_index_or contents p []
+  pub current : (p : ℕ) → p ≤ limits.threads
+      → content_of (world_of words contents lists) p ≡ slice_index_or contents p []
+  pub ascending : (p : ℕ) → p ≤ limits.threads
+      → sorted (slice_index_or contents p []) ≡ slice_index_or contents p []
 
 -- thread t holds each of these parts
 abbrev pub HoldsAll : World → ℕ → List ℕ → Type 0

@@ -22,11 +22,13 @@ pub record AreAgreed (limits : Limits) (w : World) : Type 0 where
   pub homes_are : length w.homes ≡ limits.threads + 1
   pub lists_are : length w.lists ≡ limits.threads
   -- a free part is at home
-  pub free : (p : ℕ) → p ≤ limits.threads → word_of w p ≡ 0 → (c : List Item) × (home_of w p ≡ Some c)
+  pub free : (p : ℕ) → p ≤ limits.threads → word_of w p ≡ 0
+      → (c : List Item) × (home_of w p ≡ Some c)
   -- and another part is held
   pub held : (p : ℕ) → p ≤ limits.threads → word_of w p ≢ 0 → IsHeld limits w p
   -- what a thread's hand has bears its word
-  pub named : (t p : ℕ) (c : List Item) → t < limits.threads → Holds (hand_in w t) p c → (p ≤ limits.threads) × (word_of w p ≡ t + 1)
+  pub named : (t p : ℕ) (c : List Item) → t < limits.threads → Holds (hand_in w t) p c
+      → (p ≤ limits.threads) × (word_of w p ≡ t + 1)
 
 pub record IsLawful (limits : Limits) (w : World) : Type 0 where
   pub legal : (t : ℕ) → t < limits.threads → IsLegal limits.k t (steps_of w t)
@@ -34,4 +36,5 @@ pub record IsLawful (limits : Limits) (w : World) : Type 0 where
   -- an own part has at most k items
   pub few : (t : ℕ) → t < limits.threads → length (content_of w (own_part t)) ≤ limits.k
   -- what was inserted is what was deleted and what is live, each as often
-  pub each_once : (x : Item) → times x (flat_map inserted w.lists) ≡ times x (flat_map deleted w.lists) + times x (live w)
+  pub each_once : (x : Item)
+      → times x (flat_map inserted w.lists) ≡ times x (flat_map deleted w.lists) + times x (live w)

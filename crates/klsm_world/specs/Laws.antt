@@ -1,5 +1,5 @@
 -- What follows from the definitions alone, for every number of threads and every k.
-use Rattle.std.specs.Prelude.{ℕ, ◌≡◌, ◌≢◌, ◌*◌, ◌-◌, ◌+◌, ◌<◌, ◌≤◌, ◌==◌, if◌then◌else◌, List, [], ◌∷◌, length, reverse, slice_set, Some, None}
+use Rattle.std.specs.Prelude.{ℕ, ◌≡◌, ◌≢◌, ◌*◌, ◌-◌, ◌+◌, ◌<◌, ◌≤◌, ◌==◌, if◌then◌else◌, List, [], ◌∷◌, length, reverse, Some}
 use Rattle.std.specs.List.{flat_map}
 use Rattle.klsm_run.specs.declared.item.Item.{Item}
 use Rattle.klsm_run.specs.Content.{sorted, skipped, ShareNone}
@@ -8,13 +8,12 @@ use Rattle.klsm_world.specs.declared.step.Event.{Event}
 use Rattle.klsm_world.specs.declared.step.Event.TheVariants.{Take, Nothing}
 use Rattle.klsm_world.specs.declared.step.Step.{Step}
 use Rattle.klsm_world.specs.declared.step.Step.TheVariants.{Acquire, Commit, Release, Miss}
-use Rattle.klsm_world.specs.declared.step.Entry.TheVariants.{Acquired}
 use Rattle.klsm_world.specs.declared.errors.StepError.{StepError}
 use Rattle.klsm_world.specs.declared.errors.StepError.TheVariants.{NoMemory}
 use Rattle.klsm_world.specs.OwnSteps.{event_at, inserted}
 use Rattle.klsm_world.specs.Worlds.{Limits, World, word_of, home_of, steps_of, content_of, live, first_world}
 use Rattle.klsm_world.specs.LawfulWorlds.{IsLawful}
-use Rattle.klsm_world.specs.Schedules.{MayStep, noted, next, Leads}
+use Rattle.klsm_world.specs.Schedules.{MayStep, acquired, next, Leads}
 use Rattle.klsm_world.specs.RelaxedQueue.{IsRun, events_of}
 use Rattle.klsm_world.specs.Account.{account}
 use Rattle.klsm_world.specs.Refusals.{Refuses}
@@ -25,44 +24,54 @@ FirstWorldIsLawful = (limits : Limits) → IsLawful limits (first_world limits)
 
 -- a legal step leads from a lawful world to a lawful one
 abbrev pub StepsKeepLawful : Type 0
-StepsKeepLawful = (limits : Limits) (w : World) (step : Step) → IsLawful limits w → MayStep limits w step → IsLawful limits (next w step)
+StepsKeepLawful = (limits : Limits) (w : World) (step : Step) → IsLawful limits w
+    → MayStep limits w step → IsLawful limits (next w step)
 
 -- so each world to which a schedule leads is lawful
 abbrev pub SchedulesKeepLawful : Type 0
-SchedulesKeepLawful = (limits : Limits) (steps : List Step) (w : World) → Leads limits steps w → IsLawful limits w
+SchedulesKeepLawful = (limits : Limits) (steps : List Step) (w : World) → Leads limits steps w
+    → IsLawful limits w
 
 -- in a lawful world a deletion that thread t may commit skips at most T·k live items
 abbrev pub TakesSkipFew : Type 0
-TakesSkipFew = (limits : Limits) (w : World) (t : ℕ) (x : Item) → IsLawful limits w → MayStep limits w (Commit t (Take x))
+TakesSkipFew = (limits : Limits) (w : World) (t : ℕ) (x : Item) → IsLawful limits w
+    → MayStep limits w (Commit t (Take x))
     → skipped (live w) x ≤ limits.threads * limits.k
 
 -- in a lawful world at most (T-1)·k items live where thread t may answer nothing
 abbrev pub NothingLeavesFew : Type 0
-NothingLeavesFew = (limits : Limits) (w : World) (t : ℕ) → IsLawful limits w → MayStep limits w (Commit t Nothing)
+NothingLeavesFew = (limits : Limits) (w : World) (t : ℕ) → IsLawful limits w
+    → MayStep limits w (Commit t Nothing)
     → length (live w) ≤ (limits.threads - 1) * limits.k
 
 -- the events of a schedule are a run of the relaxed queue
 abbrev pub SchedulesAreRuns : Type 0
-SchedulesAreRuns = (limits : Limits) (steps : List Step) (w : World) → Leads limits steps w → IsRun limits (events_of steps)
+SchedulesAreRuns = (limits : Limits) (steps : List Step) (w : World) → Leads limits steps w
+    → IsRun limits (events_of steps)
 
--- where two lawful worlds differ by an acquire of one part, the content recorded is the one that was at home
+-- where two lawful worlds differ by an acquire of one part, the content recorded is the one that
+-- was at home
 abbrev pub AcquiresFindContents : Type 0
-AcquiresFindContents = (limits : Limits) (v w : World) (t p : ℕ) (found : List Item) → IsLawful limits v → IsLawful limits w
+AcquiresFindContents = (limits : Limits) (v w : World) (t p : ℕ) (found : List Item)
+    → IsLawful limits v → IsLawful limits w
     → t < limits.threads → p ≤ limits.threads → word_of v p ≡ 0
-    → w ≡ record { words = slice_set v.words p (t + 1); homes = slice_set v.homes p None; lists = noted v t (Acquired p found) }
+    → w ≡ acquired v t p found
     → (c : List Item) × (home_of v p ≡ Some c) × (sorted found ≡ sorted c)
 
 -- in a lawful world the items left by the account are the live ones
 abbrev pub AccountsLeaveLive : Type 0
-AccountsLeaveLive = (limits : Limits) (w : World) → IsLawful limits w → (account w.lists).left ≡ sorted (live w)
+AccountsLeaveLive = (limits : Limits) (w : World) → IsLawful limits w
+    → (account w.lists).left ≡ sorted (live w)
 
 -- in a lawful world no item is live twice
 abbrev pub LiveItemsDiffer : Type 0
-LiveItemsDiffer = (limits : Limits) (w : World) (x : Item) → IsLawful limits w → times x (live w) ≤ 1
+LiveItemsDiffer = (limits : Limits) (w : World) (x : Item) → IsLawful limits w
+    → times x (live w) ≤ 1
 
 -- in a lawful world no two parts share an item
 abbrev pub PartsShareNone : Type 0
-PartsShareNone = (limits : Limits) (w : World) (p q : ℕ) → IsLawful limits w → p ≤ limits.threads → q ≤ limits.threads → p ≢ q
+PartsShareNone = (limits : Limits) (w : World) (p q : ℕ) → IsLawful limits w → p ≤ limits.threads
+    → q ≤ limits.threads → p ≢ q
     → ShareNone (content_of w p) (content_of w q)
 
 -- in a lawful world as many items were inserted as were deleted and are left
@@ -72,11 +81,13 @@ AccountsAddUp = (limits : Limits) (w : World) → IsLawful limits w
 
 -- no thread made more insertions than the quota
 abbrev pub IsWithinQuota : Limits → ℕ → World → Type 0
-IsWithinQuota limits quota w = (t : ℕ) → t < limits.threads → length (inserted (steps_of w t)) ≤ quota
+IsWithinQuota limits quota w = (t : ℕ) → t < limits.threads
+    → length (inserted (steps_of w t)) ≤ quota
 
 -- then all deletions together are at most T times the quota
 abbrev pub DeletionsAreFew : Type 0
-DeletionsAreFew = (limits : Limits) (quota : ℕ) (w : World) → IsLawful limits w → IsWithinQuota limits quota w
+DeletionsAreFew = (limits : Limits) (quota : ℕ) (w : World) → IsLawful limits w
+    → IsWithinQuota limits quota w
     → (account w.lists).deleted ≤ limits.threads * quota
 
 -- the event that a step commits, where thread t makes it
@@ -88,10 +99,12 @@ event_by t (Miss u p) = []
 
 -- a thread's own steps have its events of the schedule, in their order
 abbrev pub ListsHaveEvents : Type 0
-ListsHaveEvents = (limits : Limits) (steps : List Step) (w : World) (t : ℕ) → Leads limits steps w → t < limits.threads
+ListsHaveEvents = (limits : Limits) (steps : List Step) (w : World) (t : ℕ) → Leads limits steps w
+    → t < limits.threads
     → flat_map event_at (steps_of w t) ≡ flat_map (event_by t) (reverse steps)
 
 -- in a lawful world a step that is refused for another cause than memory is not legal
 abbrev pub RefusedIsNotLegal : Type 0
-RefusedIsNotLegal = (limits : Limits) (w : World) (step : Step) (why : StepError) → IsLawful limits w → Refuses limits w step why
+RefusedIsNotLegal = (limits : Limits) (w : World) (step : Step) (why : StepError)
+    → IsLawful limits w → Refuses limits w step why
     → why ≢ NoMemory → MayStep limits w step → ⊥

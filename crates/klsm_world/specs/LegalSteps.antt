@@ -40,10 +40,12 @@ pub record MaySpyOn (t victim : ℕ) (Held : Type 0) : Type 0 where
 -- thread t, with this hand and after n insertions, may commit an event
 abbrev pub MayCommit : ℕ → ℕ → Hand → ℕ → Event → Type 0
 MayCommit k t hand n (Put x) = MayInsert t n x (HoldsOwn t hand (λ own. MayPut k own))
-MayCommit k t hand n (Flush x moved) = MayInsert t n x (HoldsBoth t shared_part hand (λ own shared. MayFlush k own x moved))
+MayCommit k t hand n (Flush x moved) =
+    MayInsert t n x (HoldsBoth t shared_part hand (λ own shared. MayFlush k own x moved))
 MayCommit k t hand n (Take x) = HoldsBoth t shared_part hand (λ own shared. MayTake k own shared x)
 MayCommit k t hand n Nothing = HoldsBoth t shared_part hand MayFindNothing
-MayCommit k t hand n (Spy victim moved) = MaySpyOn t victim (HoldsBoth t (own_part victim) hand (λ own from. MaySpy own from moved))
+MayCommit k t hand n (Spy victim moved) =
+    MaySpyOn t victim (HoldsBoth t (own_part victim) hand (λ own from. MaySpy own from moved))
 
 -- a part that is not in the hand was found with this content; an own part has at most k items
 pub record MayFind (k : ℕ) (hand : Hand) (p : ℕ) (found : List Item) : Type 0 where
@@ -53,10 +55,12 @@ pub record MayFind (k : ℕ) (hand : Hand) (p : ℕ) (found : List Item) : Type 
 -- thread t may go on from its own steps so far with this one
 abbrev pub MayFollow : ℕ → ℕ → List Entry → Entry → Type 0
 MayFollow k t before (Acquired p found) = MayFind k (hand_of t before) p found
-MayFollow k t before (Committed event) = MayCommit k t (hand_of t before) (length (inserted before)) event
+MayFollow k t before (Committed event) =
+    MayCommit k t (hand_of t before) (length (inserted before)) event
 MayFollow k t before (Released p) = HoldsSome (hand_of t before) p
 MayFollow k t before (Missed p by) = found_in (hand_of t before) p ≡ None
 
 -- each entry of thread t's list may follow those before it
 abbrev pub IsLegal : ℕ → ℕ → List Entry → Type 0
-IsLegal k t own = (i : ℕ) (entry : Entry) → slice_get own i ≡ Some entry → MayFollow k t (take i own) entry
+IsLegal k t own = (i : ℕ) (entry : Entry) → slice_get own i ≡ Some entry
+    → MayFollow k t (take i own) entry

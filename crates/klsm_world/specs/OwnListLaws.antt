@@ -14,24 +14,28 @@ use Rattle.klsm_world.specs.Laws.{IsWithinQuota}
 
 -- in every lawful world in which this is thread t's list, at most T·k live items are smaller than x
 abbrev pub SkipsFew : Limits → ℕ → List Entry → Item → Type 0
-SkipsFew limits t own x = (w : World) → IsLawful limits w → steps_of w t ≡ own → skipped (live w) x ≤ limits.threads * limits.k
+SkipsFew limits t own x = (w : World) → IsLawful limits w → steps_of w t ≡ own
+    → skipped (live w) x ≤ limits.threads * limits.k
 
 -- in every such world at most (T-1)·k items live
 abbrev pub LeavesFew : Limits → ℕ → List Entry → Type 0
-LeavesFew limits t own = (w : World) → IsLawful limits w → steps_of w t ≡ own → length (live w) ≤ (limits.threads - 1) * limits.k
+LeavesFew limits t own = (w : World) → IsLawful limits w → steps_of w t ≡ own
+    → length (live w) ≤ (limits.threads - 1) * limits.k
 
 -- where a deletion may follow a list, it skips few
 abbrev pub ListsSkipFew : Type 0
-ListsSkipFew = (limits : Limits) (t : ℕ) (own : List Entry) (x : Item) → t < limits.threads → MayFollow limits.k t own (Committed (Take x))
+ListsSkipFew = (limits : Limits) (t : ℕ) (own : List Entry) (x : Item) → t < limits.threads
+    → MayFollow limits.k t own (Committed (Take x))
     → SkipsFew limits t own x
 
 -- where an answer "nothing" may follow a list, few items live
 abbrev pub ListsLeaveFew : Type 0
-ListsLeaveFew = (limits : Limits) (t : ℕ) (own : List Entry) → t < limits.threads → MayFollow limits.k t own (Committed Nothing)
+ListsLeaveFew = (limits : Limits) (t : ℕ) (own : List Entry) → t < limits.threads
+    → MayFollow limits.k t own (Committed Nothing)
     → LeavesFew limits t own
 
--- this is thread t's list in some lawful world in which no thread made more insertions than the quota, as in each to which a
--- schedule leads
+-- this is thread t's list in some lawful world in which no thread made more insertions than the
+-- quota, as in each to which a schedule leads
 pub record IsPossible (limits : Limits) (quota t : ℕ) (own : List Entry) : Type 0 where
   pub world : World
   pub lawful : IsLawful limits world
@@ -40,15 +44,18 @@ pub record IsPossible (limits : Limits) (quota t : ℕ) (own : List Entry) : Typ
 
 -- then the parts in the thread's hand share no item
 abbrev pub HandsAreApart : Type 0
-HandsAreApart = (limits : Limits) (quota t : ℕ) (own : List Entry) (p q : ℕ) (c d : List Item) → IsPossible limits quota t own
-    → t < limits.threads → p ≢ q → Holds (hand_of t own) p c → Holds (hand_of t own) q d → ShareNone c d
+HandsAreApart = (limits : Limits) (quota t : ℕ) (own : List Entry) (p q : ℕ) (c d : List Item)
+    → IsPossible limits quota t own → t < limits.threads → p ≢ q
+    → Holds (hand_of t own) p c → Holds (hand_of t own) q d → ShareNone c d
 
 -- none of them has the item of the thread's next insertion
 abbrev pub NextIsNewInHand : Type 0
-NextIsNewInHand = (limits : Limits) (quota t : ℕ) (own : List Entry) (p : ℕ) (c : List Item) (x : Item) → IsPossible limits quota t own
-    → t < limits.threads → BearsStamp t (length (inserted own)) x → Holds (hand_of t own) p c → Contains c x → ⊥
+NextIsNewInHand = (limits : Limits) (quota t : ℕ) (own : List Entry) (p : ℕ) (c : List Item)
+    → (x : Item) → IsPossible limits quota t own → t < limits.threads
+    → BearsStamp t (length (inserted own)) x → Holds (hand_of t own) p c → Contains c x → ⊥
 
 -- and the thread made no more deletions than all threads may make insertions
 abbrev pub OwnDeletionsAreFew : Type 0
-OwnDeletionsAreFew = (limits : Limits) (quota t : ℕ) (own : List Entry) → IsPossible limits quota t own → t < limits.threads
+OwnDeletionsAreFew = (limits : Limits) (quota t : ℕ) (own : List Entry)
+    → IsPossible limits quota t own → t < limits.threads
     → length (deleted own) ≤ limits.threads * quota

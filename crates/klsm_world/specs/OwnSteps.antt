@@ -1,5 +1,6 @@
--- A thread's own steps, and the hand that they leave: the parts that the thread holds, each with its content.
--- A content is given by its ascending list. Part 0 is the shared one, and part t + 1 is thread t's own.
+-- A thread's own steps, and the hand that they leave: the parts that the thread holds, each with
+-- its content. A content is given by its ascending list. Part 0 is the shared one, and part t + 1
+-- is thread t's own.
 use Rattle.std.specs.Prelude.{ℕ, ◌≡◌, ◌+◌, ◌==◌, if◌then◌else◌, List, [], ◌∷◌, Option, Some, None, unwrap_or}
 use Rattle.std.specs.List.{fold, flat_map}
 use Rattle.klsm_run.specs.declared.item.Item.{Item}
@@ -49,7 +50,8 @@ given_back (held ∷ hand) p = if held.0 == p then given_back hand p else held �
 
 -- thread t's hand after an event
 abbrev pub after_event : ℕ → Hand → Event → Hand
-after_event t hand (Put x) = changed hand (own_part t) (own_after_put (content_in hand (own_part t)) x)
+after_event t hand (Put x) =
+    changed hand (own_part t) (own_after_put (content_in hand (own_part t)) x)
 after_event t hand (Flush x moved) =
     changed
     (changed hand (own_part t) (own_after_flush (content_in hand (own_part t)) x moved))

@@ -12,7 +12,8 @@ use Rattle.klsm_world.specs.Schedules.{MayStep, Leads}
 abbrev pub two_threads : Limits
 two_threads = record { threads = 2; k = 1 }
 
--- a schedule, its latest step first, after which a thread may delete an item that skips T·k live ones
+-- a schedule, its latest step first, after which a thread may delete an item that skips T·k live
+-- ones
 pub record ReachesMostSkipped (limits : Limits) : Type 0 where
   pub steps : List Step
   pub world : World

@@ -58,5 +58,6 @@ Refuses limits w step NoSuchPart = NamesNone limits step
 Refuses limits w step (Held by) = (NamesNone limits step → ⊥) × FindsHeld w step by
 Refuses limits w step NotHeld = (NamesNone limits step → ⊥) × LacksPart w step
 Refuses limits w step WrongEvent =
-    (NamesNone limits step → ⊥) × ((by : ℕ) → FindsHeld w step by → ⊥) × (LacksPart w step → ⊥) × (MayStep limits w step → ⊥)
+    (NamesNone limits step → ⊥) × ((by : ℕ) → FindsHeld w step by → ⊥) × (LacksPart w step → ⊥)
+    × (MayStep limits w step → ⊥)
 Refuses limits w step NoMemory = MayStep limits w step

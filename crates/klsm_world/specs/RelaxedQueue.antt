@@ -1,5 +1,6 @@
--- The relaxed queue of one thread, M(T, k): a multiset that knows no part, block, lock or thread. A content is given by its
--- ascending list. The lists of events and steps have the latest first, as schedules have.
+-- The relaxed queue of one thread, M(T, k): a multiset that knows no part, block, lock or thread. A
+-- content is given by its ascending list. The lists of events and steps have the latest first, as
+-- schedules have.
 use Rattle.std.specs.Prelude.{ℕ, ◌*◌, ◌-◌, ◌≤◌, List, [], ◌∷◌, length, max}
 use Rattle.std.specs.List.{Contains, flat_map}
 use Rattle.klsm_run.specs.declared.item.Item.{Item}
@@ -19,7 +20,8 @@ queue_after c (Take x) = without x c
 queue_after c Nothing = c
 queue_after c (Spy victim moved) = c
 
--- an item inserted is new; a deletion skips at most T·k items; nothing is answered only where at most (T-1)·k items are left
+-- an item inserted is new; a deletion skips at most T·k items; nothing is answered only where at
+-- most (T-1)·k items are left
 abbrev pub MayMove : Limits → List Item → Event → Type 0
 MayMove limits c (Put x) = Contains c x → ⊥
 MayMove limits c (Flush x moved) = Contains c x → ⊥

@@ -1,5 +1,6 @@
 -- Steps of a world: which are legal, to which world each leads, and schedules of them.
 use Rattle.std.specs.Prelude.{ℕ, ◌≡◌, ◌≢◌, ◌+◌, ◌<◌, ◌≤◌, List, [], ◌∷◌, ◌++◌, length, slice_set, Some, None, unwrap_or}
+use Rattle.klsm_run.specs.declared.item.Item.{Item}
 use Rattle.klsm_world.specs.declared.step.Event.{Event}
 use Rattle.klsm_world.specs.declared.step.Step.{Step}
 use Rattle.klsm_world.specs.declared.step.Step.TheVariants.{Acquire, Commit, Release, Miss}
@@ -43,13 +44,17 @@ MayStep limits w (Miss t p) = MayMiss limits w t p
 abbrev pub noted : World → ℕ → Entry → List (List Entry)
 noted w t entry = slice_set w.lists t (steps_of w t ++ entry ∷ [])
 
--- the world after a step; an acquire records the content found
-abbrev pub next : World → Step → World
-next w (Acquire t p) = record {
+-- the world after thread t took part p, of which its list records this content
+abbrev pub acquired : World → ℕ → ℕ → List Item → World
+acquired w t p found = record {
   words = slice_set w.words p (t + 1);
   homes = slice_set w.homes p None;
-  lists = noted w t (Acquired p (unwrap_or (home_of w p) []));
+  lists = noted w t (Acquired p found);
 }
+
+-- the world after a step; an acquire records the content at home
+abbrev pub next : World → Step → World
+next w (Acquire t p) = acquired w t p (unwrap_or (home_of w p) [])
 next w (Commit t event) = record {
   words = w.words;
   homes = w.homes;
@@ -73,7 +78,8 @@ pub record LeadsOn (limits : Limits) (Led : World → Type 0) (step : Step) (w :
   pub legal : MayStep limits before step
   pub after : w ≡ next before step
 
--- a schedule, its latest step first: each step is legal in the world to which those before it lead, and all lead to this one
+-- a schedule, its latest step first: each step is legal in the world to which those before it lead,
+-- and all lead to this one
 abbrev pub Leads : Limits → List Step → World → Type 0
 Leads limits [] w = w ≡ first_world limits
 Leads limits (step ∷ before) w = LeadsOn limits (Leads limits before) step w

@@ -15,8 +15,8 @@ use Rattle.klsm_world.specs.RelaxedQueue.{IsRun, events_of, most_skipped}
 use Rattle.klsm_world.specs.Refusals.{Refuses}
 use Rattle.klsm_world.specs.WorldView.{AreLimits}
 
--- steps, the latest first, are a schedule whose events are a run of the relaxed queue, and this is the greatest skip, over the
--- insertions less the deletions before each deletion
+-- steps, the latest first, are a schedule whose events are a run of the relaxed queue, and this is
+-- the greatest skip, over the insertions less the deletions before each deletion
 pub record IsSchedule (limits : Limits) (steps : List Step) (most : ℕ) : Type 0 where
   pub world : World
   pub leads : Leads limits steps world
@@ -25,7 +25,8 @@ pub record IsSchedule (limits : Limits) (steps : List Step) (most : ℕ) : Type 
   pub bound : most ≤ limits.threads * limits.k
 
 -- what a run of the steps, the first one first, answers
-pub record IsTrace (limits : Limits) (steps : List Step) (inserted deleted : List Item) (most : ℕ) (left : List Item) : Type 0 where
+pub record IsTrace (limits : Limits) (steps : List Step) (inserted deleted : List Item) (most : ℕ)
+    (left : List Item) : Type 0 where
   pub limits_are : AreLimits limits
   pub schedule : IsSchedule limits (reverse steps) most
   -- the items of the insertions and of the deletions, in the order of their steps
@@ -40,5 +41,6 @@ RefusesRun limits steps BadThreads = (limits.threads ≡ 0) ⊎ (16 < limits.thr
 RefusesRun limits steps BadK = (1 ≤ limits.threads) × (limits.threads ≤ 16) × (128 < limits.k)
 RefusesRun limits steps (At index why) =
     AreLimits limits × (why ≢ step_error.NoMemory)
-    × ((w : World) × (step : Step) × Leads limits (reverse (take index steps)) w × (slice_get steps index ≡ Some step) × Refuses limits w step why)
+    × ((w : World) × (step : Step) × Leads limits (reverse (take index steps)) w
+    × (slice_get steps index ≡ Some step) × Refuses limits w step why)
 RefusesRun limits steps NoMemory = AreLimits limits

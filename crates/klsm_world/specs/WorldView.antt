@@ -1,4 +1,4 @@
--- A world as the running one shows itself to contracts, and what a step of it answers.
+-- A world as contracts see it, and what a step of it answers.
 use Rattle.std.specs.Prelude.{◌≡◌, ◌≤◌, Result, OnOk, OnErr, IfErr}
 use Rattle.klsm_world.specs.declared.step.Step.{Step}
 use Rattle.klsm_world.specs.declared.errors.StepError.{StepError}
@@ -18,7 +18,9 @@ pub record AreLimits (limits : Limits) : Type 0 where
   pub k_in_range : limits.k ≤ 128
 
 -- what a step answers, and where the world then stands
-pub record IsStepped (before : WorldView) (step : Step) (result : Result Unit StepError) (after : WorldView) : Type 0 where
-  pub taken : OnOk result (MayStep before.limits before.world step × (after ≡ record { limits = before.limits; world = next before.world step }))
+pub record IsStepped (before : WorldView) (step : Step) (result : Result Unit StepError)
+    (after : WorldView) : Type 0 where
+  pub taken : OnOk result (MayStep before.limits before.world step
+      × (after ≡ record { limits = before.limits; world = next before.world step }))
   pub refused : IfErr result (λ why. Refuses before.limits before.world step why)
   pub unchanged : OnErr result (after ≡ before)

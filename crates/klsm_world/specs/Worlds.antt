@@ -9,8 +9,12 @@ pub record Limits : Type 0 where
   pub threads : ℕ
   pub k : ℕ
 
--- for each part a word, 0 where it is free and t + 1 where thread t holds it, and its content at home, where it is free;
--- for each thread the list of its own steps
+-- the limits of so many threads and this k
+abbrev pub limits_of : ℕ → ℕ → Limits
+limits_of threads k = record { threads = threads; k = k }
+
+-- for each part a word, 0 where it is free and t + 1 where thread t holds it, and its content at
+-- home, where it is free; for each thread the list of its own steps
 pub record World : Type 0 where
   pub words : List ℕ
   pub homes : List (Option (List Item))

@@ -53,7 +53,8 @@ pub(crate) fn may_flush(k: usize, own: &[Item], item: Item, moved: &[Item]) -> b
     own.len() < k + moved.len()
 }
 
-/// Whether an item may be taken from two ascending parts. It looks at the least own item and at the candidates.
+/// Whether an item may be taken from two ascending parts. It looks at the least own item and at the
+/// candidates.
 pub(crate) fn may_take(k: usize, own: &[Item], shared: &[Item], item: Item) -> bool
     requires own_sorted { sorted own.now ≡ own.now }
     requires shared_sorted { sorted shared.now ≡ shared.now }
@@ -64,7 +65,8 @@ pub(crate) fn may_take(k: usize, own: &[Item], shared: &[Item], item: Item) -> b
     let Some(least) = own.first() else {
         return has(candidates, item);
     };
-    // The least own item goes where some candidate is not smaller, and a candidate where no own item is smaller.
+    // The least own item goes where some candidate is not smaller, and a candidate where no own
+    // item is smaller.
     if *least == item {
         return match candidates {
             [] => true,

@@ -22,7 +22,8 @@ pub(crate) fn copied<A: Allocator>(alloc: A, items: &[Item]) -> Result<Vec<Item,
     Ok(copy)
 }
 
-/// A copy of ascending items with others, which are ascending too, each in its place. It is one pass over both.
+/// A copy of ascending items with others, which are ascending too, each in its place. It is one
+/// pass over both.
 pub(crate) fn with_all<A: Allocator>(
     alloc: A,
     items: &[Item],
@@ -47,7 +48,8 @@ pub(crate) fn with_all<A: Allocator>(
     Ok(all)
 }
 
-// Adds the items from `start` on as long as they are smaller than one, and answers where the others begin.
+// Adds the items from `start` on as long as they are smaller than one, and answers where the others
+// begin.
 fn push_smaller<A: Allocator>(
     all: &mut Vec<Item, A>,
     items: &[Item],
@@ -56,8 +58,10 @@ fn push_smaller<A: Allocator>(
 ) -> usize
     requires start_within { start ≤ length items.now }
     requires room { vec_len all.old + length items.now ≤ vec_capacity all.old + start }
-    ensures pushed { all.new.items ≡ all.old.items ++ take_while (λ one. is_smaller one item) (drop start items.now) }
-    ensures stopped { result ≡ start + prefix_len (λ one. is_smaller one item) (drop start items.now) }
+    ensures pushed { all.new.items
+        ≡ all.old.items ++ take_while (λ one. is_smaller one item) (drop start items.now) }
+    ensures stopped { result
+        ≡ start + prefix_len (λ one. is_smaller one item) (drop start items.now) }
     ensures within { result ≤ length items.now }
     ensures capacity { vec_capacity all.old ≤ vec_capacity all.new }
 {

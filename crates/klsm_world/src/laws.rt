@@ -1,4 +1,5 @@
-//! Laws of the definitions that the contracts cite. The functions do nothing: what they ensure is a theorem.
+//! Laws of the definitions that the contracts cite. The functions do nothing: what they ensure is a
+//! theorem.
 ghost use Rattle.klsm_world.specs.Laws.{AccountsAddUp, AccountsLeaveLive, AcquiresFindContents, DeletionsAreFew, FirstWorldIsLawful, ListsHaveEvents, LiveItemsDiffer, NothingLeavesFew, PartsShareNone, RefusedIsNotLegal, SchedulesAreRuns, SchedulesKeepLawful, StepsKeepLawful, TakesSkipFew};
 ghost use Rattle.klsm_world.specs.OwnListLaws.{HandsAreApart, ListsLeaveFew, ListsSkipFew, NextIsNewInHand, OwnDeletionsAreFew};
 ghost use Rattle.klsm_world.specs.Reached.{ReachesMostLeft, ReachesMostSkipped, two_threads};
@@ -8,20 +9,23 @@ pub fn first_world_is_lawful()
     ensures { FirstWorldIsLawful }
 {}
 
-/// A legal step leads from a lawful world to a lawful one, and so a schedule leads to a lawful world.
+/// A legal step leads from a lawful world to a lawful one, and so a schedule leads to a lawful
+/// world.
 pub fn steps_keep_lawful()
     ensures steps { StepsKeepLawful }
     ensures schedules { SchedulesKeepLawful }
 {}
 
-/// In a lawful world, a deletion that a thread may commit skips at most T·k live items, and where it may answer nothing, at
-/// most (T-1)·k items live. The content of a part that another thread holds counts too.
+/// In a lawful world, a deletion that a thread may commit skips at most T·k live items, and where
+/// it may answer nothing, at most (T-1)·k items live. The content of a part that another thread
+/// holds counts too.
 pub fn takes_skip_few()
     ensures takes { TakesSkipFew }
     ensures nothing { NothingLeavesFew }
 {}
 
-/// With two threads, and at most one item in an own part, there are schedules that reach both bounds.
+/// With two threads, and at most one item in an own part, there are schedules that reach both
+/// bounds.
 pub fn bounds_are_reached()
     ensures takes { ReachesMostSkipped two_threads }
     ensures nothing { ReachesMostLeft two_threads }
@@ -32,7 +36,8 @@ pub fn schedules_are_runs()
     ensures { SchedulesAreRuns }
 {}
 
-/// Where two lawful worlds differ by an acquire of one part, the content recorded is the one that was at home.
+/// Where two lawful worlds differ by an acquire of one part, the content recorded is the one that
+/// was at home.
 pub fn acquires_find_contents()
     ensures { AcquiresFindContents }
 {}
@@ -43,9 +48,10 @@ pub fn parts_share_none()
     ensures apart { PartsShareNone }
 {}
 
-/// What a thread can know from its own list alone: a deletion or an answer "nothing" that may follow it passes over few items
-/// of every lawful world that has this list. Where there is such a world, within the quota, the parts in the thread's hand
-/// share no item, none of them has the item of its next insertion, and its deletions are counted in a word.
+/// What a thread can know from its own list alone: a deletion or an answer "nothing" that may
+/// follow it passes over few items of every lawful world that has this list. Where there is such a
+/// world, within the quota, the parts in the thread's hand share no item, none of them has the item
+/// of its next insertion, and its deletions are counted in a word.
 pub fn own_lists_tell()
     ensures takes { ListsSkipFew }
     ensures nothing { ListsLeaveFew }
@@ -64,8 +70,8 @@ pub fn accounts_leave_live()
     ensures { AccountsLeaveLive }
 {}
 
-/// In a lawful world as many items were inserted as were deleted and are left. Where no thread inserts more than a quota, all
-/// deletions together are at most T times the quota.
+/// In a lawful world as many items were inserted as were deleted and are left. Where no thread
+/// inserts more than a quota, all deletions together are at most T times the quota.
 pub fn accounts_add_up()
     ensures sum { AccountsAddUp }
     ensures deletions { DeletionsAreFew }

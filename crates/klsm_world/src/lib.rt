@@ -1,9 +1,11 @@
-//! The pure world of a k-LSM: threads that take parts, commit events and give the parts back, one step after another.
+//! The pure world of a k-LSM: threads that take parts, commit events and give the parts back, one
+//! step after another.
 //!
-//! A queue with locks is as good as the interleavings of its locked steps. This crate says what these are, apart from any lock
-//! that runs: a world has T threads and T + 1 parts, the shared part 0 and thread t's own part t + 1. A step takes a free
-//! part, gives one back, tries one in vain, or commits an event on parts in hand. A list of legal steps is a schedule. Whoever
-//! wants to know what a relaxed queue can do reads `specs/`, and whoever wants to try a schedule runs it:
+//! A queue with locks is as good as the interleavings of its locked steps. This crate says what
+//! these are, apart from any lock that runs: a world has T threads and T + 1 parts, the shared part
+//! 0 and thread t's own part t + 1. A step takes a free part, gives one back, tries one in vain, or
+//! commits an event on parts in hand. A list of legal steps is a schedule. Whoever wants to know
+//! what a relaxed queue can do reads `specs/`, and whoever wants to try a schedule runs it:
 //!
 //! ```text
 //! let steps = [
@@ -11,21 +13,28 @@
 //!     Step::Commit { thread: 0, event: Event::Put(item) },
 //!     Step::Release { thread: 0, part: 1 },
 //! ];
-//! let trace = run(alloc, 2, 1, &steps)?;               // two threads, at most one item in an own part
-//! let mut world = World::new(alloc, 2, 1)?;            // the same by steps
+//! let trace = run(alloc, 2, 1, &steps)?;      // two threads, at most one item in an own part
+//! let mut world = World::new(alloc, 2, 1)?;   // the same by steps
 //! world.step(&steps[0])?;
 //! ```
 //!
-//! - **A step is taken exactly where it is legal**, and leads to the next world of the definition; else it is refused for the
-//!   first reason that holds, and nothing changes: the contract of `World::step`.
-//! - **A run is a schedule.** `run` says what the steps insert, delete and leave, and the greatest skip, which is at most T·k:
-//!   clause `trace`. A fault is that of the first step that is refused: clause `refused`.
-//! - **The laws** hold of every schedule, for every T and k, and each is the contract of a function of `laws`: each world is
-//!   lawful; a deletion skips at most T·k of all live items; "nothing" is answered only where at most (T-1)·k items
-//!   live; the events are a run of the relaxed queue of one thread; an acquire records the content that was at home.
+//! - **A step is taken exactly where it is legal**, and leads to the next world of the definition;
+//!   else it is refused for the first reason that holds, and nothing changes: the contract of
+//!   `World::step`.
+//! - **A run is a schedule.** `run` says what the steps insert, delete and leave, and the greatest
+//!   skip, which is at most T·k: clause `trace`. A fault is that of the first step that is refused:
+//!   clause `refused`.
+//! - **The laws** hold of every schedule, for every T and k, and each is the contract of a function
+//!   of `laws`: each world is lawful; a deletion skips at most T·k of all live items; "nothing" is
+//!   answered only where at most (T-1)·k items live; the events are a run of the relaxed queue of
+//!   one thread; an acquire records the content that was at home.
+//! - **A thread's own list is enough** to know that its deletion skips few, that the parts in its
+//!   hand are disjoint, and that its next item is new: `laws::own_lists_tell`. So whoever runs
+//!   threads has to keep each thread's list, and no picture of the world.
 //!
-//! Why a deletion skips so few: its item is among the least k+1 of the shared part, or smaller, and no own item is smaller, so at
-//! most k items of the two parts are; each other own part holds at most k items, whatever they are.
+//! Why a deletion skips so few: its item is among the least k+1 of the shared part, or smaller, and
+//! no own item is smaller, so at most k items of the two parts are; each other own part holds at
+//! most k items, whatever they are.
 #![tactic(auto)]
 
 mod conditions;

@@ -5,7 +5,7 @@ ghost use Rattle.klsm_run.specs.Content.{skipped};
 ghost use Rattle.klsm_world.specs.OwnSteps.{inserted_by, deleted_by};
 ghost use Rattle.klsm_world.specs.RelaxedQueue.{event_of};
 ghost use Rattle.klsm_world.specs.Traces.{IsTrace, RefusesRun};
-ghost use Rattle.klsm_world.specs.Worlds.{live};
+ghost use Rattle.klsm_world.specs.Worlds.{limits_of, live};
 
 use crate::errors::{StepError, WorldError};
 use crate::items::Items;
@@ -28,16 +28,17 @@ pub struct Trace<A: Allocator = Global> {
     pub live: Items<A>,
 }
 
-/// Runs steps in a world of `threads` threads, with at most `k` items in an own part, from the first world on. Its cost is that
-/// of the steps, and a look at each live item for each deletion.
+/// Runs steps in a world of `threads` threads, with at most `k` items in an own part, from the
+/// first world on. Its cost is that of the steps, and a look at each live item for each deletion.
 pub fn run<A: Allocator + Copy>(
     alloc: A,
     threads: u32,
     k: usize,
     steps: &[Step],
 ) -> Result<Trace<A>, WorldError>
-    ensures trace { IfOk result (λ trace. IsTrace (record { threads = threads; k = k }) steps.now trace.inserted trace.deleted trace.most trace.live) }
-    ensures refused { IfErr result (λ why. RefusesRun (record { threads = threads; k = k }) steps.now why) }
+    ensures trace { IfOk result (λ trace. IsTrace (limits_of threads k) steps.now
+        trace.inserted trace.deleted trace.most trace.live) }
+    ensures refused { IfErr result (λ why. RefusesRun (limits_of threads k) steps.now why) }
 {
     let mut world = World::new(alloc, threads, k)?;
     let mut inserted = Vec::new(alloc);
@@ -102,7 +103,8 @@ fn deleted_item(step: &Step) -> Option<Item>
 
 // How many live items a step skips, before it is taken.
 fn skip_of<A: Allocator + Copy>(world: &World<A>, step: &Step) -> usize
-    ensures { result ≡ sum_by (skipped (live world.now.world)) (flat_map deleted_by (event_of step.now)) }
+    ensures { result
+        ≡ sum_by (skipped (live world.now.world)) (flat_map deleted_by (event_of step.now)) }
 {
     match deleted_item(step) {
         Some(item) => world.skipped(item),

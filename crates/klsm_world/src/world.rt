@@ -4,7 +4,7 @@ ghost use Rattle.klsm_run.specs.Content.{sorted, skipped};
 ghost use Rattle.klsm_world.specs.Kept.{IsKept, world_of};
 ghost use Rattle.klsm_world.specs.LawfulWorlds.{IsLawful};
 ghost use Rattle.klsm_world.specs.WorldView.{IsStepped, WorldView};
-ghost use Rattle.klsm_world.specs.Worlds.{first_world, live};
+ghost use Rattle.klsm_world.specs.Worlds.{first_world, limits_of, live};
 
 mod checking;
 mod stepping;
@@ -16,6 +16,7 @@ use crate::own_steps::OwnSteps;
 use crate::step::Step;
 use klsm_run::Item;
 use std::alloc::{Allocator, Global};
+use std::fmt;
 use std::marker::Model;
 
 /// The most threads that a world has.
@@ -24,7 +25,8 @@ const MOST_THREADS: u32 = 16;
 /// The most items that an own part may be allowed.
 const MOST_K: usize = 128;
 
-/// A world of threads and parts, and each thread's list of own steps, with the contents that it found.
+/// A world of threads and parts, and each thread's list of own steps, with the contents that it
+/// found.
 #[derive(Drop)]
 pub struct World<A: Allocator + Copy = Global> {
     threads: u32,
@@ -41,18 +43,29 @@ pub struct World<A: Allocator + Copy = Global> {
 impl<A: Allocator + Copy> Model for World<A> {
     ghost Value = { WorldView };
 
-    ghost view = { λ w. record { limits = record { threads = w.threads; k = w.k }; world = world_of w.words.items w.contents.items w.lists.items } };
+    ghost view = { λ w. record {
+      limits = limits_of w.threads w.k;
+      world = world_of w.words.items w.contents.items w.lists.items;
+    } };
 
-    ghost invariant = { λ w. IsKept (record { threads = w.threads; k = w.k }) w.words.items w.contents.items w.lists.items };
+    ghost invariant = { λ w.
+        IsKept (limits_of w.threads w.k) w.words.items w.contents.items w.lists.items };
 }
 
 impl<A: Allocator + Copy> World<A> {
-    /// The first world of `threads` threads, with at most `k` items in an own part: all parts are free and empty.
+    /// The first world of `threads` threads, with at most `k` items in an own part: all parts are
+    /// free and empty.
     pub fn new(alloc: A, threads: u32, k: usize) -> Result<Self, WorldError>
-        ensures made { IfOk result (λ world. world ≡ record { limits = record { threads = threads; k = k }; world = first_world (record { threads = threads; k = k }) }) }
-        ensures bad_threads { IsErrAnd result (λ why. why ≡ WorldError.BadThreads) ↔ ((threads ≡ 0) ⊎ (16 < threads)) }
-        ensures bad_k { IsErrAnd result (λ why. why ≡ WorldError.BadK) ↔ ((1 ≤ threads) × (threads ≤ 16) × (128 < k)) }
-        ensures no_step { IfErr result (λ why. (at : ℕ) (error : StepError) → why ≢ WorldError.At at error) }
+        ensures made { IfOk result (λ world. world ≡ record {
+          limits = limits_of threads k;
+          world = first_world (limits_of threads k);
+        }) }
+        ensures bad_threads { IsErrAnd result (λ why. why ≡ WorldError.BadThreads)
+            ↔ ((threads ≡ 0) ⊎ (16 < threads)) }
+        ensures bad_k { IsErrAnd result (λ why. why ≡ WorldError.BadK)
+            ↔ ((1 ≤ threads) × (threads ≤ 16) × (128 < k)) }
+        ensures no_step { IfErr result (λ why.
+            (at : ℕ) (error : StepError) → why ≢ WorldError.At at error) }
     {
         if threads == 0 || threads > MOST_THREADS {
             return Err(WorldError::BadThreads);
@@ -103,6 +116,18 @@ impl<A: Allocator + Copy> World<A> {
         ensures lawful { IsLawful self.now.limits self.now.world }
     {
         count_all_smaller(&self.contents, item)
+    }
+}
+
+/// It shows the limits, the words and the contents of the parts, and not the lists.
+impl<A: Allocator + Copy> fmt::Debug for World<A> {
+    fn fmt<W: fmt::Write>(&self, f: &mut fmt::Formatter<W>) -> fmt::Result {
+        f.debug_struct("World")
+            .field("threads", &self.threads)
+            .field("k", &self.k)
+            .field("words", &self.words)
+            .field("contents", &self.contents)
+            .finish_non_exhaustive()
     }
 }
 

@@ -31,7 +31,8 @@ impl<A: Allocator + Copy> World<A> {
     // Whether a step is legal, and else why it is refused. It tries the reasons in their order.
     pub(super) fn check(&self, step: &Step) -> Result<(), StepError>
         ensures legal { OnOk result (MayStep self.now.limits self.now.world step.now) }
-        ensures refused { IfErr result (λ why. Refuses self.now.limits self.now.world step.now why) }
+        ensures refused { IfErr result (λ why.
+            Refuses self.now.limits self.now.world step.now why) }
     {
         if self.names_none(step) {
             return Err(StepError::NoSuchPart);
@@ -44,7 +45,8 @@ impl<A: Allocator + Copy> World<A> {
         }
     }
 
-    // Whether a step names a thread, a part or a victim that is not there, or the thread itself as the victim.
+    // Whether a step names a thread, a part or a victim that is not there, or the thread itself as
+    // the victim.
     fn names_none(&self, step: &Step) -> bool
         ensures { IsTrue result ↔ NamesNone self.now.limits step.now }
     {
@@ -71,7 +73,8 @@ impl<A: Allocator + Copy> World<A> {
     fn check_acquire(&self, thread: u32, part: u32) -> Result<(), StepError>
         requires { NamesNone self.now.limits (Acquire thread part) → ⊥ }
         ensures legal { OnOk result (MayStep self.now.limits self.now.world (Acquire thread part)) }
-        ensures refused { IfErr result (λ why. Refuses self.now.limits self.now.world (Acquire thread part) why) }
+        ensures refused { IfErr result (λ why.
+            Refuses self.now.limits self.now.world (Acquire thread part) why) }
     {
         match self.word(part as usize).checked_sub(1) {
             Some(by) => Err(StepError::Held(by)),
@@ -82,7 +85,8 @@ impl<A: Allocator + Copy> World<A> {
     fn check_release(&self, thread: u32, part: u32) -> Result<(), StepError>
         requires { NamesNone self.now.limits (Release thread part) → ⊥ }
         ensures legal { OnOk result (MayStep self.now.limits self.now.world (Release thread part)) }
-        ensures refused { IfErr result (λ why. Refuses self.now.limits self.now.world (Release thread part) why) }
+        ensures refused { IfErr result (λ why.
+            Refuses self.now.limits self.now.world (Release thread part) why) }
     {
         if !self.holds(thread, part as usize) {
             return Err(StepError::NotHeld);
@@ -93,7 +97,8 @@ impl<A: Allocator + Copy> World<A> {
     fn check_miss(&self, thread: u32, part: u32) -> Result<(), StepError>
         requires { NamesNone self.now.limits (Miss thread part) → ⊥ }
         ensures legal { OnOk result (MayStep self.now.limits self.now.world (Miss thread part)) }
-        ensures refused { IfErr result (λ why. Refuses self.now.limits self.now.world (Miss thread part) why) }
+        ensures refused { IfErr result (λ why.
+            Refuses self.now.limits self.now.world (Miss thread part) why) }
     {
         let at = part as usize;
         if self.word(at) == 0 || self.holds(thread, at) {
@@ -104,8 +109,10 @@ impl<A: Allocator + Copy> World<A> {
 
     fn check_commit(&self, thread: u32, event: &Event) -> Result<(), StepError>
         requires { NamesNone self.now.limits (Commit thread event.now) → ⊥ }
-        ensures legal { OnOk result (MayStep self.now.limits self.now.world (Commit thread event.now)) }
-        ensures refused { IfErr result (λ why. Refuses self.now.limits self.now.world (Commit thread event.now) why) }
+        ensures legal { OnOk result
+            (MayStep self.now.limits self.now.world (Commit thread event.now)) }
+        ensures refused { IfErr result (λ why.
+            Refuses self.now.limits self.now.world (Commit thread event.now) why) }
     {
         if !self.holds_all(thread, event) {
             return Err(StepError::NotHeld);
@@ -146,7 +153,8 @@ impl<A: Allocator + Copy> World<A> {
     // Whether an item bears the stamp of a thread's next insertion.
     fn bears_stamp(&self, thread: u32, item: Item) -> bool
         requires { thread < self.now.limits.threads }
-        ensures { IsTrue result ↔ BearsStamp thread (length (inserted (steps_of self.now.world thread))) item }
+        ensures { IsTrue result
+            ↔ BearsStamp thread (length (inserted (steps_of self.now.world thread))) item }
     {
         item.stamp.owner == thread && item.stamp.number == self.lists[thread as usize].insertions()
     }
