@@ -10,6 +10,7 @@ use crate::run::level_of;
 use crate::span::{Span, put_first};
 use crate::{Item, Run, RunError};
 use arrayvec::ArrayVec;
+use std::fmt;
 use std::marker::Model;
 
 /// A run of at most `CAP` items, which lie in the value itself. `CAP` is 1 to 128.
@@ -97,6 +98,13 @@ impl<const CAP: usize> FixedRun<CAP> {
         let mut half = FixedRun::empty();
         half.set(&items[..items.len() / 2]);
         half
+    }
+}
+
+/// It prints as the list of its items.
+impl<const CAP: usize> fmt::Debug for FixedRun<CAP> {
+    fn fmt<W: fmt::Write>(&self, f: &mut fmt::Formatter<W>) -> fmt::Result {
+        f.debug_list().entries(self.as_slice()).finish()
     }
 }
 

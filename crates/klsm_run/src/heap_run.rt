@@ -10,7 +10,7 @@ use crate::span::Span;
 use crate::{Item, Run, RunError};
 use std::alloc::{Allocator, Global};
 use std::marker::Model;
-use std::mem;
+use std::{fmt, mem};
 
 // How many items a run on the heap can hold.
 const HEAP_ROOM: usize = 1 << 20;
@@ -26,13 +26,15 @@ pub struct HeapRun<A: Allocator + Copy = Global> {
 impl<A: Allocator + Copy> Model for HeapRun<A> {
     ghost Value = { HeapState };
 
-    ghost view = { λ run. record { items = spanned run.span run.items.items; capacity = length run.items.items } };
+    ghost view = { λ run.
+        record { items = spanned run.span run.items.items; capacity = length run.items.items } };
 
     ghost invariant = { λ run. IsHeapRun run.span run.items.items };
 }
 
 impl<A: Allocator + Copy> HeapRun<A> {
-    /// A run of the same items. It costs one growth, of the least power of two that holds them, and one copy of each.
+    /// A run of the same items. It costs one growth, of the least power of two that holds them, and
+    /// one copy of each.
     pub fn copy_of<R: Run>(alloc: A, run: &R) -> Result<Self, RunError>
         requires { length (R.items run.now) ≤ heap_room }
         ensures items { IfOk result (λ copy. copy.items ≡ R.items run.now) }
@@ -42,8 +44,8 @@ impl<A: Allocator + Copy> HeapRun<A> {
         HeapRun::copy_of_for(alloc, run, run.len())
     }
 
-    /// A run of the same items, with room for `count`. It costs one growth, of the least power of two that is at least
-    /// `count`, and one copy of each item.
+    /// A run of the same items, with room for `count`. It costs one growth, of the least power of
+    /// two that is at least `count`, and one copy of each item.
     pub fn copy_of_for<R: Run>(alloc: A, run: &R, count: usize) -> Result<Self, RunError>
         requires holds { length (R.items run.now) ≤ count }
         requires room { count ≤ heap_room }
@@ -100,6 +102,13 @@ fn stored<A: Allocator>(alloc: A, items: &[Item], places: usize) -> Result<Vec<I
         return Err(RunError::NoMemory);
     };
     Ok(store)
+}
+
+/// It prints as the list of its items.
+impl<A: Allocator + Copy> fmt::Debug for HeapRun<A> {
+    fn fmt<W: fmt::Write>(&self, f: &mut fmt::Formatter<W>) -> fmt::Result {
+        f.debug_list().entries(self.as_slice()).finish()
+    }
 }
 
 impl<A: Allocator + Copy> Run for HeapRun<A> {

@@ -1,16 +1,18 @@
 //! What every run offers, whatever its store.
-ghost use Rattle.std.specs.Prelude.{◌≡◌, ℕ, ◌+◌, ◌<◌, ◌≤◌, ◌^◌, ◌++◌, Bool, List, [], length, remove, slice_get, Some, IsTrue, IsOk, IfOk};
+ghost use Rattle.std.specs.Prelude.{◌≡◌, ℕ, ◌+◌, ◌<◌, ◌≤◌, ◌↔◌, ◌^◌, ◌++◌, Bool, List, [], length, remove, slice_get, Some, IsTrue, IsOk, IfOk};
 ghost use Rattle.klsm_run.specs.declared.item.Item.{Item};
 ghost use Rattle.klsm_run.specs.Content.{sorted, IsAscending, ShareNone};
 ghost use Rattle.klsm_run.specs.Block.{IsBlock, HasLevel};
 ghost use Rattle.klsm_run.specs.Capacity.{heap_room, IsRunCapacity};
 
 use crate::Item;
+use thiserror::Error;
 
 /// Why a run was not made.
-#[derive(Clone, Copy, Debug, PartialEq, Eq)]
+#[derive(Clone, Copy, Debug, PartialEq, Eq, Error)]
 pub enum RunError {
     /// A growth was refused.
+    #[error("out of memory")]
     NoMemory,
 }
 
@@ -40,7 +42,16 @@ pub trait Run: Drop {
         ensures most { ROOM ≤ heap_room }
         ensures ascending { IsAscending (items self.now) };
 
-    /// How many items its store has places for: `ROOM` or a power of two, and enough for a block of its level.
+    /// Whether there is no item.
+    #[inline]
+    fn is_empty(&self) -> bool
+        ensures { IsTrue result ↔ (items self.now ≡ []) }
+    {
+        self.len() == 0
+    }
+
+    /// How many items its store has places for: `ROOM` or a power of two, and enough for a block of
+    /// its level.
     fn capacity(&self) -> usize
         ensures capacity { result ≡ capacity self.now }
         ensures lawful { IsRunCapacity ROOM (length (items self.now)) (capacity self.now) };
@@ -56,21 +67,24 @@ pub trait Run: Drop {
         requires { index < length (items self.now) }
         ensures { slice_get (items self.now) index ≡ Some result };
 
-    /// The level of a run that is not empty: the least `l` such that the run has at most `2^l` items.
+    /// The level of a run that is not empty: the least `l` such that the run has at most `2^l`
+    /// items.
     fn level(&self) -> usize
         requires { 0 < length (items self.now) }
         ensures enough { length (items self.now) ≤ 2 ^ result }
         ensures least { (l : ℕ) → length (items self.now) ≤ 2 ^ l → result ≤ l }
         ensures block { IsBlock result (items self.now) };
 
-    /// Takes item `index` out. The items on the shorter side of it move, so that the least leaves with no move.
+    /// Takes item `index` out. The items on the shorter side of it move, so that the least leaves
+    /// with no move.
     fn remove_at(&mut self, index: usize) -> Item
         requires { index < length (items self.old) }
         ensures item { slice_get (items self.old) index ≡ Some result }
         ensures rest { items self.new ≡ remove (items self.old) index }
         ensures capacity { capacity self.new ≡ capacity self.old };
 
-    /// Puts the items of another run in, in place. It takes no memory, and stops at the least item of the other run.
+    /// Puts the items of another run in, in place. It takes no memory, and stops at the least item
+    /// of the other run.
     fn unite(&mut self, other: &Self)
         requires apart { ShareNone (items self.old) (items other.now) }
         requires room { length (items self.old) + length (items other.now) ≤ capacity self.old }
@@ -84,8 +98,8 @@ pub trait Run: Drop {
         ensures capacity { capacity self.new ≡ capacity other.old }
         ensures given { capacity other.new ≡ capacity self.old };
 
-    /// A run of the same items that can hold `count`. It costs one copy of each item, and one growth where the store is not
-    /// fixed.
+    /// A run of the same items that can hold `count`. It costs one copy of each item, and one
+    /// growth where the store is not fixed.
     fn copy_for(&self, count: usize) -> Result<Self, RunError>
     where
         Self: Sized,
@@ -96,14 +110,15 @@ pub trait Run: Drop {
         ensures enough { IfOk result (λ copy. count ≤ capacity copy) }
         ensures fixed { IsTrue is_fixed → IsOk result };
 
-    /// The items of both runs, in order, in a store of their own. It costs one copy of each item, and one growth where the
-    /// store is not fixed.
+    /// The items of both runs, in order, in a store of their own. It costs one copy of each item,
+    /// and one growth where the store is not fixed.
     fn merge(&self, other: &Self) -> Result<Self, RunError>
     where
         Self: Sized,
         requires apart { ShareNone (items self.now) (items other.now) }
         requires room { length (items self.now) + length (items other.now) ≤ ROOM }
-        ensures union { IfOk result (λ both. items both ≡ sorted (items self.now ++ items other.now)) }
+        ensures union { IfOk result (λ both.
+            items both ≡ sorted (items self.now ++ items other.now)) }
         ensures reserved { IfOk result (λ both.
             may_reserve (length (items self.now) + length (items other.now)) (capacity both)) }
         ensures fixed { IsTrue is_fixed → IsOk result }

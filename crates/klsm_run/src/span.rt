@@ -6,7 +6,8 @@ ghost use Rattle.klsm_run.specs.Stores.{spanned, IsSpan};
 use crate::Item;
 use crate::uniting::unite_back;
 
-/// The places of a store from `start` up to `end`. What lies in the others is of no meaning, and is never cleared.
+/// The places of a store from `start` up to `end`. What lies in the others is of no meaning, and is
+/// never cleared.
 #[derive(Clone, Copy)]
 pub(crate) struct Span {
     pub(crate) start: usize,
@@ -66,14 +67,16 @@ impl Span {
         item
     }
 
-    /// Puts other items in, where they belong. Where they find no room behind, the span moves to the front first.
+    /// Puts other items in, where they belong. Where they find no room behind, the span moves to
+    /// the front first.
     pub(crate) fn unite(&mut self, store: &mut [Item], other: &[Item])
         requires within { IsSpan self.old (length store.old) }
         requires room { self.old.end - self.old.start + length other.now ≤ length store.old }
         requires ascending { IsAscending (spanned self.old store.old) }
         requires other_ascending { IsAscending other.now }
         requires apart { ShareNone (spanned self.old store.old) other.now }
-        ensures united { spanned self.new store.new ≡ sorted (spanned self.old store.old ++ other.now) }
+        ensures united { spanned self.new store.new
+            ≡ sorted (spanned self.old store.old ++ other.now) }
         ensures within { IsSpan self.new (length store.new) }
         ensures len { length store.new ≡ length store.old }
     {
@@ -85,7 +88,8 @@ impl Span {
     }
 }
 
-// Moves `count` items from `start` on to the front, unless there is room for `more` behind them. It answers where they start.
+// Moves `count` items from `start` on to the front, unless there is room for `more` behind them. It
+// answers where they start.
 fn with_room(store: &mut [Item], start: usize, count: usize, more: usize) -> usize
     requires within { start + count ≤ length store.old }
     requires room { count + more ≤ length store.old }
