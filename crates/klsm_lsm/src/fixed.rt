@@ -1,4 +1,5 @@
-//! What an LSM over fixed runs offers beside. No call takes memory, and no store moves but in `split_for_spy`.
+//! What an LSM over fixed runs offers beside. No call takes memory, and no store moves but in
+//! `split_for_spy`.
 ghost use Rattle.std.specs.Prelude.{◌≡◌, ◌+◌, ◌-◌, ◌<◌, ◌≤◌, ◌↔◌, ◌∷◌, ◌++◌, [], length, take, drop, slice_index_or, slice_set, IsOk, IfErr, OnOk, OnErr};
 ghost use Rattle.std.specs.Option.{option_to_list};
 ghost use Rattle.std.specs.List.{AllByRecursion, Contains};
@@ -18,7 +19,8 @@ use klsm_run::{FixedRun, Item, Run};
 
 impl<const CAP: usize, const LEVELS: usize> Lsm<FixedRun<CAP>, LEVELS> {
     /// Puts an item in that the LSM does not hold.
-    // As a call of its own it would read in one piece what its caller has just written in parts, and wait for that.
+    // As a call of its own it would read in one piece what its caller has just written in parts,
+    // and wait for that.
     #[inline(always)]
     pub fn insert(&mut self, item: Item) -> Result<(), LsmError>
         requires capacity { IsCapacity CAP }
@@ -37,8 +39,8 @@ impl<const CAP: usize, const LEVELS: usize> Lsm<FixedRun<CAP>, LEVELS> {
         Ok(())
     }
 
-    /// Takes from a victim into this LSM, which is empty: the largest block or, where it is the only one, its greatest half,
-    /// rounded up. It answers how many items came.
+    /// Takes from a victim into this LSM, which is empty: the largest block or, where it is the
+    /// only one, its greatest half, rounded up. It answers how many items came.
     pub fn spy(&mut self, victim: &mut Self) -> usize
         requires capacity { IsCapacity CAP }
         requires empty { self.old ≡ [] }
@@ -99,7 +101,8 @@ impl<const CAP: usize, const LEVELS: usize> Lsm<FixedRun<CAP>, LEVELS> {
         self.len = kept;
     }
 
-    /// Takes the largest block out or, where it is the only one, its greatest half, rounded up. Its store moves.
+    /// Takes the largest block out or, where it is the only one, its greatest half, rounded up. Its
+    /// store moves.
     pub fn split_for_spy(&mut self) -> Option<FixedRun<CAP>>
         ensures given { result ≡ spied self.old }
         ensures rest { self.new ≡ left_by_spy self.old }
@@ -189,8 +192,8 @@ fn truncate_slot<const CAP: usize>(slot: &mut Option<FixedRun<CAP>>, kept: usize
     run.truncate(kept);
 }
 
-// Carries the run in slot `last` up: while it is of the level of the one before, that one takes it in. It answers where the
-// run has come to.
+// Carries the run in slot `last` up: while it is of the level of the one before, that one takes it
+// in. It answers where the run has come to.
 fn carry<const CAP: usize>(slots: &mut [Option<FixedRun<CAP>>], last: usize) -> usize
     requires within { last < length slots.old }
     requires lawful { IsLsm (take last (blocks_in (λ run. run) slots.old)) }
@@ -236,7 +239,8 @@ fn level_in<const CAP: usize>(slots: &[Option<FixedRun<CAP>>], at: usize) -> usi
 fn unite_next<const CAP: usize>(slots: &mut [Option<FixedRun<CAP>>], at: usize)
     requires within { at + 1 < length slots.old }
     requires some { 0 < length (slice_index_or (blocks_in (λ run. run) slots.old) at []) }
-    requires some_next { 0 < length (slice_index_or (blocks_in (λ run. run) slots.old) (at + 1) []) }
+    requires some_next { 0
+        < length (slice_index_or (blocks_in (λ run. run) slots.old) (at + 1) []) }
     requires apart { ShareNone (slice_index_or (blocks_in (λ run. run) slots.old) at [])
         (slice_index_or (blocks_in (λ run. run) slots.old) (at + 1) []) }
     requires room { length (slice_index_or (blocks_in (λ run. run) slots.old) at [])

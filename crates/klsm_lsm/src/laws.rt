@@ -1,4 +1,5 @@
-//! Laws of the definitions that the contracts cite. The functions do nothing: what they ensure is a theorem.
+//! Laws of the definitions that the contracts cite. The functions do nothing: what they ensure is a
+//! theorem.
 ghost use Rattle.klsm_lsm.specs.Laws.{AddKeeps, AddMerges, AddPuts, CutKeeps};
 
 /// A run that shares no item with a lawful LSM is added to it.

@@ -9,7 +9,8 @@ ghost use Rattle.klsm_lsm.specs.Slots.{FallsToNext};
 use crate::Lsm;
 use klsm_run::{Item, Run};
 
-/// The blocks that a run becomes one with: `count` blocks from `first` on. The result stands at `first`.
+/// The blocks that a run becomes one with: `count` blocks from `first` on. The result stands at
+/// `first`.
 #[derive(Clone, Copy, Debug, PartialEq, Eq)]
 pub struct Cascade {
     /// The first of them.
@@ -95,7 +96,8 @@ impl<R: Run, const LEVELS: usize> Lsm<R, LEVELS> {
     // Whether a block with others beside an item is of the level of the next block without it.
     fn falls_to_next(&self, block: usize) -> bool
         requires { block + 1 < length self.now }
-        ensures { IsTrue result ↔ ((1 < length (slice_index_or self.now block [])) × FallsToNext self.now block) }
+        ensures { IsTrue result
+            ↔ ((1 < length (slice_index_or self.now block [])) × FallsToNext self.now block) }
     {
         let _lawful = self.len();
         let _within = self.blocks();

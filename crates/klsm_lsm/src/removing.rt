@@ -9,8 +9,8 @@ use crate::slots::{close_gap, take_out, take_out_and_unite};
 use klsm_run::{Item, Run};
 
 impl<R: Run, const LEVELS: usize> Lsm<R, LEVELS> {
-    /// Takes item `index` of block `block` out. Where the block falls to the level of the next one the two unite in place, and
-    /// the blocks behind move by one slot.
+    /// Takes item `index` of block `block` out. Where the block falls to the level of the next one
+    /// the two unite in place, and the blocks behind move by one slot.
     pub fn remove(&mut self, block: usize, index: usize) -> Item
         requires block { block < length self.old }
         requires index { index < length (slice_index_or self.old block []) }
@@ -45,7 +45,8 @@ impl<R: Run, const LEVELS: usize> Lsm<R, LEVELS> {
     fn remove_alone(&mut self, block: usize, index: usize) -> Item
         requires block { block < length self.old }
         requires index { index < length (slice_index_or self.old block []) }
-        requires stays { 1 < length (slice_index_or self.old block []) → ¬ FallsToNext self.old block }
+        requires stays { 1 < length (slice_index_or self.old block [])
+            → ¬ FallsToNext self.old block }
         ensures item { slice_get (slice_index_or self.old block []) index ≡ Some result }
         ensures rest { self.new ≡ cut self.old block index }
     {

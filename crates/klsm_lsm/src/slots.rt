@@ -49,7 +49,8 @@ pub(crate) fn replace<R: Run, const LEVELS: usize>(
 pub(crate) fn take_out<R: Run>(slots: &mut [Option<R>], at: usize, index: usize) -> Item
     requires at { at < length slots.old }
     requires index { index < length (slice_index_or (blocks_in R.items slots.old) at []) }
-    ensures item { slice_get (slice_index_or (blocks_in R.items slots.old) at []) index ≡ Some result }
+    ensures item { slice_get (slice_index_or (blocks_in R.items slots.old) at []) index
+        ≡ Some result }
     ensures rest { blocks_in R.items slots.new ≡ slice_set (blocks_in R.items slots.old) at
         (remove (slice_index_or (blocks_in R.items slots.old) at []) index) }
 {
@@ -66,10 +67,12 @@ pub(crate) fn take_out_and_unite<R: Run>(slots: &mut [Option<R>], at: usize, ind
     requires some { 0 < length (slice_index_or (blocks_in R.items slots.old) (at + 1) []) }
     requires apart { ShareNone (slice_index_or (blocks_in R.items slots.old) at [])
         (slice_index_or (blocks_in R.items slots.old) (at + 1) []) }
-    requires room { (l : ℕ) → HasLevel l (length (slice_index_or (blocks_in R.items slots.old) at []))
+    requires room { (l : ℕ)
+        → HasLevel l (length (slice_index_or (blocks_in R.items slots.old) at []))
         → length (slice_index_or (blocks_in R.items slots.old) at []) - 1
         + length (slice_index_or (blocks_in R.items slots.old) (at + 1) []) ≤ min R.ROOM (2 ^ l) }
-    ensures item { slice_get (slice_index_or (blocks_in R.items slots.old) at []) index ≡ Some result }
+    ensures item { slice_get (slice_index_or (blocks_in R.items slots.old) at []) index
+        ≡ Some result }
     ensures rest { blocks_in R.items slots.new ≡ slice_set (blocks_in R.items slots.old) at
         (sorted (remove (slice_index_or (blocks_in R.items slots.old) at []) index
         ++ slice_index_or (blocks_in R.items slots.old) (at + 1) [])) }
@@ -84,7 +87,8 @@ pub(crate) fn take_out_and_unite<R: Run>(slots: &mut [Option<R>], at: usize, ind
     remove_and_unite(run, index, next)
 }
 
-// Takes an item out of a run, and unites it with the next block, which is of the level that the run falls to.
+// Takes an item out of a run, and unites it with the next block, which is of the level that the run
+// falls to.
 fn remove_and_unite<R: Run>(run: &mut R, index: usize, next: &R) -> Item
     requires index { index < length (R.items run.old) }
     requires apart { ShareNone (R.items run.old) (R.items next.now) }
