@@ -1,7 +1,6 @@
 -- The items of a queue for one thread, before and after an insertion or a deletion.
-use Rattle.std.proofs.Common.{◌≡◌, ℕ, ◌+◌, ◌-◌, ◌<◌, ◌≤◌, ◌==◌, ◌^◌, ◌↔◌, Bool, true, false, not, List, [], ◌∷◌, ◌++◌, length, Option, Some, None, MatchOption, IfSome, refl, sym, ap, ◌∙◌, arith, inl, inr, append_assoc, if◌then◌else◌}
+use Rattle.std.proofs.Common.{◌≡◌, ℕ, ◌+◌, ◌-◌, ◌<◌, ◌≤◌, ◌^◌, ◌↔◌, Bool, true, false, not, List, [], ◌∷◌, ◌++◌, length, Option, Some, None, MatchOption, IfSome, refl, sym, ap, ◌∙◌, arith, inl, inr, append_assoc, if◌then◌else◌}
 use Rattle.std.specs.List.{All, slice_get}
-use Rattle.std.proofs.lemmas.Bool.{eq-eqb, eqb-true}
 use Rattle.std.proofs.lemmas.List.{length-append}
 use Rattle.std.proofs.lemmas.List.Elements.{All-from_recursion, recursion_from_All}
 use Rattle.klsm_run.specs.declared.item.Item.{Item}
@@ -200,14 +199,6 @@ pub nothing_if_none : (own shared : PartState) → both own shared ≡ [] → Ma
 nothing_if_none own shared none =
     let each = none_of_both (items_in own) (items_in shared) none in
     record { own_empty = each.0; shared_empty = each.1 }
-
--- a list with no item
-pub is_none : (c : List Item) (n : ℕ) → n ≡ length c → ((n == 0) ≡ true → c ≡ []) × (c ≡ [] → (n == 0) ≡ true)
-is_none c n count = (λ same. no_items_left c (sym count ∙ eqb-true n 0 same), λ none. eq-eqb n 0 (count ∙ ap length none))
-  where
-    no_items_left : (d : List Item) → length d ≡ 0 → d ≡ []
-    no_items_left [] none = refl
-    no_items_left (x ∷ xs) none = absurd (omega (arith, none))
 
 -- the least item is the lesser of the least ones of both parts
 pub least_both : (own shared : PartState) → slice_get (both own shared) 0 ≡ lesser (least_in shared) (least_in own)

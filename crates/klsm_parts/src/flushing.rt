@@ -15,10 +15,11 @@ use klsm_lsm::LsmError;
 use klsm_run::{FixedRun, Item};
 use std::alloc::Allocator;
 
-/// Puts an item into an own part that holds k items: its largest block moves to the shared part. With k = 0 the item itself
-/// goes there.
+/// Puts an item into an own part that holds k items: its largest block moves to the shared part.
+/// With k = 0 the item itself goes there.
 ///
-/// It costs one copy of what moves and the merges of the shared part, whose blocks are as they were after a refusal.
+/// It costs one copy of what moves and the merges of the shared part, whose blocks are as they were
+/// after a refusal.
 pub fn flush<const CAP: usize, const LEVELS: usize, A: Allocator + Copy>(
     own: &mut Local<CAP>,
     shared: &mut Shared<LEVELS, A>,
@@ -29,16 +30,21 @@ pub fn flush<const CAP: usize, const LEVELS: usize, A: Allocator + Copy>(
     requires apart { ShareNone (content own.old.blocks) (content shared.old.blocks) }
     requires new_to_own { ¬ Contains (content own.old.blocks) item }
     requires new_to_shared { ¬ Contains (content shared.old.blocks) item }
-    ensures own { OnOk result (own.new ≡ record { k = own.old.k; blocks = kept own.old.blocks item }) }
+    ensures own { OnOk result (own.new
+        ≡ record { k = own.old.k; blocks = kept own.old.blocks item }) }
     ensures shared { OnOk result (shared.new
         ≡ record { k = shared.old.k; blocks = add shared.old.blocks (moved own.old.blocks item) }) }
-    ensures event { OnOk result (MayFlush own.old.k (items_in own.old) item (moved own.old.blocks item)
+    ensures event { OnOk result (
+        MayFlush own.old.k (items_in own.old) item (moved own.old.blocks item)
         × (items_in own.new ≡ own_after_flush (items_in own.old) item (moved own.old.blocks item))
-        × (items_in shared.new ≡ shared_after_flush (items_in shared.old) (moved own.old.blocks item))) }
+        × (items_in shared.new
+        ≡ shared_after_flush (items_in shared.old) (moved own.old.blocks item))) }
 
-    // A refusal changes nothing. It is for want of room exactly where there is none, and else for want of memory.
+    // A refusal changes nothing. It is for want of room exactly where there is none, and else for
+    // want of memory.
     ensures full { IsErrAnd result (λ why. why ≡ LsmError.Full)
-        ↔ (limit_of LEVELS heap_room < length (content shared.old.blocks) + length (moved own.old.blocks item)) }
+        ↔ (limit_of LEVELS heap_room
+        < length (content shared.old.blocks) + length (moved own.old.blocks item)) }
     ensures unchanged { OnErr result ((own.new ≡ own.old) × (shared.new ≡ shared.old)) }
 {
     match absorb_moved(own, shared, item) {
@@ -50,7 +56,8 @@ pub fn flush<const CAP: usize, const LEVELS: usize, A: Allocator + Copy>(
     }
 }
 
-// Puts what moves into the shared part: a copy of the own part's largest block, or the item where there is none.
+// Puts what moves into the shared part: a copy of the own part's largest block, or the item where
+// there is none.
 fn absorb_moved<const CAP: usize, const LEVELS: usize, A: Allocator + Copy>(
     own: &Local<CAP>,
     shared: &mut Shared<LEVELS, A>,
@@ -63,7 +70,8 @@ fn absorb_moved<const CAP: usize, const LEVELS: usize, A: Allocator + Copy>(
     ensures added { OnOk result (shared.new
         ≡ record { k = shared.old.k; blocks = add shared.old.blocks (moved own.now.blocks item) }) }
     ensures full { IsErrAnd result (λ why. why ≡ LsmError.Full)
-        ↔ (limit_of LEVELS heap_room < length (content shared.old.blocks) + length (moved own.now.blocks item)) }
+        ↔ (limit_of LEVELS heap_room
+        < length (content shared.old.blocks) + length (moved own.now.blocks item)) }
     ensures unchanged { OnErr result (shared.new ≡ shared.old) }
 {
     if own.len() == 0 {

@@ -1,5 +1,5 @@
 //! The part of one member.
-ghost use Rattle.std.specs.Prelude.{◌≡◌, ◌<◌, ◌≤◌, ◌∷◌, [], length, slice_get, slice_index_or, Some};
+ghost use Rattle.std.specs.Prelude.{◌≡◌, ◌<◌, ◌≤◌, ◌↔◌, ◌∷◌, [], length, slice_get, slice_index_or, Some, IsTrue};
 ghost use Rattle.std.specs.List.{Contains};
 ghost use Rattle.std.specs.Option.{option_to_list};
 ghost use Rattle.klsm_run.specs.Capacity.{IsCapacity};
@@ -16,6 +16,7 @@ ghost use Rattle.klsm_parts.specs.Taking.{IsCutFrom};
 use crate::ranks::{Place, least_place};
 use klsm_lsm::Lsm;
 use klsm_run::{FixedRun, Item};
+use std::fmt;
 use std::marker::Model;
 
 /// The part of one member: an LSM of at most k items, which never takes memory.
@@ -62,6 +63,14 @@ impl<const CAP: usize> Local<CAP> {
         self.lsm.len()
     }
 
+    /// Whether there is no item.
+    #[inline]
+    pub fn is_empty(&self) -> bool
+        ensures { IsTrue result ↔ (items_in self.now ≡ []) }
+    {
+        self.len() == 0
+    }
+
     /// The least item, if there is one. It costs one comparison a block.
     pub fn least(&self) -> Option<Item>
         ensures { result ≡ least_in self.now }
@@ -77,8 +86,8 @@ impl<const CAP: usize> Local<CAP> {
         &self.lsm
     }
 
-    // Puts an item in the place of the largest block, which has gone to the shared part. Where there is none, as k is 0, the
-    // item has gone there.
+    // Puts an item in the place of the largest block, which has gone to the shared part. Where
+    // there is none, as k is 0, the item has gone there.
     pub(crate) fn replace_largest(&mut self, item: Item)
         requires capacity { IsCapacity CAP }
         requires lawful { IsLsm self.old.blocks }
@@ -114,7 +123,8 @@ impl<const CAP: usize> Local<CAP> {
     // Takes the least item out of its place.
     pub(crate) fn remove(&mut self, place: Place) -> Item
         requires block { place.block < length self.old.blocks }
-        requires index { slice_get (slice_index_or self.old.blocks place.block []) place.index ≡ Some place.item }
+        requires index { slice_get (slice_index_or self.old.blocks place.block []) place.index
+            ≡ Some place.item }
         requires least { IsLeast place.item (content self.old.blocks) }
         ensures least { IsLeast result (content self.old.blocks) }
         ensures cut { IsCutFrom result self.old.blocks self.new.blocks }
@@ -137,6 +147,16 @@ impl<const CAP: usize> Local<CAP> {
     {
         let _few = victim.len();
         self.lsm.spy(&mut victim.lsm)
+    }
+}
+
+/// It prints what its calls show: `k`, and the items as an LSM.
+impl<const CAP: usize> fmt::Debug for Local<CAP> {
+    fn fmt<W: fmt::Write>(&self, f: &mut fmt::Formatter<W>) -> fmt::Result {
+        f.debug_struct("Local")
+            .field("k", &self.k)
+            .field("lsm", &self.lsm)
+            .finish()
     }
 }
 

@@ -1,4 +1,5 @@
-//! How pivots are mended where the blocks of a shared part change, so that no change counts them anew.
+//! How pivots are mended where the blocks of a shared part change, so that no change counts them
+//! anew.
 ghost use Rattle.std.specs.Prelude.{◌≡◌, ℕ, ◌+◌, ◌-◌, ◌<◌, ◌≤◌, ◌^◌, ◌∷◌, [], length, min, sum, take, drop, true, false, slice_get, slice_set, slice_index, slice_index_or, Some, IsTrue, IfSome, MatchOption};
 ghost use Rattle.std.specs.List.{AllByRecursion};
 ghost use Rattle.arrayvec.specs.ArrayVec.{array_vec_len};
@@ -17,7 +18,8 @@ use klsm_run::{Item, Run};
 
 /// Mends the pivots after a marked item was cut out of a block. It costs one comparison a block.
 ///
-/// `is_only` tells whether the block had no other item, and `partner` the block that became one with it, if one did.
+/// `is_only` tells whether the block had no other item, and `partner` the block that became one
+/// with it, if one did.
 pub(crate) fn mend_cut<R: Run, const LEVELS: usize>(
     lsm: &Lsm<R, LEVELS>,
     pivots: &mut ArrayVec<usize, LEVELS>,
@@ -92,8 +94,8 @@ fn unite_pivots<const LEVELS: usize>(
     pivots.insert(first, total);
 }
 
-/// A run that is to be put in: the blocks that it will become one with, how many of its first items will be marked with
-/// those that are, and how many these are together.
+/// A run that is to be put in: the blocks that it will become one with, how many of its first items
+/// will be marked with those that are, and how many these are together.
 #[derive(Clone, Copy)]
 pub(crate) struct Added {
     pub(crate) cascade: Cascade,
@@ -101,15 +103,16 @@ pub(crate) struct Added {
     pub(crate) marked: usize,
 }
 
-/// Mends the pivots after a run was put in. It costs one comparison a block for each item that is marked no longer.
+/// Mends the pivots after a run was put in. It costs one comparison a block for each item that is
+/// marked no longer.
 pub(crate) fn mend_added<R: Run, const LEVELS: usize>(
     lsm: &Lsm<R, LEVELS>,
     pivots: &mut ArrayVec<usize, LEVELS>,
     added: Added,
     k: usize,
 )
-    requires mendable { IsMendable k added.cascade.first added.cascade.count added.pivot added.marked
-        lsm.now pivots.old.items }
+    requires mendable { IsMendable k added.cascade.first added.cascade.count
+        added.pivot added.marked lsm.now pivots.old.items }
     requires k { k ≤ 128 }
     ensures lawful { IsLsm lsm.now }
     ensures pivots { ArePivots (k + 1) lsm.now pivots.new.items }
@@ -160,8 +163,8 @@ fn unmark_greatest<R: Run, const LEVELS: usize>(
     pivots.as_mut_slice()[place.block] = place.index;
 }
 
-/// The marked item of a rank, and where it stands, found from the greatest one down. It costs `marked - rank` comparisons
-/// a block.
+/// The marked item of a rank, and where it stands, found from the greatest one down. It costs
+/// `marked - rank` comparisons a block.
 pub(crate) fn place_from_above<R: Run, const LEVELS: usize>(
     lsm: &Lsm<R, LEVELS>,
     pivots: &[usize],
@@ -174,7 +177,8 @@ pub(crate) fn place_from_above<R: Run, const LEVELS: usize>(
     requires rank { rank < marked }
     requires marked { marked ≤ length (content lsm.now) }
     ensures block { result.block < length lsm.now }
-    ensures index { slice_get (slice_index_or lsm.now result.block []) result.index ≡ Some result.item }
+    ensures index { slice_get (slice_index_or lsm.now result.block []) result.index
+        ≡ Some result.item }
     ensures rank { slice_get (sorted (content lsm.now)) rank ≡ Some result.item }
 {
     let _blocks = lsm.blocks();
@@ -202,8 +206,10 @@ fn greatest_marked<R: Run, const LEVELS: usize>(lsm: &Lsm<R, LEVELS>, pivots: &[
     requires some { 0 < length (marked lsm.now pivots.now) }
     ensures block { result.block < length lsm.now }
     ensures pivot { slice_index pivots.now result.block ≡ result.index + 1 }
-    ensures index { slice_get (slice_index_or lsm.now result.block []) result.index ≡ Some result.item }
-    ensures greatest { AllByRecursion (λ x. is_smaller result.item x ≡ false) (marked lsm.now pivots.now) }
+    ensures index { slice_get (slice_index_or lsm.now result.block []) result.index
+        ≡ Some result.item }
+    ensures greatest { AllByRecursion (λ x. is_smaller result.item x ≡ false)
+        (marked lsm.now pivots.now) }
 {
     let mut found: Option<(usize, Item)> = None;
     for block in 0..lsm.blocks() {
@@ -233,8 +239,8 @@ fn comes_after(item: Item, found: Option<(usize, Item)>) -> bool
     found.is_none_or(|(_, greatest)| greatest.is_before(&item))
 }
 
-/// What a run that is to be put in will change. It costs one comparison for each of its items that will be marked, and
-/// one a block.
+/// What a run that is to be put in will change. It costs one comparison for each of its items that
+/// will be marked, and one a block.
 pub(crate) fn added_by<B: Run, R: Run, const LEVELS: usize>(
     lsm: &Lsm<B, LEVELS>,
     pivots: &[usize],
@@ -258,8 +264,8 @@ pub(crate) fn added_by<B: Run, R: Run, const LEVELS: usize>(
     }
 }
 
-// How many of a run's first items will be marked with those that are: all of them where at most k items are held, else
-// those that are not greater than each marked one.
+// How many of a run's first items will be marked with those that are: all of them where at most k
+// items are held, else those that are not greater than each marked one.
 fn pivot_of_run<B: Run, R: Run, const LEVELS: usize>(
     lsm: &Lsm<B, LEVELS>,
     pivots: &[usize],
@@ -282,8 +288,10 @@ fn pivot_of_run<B: Run, R: Run, const LEVELS: usize>(
 // How many items of a run are not greater than an item.
 fn count_up_to<R: Run>(run: &R, greatest: Item) -> usize
     ensures within { result ≤ length (R.items run.now) }
-    ensures up_to { AllByRecursion (λ x. is_smaller greatest x ≡ false) (take result (R.items run.now)) }
-    ensures beyond { AllByRecursion (λ x. is_smaller greatest x ≡ true) (drop result (R.items run.now)) }
+    ensures up_to { AllByRecursion (λ x. is_smaller greatest x ≡ false)
+        (take result (R.items run.now)) }
+    ensures beyond { AllByRecursion (λ x. is_smaller greatest x ≡ true)
+        (drop result (R.items run.now)) }
 {
     let mut count = 0;
     while count < run.len() && !greatest.is_before(&run.item_at(count)) {

@@ -1,14 +1,14 @@
 //! Either kind of part.
-ghost use Rattle.std.specs.Prelude.{◌≡◌, ◌<◌, length, slice_get, Some};
+ghost use Rattle.std.specs.Prelude.{◌≡◌, ◌<◌, ◌↔◌, [], length, slice_get, Some, IsTrue};
 ghost use Rattle.klsm_run.specs.Capacity.{IsCapacity};
 ghost use Rattle.klsm_lsm.specs.Lsm.{content, IsLsm};
 ghost use Rattle.klsm_lsm.specs.Limit.{IsLevelCount};
 ghost use Rattle.klsm_parts.specs.Parts.{items_in};
 ghost use Rattle.klsm_parts.specs.Part.{state_of, HasRoom};
 
-use crate::listing::item_listed;
 use crate::{Local, Shared};
-use klsm_run::Item;
+use klsm_lsm::Lsm;
+use klsm_run::{Item, Run};
 
 /// An own part or the shared one.
 #[derive(Drop)]
@@ -34,6 +34,15 @@ impl<const CAP: usize, const LEVELS: usize> Part<CAP, LEVELS> {
         }
     }
 
+    /// Whether there is no item.
+    pub fn is_empty(&self) -> bool
+        requires capacity { IsCapacity CAP }
+        requires levels { IsLevelCount LEVELS }
+        ensures { IsTrue result ↔ (items_in (state_of self.now) ≡ []) }
+    {
+        self.len() == 0
+    }
+
     /// The least item, if there is one. It costs one comparison a block.
     pub fn least(&self) -> Option<Item>
         requires capacity { IsCapacity CAP }
@@ -46,7 +55,8 @@ impl<const CAP: usize, const LEVELS: usize> Part<CAP, LEVELS> {
         }
     }
 
-    /// Item `index`, counted block after block, the greatest level first. It costs one step a block.
+    /// Item `index`, counted block after block, the greatest level first. It costs one step a
+    /// block.
     pub fn item_at(&self, index: usize) -> Item
         requires capacity { IsCapacity CAP }
         requires levels { IsLevelCount LEVELS }
@@ -58,4 +68,20 @@ impl<const CAP: usize, const LEVELS: usize> Part<CAP, LEVELS> {
             Part::Common(shared) => item_listed(shared.lsm(), index),
         }
     }
+}
+
+// Item `index` of an LSM, counted block after block, the greatest level first.
+fn item_listed<R: Run, const LEVELS: usize>(lsm: &Lsm<R, LEVELS>, index: usize) -> Item
+    requires { index < length (content lsm.now) }
+    ensures { slice_get (content lsm.now) index ≡ Some result }
+{
+    let mut left = index;
+    for block in 0..lsm.blocks() {
+        let run = lsm.block(block);
+        if left < run.len() {
+            return run.item_at(left);
+        }
+        left -= run.len();
+    }
+    unreachable!();
 }

@@ -10,10 +10,11 @@ use std::marker::Model;
 
 /// Chooses which candidate a deletion takes.
 ///
-/// A deletion from the shared part asks it once. A picker of a caller's own may leave `may_pick` out, and then promises no
-/// more than an index of a candidate.
+/// A deletion from the shared part asks it once. A picker of a caller's own may leave `may_pick`
+/// out, and then promises no more than an index of a candidate.
 pub trait Picker {
-    // Holds of the picker before a pick, the number of candidates, the index picked, and the picker after.
+    // Holds of the picker before a pick, the number of candidates, the index picked, and the picker
+    // after.
     ghost may_pick: { Self → ℕ → ℕ → Self → Type 0 } = { λ _ _ _ _. ⊤ };
 
     /// The index of one of the candidates, which are counted from the least item.
@@ -24,7 +25,8 @@ pub trait Picker {
 }
 
 impl<P: Picker> Picker for &mut P {
-    ghost may_pick = { λ before candidates index after. P.may_pick before.now candidates index after.now };
+    ghost may_pick = { λ before candidates index after.
+        P.may_pick before.now candidates index after.now };
 
     #[inline]
     fn pick(&mut self, candidates: usize) -> usize {
@@ -60,8 +62,8 @@ impl Picker for Last {
 
 /// Picks by a generator of random numbers. A contract sees it as that generator.
 ///
-/// A pick draws one `u64` and answers its remainder by the number `n` of candidates. Over an even generator the chance of
-/// each candidate is then `1 / n` up to a bias of at most `n / 2^64` of it.
+/// A pick draws one `u64` and answers its remainder by the number `n` of candidates. Over an even
+/// generator the chance of each candidate is then `1 / n` up to a bias of at most `n / 2^64` of it.
 #[derive(Clone, Debug, PartialEq, Eq, Drop)]
 pub struct Random<R> {
     generator: R,
@@ -86,7 +88,8 @@ impl<R: Rng> Random<R> {
 
 impl<R: Rng> Picker for Random<R> {
     ghost may_pick = { λ before candidates index after.
-        (index ≡ (next_u64 (R.stream before)).0 % candidates) × (R.stream after ≡ (next_u64 (R.stream before)).1) };
+        (index ≡ (next_u64 (R.stream before)).0 % candidates)
+        × (R.stream after ≡ (next_u64 (R.stream before)).1) };
 
     #[inline]
     fn pick(&mut self, candidates: usize) -> usize {
@@ -94,8 +97,9 @@ impl<R: Rng> Picker for Random<R> {
     }
 }
 
-/// Picks by the PCG32 generator (O'Neill, "PCG: a family of simple fast space-efficient statistically good algorithms for
-/// random number generation", 2014), at this seed. The same seed gives the same picks.
+/// Picks by the PCG32 generator (O'Neill, "PCG: a family of simple fast space-efficient
+/// statistically good algorithms for random number generation", 2014), at this seed. The same seed
+/// gives the same picks.
 pub fn random_of(seed: u64) -> Random<Pcg32>
     ensures { result ≡ pcg32_of_seed (pcg32_seed 16 seed) }
 {

@@ -14,12 +14,14 @@ use crate::{Local, Picker, Shared, flush, put, take};
 use klsm_lsm::LsmError;
 use klsm_run::{Item, Stamp};
 use std::alloc::{Allocator, Global};
+use std::fmt;
 use std::marker::Model;
 
-/// A relaxed priority queue for one thread: an own part and a shared one, of which a deletion looks at both.
+/// A relaxed priority queue for one thread: an own part and a shared one, of which a deletion looks
+/// at both.
 ///
-/// `CAP` is at least k, and at most 128. `LEVELS` says how many items the shared part can hold: `2^(LEVELS-1)`, so 1,048,576
-/// with 21.
+/// `CAP` is at least k, and at most 128. `LEVELS` says how many items the shared part can hold:
+/// `2^(LEVELS-1)`, so 1,048,576 with 21.
 #[derive(Drop)]
 pub struct Queue<const CAP: usize, const LEVELS: usize, A: Allocator + Copy = Global> {
     own: Local<CAP>,
@@ -31,13 +33,16 @@ pub struct Queue<const CAP: usize, const LEVELS: usize, A: Allocator + Copy = Gl
 impl<const CAP: usize, const LEVELS: usize, A: Allocator + Copy> Model for Queue<CAP, LEVELS, A> {
     ghost Value = { QueueState };
 
-    ghost view = { λ queue. record { own = queue.own; shared = queue.shared; inserted = queue.inserted } };
+    ghost view = { λ queue.
+        record { own = queue.own; shared = queue.shared; inserted = queue.inserted } };
 
-    ghost invariant = { λ queue. IsQueue CAP LEVELS (record { own = queue.own; shared = queue.shared; inserted = queue.inserted }) };
+    ghost invariant = { λ queue. IsQueue CAP LEVELS
+        (record { own = queue.own; shared = queue.shared; inserted = queue.inserted }) };
 }
 
 impl<const CAP: usize, const LEVELS: usize, A: Allocator + Copy> Queue<CAP, LEVELS, A> {
-    /// The queue with no item, whose deletions may skip `k` items each. `alloc` is what the shared part will take memory from.
+    /// The queue with no item, whose deletions may skip `k` items each. `alloc` is what the shared
+    /// part will take memory from.
     pub fn new(alloc: A, k: usize) -> Self
         requires capacity { IsCapacity CAP }
         requires levels { IsLevelCount LEVELS }
@@ -71,7 +76,8 @@ impl<const CAP: usize, const LEVELS: usize, A: Allocator + Copy> Queue<CAP, LEVE
         self.inserted
     }
 
-    /// The number of items. No item is there twice, and each bears a number that was given out before.
+    /// The number of items. No item is there twice, and each bears a number that was given out
+    /// before.
     #[inline]
     pub fn len(&self) -> usize
         ensures len { result ≡ length (items_of self.now) }
@@ -127,26 +133,34 @@ impl<const CAP: usize, const LEVELS: usize, A: Allocator + Copy> Queue<CAP, LEVE
         (self.own, self.shared)
     }
 
-    /// Inserts an item of this key, which carries `load`, and answers it. Its stamp tells it from all other items of the
-    /// queue: its owner is 0, and its number how many items were inserted before.
+    /// Inserts an item of this key, which carries `load`, and answers it. Its stamp tells it from
+    /// all other items of the queue: its owner is 0, and its number how many items were inserted
+    /// before.
     ///
-    /// Only an insertion that finds k items in the own part takes memory. It costs what `put` does, or else `flush`.
+    /// Only an insertion that finds k items in the own part takes memory. It costs what `put` does,
+    /// or else `flush`.
     pub fn insert(&mut self, key: u64, load: u64) -> Result<Item, LsmError>
         ensures item { IfOk result (λ item. item ≡ next_item self.old key load) }
-        ensures items { OnOk result (items_of self.new ≡ sorted (next_item self.old key load ∷ items_of self.old)) }
+        ensures items { OnOk result (items_of self.new
+            ≡ sorted (next_item self.old key load ∷ items_of self.old)) }
         ensures count { OnOk result (length (items_of self.new) ≡ length (items_of self.old) + 1) }
         ensures inserted { OnOk result (self.new.inserted ≡ self.old.inserted + 1) }
         ensures k { self.new.own.k ≡ self.old.own.k }
         ensures parts { OnOk result
-            (Joins (next_item self.old key load) self.old.own self.new.own self.old.shared self.new.shared) }
+            (Joins (next_item self.old key load)
+            self.old.own self.new.own self.old.shared self.new.shared) }
 
-        // A refusal changes nothing. It is for want of room exactly where there is none, so never while there are fewer items
-        // than the shared part can hold and numbers are left. Else it is for want of memory, of which a put takes none.
+        // A refusal changes nothing. It is for want of room exactly where there is none, so never
+        // while there are fewer items than the shared part can hold and numbers are left. Else it
+        // is for want of memory, of which a put takes none.
         ensures full { IsErrAnd result (λ why. why ≡ LsmError.Full)
             ↔ IsFull LEVELS (next_item self.old key load) self.old }
-        ensures room { length (items_of self.old) < limit_of LEVELS heap_room → self.old.inserted < 2 ^ 64 - 1
+        ensures room { length (items_of self.old) < limit_of LEVELS heap_room
+            → self.old.inserted < 2 ^ 64 - 1
             → ¬ IsErrAnd result (λ why. why ≡ LsmError.Full) }
-        ensures put { length (content self.old.own.blocks) < self.old.own.k → self.old.inserted < 2 ^ 64 - 1 → IsOk result }
+        ensures put { length (content self.old.own.blocks) < self.old.own.k
+            → self.old.inserted < 2 ^ 64 - 1
+            → IsOk result }
         ensures unchanged { OnErr result (self.new ≡ self.old) }
     {
         let Some(next) = self.inserted.checked_add(1) else {
@@ -162,16 +176,17 @@ impl<const CAP: usize, const LEVELS: usize, A: Allocator + Copy> Queue<CAP, LEVE
         }
     }
 
-    /// Deletes an item: the least own one where that is the least of all, else the lesser of it and the candidate that the
-    /// picker answers. `None` where there is no item.
+    /// Deletes an item: the least own one where that is the least of all, else the lesser of it and
+    /// the candidate that the picker answers. `None` where there is no item.
     ///
-    /// It skips at most k items, and with `First` none (`laws::first_gives_least`). It takes no memory, and costs what `take`
-    /// does.
+    /// It skips at most k items, and with `First` none (`laws::first_gives_least`). It takes no
+    /// memory, and costs what `take` does.
     pub fn delete_min<P: Picker>(&mut self, picker: &mut P) -> Option<Item>
         ensures nothing { (result ≡ None) ↔ (items_of self.old ≡ []) }
         ensures items { MatchOption result (self.new ≡ self.old)
             (λ item. items_of self.old ≡ sorted (item ∷ items_of self.new)) }
-        ensures count { IfSome result (λ _. length (items_of self.old) ≡ length (items_of self.new) + 1) }
+        ensures count { IfSome result (λ _.
+            length (items_of self.old) ≡ length (items_of self.new) + 1) }
         ensures skips { IfSome result (λ item. skipped (items_of self.old) item ≤ self.old.own.k) }
 
         // The picker is asked, once, exactly where the least item is a shared one.
@@ -189,10 +204,23 @@ impl<const CAP: usize, const LEVELS: usize, A: Allocator + Copy> Queue<CAP, LEVE
     }
 }
 
+/// It prints both parts, and how many items were inserted.
+impl<const CAP: usize, const LEVELS: usize, A: Allocator + Copy> fmt::Debug
+    for Queue<CAP, LEVELS, A> {
+    fn fmt<W: fmt::Write>(&self, f: &mut fmt::Formatter<W>) -> fmt::Result {
+        f.debug_struct("Queue")
+            .field("own", &self.own)
+            .field("shared", &self.shared)
+            .field("inserted", &self.inserted)
+            .finish()
+    }
+}
+
 // The item of a key and a load that is inserted after `number` others.
 #[inline]
 fn item_of(key: u64, number: u64, load: u64) -> Item
-    ensures { result ≡ record { key = key; stamp = record { owner = 0; number = number }; load = load } }
+    ensures { result
+        ≡ record { key = key; stamp = record { owner = 0; number = number }; load = load } }
 {
     Item {
         key,
@@ -213,7 +241,8 @@ fn put_or_flush<const CAP: usize, const LEVELS: usize, A: Allocator + Copy>(
     requires new_to_shared { ¬ Contains (content shared.old.blocks) item }
     ensures lawful { IsLsm own.old.blocks }
     ensures joins { OnOk result (Joins item own.old own.new shared.old shared.new) }
-    ensures full { IsErrAnd result (λ why. why ≡ LsmError.Full) ↔ HaveNoPlace LEVELS item own.old shared.old }
+    ensures full { IsErrAnd result (λ why. why ≡ LsmError.Full)
+        ↔ HaveNoPlace LEVELS item own.old shared.old }
     ensures put { length (content own.old.blocks) < own.old.k → IsOk result }
     ensures unchanged { OnErr result ((own.new ≡ own.old) × (shared.new ≡ shared.old)) }
 {

@@ -40,7 +40,8 @@ pub(crate) fn item_of(place: Option<Place>) -> Option<Item>
     place.map(|place| place.item)
 }
 
-/// How many of each block's first items are among the least `count`. It costs `count` comparisons a block.
+/// How many of each block's first items are among the least `count`. It costs `count` comparisons a
+/// block.
 pub(crate) fn pivots_of<R: Run, const LEVELS: usize>(
     lsm: &Lsm<R, LEVELS>,
     count: usize,
@@ -91,7 +92,8 @@ pub(crate) fn place_of<R: Run, const LEVELS: usize>(lsm: &Lsm<R, LEVELS>, rank: 
     requires lawful { IsLsm lsm.now }
     requires rank { rank < length (content lsm.now) }
     ensures block { result.block < length lsm.now }
-    ensures index { slice_get (slice_index_or lsm.now result.block []) result.index ≡ Some result.item }
+    ensures index { slice_get (slice_index_or lsm.now result.block []) result.index
+        ≡ Some result.item }
     ensures rank { slice_get (sorted (content lsm.now)) rank ≡ Some result.item }
 {
     let pivots = pivots_of(lsm, rank);

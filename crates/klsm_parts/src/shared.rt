@@ -1,5 +1,5 @@
 //! The part that all members share.
-ghost use Rattle.std.specs.Prelude.{◌≡◌, ◌≢◌, ◌+◌, ◌<◌, ◌≤◌, ◌↔◌, [], length, min, slice_get, slice_index_or, Some, IsOk, IfOk, IfErr, OnOk, OnErr, IsErrAnd};
+ghost use Rattle.std.specs.Prelude.{◌≡◌, ◌≢◌, ◌+◌, ◌<◌, ◌≤◌, ◌↔◌, [], length, min, slice_get, slice_index_or, Some, IsTrue, IsOk, IfOk, IfErr, OnOk, OnErr, IsErrAnd};
 ghost use Rattle.std.specs.List.{Contains};
 ghost use Rattle.klsm_run.specs.Capacity.{IsCapacity, heap_room};
 ghost use Rattle.klsm_run.specs.Content.{sorted, ShareNone};
@@ -7,7 +7,7 @@ ghost use Rattle.klsm_lsm.specs.Lsm.{content, IsLsm};
 ghost use Rattle.klsm_lsm.specs.Limit.{IsLevelCount, limit_of};
 ghost use Rattle.klsm_lsm.specs.Adding.{add, cut};
 ghost use Rattle.klsm_parts.specs.Pivots.{ArePivots, IsPivotAt, count_in_least};
-ghost use Rattle.klsm_parts.specs.Parts.{PartState, IsShared, least_in, candidates_of};
+ghost use Rattle.klsm_parts.specs.Parts.{PartState, IsShared, items_in, least_in, candidates_of};
 
 use crate::mending::{added_by, mend_added, mend_cut, place_from_above};
 use crate::ranks::{Place, item_of, least_place, pivots_of, place_of};
@@ -15,17 +15,20 @@ use arrayvec::ArrayVec;
 use klsm_lsm::{Lsm, LsmError};
 use klsm_run::{HeapRun, Item, Run};
 use std::alloc::{Allocator, Global};
+use std::fmt;
 use std::marker::Model;
 
-/// The part that all members share: an LSM whose blocks take memory, with a pivot for each block. The least k+1 of its
-/// items, or all where there are fewer, are the candidates of a deletion, and a block's pivot is how many of them it has.
+/// The part that all members share: an LSM whose blocks take memory, with a pivot for each block.
+/// The least k+1 of its items, or all where there are fewer, are the candidates of a deletion, and
+/// a block's pivot is how many of them it has.
 #[derive(Drop)]
 pub struct Shared<const LEVELS: usize, A: Allocator + Copy = Global> {
     lsm: Lsm<HeapRun<A>, LEVELS>,
     k: usize,
     // How many of each block's first items are candidates.
     pivots: ArrayVec<usize, LEVELS>,
-    // The least item and where it stands, if there is one, so that a deletion of an own item does not search for it.
+    // The least item and where it stands, if there is one, so that a deletion of an own item does
+    // not search for it.
     least: Option<Place>,
     alloc: A,
 }
@@ -35,11 +38,13 @@ impl<const LEVELS: usize, A: Allocator + Copy> Model for Shared<LEVELS, A> {
 
     ghost view = { λ shared. record { k = shared.k; blocks = shared.lsm } };
 
-    ghost invariant = { λ shared. IsShared LEVELS (record { k = shared.k; blocks = shared.lsm }) shared.pivots.items shared.least };
+    ghost invariant = { λ shared. IsShared LEVELS
+        (record { k = shared.k; blocks = shared.lsm }) shared.pivots.items shared.least };
 }
 
 impl<const LEVELS: usize, A: Allocator + Copy> Shared<LEVELS, A> {
-    /// The part with no item, of which `k` items may be skipped. `alloc` is what its blocks will take memory from.
+    /// The part with no item, of which `k` items may be skipped. `alloc` is what its blocks will
+    /// take memory from.
     pub fn new(alloc: A, k: usize) -> Self
         requires levels { IsLevelCount LEVELS }
         requires k { k ≤ 128 }
@@ -71,6 +76,14 @@ impl<const LEVELS: usize, A: Allocator + Copy> Shared<LEVELS, A> {
         ensures lawful { IsLsm self.now.blocks }
     {
         self.lsm.len()
+    }
+
+    /// Whether there is no item.
+    #[inline]
+    pub fn is_empty(&self) -> bool
+        ensures { IsTrue result ↔ (items_in self.now ≡ []) }
+    {
+        self.len() == 0
     }
 
     /// The least item, if there is one. It costs one access.
@@ -116,8 +129,8 @@ impl<const LEVELS: usize, A: Allocator + Copy> Shared<LEVELS, A> {
         (self.k + 1).min(self.lsm.len())
     }
 
-    /// Candidate `index`, counted from the least. The first is at hand; another is counted from the nearer end, and costs as
-    /// many comparisons a block as are counted.
+    /// Candidate `index`, counted from the least. The first is at hand; another is counted from the
+    /// nearer end, and costs as many comparisons a block as are counted.
     pub fn candidate(&self, index: usize) -> Item
         requires { index < length (candidates_of self.now) }
         ensures { slice_get (candidates_of self.now) index ≡ Some result }
@@ -129,7 +142,8 @@ impl<const LEVELS: usize, A: Allocator + Copy> Shared<LEVELS, A> {
     pub(crate) fn place_of_candidate(&self, index: usize) -> Place
         requires { index < length (candidates_of self.now) }
         ensures block { result.block < length self.now.blocks }
-        ensures index { slice_get (slice_index_or self.now.blocks result.block []) result.index ≡ Some result.item }
+        ensures index { slice_get (slice_index_or self.now.blocks result.block []) result.index
+            ≡ Some result.item }
         ensures candidate { slice_get (candidates_of self.now) index ≡ Some result.item }
     {
         if index == 0 {
@@ -152,7 +166,8 @@ impl<const LEVELS: usize, A: Allocator + Copy> Shared<LEVELS, A> {
         ensures added { OnOk result (self.new
             ≡ record { k = self.old.k; blocks = add self.old.blocks (R.items run.now) }) }
         ensures full { IsErrAnd result (λ why. why ≡ LsmError.Full)
-            ↔ (limit_of LEVELS heap_room < length (content self.old.blocks) + length (R.items run.now)) }
+            ↔ (limit_of LEVELS heap_room
+            < length (content self.old.blocks) + length (R.items run.now)) }
         ensures unchanged { OnErr result (self.new ≡ self.old) }
     {
         // A look at both lengths tells that their sum fits.
@@ -171,7 +186,8 @@ impl<const LEVELS: usize, A: Allocator + Copy> Shared<LEVELS, A> {
     // Takes a candidate out of its place.
     pub(crate) fn remove(&mut self, place: Place)
         requires block { place.block < length self.old.blocks }
-        requires index { slice_get (slice_index_or self.old.blocks place.block []) place.index ≡ Some place.item }
+        requires index { slice_get (slice_index_or self.old.blocks place.block []) place.index
+            ≡ Some place.item }
         requires candidate { Contains (candidates_of self.old) place.item }
         ensures { self.new
             ≡ record { k = self.old.k; blocks = cut self.old.blocks place.block place.index } }
@@ -188,6 +204,16 @@ impl<const LEVELS: usize, A: Allocator + Copy> Shared<LEVELS, A> {
             self.k,
         );
         self.least = least_place(&self.lsm);
+    }
+}
+
+/// It prints what its calls show: `k`, and the items as an LSM.
+impl<const LEVELS: usize, A: Allocator + Copy> fmt::Debug for Shared<LEVELS, A> {
+    fn fmt<W: fmt::Write>(&self, f: &mut fmt::Formatter<W>) -> fmt::Result {
+        f.debug_struct("Shared")
+            .field("k", &self.k)
+            .field("lsm", &self.lsm)
+            .finish()
     }
 }
 

@@ -7,8 +7,8 @@ ghost use Rattle.klsm_parts.specs.Events.{MaySpy, own_after_spy, victim_after_sp
 
 use crate::Local;
 
-/// Moves the victim's largest block to the own part, which is empty, or its greatest half, rounded up, where it is the only
-/// block. The answer is the number of items that moved.
+/// Moves the victim's largest block to the own part, which is empty, or its greatest half, rounded
+/// up, where it is the only block. The answer is the number of items that moved.
 ///
 /// It takes no memory, and costs one copy of what moves.
 pub fn spy<const CAP: usize>(own: &mut Local<CAP>, victim: &mut Local<CAP>) -> usize

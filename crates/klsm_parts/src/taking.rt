@@ -13,11 +13,13 @@ use crate::{Local, Picker, Shared};
 use klsm_run::Item;
 use std::alloc::Allocator;
 
-/// Takes an item out of the two parts: the least own one where it is the least of both parts, else the lesser of the least
-/// own one and the candidate that the picker answers. `None` where both parts are empty.
+/// Takes an item out of the two parts: the least own one where it is the least of both parts, else
+/// the lesser of the least own one and the candidate that the picker answers. `None` where both
+/// parts are empty.
 ///
-/// What it takes skips at most k items of the two parts. It takes no memory. It costs one comparison a block of the own part
-/// and, where a shared item goes, of the shared one; and as many a block there as candidates are counted, from the nearer end.
+/// What it takes skips at most k items of the two parts. It takes no memory. It costs one
+/// comparison a block of the own part and, where a shared item goes, of the shared one; and as many
+/// a block there as candidates are counted, from the nearer end.
 pub fn take<const CAP: usize, const LEVELS: usize, A: Allocator + Copy, P: Picker>(
     own: &mut Local<CAP>,
     shared: &mut Shared<LEVELS, A>,
@@ -71,7 +73,8 @@ fn choose<const LEVELS: usize, A: Allocator + Copy, P: Picker>(
         (λ candidate. option_map (λ place. place.item) result
         ≡ unless_smaller candidate least_own) }
     ensures place { IfSome result (λ place. (place.block < length shared.now.blocks)
-        × (slice_get (slice_index_or shared.now.blocks place.block []) place.index ≡ Some place.item)
+        × (slice_get (slice_index_or shared.now.blocks place.block []) place.index
+        ≡ Some place.item)
         × Contains (candidates_of shared.now) place.item) }
 {
     let least = shared.least()?;

@@ -1,5 +1,5 @@
 use Rattle.klsm_parts.specs.Queues.{items_of}
-use Rattle.klsm_parts.proofs.QueueLemmas.{is_none}
+use Rattle.klsm_parts.proofs.EmptyLemmas.{is_none}
 use Rattle.klsm_parts.proofs.queue.Queue.is_empty.Goals as goal
 
 pub returns : goal.returns

@@ -1,6 +1,6 @@
 use Rattle.std.proofs.Common.{◌≤◌, ◌<◌, length, sym, ◌∙◌, arith}
 use Rattle.klsm_parts.proofs.ListingLemmas.{item_here, item_past, never_past}
-use Rattle.klsm_parts.proofs.listing.item_listed.Goals as goal
+use Rattle.klsm_parts.proofs.part.item_listed.Goals as goal
 
 pub returns-then-left-len : goal.returns-then-left-len
 returns-then-left-len g c =

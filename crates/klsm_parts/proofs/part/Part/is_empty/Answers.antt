@@ -1,0 +1,6 @@
+use Rattle.klsm_parts.specs.Part.{state_of}
+use Rattle.klsm_parts.proofs.EmptyLemmas.{none_in}
+use Rattle.klsm_parts.proofs.part.Part.is_empty.Goals as goal
+
+pub returns : goal.returns
+returns g c = none_in (state_of c.args.self.now) c.len.result c.len.ensures.len
