@@ -1,6 +1,7 @@
 //! What the tests of other crates share: an allocator that grants a set number of growths.
 //!
-//! A test that refuses each growth of a call in turn allows none, then one, and so on, until a call was refused nothing:
+//! A test that refuses each growth of a call in turn allows none, then one, and so on, until a call
+//! was refused nothing:
 //!
 //! ```text
 //! let heap = Rationed::new(rt.alloc());
@@ -15,7 +16,6 @@
 //! ```
 #![tactic(auto)]
 
-mod ration;
 mod rationed;
 #[cfg(test)]
 mod tests;

@@ -1,13 +1,14 @@
-//! The allocator.
+//! The allocator, and its count of the growths that are still granted.
+ghost use Rattle.std.specs.Prelude.{◌≡◌, ◌-◌, ◌<◌, ◌↔◌, false, IsTrue};
 
-use crate::ration::{Ration, grant};
 use std::alloc::{AllocError, Allocator};
 use std::cell::Cell;
 
-/// Grants a set number of the growths asked of it, and refuses those after it. It passes what it grants on to `inner`.
+/// Grants a set number of the growths asked of it, and refuses those after it. It passes what it
+/// grants on to `inner`.
 ///
-/// Each block made counts as one growth: the first of a collection, and each move to another block, a smaller one
-/// included.
+/// Each block made counts as one growth: the first of a collection, and each move to another block,
+/// a smaller one included.
 #[derive(Drop)]
 pub struct Rationed<B: Allocator> {
     inner: B,
@@ -47,4 +48,47 @@ unsafe impl<B: Allocator> Allocator for Rationed<B> {
     unsafe fn deallocate(&self, ptr: *mut u8, size: usize, align: usize) {
         self.inner.deallocate(ptr, size, align);
     }
+}
+
+// The grants left, and whether more was asked for.
+#[derive(Clone, Copy)]
+struct Ration {
+    left: u64,
+    has_refused: bool,
+}
+
+impl Ration {
+    // So many grants, and nothing refused.
+    fn new(grants: u64) -> Ration
+        ensures left { result.left ≡ grants }
+        ensures fresh { result.has_refused ≡ false }
+    {
+        Ration {
+            left: grants,
+            has_refused: false,
+        }
+    }
+
+    // Takes a grant where one is left.
+    fn take(&mut self) -> bool
+        ensures taken { IsTrue result ↔ 0 < self.old.left }
+        ensures left { self.new.left ≡ self.old.left - 1 }
+        ensures granted { IsTrue result → self.new.has_refused ≡ self.old.has_refused }
+        ensures refused { self.old.left ≡ 0 → IsTrue self.new.has_refused }
+    {
+        let Some(left) = self.left.checked_sub(1) else {
+            self.has_refused = true;
+            return false;
+        };
+        self.left = left;
+        true
+    }
+}
+
+// Takes a grant behind a `&`. No clause can say what a cell holds: `Ration::take` has them.
+fn grant(cell: &Cell<Ration>) -> bool {
+    let mut ration = cell.get();
+    let granted = ration.take();
+    cell.set(ration);
+    granted
 }
