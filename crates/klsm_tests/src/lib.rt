@@ -6,6 +6,7 @@
 //! - `runs`: fixed runs and runs on the heap;
 //! - `lsm`: LSMs over both kinds of run, beside a sorted list;
 //! - `parts`: the own part and the shared one, their events and pickers, beside a plain program written from the rules;
+//! - `printed`: what runs, LSMs and parts print, and the texts of refusals;
 //! - `program`: the program's texts and statuses, and faults in mid-stream;
 //! - `world`: the pure world of threads and locked steps, beside a plain program written from its definitions.
 #![tactic(auto)]
@@ -16,6 +17,8 @@ mod lsm;
 mod owned;
 #[cfg(test)]
 mod parts;
+#[cfg(test)]
+mod printed;
 #[cfg(test)]
 mod program;
 #[cfg(test)]

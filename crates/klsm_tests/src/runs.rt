@@ -60,7 +60,7 @@ fn takes_all<R: Run>(run: R, keys: &[u64]) -> Option<bool> {
     };
     let copied = has_keys(&taker, keys);
     taker.take_from(&mut given);
-    Some(copied && has_keys(&taker, keys) && given.len() == 0)
+    Some(copied && has_keys(&taker, keys) && given.is_empty())
 }
 
 #[test]

@@ -165,7 +165,10 @@ fn cascades_and_partners(rt: HostRuntime) {
 
 // Whether an LSM has so many items, this least key, and it in this block.
 fn shows<R: Run>(lsm: &Lsm<R, 8>, len: usize, least: Option<u64>, block: Option<usize>) -> bool {
-    lsm.len() == len && lsm.least().map(|item| item.key) == least && lsm.least_block() == block
+    lsm.len() == len
+        && lsm.is_empty() == (len == 0)
+        && lsm.least().map(|item| item.key) == least
+        && lsm.least_block() == block
 }
 
 // The same of each kind of LSM that absorbed these runs.

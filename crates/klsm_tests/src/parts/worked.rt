@@ -183,7 +183,7 @@ fn no_own_items(rt: HostRuntime) {
 
 // Whether a part of either kind tells these of its items.
 fn is_part(part: &Part<64, 21>, least: Option<Item>, items: &[Item]) -> bool {
-    if part.len() != items.len() || part.least() != least {
+    if part.len() != items.len() || part.is_empty() != items.is_empty() || part.least() != least {
         return false;
     }
     for (index, item) in items.iter().enumerate() {
