@@ -5,9 +5,9 @@ ghost use Rattle.klsm_tool.specs.Number.{number_of};
 ghost use Rattle.klsm_tool.specs.Script.{insertion_of, deletion_of, operation_of, asked_below};
 ghost use Rattle.klsm_tool.specs.Script.{request_of as request_of_row};
 
-use crate::number::number;
 use crate::request::{Operation, Refusal, Request};
 use csv::ByteRecord;
+use std::str;
 
 /// How many fields a row has.
 const FIELDS: usize = 4;
@@ -89,4 +89,17 @@ fn judge_deletion(key: &[u8], load: &[u8]) -> Result<Operation, Refusal>
         return Err(Refusal::Load);
     }
     Ok(Operation::Delete)
+}
+
+// The number that `field` spells, with one or more of the digits 0 to 9 and nothing else, where it
+// fits.
+fn number(field: &[u8]) -> Option<u64>
+    ensures { result ≡ number_of field.now }
+{
+    // `parse` would take a plus sign.
+    if field.first() == Some(&b'+') {
+        return None;
+    }
+    let text = str::from_utf8(field).ok()?;
+    text.parse().ok()
 }

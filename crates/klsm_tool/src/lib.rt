@@ -35,7 +35,6 @@ mod answer;
 mod command_line;
 mod exact_queue;
 mod judge;
-mod number;
 mod output;
 mod process_words;
 mod replay;
