@@ -1,9 +1,10 @@
-//! What runs, LSMs and parts print, and the texts of refusals.
+//! What runs, LSMs, parts and worlds print, and the texts of refusals.
 
 use super::owned::{heap_run_of, run_of};
 use klsm_lsm::{LsmError, Refused};
 use klsm_parts::{Local, Queue, Shared};
 use klsm_run::RunError;
+use klsm_world::{StepError, World, WorldError};
 use std::alloc::Global;
 use std::fmt::{Debug, Display};
 
@@ -110,4 +111,18 @@ fn parts(rt: HostRuntime) {
     let shared = "Shared { k: 3, lsm: [] }";
     assert!(rt; parts_print(alloc, 3, own, shared) == Some(true));
     assert!(rt; queue_prints(alloc, two) == Some(true));
+}
+
+// Whether a new world of one thread prints so.
+fn world_prints(alloc: Global, want: &str) -> Option<bool> {
+    prints(alloc, &World::new(alloc, 1, 3).ok()?, want)
+}
+
+#[test]
+fn worlds(rt: HostRuntime) {
+    let alloc = rt.alloc();
+    let new = "World { threads: 1, k: 3, words: [0, 0], contents: [[], []], .. }";
+    let held = WorldError::At(3, StepError::Held(2));
+    assert!(rt; world_prints(alloc, new) == Some(true));
+    assert!(rt; says(alloc, &held, "step 3: the part is held by thread 2") == Some(true));
 }
