@@ -1,108 +1,94 @@
 //! A reader or a writer that fails in mid-stream.
 
-use super::streams::{Bounded, Failing, Refusal};
-use super::{FIRST_ANSWERS, FIRST_SCRIPT, gives, replay};
-use klsm_tool::{End, Pick, Settings, replay_over};
-use std::alloc::AllocError;
-use std::test::Fail;
-
-const SETTINGS: Settings = Settings {
-    threads: 1,
-    k: 64,
-    pick: Pick::First,
-    seed: 1,
-};
+use super::process::{Input, Output, Refusal};
+use super::{REPLAY, gives, run};
+use std::alloc::Global;
 
 #[test]
-fn a_failed_read_follows_the_answers_before_it(rt: HostRuntime) -> Result<(), Fail> {
-    let table = [
-        (b"0,i,5,50\n0".as_slice(), "0 i 5 0.0\nread fault\n"),
+fn a_failed_read_follows_the_answers_before_it(rt: HostRuntime) {
+    let table: [(&[u8], &[u8]); 3] = [
+        (b"0,i,5,50\n0", b"0 i 5 0.0\nread fault\n"),
         (
-            b"0,i,5,50\n0,d,,\n0,i".as_slice(),
-            "0 i 5 0.0\n0 d 5 0.0 load 50 skip 0\nread fault\n",
+            b"0,i,5,50\n0,d,,\n0,i",
+            b"0 i 5 0.0\n0 d 5 0.0 load 50 skip 0\nread fault\n",
         ),
-        (b"".as_slice(), "read fault\n"),
+        (b"", b"read fault\n"),
     ];
-    for (left, want) in table {
+    for (left, text) in table {
         for at_a_time in [1, 3, 4096] {
-            let reader = Failing { left, at_a_time };
-            assert!(rt; gives(&rt, b"replay", reader, 4, want.as_bytes())?);
+            let input = Input {
+                left,
+                at_a_time,
+                fails: true,
+            };
+            assert!(rt; gives(rt.alloc(), REPLAY, input, 4, text));
         }
     }
-    Ok(())
 }
 
-/// How the first script's replay ends over a writer with so much room, how many bytes it counts, and
-/// how many writes were refused; `None` where other bytes were taken than these.
-fn leaves(
-    rt: &impl AllocGlobal,
+// The script of the program's first worked run, and its answers.
+const SCRIPT: &[u8] = b"0,i,5,50\n0,i,3,30\n0,i,9,90\n0,d,,\n0,d,,\n0,d,,\n0,d,,\n";
+
+const ANSWERS: &[u8] = b"\
+0 i 5 0.0
+0 i 3 0.1
+0 i 9 0.2
+0 d 3 0.1 load 30 skip 0
+0 d 5 0.0 load 50 skip 0
+0 d 9 0.2 load 90 skip 0
+0 d none
+max skip 0 bound 64
+";
+
+/// How the program of these words ends over that script and an output with so much room: its
+/// status, how many bytes the output took and how many writes it refused. `None` where the bytes do
+/// not begin with this text.
+fn cut_short(
+    alloc: Global,
+    words: &[&[u8]],
     room: usize,
     at_a_time: usize,
     refusal: Refusal,
-    want: &[u8],
-) -> Option<(End, u64, u32)> {
-    let mut writer = Bounded {
-        taken: Vec::new(rt.alloc()),
+    text: &[u8],
+) -> Option<(u8, usize, u32)> {
+    let mut output = Output {
         room,
         at_a_time,
         refusal,
-        refused: 0,
+        ..Output::ample(alloc)
     };
-    let report = replay_over(rt, FIRST_SCRIPT, &mut writer, &SETTINGS);
-    if writer.taken.as_slice() != want {
+    let status = run(alloc, words, Input::whole(SCRIPT), &mut output);
+    if !output.taken.as_slice().starts_with(text) {
         return None;
     }
-    Some((report.end, report.written, writer.refused))
+    Some((status, output.taken.len(), output.refused))
 }
 
 #[test]
-fn a_failed_write_leaves_the_first_bytes(rt: HostRuntime) -> Result<(), Fail> {
-    assert_eq!(rt; FIRST_ANSWERS.len(), 134);
+fn a_failed_write_leaves_the_first_bytes(rt: HostRuntime) {
+    assert_eq!(rt; ANSWERS.len(), 134);
     for refusal in [Refusal::Fails, Refusal::TakesNothing] {
         for room in 0..134usize {
-            let want = &FIRST_ANSWERS.as_bytes()[..room];
-            let left = leaves(&rt, room, 10, refusal, want);
-            assert_eq!(rt; left, Some((End::WriteFault, room as u64, 1)));
+            let left = cut_short(rt.alloc(), REPLAY, room, 10, refusal, &ANSWERS[..room]);
+            assert!(rt; left == Some((4, room, 1)));
         }
     }
-    Ok(())
 }
 
 #[test]
-fn short_writes_give_the_whole_text(rt: HostRuntime) -> Result<(), Fail> {
+fn short_writes_give_the_whole_text(rt: HostRuntime) {
     for at_a_time in [1, 7] {
-        let left = leaves(
-            &rt,
-            1000,
-            at_a_time,
-            Refusal::Fails,
-            FIRST_ANSWERS.as_bytes(),
-        );
-        assert_eq!(rt; left, Some((End::Done, 134, 0)));
+        let left = cut_short(rt.alloc(), REPLAY, 1000, at_a_time, Refusal::Fails, ANSWERS);
+        assert!(rt; left == Some((0, 134, 0)));
     }
-    Ok(())
-}
-
-/// The status of the program on the first script, over a writer with so much room; `None` where
-/// other bytes were taken than these.
-fn status_over(rt: &impl AllocGlobal, room: usize, want: &[u8]) -> Result<Option<u8>, AllocError> {
-    let mut writer = Bounded {
-        taken: Vec::new(rt.alloc()),
-        room,
-        at_a_time: 100,
-        refusal: Refusal::Fails,
-        refused: 0,
-    };
-    let status = replay(rt, FIRST_SCRIPT, &mut writer)?;
-    let is_left = writer.taken.as_slice() == want;
-    Ok(is_left.then_some(status))
 }
 
 #[test]
-fn a_failed_write_is_status_4(rt: HostRuntime) -> Result<(), Fail> {
-    assert_eq!(rt;
-        status_over(&rt, 20, &FIRST_ANSWERS.as_bytes()[..20])?,
-        Some(4)
-    );
-    Ok(())
+fn a_failed_write_of_another_text_is_status_4(rt: HostRuntime) {
+    for word in [b"--help".as_slice(), b"live", b"\xff"] {
+        for refusal in [Refusal::Fails, Refusal::TakesNothing] {
+            let left = cut_short(rt.alloc(), &[b"klsm", word], 20, 7, refusal, b"");
+            assert!(rt; left == Some((4, 20, 1)));
+        }
+    }
 }

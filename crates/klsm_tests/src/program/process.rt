@@ -1,20 +1,19 @@
-//! The words of a process, of which the first is the program's path.
-ghost use Rattle.std.specs.Prelude.{◌<◌, length};
+//! A process with words, an input and an output of its own. Input and output give and take little
+//! at a time, and may fail.
 
-use super::{FIRST_ANSWERS, FIRST_SCRIPT, words_of};
-use klsm_tool::run_program;
-use std::alloc::{AllocError, Global};
+use std::alloc::Global;
 use std::env::FillError;
+use std::io;
+use std::io::{Error, ErrorKind, Read, Write};
 use std::rt::Env;
-use std::test::Fail;
 
-/// A process that was given these words.
+/// A process that was given these words, of which the first is the program's path.
 #[derive(Drop)]
-struct Process {
-    words: Vec<Vec<u8>>,
+pub(super) struct Process<'a> {
+    pub words: &'a [&'a [u8]],
 }
 
-impl Env for Process {
+impl Env for Process<'_> {
     fn arg(&self, i: usize, buf: &mut [u8]) -> Result<usize, FillError> {
         let Some(word) = self.words.get(i) else {
             return Err(FillError::NotPresent);
@@ -22,7 +21,7 @@ impl Env for Process {
         if buf.len() < word.len() {
             return Err(FillError::TooLong);
         }
-        buf[..word.len()].copy_from_slice(word.as_slice());
+        buf[..word.len()].copy_from_slice(word);
         Ok(word.len())
     }
 
@@ -35,74 +34,87 @@ impl Env for Process {
     }
 }
 
-/// The status of the program as a process of these words.
-fn run_as(alloc: Global, line: &[u8], out: &mut Vec<u8>) -> Result<u8, AllocError> {
-    let process = (
-        Process {
-            words: words_of(alloc, line)?,
-        },
-        alloc,
-    );
-    Ok(run_program(&process, FIRST_SCRIPT, out).code())
+/// Gives its bytes, so many at a time, and then ends or fails.
+#[derive(Drop)]
+pub(super) struct Input<'a> {
+    pub left: &'a [u8],
+    pub at_a_time: usize,
+    pub fails: bool,
 }
 
-/// Whether a process of these words ends with status 0, after the first script's answers.
-fn replays(alloc: Global, line: &[u8]) -> Result<bool, AllocError> {
-    let mut out = Vec::new(alloc);
-    let ended = run_as(alloc, line, &mut out)?;
-    Ok(ended == 0 && out.as_slice() == FIRST_ANSWERS.as_bytes())
-}
-
-/// Whether a process of these words ends with this status, after a text that is no answer.
-fn answers_words(alloc: Global, line: &[u8], status: u8) -> Result<bool, AllocError> {
-    let mut out = Vec::new(alloc);
-    let ended = run_as(alloc, line, &mut out)?;
-    Ok(ended == status && !out.is_empty() && !out.as_slice().starts_with(b"0 i 5"))
-}
-
-/// Whether a process of these words ends with status 2, after a text that names a word.
-fn tells(alloc: Global, line: &[u8], word: &[u8]) -> Result<bool, AllocError>
-    requires { 0 < length word.now }
-{
-    let mut out = Vec::new(alloc);
-    let ended = run_as(alloc, line, &mut out)?;
-    let is_told = out.as_slice().windows(word.len()).any(|part| part == word);
-    Ok(ended == 2 && is_told)
-}
-
-#[test]
-fn the_path_of_the_program_does_not_matter(rt: HostRuntime) -> Result<(), Fail> {
-    let table = [
-        b"klsm replay".as_slice(),
-        b"/a/\xff/klsm replay".as_slice(),
-        b" replay".as_slice(),
-    ];
-    for line in table {
-        assert!(rt; replays(rt.alloc(), line)?);
+impl<'a> Input<'a> {
+    /// These bytes, many at a time, and then the end.
+    pub(super) fn whole(bytes: &'a [u8]) -> Self {
+        Input {
+            left: bytes,
+            at_a_time: 4096,
+            fails: false,
+        }
     }
-    Ok(())
 }
 
-#[test]
-fn each_word_of_the_process_counts(rt: HostRuntime) -> Result<(), Fail> {
-    let table = [
-        (b"".as_slice(), 2),
-        (b"klsm".as_slice(), 2),
-        (b"klsm replay ".as_slice(), 2),
-        (b"klsm replay \xff".as_slice(), 2),
-        (b"klsm replay --help".as_slice(), 0),
-    ];
-    for (line, status) in table {
-        assert!(rt; answers_words(rt.alloc(), line, status)?);
+impl Read for Input<'_> {
+    fn read(&mut self, buf: &mut [u8]) -> io::Result<usize> {
+        if self.left.is_empty() && self.fails {
+            return Err(Error::from(ErrorKind::Other));
+        }
+        let count = self.left.len().min(buf.len()).min(self.at_a_time);
+        let (front, rest) = self.left.split_at(count);
+        buf[..count].copy_from_slice(front);
+        self.left = rest;
+        Ok(count)
     }
-    Ok(())
 }
 
-#[test]
-fn a_long_word_is_read_whole(rt: HostRuntime) -> Result<(), Fail> {
-    let mut line = Vec::new(rt.alloc());
-    line.extend_from_slice(b"klsm ")?;
-    line.resize(1000, b'a')?;
-    assert!(rt; tells(rt.alloc(), line.as_slice(), &line.as_slice()[5..])?);
-    Ok(())
+/// How an output refuses.
+#[derive(Clone, Copy)]
+pub(super) enum Refusal {
+    /// By an error.
+    Fails,
+    /// By taking nothing.
+    TakesNothing,
+}
+
+/// Takes so many bytes, a few at a time, and then refuses.
+#[derive(Drop)]
+pub(super) struct Output {
+    pub taken: Vec<u8>,
+    pub room: usize,
+    pub at_a_time: usize,
+    pub refusal: Refusal,
+    /// How many writes were refused.
+    pub refused: u32,
+}
+
+impl Output {
+    /// One that takes all, many at a time.
+    pub(super) fn ample(alloc: Global) -> Self {
+        Output {
+            taken: Vec::new(alloc),
+            room: usize::MAX,
+            at_a_time: 4096,
+            refusal: Refusal::Fails,
+            refused: 0,
+        }
+    }
+}
+
+impl Write for Output {
+    fn write(&mut self, buf: &[u8]) -> io::Result<usize> {
+        let left = self.room.saturating_sub(self.taken.len());
+        let count = buf.len().min(left).min(self.at_a_time);
+        if count == 0 && !buf.is_empty() {
+            self.refused = self.refused.saturating_add(1);
+            return match self.refusal {
+                Refusal::Fails => Err(Error::from(ErrorKind::Other)),
+                Refusal::TakesNothing => Ok(0),
+            };
+        }
+        self.taken.extend_from_slice(&buf[..count])?;
+        Ok(count)
+    }
+
+    fn flush(&mut self) -> io::Result<()> {
+        Ok(())
+    }
 }

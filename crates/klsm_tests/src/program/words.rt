@@ -1,82 +1,84 @@
-//! Command lines, and the statuses of the program.
+//! Words of a process, and the statuses of the program.
 
-use super::streams::{Bounded, Refusal};
-use super::{gives, run};
-use std::alloc::AllocError;
+use super::process::{Input, Output};
+use super::{REPLAY, gives, run};
+use std::alloc::Global;
 use std::test::Fail;
+
+const SCRIPT: &[u8] = b"0,d,,\n";
 
 const NOT_TEXT: &[u8] = b"error: a word is not UTF-8\n\nFor more information, try '--help'.\n";
 
+/// Words that are no replay, and the status of the program. The parser's texts for them are not
+/// fixed.
+const OTHERS: &[(&[&[u8]], u8)] = &[
+    (&[], 2),
+    (&[b"klsm"], 2),
+    (&[b"klsm", b""], 2),
+    (&[b"klsm", b"live"], 2),
+    (&[b"klsm", b"replay", b""], 2),
+    (&[b"klsm", b"replay", b"more"], 2),
+    (&[b"klsm", b"replay", b"--threads", b"1"], 2),
+    (&[b"klsm", b"--version"], 2),
+    (&[b"klsm", b"help", b"live"], 2),
+    (&[b"klsm", b"--help"], 0),
+    (&[b"klsm", b"help"], 0),
+    (&[b"klsm", b"replay", b"--help"], 0),
+    (&[b"klsm", b"help", b"replay"], 0),
+];
+
 /// Whether the words are answered with a text and this status, and no script is read.
-fn answers_words(rt: &impl AllocGlobal, line: &[u8], status: u8) -> Result<bool, AllocError> {
-    let mut out = Vec::new(rt.alloc());
-    let ended = run(rt, line, b"0,d,,\n".as_slice(), &mut out)?;
-    Ok(ended == status && !out.is_empty() && !out.as_slice().starts_with(b"0 d none"))
+fn answers_words(alloc: Global, words: &[&[u8]], status: u8) -> bool {
+    let mut output = Output::ample(alloc);
+    run(alloc, words, Input::whole(SCRIPT), &mut output) == status
+        && !output.taken.is_empty()
+        && !output.taken.as_slice().starts_with(b"0 d none")
 }
 
 #[test]
-fn a_fault_of_the_command_line_is_status_2(rt: HostRuntime) -> Result<(), Fail> {
-    let table = [
-        "",
-        " ",
-        "live",
-        "replay more",
-        "replay --threads 1",
-        "--version",
-        "help live",
+fn other_words_are_faults_or_requests_for_help(rt: HostRuntime) {
+    for (row, (words, status)) in OTHERS.iter().enumerate() {
+        assert!(rt; answers_words(rt.alloc(), words, *status), "row {row}");
+    }
+}
+
+#[test]
+fn a_word_that_is_not_utf_8_is_a_fault(rt: HostRuntime) {
+    let table: [&[&[u8]]; 4] = [
+        &[b"klsm", b"\xff"],
+        &[b"klsm", b"replay", b"\xc3"],
+        &[b"klsm", b"--help", b"a\x80"],
+        &[b"klsm", b"repl\xe4y", b"more"],
     ];
-    for line in table {
-        assert!(rt; answers_words(&rt, line.as_bytes(), 2)?, "{line}");
+    for words in table {
+        assert!(rt; gives(rt.alloc(), words, Input::whole(SCRIPT), 2, NOT_TEXT));
     }
-    Ok(())
 }
 
 #[test]
-fn a_request_for_help_is_status_0(rt: HostRuntime) -> Result<(), Fail> {
-    for line in ["--help", "help", "replay --help", "help replay"] {
-        assert!(rt; answers_words(&rt, line.as_bytes(), 0)?, "{line}");
+fn the_path_of_the_program_does_not_matter(rt: HostRuntime) {
+    let answers = b"0 d none\nmax skip 0 bound 64\n";
+    for path in [b"klsm".as_slice(), b"/a/\xff/klsm", b""] {
+        let words = [path, b"replay"];
+        assert!(rt; gives(rt.alloc(), &words, Input::whole(SCRIPT), 0, answers));
     }
-    Ok(())
 }
 
 #[test]
-fn a_word_that_is_not_utf_8_is_status_2(rt: HostRuntime) -> Result<(), Fail> {
-    let table = [
-        b"\xff".as_slice(),
-        b"replay \xc3".as_slice(),
-        b"--help a\x80".as_slice(),
-        b"repl\xe4y more".as_slice(),
-    ];
-    for line in table {
-        assert!(rt; gives(&rt, line, b"0,d,,\n".as_slice(), 2, NOT_TEXT)?);
-    }
-    Ok(())
-}
-
-/// The status of the program on the words of a line, over a writer with room for 20 bytes, how many
-/// of them it took, and how many writes it refused.
-fn cut_short(
-    rt: &impl AllocGlobal,
-    line: &[u8],
-    refusal: Refusal,
-) -> Result<(u8, usize, u32), AllocError> {
-    let mut writer = Bounded {
-        taken: Vec::new(rt.alloc()),
-        room: 20,
-        at_a_time: 7,
-        refusal,
-        refused: 0,
-    };
-    let ended = run(rt, line, b"0,d,,\n".as_slice(), &mut writer)?;
-    Ok((ended, writer.taken.len(), writer.refused))
-}
-
-#[test]
-fn a_failed_write_of_a_text_is_status_4(rt: HostRuntime) -> Result<(), Fail> {
-    for line in [b"--help".as_slice(), b"live".as_slice(), b"\xff".as_slice()] {
-        for refusal in [Refusal::Fails, Refusal::TakesNothing] {
-            assert_eq!(rt; cut_short(&rt, line, refusal)?, (4, 20, 1));
-        }
-    }
+fn a_long_word_is_read_whole(rt: HostRuntime) -> Result<(), Fail> {
+    let word = Vec::from_elem(rt.alloc(), b'a', 1000)?;
+    let mut output = Output::ample(rt.alloc());
+    let status = run(
+        rt.alloc(),
+        &[b"klsm", word.as_slice()],
+        Input::whole(SCRIPT),
+        &mut output,
+    );
+    let is_told = output
+        .taken
+        .as_slice()
+        .windows(1000)
+        .any(|part| part == word.as_slice());
+    assert!(rt; status == 2 && is_told);
     Ok(())
 }
