@@ -1,4 +1,5 @@
-//! Random steps, legal ones and others, compared at each step with a plain program written from the definitions.
+//! Random steps, legal ones and others, compared at each step with a plain program written from the
+//! definitions.
 
 mod plain;
 mod proposed;
@@ -100,34 +101,29 @@ fn refuse_same(alloc: Global, mix: &mut Pcg32, both: &mut Both) -> Option<bool> 
     Some(answer == Some(WorldError::At(at, why)))
 }
 
+// Whether both are the same step by step, as a run, and as a run that is refused.
+fn all_same(alloc: Global, both: &mut Both) -> Option<bool> {
+    let mut mix = Pcg32::seed_from_u64(11);
+    Some(
+        step_same(alloc, &mut mix, both)?
+            && run_same(alloc, both)?
+            && refuse_same(alloc, &mut mix, both)?,
+    )
+}
+
 // Whether the worlds of so many threads and this k are the same.
 fn are_same(alloc: Global, threads: u32, k: usize) -> Option<bool> {
-    let mut mix = Pcg32::seed_from_u64(11);
-    let mut both = both_of(alloc, threads, k)?;
-    let are_steps = step_same(alloc, &mut mix, &mut both)?;
-    let are_runs = run_same(alloc, &both)?;
-    let are_refusals = refuse_same(alloc, &mut mix, &mut both)?;
-    Some(are_steps && are_runs && are_refusals)
+    all_same(alloc, &mut both_of(alloc, threads, k)?)
 }
 
-// The first k of these at which the worlds differ.
-fn first_difference(alloc: Global, threads: u32) -> Option<usize> {
-    for k in 0..=3 {
-        if are_same(alloc, threads, k) != Some(true) {
-            return Some(k);
+#[test]
+fn the_same_worlds(rt: HostRuntime) {
+    for threads in 1..=4 {
+        for k in 0..=3 {
+            assert!(rt;
+                are_same(rt.alloc(), threads, k) == Some(true),
+                "{threads} threads, k = {k}"
+            );
         }
     }
-    None
-}
-
-#[test]
-fn one_or_two_threads(rt: HostRuntime) {
-    assert!(rt; first_difference(rt.alloc(), 1).is_none());
-    assert!(rt; first_difference(rt.alloc(), 2).is_none());
-}
-
-#[test]
-fn three_or_four_threads(rt: HostRuntime) {
-    assert!(rt; first_difference(rt.alloc(), 3).is_none());
-    assert!(rt; first_difference(rt.alloc(), 4).is_none());
 }

@@ -1,46 +1,46 @@
 //! Each growth refused in turn: nothing changes, and the same call goes through later.
 
-use super::steps::{Moved, Row, item, steps_of, world_after};
+use super::steps::{Moved, Name, Row, steps_of, world_after};
 use klsm_testing::Rationed;
 use klsm_world::{Items, Step, StepError, World, WorldError, run};
 use std::alloc::Global;
 
+const FIVE: Name = (5, 1, 0);
+
+const TWO: Name = (2, 1, 1);
+
+const NINE: Name = (9, 1, 2);
+
 // A schedule with each kind of step and each event.
-fn all_kinds() -> [Row; 16] {
-    let (five, two, nine) = (item(5, 1, 0), item(2, 1, 1), item(9, 1, 2));
-    [
-        Row::Acquire(1, 2),
-        Row::Put(1, five),
-        Row::Miss(0, 2),
-        Row::Acquire(1, 0),
-        Row::Flush(1, two, Moved::One(five)),
-        Row::Put(1, nine),
-        Row::Take(1, two),
-        Row::Take(1, five),
-        Row::Release(1, 2),
-        Row::Release(1, 0),
-        Row::Acquire(0, 1),
-        Row::Acquire(0, 0),
-        Row::Nothing(0),
-        Row::Acquire(0, 2),
-        Row::Spy(0, 1, Moved::One(nine)),
-        Row::Take(0, nine),
-    ]
-}
+const ALL_KINDS: &[Row] = &[
+    Row::Acquire(1, 2),
+    Row::Put(1, FIVE),
+    Row::Miss(0, 2),
+    Row::Acquire(1, 0),
+    Row::Flush(1, TWO, Moved::One(FIVE)),
+    Row::Put(1, NINE),
+    Row::Take(1, TWO),
+    Row::Take(1, FIVE),
+    Row::Release(1, 2),
+    Row::Release(1, 0),
+    Row::Acquire(0, 1),
+    Row::Acquire(0, 0),
+    Row::Nothing(0),
+    Row::Acquire(0, 2),
+    Row::Spy(0, 1, Moved::One(NINE)),
+    Row::Take(0, NINE),
+];
 
-fn schedule(alloc: Global) -> Option<Vec<Step>> {
-    steps_of(alloc, &all_kinds())
-}
-
-// What came of a call with so many growths granted: it went through and none was refused, or it was refused for want of memory
-// and nothing changed, or else.
+// What came of a call with so many growths granted: it went through and none was refused, or it was
+// refused for want of memory and nothing changed, or else.
 enum Attempt {
     Through,
     Refused,
     Wrong,
 }
 
-// The attempt of a call that was refused a growth or none, with this answer, after which all was the same or not.
+// The attempt of a call that was refused a growth or none, with this answer, after which all was
+// the same or not.
 fn attempt_of(has_refused: bool, answer: Result<(), StepError>, is_same: bool) -> Attempt {
     match (has_refused, answer) {
         (false, Ok(())) => Attempt::Through,
@@ -92,7 +92,7 @@ fn goes_through(
 
 // Takes each step of the schedule so, and answers whether all went through and no item is left.
 fn all_go_through(alloc: Global, heap: &Rationed<Global>) -> Option<bool> {
-    let steps = schedule(alloc)?;
+    let steps = steps_of(alloc, ALL_KINDS)?;
     heap.allow(u64::MAX);
     let mut world = World::new(heap, 2, 2).ok()?;
     for step in &steps {
@@ -111,7 +111,7 @@ fn refusal_within(heap: &Rationed<Global>, growths: u64) -> Option<WorldError> {
 
 // Whether the live items, which are one, are given with one growth, and refused without.
 fn is_live_refused(alloc: Global, heap: &Rationed<Global>) -> Option<bool> {
-    let one = item(1, 0, 0);
+    let one = (1, 0, 0);
     let world = world_after(alloc, 1, 1, &[Row::Acquire(0, 1), Row::Put(0, one)])?;
     heap.allow(0);
     let refusal = world.live(heap).err();
@@ -119,7 +119,8 @@ fn is_live_refused(alloc: Global, heap: &Rationed<Global>) -> Option<bool> {
     Some(refusal == Some(WorldError::NoMemory) && world.live(heap).is_ok())
 }
 
-// Runs steps with so many growths granted. A run that goes through deletes three items and skips none.
+// Runs steps with so many growths granted. A run that goes through deletes three items and skips
+// none.
 fn run_within(heap: &Rationed<Global>, steps: &[Step], growths: u64) -> Attempt {
     heap.allow(growths);
     match run(heap, 2, 2, steps) {
@@ -146,7 +147,7 @@ fn run_goes_through(heap: &Rationed<Global>, steps: &[Step]) -> bool {
 
 // A refused growth is want of memory, and never a fault of the steps.
 fn schedule_goes_through(alloc: Global, heap: &Rationed<Global>) -> Option<bool> {
-    let steps = schedule(alloc)?;
+    let steps = steps_of(alloc, ALL_KINDS)?;
     Some(run_goes_through(heap, steps.as_slice()))
 }
 

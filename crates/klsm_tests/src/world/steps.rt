@@ -1,11 +1,16 @@
-//! Items, and steps as tables have them. A helper of these tests answers `None` where a call was refused that should not be.
+//! Items, and steps as tables have them. A helper of these tests answers `None` where a call was
+//! refused that should not be.
 
 use klsm_run::{Item, Stamp};
 use klsm_world::{Event, Items, Step, World};
 use std::alloc::Global;
 
-/// The item `key@owner.number`.
-pub(super) fn item(key: u64, owner: u32, number: u64) -> Item {
+/// A key, an owner and a number, which name an item.
+pub(super) type Name = (u64, u32, u64);
+
+/// The item of a name.
+pub(super) fn item(name: Name) -> Item {
+    let (key, owner, number) = name;
     Item {
         key,
         stamp: Stamp { owner, number },
@@ -17,8 +22,8 @@ pub(super) fn item(key: u64, owner: u32, number: u64) -> Item {
 #[derive(Clone, Copy)]
 pub(super) enum Moved {
     None,
-    One(Item),
-    Two(Item, Item),
+    One(Name),
+    Two(Name, Name),
 }
 
 /// A step: its thread, and then the part, the items or the victim.
@@ -27,9 +32,9 @@ pub(super) enum Row {
     Acquire(u32, u32),
     Release(u32, u32),
     Miss(u32, u32),
-    Put(u32, Item),
-    Flush(u32, Item, Moved),
-    Take(u32, Item),
+    Put(u32, Name),
+    Flush(u32, Name, Moved),
+    Take(u32, Name),
     Nothing(u32),
     Spy(u32, u32, Moved),
 }
@@ -40,15 +45,16 @@ pub(super) fn step_of(alloc: Global, row: Row) -> Option<Step> {
         Row::Acquire(thread, part) => Step::Acquire { thread, part },
         Row::Release(thread, part) => Step::Release { thread, part },
         Row::Miss(thread, part) => Step::Miss { thread, part },
-        Row::Put(thread, item) => commit(thread, Event::Put(item)),
-        Row::Flush(thread, item, moved) => flush(thread, item, moved_items(alloc, moved)?),
-        Row::Take(thread, item) => commit(thread, Event::Take(item)),
+        Row::Put(thread, name) => commit(thread, Event::Put(item(name))),
+        Row::Flush(thread, name, moved) => flush(thread, item(name), moved_items(alloc, moved)?),
+        Row::Take(thread, name) => commit(thread, Event::Take(item(name))),
         Row::Nothing(thread) => commit(thread, Event::Nothing),
         Row::Spy(thread, victim, moved) => spy(thread, victim, moved_items(alloc, moved)?),
     })
 }
 
-fn commit(thread: u32, event: Event) -> Step {
+/// A commit of the event.
+pub(super) fn commit(thread: u32, event: Event) -> Step {
     Step::Commit { thread, event }
 }
 
@@ -65,13 +71,13 @@ pub(super) fn spy(thread: u32, victim: u32, moved: Items) -> Step {
 fn moved_items(alloc: Global, moved: Moved) -> Option<Items> {
     match moved {
         Moved::None => items_of(alloc, &[]),
-        Moved::One(item) => items_of(alloc, &[item]),
-        Moved::Two(item, other) => items_of(alloc, &[item, other]),
+        Moved::One(name) => items_of(alloc, &[item(name)]),
+        Moved::Two(name, other) => items_of(alloc, &[item(name), item(other)]),
     }
 }
 
-/// A list of items.
-pub(super) fn items_of(alloc: Global, items: &[Item]) -> Option<Items> {
+// A list of items.
+fn items_of(alloc: Global, items: &[Item]) -> Option<Items> {
     Some(Items::new(items.to_vec(alloc).ok()?))
 }
 

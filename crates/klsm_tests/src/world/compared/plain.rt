@@ -1,5 +1,5 @@
-//! The plain world: the definitions over one list of items, as slow as they read. It calls nothing of the code under
-//! test.
+//! The plain world: the definitions over one list of items, as slow as they read. It calls nothing
+//! of the code under test.
 
 use klsm_run::{Item, Stamp};
 use klsm_world::{Event, Step, StepError};
@@ -288,7 +288,8 @@ fn own(thread: u32) -> u32 {
     thread.saturating_add(1)
 }
 
-// The part that an event needs beside the thread's own one, or that one. That of a spy on the thread itself is not there.
+// The part that an event needs beside the thread's own one, or that one. That of a spy on the
+// thread itself is not there.
 fn other_part(thread: u32, event: &Event) -> u32 {
     match event {
         Event::Spy { victim, moved: _ } if *victim == thread => u32::MAX,

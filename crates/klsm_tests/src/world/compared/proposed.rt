@@ -1,9 +1,9 @@
 //! Random steps, legal ones and others.
 
-use super::super::steps::{Moved, Row, flush, spy, step_of};
+use super::super::steps::{Moved, Row, commit, flush, spy, step_of};
 use super::plain::Plain;
-use klsm_run::{Item, Stamp};
-use klsm_world::{Items, Step};
+use klsm_run::Item;
+use klsm_world::{Event, Items, Step};
 use rand_core::Rng;
 use rand_pcg::Pcg32;
 use std::alloc::Global;
@@ -64,14 +64,14 @@ fn proposed_event(alloc: Global, mix: &mut Pcg32, plain: &Plain, thread: u32) ->
         load: 0,
     };
     match below(mix, 12) {
-        0..=2 => step_of(alloc, Row::Put(thread, item)),
+        0..=2 => Some(commit(thread, Event::Put(item))),
         3..=5 => proposed_flush(alloc, mix, plain, thread, item),
-        6 => step_of(alloc, Row::Nothing(thread)),
+        6 => Some(commit(thread, Event::Nothing)),
         7 => proposed_spy(alloc, mix, plain, thread),
-        _ => step_of(
-            alloc,
-            Row::Take(thread, proposed_take(mix, plain, thread, item)),
-        ),
+        _ => {
+            let item = proposed_take(mix, plain, thread, item);
+            Some(commit(thread, Event::Take(item)))
+        }
     }
 }
 
@@ -110,8 +110,8 @@ fn some_of(alloc: Global, mix: &mut Pcg32, plain: &Plain, part: u32) -> Option<V
     Some(some)
 }
 
-// The item of a take: the lesser of the least own item and a shared one, which is mostly a candidate, or `item` where there is
-// none.
+// The item of a take: the lesser of the least own item and a shared one, which is mostly a
+// candidate, or `item` where there is none.
 fn proposed_take(mix: &mut Pcg32, plain: &Plain, thread: u32, item: Item) -> Item {
     let at = below(mix, plain.count(0).min(plain.k.saturating_add(2)));
     let candidate = plain.nth(0, at).unwrap_or(item);
@@ -123,15 +123,7 @@ fn proposed_take(mix: &mut Pcg32, plain: &Plain, thread: u32, item: Item) -> Ite
 
 // A step with something wrong.
 fn spoilt(alloc: Global, mix: &mut Pcg32, threads: u32) -> Option<Step> {
-    let stamp = Stamp {
-        owner: 0,
-        number: 99,
-    };
-    let wrong = Item {
-        key: 3,
-        stamp,
-        load: 0,
-    };
+    let wrong = (3, 0, 99);
     let moved = Moved::One(wrong);
     let row = match below(mix, 8) {
         0 => Row::Acquire(threads, 0),
