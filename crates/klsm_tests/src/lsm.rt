@@ -1,6 +1,5 @@
 //! What an LSM answers, and which blocks each call leaves.
 
-mod compared;
 mod grown;
 mod refused;
 mod worked;

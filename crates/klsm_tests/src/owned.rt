@@ -1,5 +1,6 @@
-//! Items that are told apart by their owners and numbers, runs of them, and what the tests ask of runs and LSMs.
-ghost use Rattle.std.specs.Prelude.{◌≡◌, ◌<◌, ◌≤◌, length, IfSome};
+//! Items that are told apart by their owners and numbers, runs of them, and what the tests ask of
+//! runs and LSMs.
+ghost use Rattle.std.specs.Prelude.{◌≡◌, ◌<◌, ◌≤◌, length, IfSome, IsTrue};
 ghost use Rattle.std.specs.List.{AllByRecursion};
 
 use klsm_lsm::Lsm;
@@ -39,7 +40,8 @@ pub(crate) fn heap_run_of<A: Allocator + Copy>(
 ) -> Option<HeapRun<A>>
     requires { length keys.now ≤ 64 }
     ensures len { IfSome result (λ run. length run.items ≡ length keys.now) }
-    ensures owner { IfSome result (λ run. AllByRecursion (λ x. x.stamp.owner ≡ owner) run.items) }
+    ensures owner { IfSome result (λ run.
+        AllByRecursion (λ x. x.stamp.owner ≡ owner) run.items) }
 {
     let Ok(run) = HeapRun::copy_of(alloc, &run_of(owner, keys)) else {
         return None;
@@ -47,17 +49,27 @@ pub(crate) fn heap_run_of<A: Allocator + Copy>(
     Some(run)
 }
 
-/// Whether a run has these keys.
-pub(crate) fn has_keys<R: Run>(run: &R, keys: &[u64]) -> bool {
-    if run.len() != keys.len() {
-        return false;
-    }
-    for (index, key) in keys.iter().enumerate() {
-        if run.item_at(index).key != *key {
+/// Whether keys can be those of a run.
+pub(crate) fn are_keys(keys: &[u64]) -> bool
+    ensures some { IsTrue result → 0 < length keys.now }
+    ensures few { IsTrue result → length keys.now ≤ 64 }
+{
+    !keys.is_empty() && keys.len() <= 64
+}
+
+/// Whether items have these keys.
+pub(crate) fn are_of(items: &[Item], keys: &[u64]) -> bool {
+    for (item, key) in items.iter().zip(keys) {
+        if item.key != *key {
             return false;
         }
     }
-    true
+    items.len() == keys.len()
+}
+
+/// Whether a run has these keys.
+pub(crate) fn has_keys<R: Run>(run: &R, keys: &[u64]) -> bool {
+    are_of(run.as_slice(), keys)
 }
 
 /// Whether the blocks of an LSM have these keys.

@@ -1,10 +1,10 @@
-//! Worked examples, a comparison with a plain program, mended pivots, spies, refused growths, and deletions without memory.
+//! A queue for one thread and its parts, beside a plain program written from the rules: the same
+//! answers, blocks, pivots and candidates after each step.
 
-mod compared;
-mod emptied;
-mod mended;
+mod both;
+mod mixed;
 mod pickers;
-mod queue;
+mod plain;
 mod refused;
 mod spied;
 mod worked;

@@ -1,21 +1,38 @@
-//! LSMs of items that are told apart by their owners: each call that puts items in takes those of the next owner.
-ghost use Rattle.std.specs.Prelude.{◌≡◌, ◌<◌, ◌≤◌, length, IsTrue};
+//! LSMs of items that are told apart by their owners: each call that puts items in takes those of
+//! the next owner.
+ghost use Rattle.std.specs.Prelude.{◌≡◌, ◌<◌, length};
 ghost use Rattle.std.specs.List.{All, AllByRecursion};
 ghost use Rattle.klsm_lsm.specs.Lsm.{content};
 ghost use Rattle.klsm_lsm.specs.Limit.{IsLevelCount};
 
-use super::super::owned::{heap_run_of, item, run_of};
+use super::super::owned::{are_keys, has_keys, heap_run_of, run_of};
 use klsm_lsm::{Lsm, LsmError, Refused};
-use klsm_run::{FixedRun, HeapRun, Item, Run};
+use klsm_run::{HeapRun, Item, Run};
 use klsm_testing::Rationed;
 use std::alloc::Global;
 
-/// An LSM, and how many owners have put items in. Their numbers are below that, so the items of the next owner are new.
+/// An LSM, and how many owners have put items in. Their numbers are below that, so the items of the
+/// next owner are new.
 #[derive(Drop)]
 pub(super) struct Grown<R: Run, const LEVELS: usize> {
     pub lsm: Lsm<R, LEVELS>,
     pub owners: u32,
     ghost owned: { All (λ x. x.stamp.owner < owners) (content lsm) },
+}
+
+/// One over runs on the heap whose growths are rationed.
+pub(super) type RationedGrown<'a, const LEVELS: usize> = Grown<
+    HeapRun<&'a Rationed<Global>>,
+    LEVELS,
+>;
+
+/// How items are put in.
+#[derive(Clone, Copy)]
+pub(super) enum How {
+    /// As a run that is handed over.
+    Run,
+    /// As a copy of a run.
+    Copy,
 }
 
 impl<R: Run, const LEVELS: usize> Grown<R, LEVELS> {
@@ -27,6 +44,13 @@ impl<R: Run, const LEVELS: usize> Grown<R, LEVELS> {
             lsm: Lsm::new(),
             owners: 0,
         }
+    }
+
+    /// Lets all items go.
+    pub fn clear(&mut self)
+        requires { IsLevelCount LEVELS }
+    {
+        self.lsm = Lsm::new();
     }
 
     /// Absorbs a run of the next owner. Where there is no next one the LSM is called full.
@@ -54,54 +78,33 @@ impl<R: Run, const LEVELS: usize> Grown<R, LEVELS> {
     }
 }
 
-impl<const LEVELS: usize> Grown<FixedRun<64>, LEVELS> {
-    /// Inserts the item of a key.
-    pub fn insert(&mut self, key: u64) -> Result<(), LsmError> {
-        let Some(next) = self.owners.checked_add(1) else {
-            return Err(LsmError::Full);
-        };
-        let answer = self.lsm.insert(item(self.owners, 0, key));
-        self.owners = next;
-        answer
-    }
-
-    /// Absorbs the run of these keys, where there are keys for one.
-    pub fn absorb_keys(&mut self, keys: &[u64]) -> Option<Result<(), Refused<FixedRun<64>>>> {
-        if !are_keys(keys) {
-            return None;
-        }
-        let run = run_of(self.owners, keys);
-        Some(self.absorb(run))
-    }
-
-    /// Absorbs runs of these keys in turn.
-    pub fn absorb_all(&mut self, runs: &[&[u64]]) -> Option<()> {
-        for keys in runs {
-            self.absorb_keys(keys)?.ok()?;
-        }
-        Some(())
-    }
-}
-
 impl<'a, const LEVELS: usize> Grown<HeapRun<&'a Rationed<Global>>, LEVELS> {
-    /// Absorbs the run of these keys, where there are keys for one, and memory.
+    /// Absorbs the run of these keys with so many growths granted. `None` where it is refused and
+    /// not handed back as it was.
     pub fn absorb_keys(
         &mut self,
         heap: &'a Rationed<Global>,
         keys: &[u64],
-    ) -> Option<Result<(), Refused<HeapRun<&'a Rationed<Global>>>>> {
+        growths: u64,
+    ) -> Option<Result<(), LsmError>> {
         if !are_keys(keys) {
             return None;
         }
+        heap.allow(1);
         let run = heap_run_of(heap, self.owners, keys)?;
-        Some(self.absorb(run))
+        heap.allow(growths);
+        match self.absorb(run) {
+            Ok(()) => Some(Ok(())),
+            Err(refused) => has_keys(&refused.run, keys).then_some(Err(refused.why)),
+        }
     }
 
-    /// Absorbs a copy of the run of these keys, where there are keys for one.
+    /// Absorbs a copy of the run of these keys with so many growths granted.
     pub fn absorb_copy(
         &mut self,
         heap: &'a Rationed<Global>,
         keys: &[u64],
+        growths: u64,
     ) -> Option<Result<(), LsmError>> {
         if !are_keys(keys) {
             return None;
@@ -110,67 +113,34 @@ impl<'a, const LEVELS: usize> Grown<HeapRun<&'a Rationed<Global>>, LEVELS> {
             return None;
         };
         let run = run_of(self.owners, keys);
+        heap.allow(growths);
         let answer = self.lsm.absorb_copy(heap, &run);
         self.owners = next;
         Some(answer)
     }
 
-    /// Absorbs runs of these keys in turn.
-    pub fn absorb_all(&mut self, heap: &'a Rationed<Global>, runs: &[&[u64]]) -> Option<()> {
+    /// Puts the items of these keys in.
+    pub fn add(
+        &mut self,
+        heap: &'a Rationed<Global>,
+        how: How,
+        keys: &[u64],
+        growths: u64,
+    ) -> Option<Result<(), LsmError>> {
+        match how {
+            How::Run => self.absorb_keys(heap, keys, growths),
+            How::Copy => self.absorb_copy(heap, keys, growths),
+        }
+    }
+
+    /// Has the items of these runs in place of its own, with all growths granted.
+    pub fn refill(&mut self, heap: &'a Rationed<Global>, how: How, runs: &[&[u64]]) -> Option<()>
+        requires { IsLevelCount LEVELS }
+    {
+        self.clear();
         for keys in runs {
-            self.absorb_keys(heap, keys)?.ok()?;
+            self.add(heap, how, keys, u64::MAX)?.ok()?;
         }
         Some(())
     }
-
-    /// Absorbs copies of the runs of these keys in turn.
-    pub fn absorb_copies(&mut self, heap: &'a Rationed<Global>, runs: &[&[u64]]) -> Option<()> {
-        for keys in runs {
-            self.absorb_copy(heap, keys)?.ok()?;
-        }
-        Some(())
-    }
-}
-
-/// Whether keys can be those of a run.
-pub(super) fn are_keys(keys: &[u64]) -> bool
-    ensures some { IsTrue result → 0 < length keys.now }
-    ensures few { IsTrue result → length keys.now ≤ 64 }
-{
-    !keys.is_empty() && keys.len() <= 64
-}
-
-/// Why a run was refused, without it.
-pub(super) fn why_of<R: Run>(answer: Result<(), Refused<R>>) -> Result<(), LsmError> {
-    match answer {
-        Ok(()) => Ok(()),
-        Err(refused) => Err(refused.why),
-    }
-}
-
-/// The LSM over fixed runs that absorbed runs of these keys in turn.
-pub(super) fn fixed(runs: &[&[u64]]) -> Option<Grown<FixedRun<64>, 8>> {
-    let mut grown: Grown<FixedRun<64>, 8> = Grown::new();
-    grown.absorb_all(runs)?;
-    Some(grown)
-}
-
-/// The same over runs on the heap.
-pub(super) fn on_heap<'a>(
-    heap: &'a Rationed<Global>,
-    runs: &[&[u64]],
-) -> Option<Grown<HeapRun<&'a Rationed<Global>>, 8>> {
-    let mut grown: Grown<HeapRun<&'a Rationed<Global>>, 8> = Grown::new();
-    grown.absorb_all(heap, runs)?;
-    Some(grown)
-}
-
-/// The LSM over runs on the heap that absorbed copies of these runs.
-pub(super) fn copied<'a>(
-    heap: &'a Rationed<Global>,
-    runs: &[&[u64]],
-) -> Option<Grown<HeapRun<&'a Rationed<Global>>, 8>> {
-    let mut grown: Grown<HeapRun<&'a Rationed<Global>>, 8> = Grown::new();
-    grown.absorb_copies(heap, runs)?;
-    Some(grown)
 }

@@ -1,94 +1,46 @@
-//! What a spy moves and what it leaves. The helpers' clauses are what the tested calls require: no key comes twice.
-ghost use Rattle.std.specs.Prelude.{◌≡◌, ◌+◌, ◌≤◌, []};
+//! What a spy moves, and what it leaves.
 
-use super::queue;
-use klsm_parts::{First, Local, Shared, put, spy, take};
-use klsm_run::{Item, Run};
+use crate::owned::has_blocks;
+use klsm_parts::{First, Local, Queue, spy};
 use std::alloc::Global;
 
-// The item of a key.
-fn item(key: u64) -> Item
-    ensures { result.key ≡ key }
-{
-    queue::item(key, key)
-}
-
-// The part of the keys from `first` up to `past`, which are put in turn.
-fn part_of(first: u64, past: u64) -> Local<64>
-    requires { past ≤ first + 8 }
-    ensures { result.k ≡ 8 }
-{
-    let mut part = Local::new(8);
-    for key in first..past {
-        put(&mut part, item(key));
+/// The own part of a queue at k = 8 after insertions of these keys and so many deletions.
+pub(super) fn own_part(alloc: Global, keys: &[u64], deletions: usize) -> Option<Local<64>> {
+    let mut queue: Queue<64, 21> = Queue::new(alloc, 8);
+    for key in keys {
+        queue.insert(*key, 0).ok()?;
     }
-    part
-}
-
-// Whether the part has one block, of these keys.
-fn has_block(part: &Local<64>, keys: &[u64]) -> bool {
-    part.lsm().blocks() == 1 && has_keys(part.lsm().block(0), keys)
-}
-
-fn has_keys<R: Run>(run: &R, keys: &[u64]) -> bool {
-    if run.len() != keys.len() {
-        return false;
+    for _ in 0..deletions {
+        let _item = queue.delete_min(&mut First)?;
     }
-    for (index, key) in keys.iter().enumerate() {
-        if run.item_at(index) != item(*key) {
-            return false;
-        }
-    }
-    true
+    Some(queue.into_parts().0)
 }
 
-fn only_item_moves() -> bool {
-    let mut own = Local::new(8);
-    let mut victim = part_of(4, 5);
-    spy(&mut own, &mut victim) == 1 && has_block(&own, &[4]) && victim.len() == 0
+// Whether so many items of such a part move, and both parts then have these blocks.
+fn moves(
+    alloc: Global,
+    keys: &[u64],
+    deletions: usize,
+    count: usize,
+    moved: &[&[u64]],
+    left: &[&[u64]],
+) -> Option<bool> {
+    let mut victim = own_part(alloc, keys, deletions)?;
+    let mut own: Local<64> = Local::new(victim.k());
+    let answer = spy(&mut own, &mut victim);
+    Some(answer == count && has_blocks(own.lsm(), moved) && has_blocks(victim.lsm(), left))
 }
 
-fn largest_block_moves() -> bool {
-    let mut own = Local::new(8);
-    let mut victim = part_of(1, 6);
-    spy(&mut own, &mut victim) == 4 && has_block(&own, &[1, 2, 3, 4]) && has_block(&victim, &[5])
-}
-
-fn nothing_moves() -> bool {
-    let mut own: Local<64> = Local::new(8);
-    let mut victim = Local::new(8);
-    spy(&mut own, &mut victim) == 0 && own.len() == 0 && victim.len() == 0
-}
-
-// Takes the three least items of a part.
-fn without_three(part: Local<64>, alloc: Global) -> Local<64>
-    requires { part.k ≡ 8 }
-    ensures { result.k ≡ 8 }
-{
-    let mut part = part;
-    let mut shared: Shared<21> = Shared::new(alloc, 8);
-    for _round in 0..3 {
-        let _item = take(&mut part, &mut shared, &mut First);
-    }
-    part
-}
-
-fn half_of_the_only_block_moves(alloc: Global) -> bool {
-    let mut own = Local::new(8);
-    let mut victim = without_three(part_of(1, 9), alloc);
-    let before = has_block(&victim, &[4, 5, 6, 7, 8]);
-    let count = spy(&mut own, &mut victim);
-    before && count == 3 && has_block(&own, &[6, 7, 8]) && has_block(&victim, &[4, 5])
-}
-
+// One item; half of the only block; the larger of two blocks; nothing.
 #[test]
 fn blocks_move(rt: HostRuntime) {
-    assert!(rt; only_item_moves());
-    assert!(rt; largest_block_moves());
-    assert!(rt; nothing_moves());
-}
-
-#[test]
-fn half_moves(rt: HostRuntime) {
-    assert!(rt; half_of_the_only_block_moves(rt.alloc()));
+    let table: [(&[u64], usize, usize, &[&[u64]], &[&[u64]]); 4] = [
+        (&[4], 0, 1, &[&[4]], &[]),
+        (&[1, 2, 3, 4, 5, 6, 7, 8], 3, 3, &[&[6, 7, 8]], &[&[4, 5]]),
+        (&[1, 2, 3, 4, 5], 0, 4, &[&[1, 2, 3, 4]], &[&[5]]),
+        (&[], 0, 0, &[], &[]),
+    ];
+    for (keys, deletions, count, moved, left) in table {
+        assert!(rt; moves(rt.alloc(), keys, deletions, count, moved, left) == Some(true));
+    }
 }
