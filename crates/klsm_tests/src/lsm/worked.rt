@@ -128,10 +128,7 @@ fn shows<R: Run, const LEVELS: usize>(
         Some(item) => Some(item.key),
         None => None,
     };
-    lsm.len() == len
-        && lsm.is_empty() == (len == 0)
-        && key == least
-        && lsm.least_block() == block
+    lsm.len() == len && lsm.is_empty() == (len == 0) && key == least && lsm.least_block() == block
 }
 
 // Whether the LSM of each row does.
