@@ -1,6 +1,7 @@
 -- The events of a schedule are a run of the relaxed queue, which holds what is live.
 use Rattle.std.proofs.Common.{◌≡◌, ◌⊎◌, inl, inr, ℕ, zero, suc, ◌+◌, ◌-◌, ◌*◌, ◌<◌, ◌≤◌, List, [], ◌∷◌, length, unwrap_or, sym, refl, ap, ◌∙◌, subst, arith}
 use Rattle.std.specs.List.{Contains, flat_map}
+use Rattle.std.proofs.lemmas.Bool.{cases_eq}
 use Rattle.std.proofs.lemmas.List.Elements.{Contains-append_left, Contains-append_right}
 use Rattle.std.proofs.lemmas.List.Concat.{flat_map-cons}
 use Rattle.klsm_run.specs.declared.item.Item.{Item}
@@ -39,19 +40,10 @@ use Rattle.klsm_world.proofs.lawful.LawfulLemmas.{lawful_kept}
 -- an item of a part is live
 pub live_part : (w : World) (n p : ℕ) (x : Item) → p < n → Contains (content_of w p) x → Contains (live_below w n) x
 live_part w zero p x less within = absurd (omega (arith, less))
-live_part w (suc n) p x less within = elim (same_or_less n p less) [
+live_part w (suc n) p x less within = elim (cases_eq p n) [
   | inl same ↦ Contains-append_right (live_below w n) (content_of w n) x (subst (λ q. Contains (content_of w q) x) same within)
-  | inr below ↦ Contains-append_left (live_below w n) (content_of w n) x (live_part w n p x below within)
+  | inr other ↦ Contains-append_left (live_below w n) (content_of w n) x (live_part w n p x (omega (arith, less, other)) within)
 ]
-  where
-    same_or_less : (n p : ℕ) → p < suc n → (p ≡ n) ⊎ (p < n)
-    same_or_less zero zero less = inl refl
-    same_or_less zero (suc p) less = absurd (omega (arith, less))
-    same_or_less (suc n) zero less = inr (omega arith)
-    same_or_less (suc n) (suc p) less = elim (same_or_less n p (omega (arith, less))) [
-      | inl same ↦ inl (ap suc same)
-      | inr below ↦ inr (omega (arith, below))
-    ]
 
 -- a taken item is in one of the two parts
 taken_from : (k : ℕ) (own shared : List Item) (x : Item) → MayTake k own shared x → Contains own x ⊎ Contains shared x

@@ -1,5 +1,6 @@
 -- A deletion skips few live items of a lawful world, and few items live where nothing is answered.
-use Rattle.std.proofs.Common.{◌≡◌, ◌⊎◌, inl, inr, ℕ, zero, suc, ◌+◌, ◌-◌, ◌*◌, ◌<◌, ◌≤◌, List, [], ◌++◌, length, sym, refl, ap, ◌∙◌, subst, arith, suc-mul}
+use Rattle.std.proofs.Common.{◌≡◌, inl, inr, ℕ, zero, suc, ◌+◌, ◌-◌, ◌*◌, ◌<◌, ◌≤◌, List, [], ◌++◌, length, sym, refl, ap, ◌∙◌, subst, arith, suc-mul}
+use Rattle.std.proofs.lemmas.Bool.{cases_eq}
 use Rattle.std.proofs.lemmas.List.{length-append}
 use Rattle.std.proofs.lemmas.List.Sums.{count_by-le-length}
 use Rattle.klsm_run.specs.declared.item.Item.{Item}
@@ -32,23 +33,14 @@ module _ (f : List Item → ℕ) (none : f [] ≡ 0) (adds : (c d : List Item) �
       let some : ℕ = n * k in
       let more : suc n * k ≡ some + k = suc-mul n k in
       let last = adds (live_below w (suc n)) (content_of w (suc n)) in
-      elim (same_or_less n u within) [
+      elim (cases_eq u n) [
         | inl same ↦
             let before : f (live_below w (suc n)) ≤ f (content_of w 0) + some = all_few n (λ t less. each t (omega (arith, less))) in
             let there : f (content_of w (suc u)) ≡ f (content_of w (suc n)) = ap (λ i. f (content_of w (suc i))) same in
             omega (arith, before, there, last, more)
-        | inr less ↦
-            let before : f (live_below w (suc n)) + k ≤ (f (content_of w (suc u)) + f (content_of w 0)) + some = others_few n u less (λ t less. each t (omega (arith, less))) in
+        | inr other ↦
+            let before : f (live_below w (suc n)) + k ≤ (f (content_of w (suc u)) + f (content_of w 0)) + some = others_few n u (omega (arith, within, other)) (λ t less. each t (omega (arith, less))) in
             omega (arith, before, each n (omega arith), last, more)
-      ]
-    where
-      same_or_less : (n u : ℕ) → u < suc n → (u ≡ n) ⊎ (u < n)
-      same_or_less zero zero less = inl refl
-      same_or_less zero (suc u) less = absurd (omega (arith, less))
-      same_or_less (suc n) zero less = inr (omega arith)
-      same_or_less (suc n) (suc u) less = elim (same_or_less n u (omega (arith, less))) [
-        | inl same ↦ inl (ap suc same)
-        | inr below ↦ inr (omega (arith, below))
       ]
 
 -- of a world in which thread t holds both its parts, with these contents
