@@ -1,11 +1,12 @@
-pub mod Events
-pub mod Flushing
-pub mod Laws
-pub mod Least
-pub mod LeastPlaces
-pub mod Mending
-pub mod Part
-pub mod Parts
-pub mod Pivots
-pub mod Queues
-pub mod Taking
+-- The definitions, in the order in which they are best read.
+pub mod Parts  -- parts as contracts see them, and what each kind always is
+pub mod Least  -- the least items of a content
+pub mod Pivots  -- exact pivots
+pub mod Events  -- the events: when each may happen, and what it leaves
+pub mod Flushing  -- what moves at a flush
+pub mod Taking  -- how a deletion chooses
+pub mod EitherPart  -- a part of either kind
+pub mod Queues  -- the queue for one thread
+pub mod Laws  -- what follows from the definitions alone
+pub mod LeastPlaces  -- where the least item stands; no public contract cites it
+pub mod Mending  -- how pivots change with the blocks; no public contract cites it

@@ -4,7 +4,7 @@ ghost use Rattle.klsm_run.specs.Capacity.{IsCapacity};
 ghost use Rattle.klsm_lsm.specs.Lsm.{content, IsLsm};
 ghost use Rattle.klsm_lsm.specs.Limit.{IsLevelCount};
 ghost use Rattle.klsm_parts.specs.Parts.{items_in};
-ghost use Rattle.klsm_parts.specs.Part.{state_of, HasRoom};
+ghost use Rattle.klsm_parts.specs.EitherPart.{state_of, HasRoom};
 
 use crate::{Local, Shared};
 use klsm_lsm::Lsm;

@@ -1,11 +1,12 @@
-pub mod AnswerText
-pub mod CommandLine
-pub mod ExactAnswers
-pub mod Fits
-pub mod Number
-pub mod Output
-pub mod Program
-pub mod Progress
-pub mod Replay
-pub mod Rows
-pub mod Script
+-- The definitions, in the order in which they are best read.
+pub mod Number  -- the numbers of a script
+pub mod Script  -- what a row asks for, and what is wrong with it
+pub mod Rows  -- the rows of an input
+pub mod AnswerText  -- the answer text
+pub mod ExactAnswers  -- the answers of a queue that gives its least item
+pub mod Replay  -- what `replay_over` promises
+pub mod CommandLine  -- the command line, as its parser reads it
+pub mod Program  -- what `run_words` promises
+pub mod Output  -- what writing a line does; no public contract cites it
+pub mod Progress  -- how far a replay has come; no public contract cites it
+pub mod Fits  -- numbers of 64 bits; no public contract cites it

@@ -1,4 +1,4 @@
-use Rattle.klsm_parts.specs.Part.{state_of}
+use Rattle.klsm_parts.specs.EitherPart.{state_of}
 use Rattle.klsm_parts.proofs.EmptyLemmas.{none_in}
 use Rattle.klsm_parts.proofs.part.Part.is_empty.Goals as goal
 

@@ -2,7 +2,7 @@ use Rattle.std.proofs.Common.{◌≡◌, ◌<◌, List, Some, length, subst}
 use Rattle.std.specs.List.{slice_get}
 use Rattle.klsm_run.specs.declared.item.Item.{Item}
 use Rattle.klsm_lsm.specs.Lsm.{content}
-use Rattle.klsm_parts.specs.Part.{state_of}
+use Rattle.klsm_parts.specs.EitherPart.{state_of}
 use Rattle.klsm_parts.specs.declared.part.Part.{Part}
 use Rattle.klsm_parts.proofs.FitLemmas.{fixed_run_fits, own_lsm_fits, local_fits, shared_lsm_fits, shared_fits}
 use Rattle.klsm_parts.proofs.part.Part.item_at.Goals as goal
