@@ -93,10 +93,7 @@ impl<'a, const LEVELS: usize> Grown<HeapRun<&'a Rationed<Global>>, LEVELS> {
         heap.allow(1);
         let run = heap_run_of(heap, self.owners, keys)?;
         heap.allow(growths);
-        match self.absorb(run) {
-            Ok(()) => Some(Ok(())),
-            Err(refused) => has_keys(&refused.run, keys).then_some(Err(refused.why)),
-        }
+        handed_back(self.absorb(run), keys)
     }
 
     /// Absorbs a copy of the run of these keys with so many growths granted.
@@ -142,5 +139,17 @@ impl<'a, const LEVELS: usize> Grown<HeapRun<&'a Rationed<Global>>, LEVELS> {
             self.add(heap, how, keys, u64::MAX)?.ok()?;
         }
         Some(())
+    }
+}
+
+// What a run was refused for. `None` where it is not handed back with these keys.
+fn handed_back<R: Run>(
+    answer: Result<(), Refused<R>>,
+    keys: &[u64],
+) -> Option<Result<(), LsmError>> {
+    match answer {
+        Ok(()) => Some(Ok(())),
+        Err(refused) if has_keys(&refused.run, keys) => Some(Err(refused.why)),
+        Err(_) => None,
     }
 }
