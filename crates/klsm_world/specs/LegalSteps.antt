@@ -27,12 +27,13 @@ pub record HoldsBoth (t p : ℕ) (hand : Hand) (Fits : List Item → List Item �
   pub holds_other : Holds hand p other
   pub fits : Fits own other
 
--- thread t, after n insertions, may insert an item into parts that it holds so
+-- thread t, after n insertions, may insert an item: this is true of the parts that it holds, and
+-- the item bears the next stamp
 pub record MayInsert (t n : ℕ) (x : Item) (Held : Type 0) : Type 0 where
   pub held : Held
   pub stamp : BearsStamp t n x
 
--- thread t may spy on another one, by parts that it holds so
+-- thread t may spy on a victim: this is true of the parts that it holds, and the victim is another
 pub record MaySpyOn (t victim : ℕ) (Held : Type 0) : Type 0 where
   pub held : Held
   pub another : victim ≢ t

@@ -35,7 +35,7 @@ ListsLeaveFew = (limits : Limits) (t : ℕ) (own : List Entry) → t < limits.th
     → LeavesFew limits t own
 
 -- this is thread t's list in some lawful world in which no thread made more insertions than the
--- quota, as in each to which a schedule leads
+-- quota; each world to which a schedule leads is lawful
 pub record IsPossible (limits : Limits) (quota t : ℕ) (own : List Entry) : Type 0 where
   pub world : World
   pub lawful : IsLawful limits world
