@@ -5,12 +5,12 @@ use Rattle.klsm_run.specs.Content.{skipped}
 use Rattle.klsm_world.specs.declared.step.Event.TheVariants.{Take, Nothing}
 use Rattle.klsm_world.specs.declared.step.Step.{Step}
 use Rattle.klsm_world.specs.declared.step.Step.TheVariants.{Commit}
-use Rattle.klsm_world.specs.Worlds.{Limits, World, live}
+use Rattle.klsm_world.specs.Worlds.{Limits, World, live, limits_of}
 use Rattle.klsm_world.specs.Schedules.{MayStep, Leads}
 
 -- two threads, and at most one item in an own part
 abbrev pub two_threads : Limits
-two_threads = record { threads = 2; k = 1 }
+two_threads = limits_of 2 1
 
 -- a schedule, its latest step first, after which a thread may delete an item that skips T·k live
 -- ones

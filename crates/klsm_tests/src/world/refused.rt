@@ -125,7 +125,7 @@ fn run_within(heap: &Rationed<Global>, steps: &[Step], growths: u64) -> Attempt 
     heap.allow(growths);
     match run(heap, 2, 2, steps) {
         Ok(trace) => {
-            let is_right = trace.deleted.as_slice().len() == 3 && trace.most == 0;
+            let is_right = trace.deleted.len() == 3 && trace.most == 0;
             attempt_of(heap.has_refused() || !is_right, Ok(()), true)
         }
         Err(WorldError::NoMemory) => attempt_of(heap.has_refused(), Err(StepError::NoMemory), true),

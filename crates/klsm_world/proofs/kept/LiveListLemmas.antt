@@ -1,12 +1,12 @@
 -- The live items, as the contents one after another.
-use Rattle.std.proofs.Common.{◌≡◌, ℕ, zero, suc, ◌+◌, ◌<◌, ◌≤◌, List, [], ◌∷◌, ◌++◌, length, get_or, take, refl, ap, sym, subst, ◌∙◌, arith, append-nil, add-one, cond, false}
+use Rattle.std.proofs.Common.{◌≡◌, ℕ, zero, suc, ◌+◌, ◌<◌, ◌≤◌, List, [], ◌∷◌, ◌++◌, length, get_or, take, refl, ap, sym, subst, ◌∙◌, arith, add-one, cond, false}
 use Rattle.std.specs.List.Sorted.{IsPermutation, IsSorted}
 use Rattle.std.proofs.lemmas.List.Sorted.{sum_by-IsPermutation}
 use Rattle.klsm_run.specs.ItemOrder.{item_cmp, is_smaller, is_same}
 use Rattle.klsm_world.proofs.counts.SameLemmas.{same_if_counted}
+use Rattle.klsm_world.proofs.counts.ItemGrowthLemmas.{flat_map_more}
 use Rattle.std.specs.List.{flat_map}
 use Rattle.std.proofs.lemmas.List.{take_more}
-use Rattle.std.proofs.lemmas.Grind.{flat_map-append}
 use Rattle.std.proofs.Math.Seq.{take-length}
 use Rattle.klsm_run.specs.declared.item.Item.{Item}
 use Rattle.klsm_run.specs.Content.{placed, skipped, sorted}
@@ -18,7 +18,7 @@ use Rattle.klsm_world.specs.Worlds.{Limits, content_of, live_below, live}
 -- one element more adds its items
 pub items_more : {A B : Type 0} (f : A → List B) (xs : List A) (i : ℕ) (d : A) → i < length xs → flat_map f (take (i + 1) xs) ≡ flat_map f (take i xs) ++ f (get_or xs i d)
 items_more f xs i d within =
-    ap (flat_map f) (take_more xs i d within) ∙ (flat_map-append f (take i xs) (get_or xs i d ∷ []) ∙ ap (λ ys. flat_map f (take i xs) ++ ys) (append-nil (f (get_or xs i d))))
+    ap (flat_map f) (take_more xs i d within) ∙ flat_map_more f (take i xs) (get_or xs i d)
 
 -- one content more skips as many items more
 pub skipped_more : (contents : List (List Item)) (i : ℕ) (c d : List Item) (x : Item) → i < length contents → c ≡ get_or contents i d

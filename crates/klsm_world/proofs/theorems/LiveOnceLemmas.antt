@@ -1,7 +1,7 @@
 -- No item is live twice, so no two parts share one.
-use Rattle.std.proofs.Common.{◌≡◌, ◌≢◌, inl, inr, ℕ, zero, suc, ◌+◌, ◌<◌, ◌≤◌, List, [], ◌∷◌, ◌++◌, length, get_or, take, sym, refl, ap, ◌∙◌, subst, arith}
+use Rattle.std.proofs.Common.{◌≡◌, ◌≢◌, inl, inr, ℕ, zero, suc, ◌+◌, ◌<◌, ◌≤◌, List, [], ◌∷◌, length, get_or, take, sym, refl, ap, ◌∙◌, subst, arith}
 use Rattle.std.specs.List.{Contains, flat_map}
-use Rattle.std.proofs.Math.Seq.{take-suc, take-length}
+use Rattle.std.proofs.Math.Seq.{take-length}
 use Rattle.std.proofs.lemmas.Bool.{cases_eq}
 use Rattle.std.proofs.lemmas.Option.{slice_get-get_or}
 use Rattle.std.proofs.lemmas.List.Concat.{flat_map-cons}
@@ -18,10 +18,9 @@ use Rattle.klsm_world.specs.Worlds.{Limits, World, steps_of, hand_in, content_of
 use Rattle.klsm_world.specs.LawfulWorlds.{IsLawful}
 use Rattle.klsm_world.specs.Laws.{LiveItemsDiffer, PartsShareNone}
 use Rattle.klsm_world.proofs.counts.EventCountLemmas.{times_append, times_contained, contained_if_counted}
-use Rattle.klsm_world.proofs.counts.ItemGrowthLemmas.{items_grow}
 use Rattle.klsm_world.proofs.hands.PartContentLemmas.{content_held}
 use Rattle.klsm_world.proofs.theorems.RunLemmas.{live_part}
-use Rattle.klsm_world.proofs.theorems.StampLemmas.{inserted_bears, inserted_somewhere, stamp_at, stamps_below, next_is_not_live}
+use Rattle.klsm_world.proofs.theorems.StampLemmas.{inserted_bears, inserted_longer, inserted_somewhere, stamp_at, stamps_below, next_is_not_live}
 
 counted : (x : Item) (c : List Item) → times x c ≢ 0 → Contains c x
 counted x c some = contained_if_counted x c (omega (arith, some))
@@ -32,7 +31,7 @@ once_in_prefix k t own legal x zero some = let none : times x (inserted (take ze
 once_in_prefix k t own legal x (suc n) some =
     let entry : Entry = get_or own n (Released 0) in
     let inside : n < length own = omega (arith, some) in
-    let longer : inserted (take (suc n) own) ≡ inserted (take n own) ++ flat_map inserted_by (event_at entry) = ap inserted (take-suc own n (Released 0) inside) ∙ items_grow inserted_by (take n own) entry in
+    let longer = inserted_longer own n inside in
     let count : times x (inserted (take (suc n) own)) ≡ times x (inserted (take n own)) + times x (flat_map inserted_by (event_at entry)) =
     ap (times x) longer ∙ times_append x (inserted (take n own)) (flat_map inserted_by (event_at entry)) in
     let before : times x (inserted (take n own)) ≤ 1 = once_in_prefix k t own legal x n (omega (arith, some)) in

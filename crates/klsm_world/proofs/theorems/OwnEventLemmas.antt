@@ -4,7 +4,6 @@ use Rattle.std.specs.Prelude.{reverse}
 use Rattle.std.specs.List.{flat_map}
 use Rattle.std.proofs.lemmas.Bool.{cases_eq}
 use Rattle.std.proofs.lemmas.List.{reverse-append}
-use Rattle.std.proofs.lemmas.Grind.{flat_map-append}
 use Rattle.klsm_world.specs.declared.step.Event.{Event}
 use Rattle.klsm_world.specs.declared.step.Step.{Step}
 use Rattle.klsm_world.specs.declared.step.Step.TheVariants.{Acquire, Commit, Release, Miss}
@@ -14,6 +13,7 @@ use Rattle.klsm_world.specs.OwnSteps.{event_at}
 use Rattle.klsm_world.specs.Worlds.{World, home_of, holder_of, steps_of}
 use Rattle.klsm_world.specs.Schedules.{MayStep, noted, next}
 use Rattle.klsm_world.specs.Laws.{event_by, ListsHaveEvents}
+use Rattle.klsm_world.proofs.counts.ItemGrowthLemmas.{flat_map_more}
 use Rattle.klsm_world.proofs.hands.HandLemmas.{choice_hit, choice_miss}
 use Rattle.klsm_world.proofs.hands.NotedLemmas.{steps_noted, steps_else}
 use Rattle.klsm_world.proofs.hands.AgreeLemmas.{no_steps}
@@ -26,8 +26,8 @@ module _ (v : World) (u t : ℕ) (entry : Entry) (inside : u < length v.lists) (
     | inl same ↦
         ap (λ z. flat_map event_at (steps_of w z)) same
         ∙ (ap (flat_map event_at) (steps_noted v w u entry inside lists)
-        ∙ (flat_map-append event_at (steps_of v u) (entry ∷ [])
-        ∙ (ap (λ es. flat_map event_at (steps_of v u) ++ es) (append-nil (event_at entry) ∙ mine (sym same))
+        ∙ (flat_map_more event_at (steps_of v u) entry
+        ∙ (ap (λ es. flat_map event_at (steps_of v u) ++ es) (mine (sym same))
         ∙ ap (λ z. flat_map event_at (steps_of v z) ++ events) (sym same))))
     | inr other ↦
         ap (flat_map event_at) (steps_else v w u t entry other lists)
@@ -36,8 +36,7 @@ module _ (v : World) (u t : ℕ) (entry : Entry) (inside : u < length v.lists) (
 
 one_more : (t : ℕ) (step : Step) (before : List Step) → flat_map (event_by t) (reverse (step ∷ before)) ≡ flat_map (event_by t) (reverse before) ++ event_by t step
 one_more t step before =
-    ap (flat_map (event_by t)) (reverse-append (step ∷ []) before)
-    ∙ (flat_map-append (event_by t) (reverse before) (step ∷ []) ∙ ap (λ es. flat_map (event_by t) (reverse before) ++ es) (append-nil (event_by t step)))
+    ap (flat_map (event_by t)) (reverse-append (step ∷ []) before) ∙ flat_map_more (event_by t) (reverse before) step
 
 pub lists_have_events : ListsHaveEvents
 lists_have_events limits [] w t leads inside = ap (λ z. flat_map event_at (steps_of z t)) leads ∙ ap (flat_map event_at) (no_steps limits t)

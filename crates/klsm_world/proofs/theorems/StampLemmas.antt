@@ -41,13 +41,18 @@ stamp_at k t before (Committed (Spy victim moved)) x may within = absurd (contai
 stamp_at k t before (Released p) x may within = absurd (contains_none x within)
 stamp_at k t before (Missed p by) x may within = absurd (contains_none x within)
 
+-- what the first entries of a list insert, with one entry more
+pub inserted_longer : (own : List Entry) (n : ℕ) → n < length own
+    → inserted (take (suc n) own) ≡ inserted (take n own) ++ flat_map inserted_by (event_at (get_or own n (Released 0)))
+inserted_longer own n inside = ap inserted (take-suc own n (Released 0) inside) ∙ items_grow inserted_by (take n own) (get_or own n (Released 0))
+
 pub stamps_below : (k t : ℕ) (own : List Entry) → IsLegal k t own → (n : ℕ) → n ≤ length own → (x : Item) → Contains (inserted (take n own)) x
     → BearsEarlier t (length (inserted (take n own))) x
 stamps_below k t own legal zero some x within = absurd (contains_none x within)
 stamps_below k t own legal (suc n) some x within =
     let entry : Entry = get_or own n (Released 0) in
     let inside : n < length own = omega (arith, some) in
-    let longer : inserted (take (suc n) own) ≡ inserted (take n own) ++ flat_map inserted_by (event_at entry) = ap inserted (take-suc own n (Released 0) inside) ∙ items_grow inserted_by (take n own) entry in
+    let longer = inserted_longer own n inside in
     let count : length (inserted (take (suc n) own)) ≡ length (inserted (take n own)) + length (flat_map inserted_by (event_at entry)) =
     ap length longer ∙ length-append (inserted (take n own)) (flat_map inserted_by (event_at entry)) in
     elim (Contains-append_cases (inserted (take n own)) (flat_map inserted_by (event_at entry)) x (subst (λ c. Contains c x) longer within)) [

@@ -1,5 +1,5 @@
 -- What a run of steps has done at its end.
-use Rattle.std.proofs.Common.{◌≡◌, ◌≢◌, ℕ, ◌*◌, ◌<◌, ◌≤◌, max, List, [], ◌∷◌, ◌++◌, length, take, get_or, Some, refl, sym, ap, ◌∙◌, subst, arith, append-nil, nat_cmp}
+use Rattle.std.proofs.Common.{◌≡◌, ◌≢◌, ℕ, ◌*◌, ◌<◌, ◌≤◌, max, List, [], ◌∷◌, ◌++◌, length, take, get_or, Some, refl, sym, ap, ◌∙◌, subst, arith, nat_cmp}
 use Rattle.std.specs.Prelude.{reverse, slice_get}
 use Rattle.std.specs.Ordering.{ord_max}
 use Rattle.std.proofs.lemmas.Bool.Decides.{nat_tests}
@@ -29,6 +29,7 @@ use Rattle.klsm_world.specs.RelaxedQueue.{IsRun, event_of, events_of, queue_of, 
 use Rattle.klsm_world.specs.WorldView.{AreLimits}
 use Rattle.klsm_world.specs.Traces.{IsTrace, RefusesRun}
 use Rattle.klsm_world.proofs.counts.EventCountLemmas.{times_append}
+use Rattle.klsm_world.proofs.counts.ItemGrowthLemmas.{flat_map_more}
 use Rattle.klsm_world.proofs.counts.SameLemmas.{same_if_counted}
 use Rattle.klsm_world.proofs.theorems.RunLemmas.{queue_is_live, queue_counts_insertions, schedules_are_runs}
 use Rattle.klsm_world.proofs.traces.TraceLemmas.{HasRun}
@@ -52,19 +53,15 @@ times_reversed x items_by (step ∷ steps) =
     let some = flat_map items_by (event_of step) in
     let rest = flat_map items_by (events_of steps) in
     let back = flat_map items_by (events_of (reverse steps)) in
-    let parted : flat_map items_by (events_of (reverse (step ∷ steps))) ≡ back ++ (some ++ []) =
+    let parted : flat_map items_by (events_of (reverse (step ∷ steps))) ≡ back ++ some =
     ap (λ all. flat_map items_by (events_of all)) (reverse-append (step ∷ []) steps)
-    ∙ (ap (flat_map items_by) (flat_map-append event_of (reverse steps) (step ∷ []) ∙ ap (λ es. events_of (reverse steps) ++ es) (append-nil (event_of step)))
-    ∙ (flat_map-append items_by (events_of (reverse steps)) (event_of step) ∙ ap (λ items. back ++ items) (sym (append-nil some)))) in
+    ∙ (ap (flat_map items_by) (flat_map_more event_of (reverse steps) step) ∙ flat_map-append items_by (events_of (reverse steps)) (event_of step)) in
     let joined : flat_map items_by (events_of (step ∷ steps)) ≡ some ++ rest =
     ap (flat_map items_by) (flat_map-cons event_of step steps) ∙ flat_map-append items_by (event_of step) (events_of steps) in
-    let none : times x [] ≡ 0 = refl in
     omega (
       arith,
       ap (times x) parted,
-      times_append x back (some ++ []),
-      times_append x some [],
-      none,
+      times_append x back some,
       ap (times x) joined,
       times_append x some rest,
       times_reversed x items_by steps,

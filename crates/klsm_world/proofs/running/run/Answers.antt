@@ -6,7 +6,7 @@ use Rattle.klsm_world.specs.Refusals.{Refuses}
 use Rattle.klsm_world.specs.WorldView.{WorldView}
 use Rattle.klsm_world.specs.Schedules.{MayStep, next}
 use Rattle.klsm_world.specs.Traces.{IsTrace}
-use Rattle.klsm_world.specs.Worlds.{Limits, first_world}
+use Rattle.klsm_world.specs.Worlds.{Limits, first_world, limits_of}
 use Rattle.klsm_world.proofs.traces.StartLemmas.{are_limits, run_lacks_memory, run_not_started}
 use Rattle.klsm_world.proofs.traces.TraceLemmas.{HasRun, has_run_more}
 use Rattle.klsm_world.proofs.traces.TraceEndLemmas.{trace_of_run, refused_by_step, greater_of}
@@ -14,7 +14,7 @@ use Rattle.klsm_world.proofs.running.run.Goals as goal
 
 pub returns-in-Err : goal.returns-in-Err
 returns-in-Err g c =
-    let limits : Limits = record { threads = c.args.threads; k = c.args.k } in
+    let limits : Limits = limits_of c.args.threads c.args.k in
     let step = c.index-steps-index.result in
     let refuses : Refuses limits c.loop-index.world.world step c.in-Err.why =
     subst (λ (l : Limits). Refuses l c.loop-index.world.world step c.in-Err.why) c.loop-index.invariant.limits c.in-Err.ensures.refused in
@@ -26,7 +26,7 @@ returns-in-Err g c =
 
 pub loop-index-preserved : goal.loop-index-preserved
 loop-index-preserved g c =
-    let limits : Limits = record { threads = c.args.threads; k = c.args.k } in
+    let limits : Limits = limits_of c.args.threads c.args.k in
     let steps = c.args.steps.now in
     let count = c.loop-index.index in
     let before = c.loop-index.world in
@@ -48,7 +48,7 @@ loop-index-preserved g c =
 
 pub returns-clause-trace : goal.returns-clause-trace
 returns-clause-trace g c =
-    let limits : Limits = record { threads = c.args.threads; k = c.args.k } in
+    let limits : Limits = limits_of c.args.threads c.args.k in
     let trace : IsTrace limits c.args.steps.now c.loop-index.inserted.items c.loop-index.deleted.items c.loop-index.most c.in_ok-live.live =
     trace_of_run limits c.args.steps.now c.loop-index.index c.loop-index.world.world _ _ _ _ c.loop-index.invariant.limits_are c.loop-index.invariant.run c.loop-index-test.false c.in_ok-live.ensures.live in
     subst (λ (d : List Item). IsTrace limits c.args.steps.now c.new-2.result d c.loop-index.most c.in_ok-live.live) (sym c.new-3.ensures)
@@ -56,12 +56,12 @@ returns-clause-trace g c =
 
 pub returns-in_err-world-clause-refused : goal.returns-in_err-world-clause-refused
 returns-in_err-world-clause-refused g c =
-    let limits : Limits = record { threads = c.args.threads; k = c.args.k } in
+    let limits : Limits = limits_of c.args.threads c.args.k in
     run_not_started limits c.args.steps.now _ _ c.from_residual.ensures.1 c.in_err-world.ensures.bad_threads c.in_err-world.ensures.bad_k c.in_err-world.ensures.no_step
 
 pub loop-index-init : goal.loop-index-init
 loop-index-init g c =
-    let limits : Limits = record { threads = c.args.threads; k = c.args.k } in
+    let limits : Limits = limits_of c.args.threads c.args.k in
     let made : c.in_ok-world.world ≡ record { limits = limits; world = first_world limits } = c.in_ok-world.ensures.made in
     record {
       limits = ap (λ (r : WorldView). r.limits) made;

@@ -2,7 +2,7 @@ use Rattle.std.proofs.Common.{ap, ◌∙◌, refl, sym, subst}
 use Rattle.klsm_run.proofs.SortedLemmas.{sorted_ascending}
 use Rattle.klsm_parts.specs.Events.{minus}
 use Rattle.klsm_world.specs.Kept.{IsKept}
-use Rattle.klsm_world.specs.Worlds.{Limits}
+use Rattle.klsm_world.specs.Worlds.{Limits, limits_of}
 use Rattle.klsm_world.proofs.kept.CommitTakenLemmas.{flush_taken}
 use Rattle.klsm_world.proofs.kept.MemoryLemmas.{lists_kept, refused_for_memory}
 use Rattle.klsm_world.proofs.kept.PlaceLemmas.{ascending_place, list_place, own_place, shared_place}
@@ -14,7 +14,7 @@ with_all-requires-2-clause-joining_sorted g c = sorted_ascending c.args.moved.no
 
 pub invariant_of-self-2 : goal.invariant_of-self-2
 invariant_of-self-2 g c =
-    let limits : Limits = record { threads = c.self.inside.threads; k = c.self.inside.k } in
+    let limits : Limits = limits_of c.self.inside.threads c.self.inside.k in
     (flush_taken c.args.self.now limits c.self.inside.words.items c.self.inside.contents.items c.self.inside.lists.items c.note.new.lists.items c.args.thread c.self.view_is c.self.invariant
     c.args.item c.args.moved.now c.new-listed.result c.own_part-own.result c.index.result.now c.as_slice.result.now c.new.result c.index-2.result.now c.as_slice-2.result.now c.new-2.result
     c.requires c.in_ok-note.ensures.noted (c.new-listed.ensures ∙ c.in_ok-copied.ensures.copy) c.own_part-own.ensures c.index.ensures c.as_slice.ensures
@@ -23,7 +23,7 @@ invariant_of-self-2 g c =
 
 pub returns : goal.returns
 returns g c =
-    let limits : Limits = record { threads = c.self.inside.threads; k = c.self.inside.k } in
+    let limits : Limits = limits_of c.self.inside.threads c.self.inside.k in
     (flush_taken c.args.self.now limits c.self.inside.words.items c.self.inside.contents.items c.self.inside.lists.items c.note.new.lists.items c.args.thread c.self.view_is c.self.invariant
     c.args.item c.args.moved.now c.new-listed.result c.own_part-own.result c.index.result.now c.as_slice.result.now c.new.result c.index-2.result.now c.as_slice-2.result.now c.new-2.result
     c.requires c.in_ok-note.ensures.noted (c.new-listed.ensures ∙ c.in_ok-copied.ensures.copy) c.own_part-own.ensures c.index.ensures c.as_slice.ensures

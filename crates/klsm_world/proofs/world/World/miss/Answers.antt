@@ -1,7 +1,7 @@
 use Rattle.std.proofs.Common.{sym, subst}
 use Rattle.std.proofs.lemmas.List.{get_or_read}
 use Rattle.klsm_world.specs.Kept.{IsKept}
-use Rattle.klsm_world.specs.Worlds.{Limits}
+use Rattle.klsm_world.specs.Worlds.{Limits, limits_of}
 use Rattle.klsm_world.proofs.kept.TakenLemmas.{miss_taken}
 use Rattle.klsm_world.proofs.kept.MemoryLemmas.{lists_kept, refused_for_memory}
 use Rattle.klsm_world.proofs.kept.PlaceLemmas.{list_place}
@@ -9,14 +9,14 @@ use Rattle.klsm_world.proofs.world.World.miss.Goals as goal
 
 pub invariant_of-self-2 : goal.invariant_of-self-2
 invariant_of-self-2 g c =
-    let limits : Limits = record { threads = c.self.inside.threads; k = c.self.inside.k } in
+    let limits : Limits = limits_of c.self.inside.threads c.self.inside.k in
     (miss_taken c.args.self.now limits c.self.inside.words.items c.self.inside.contents.items c.self.inside.lists.items c.note.new.lists.items c.args.thread c.self.view_is c.self.invariant
     c.args.part c.index.result.now c.requires c.in_ok-note.ensures.noted
     (λ within. get_or_read c.self.inside.words.items _ _ within c.index.ensures 0)).0
 
 pub returns : goal.returns
 returns g c =
-    let limits : Limits = record { threads = c.self.inside.threads; k = c.self.inside.k } in
+    let limits : Limits = limits_of c.self.inside.threads c.self.inside.k in
     (miss_taken c.args.self.now limits c.self.inside.words.items c.self.inside.contents.items c.self.inside.lists.items c.note.new.lists.items c.args.thread c.self.view_is c.self.invariant
     c.args.part c.index.result.now c.requires c.in_ok-note.ensures.noted
     (λ within. get_or_read c.self.inside.words.items _ _ within c.index.ensures 0)).1

@@ -1,6 +1,6 @@
 use Rattle.std.proofs.Common.{◌∙◌, sym, subst, refl}
 use Rattle.klsm_world.specs.Kept.{IsKept}
-use Rattle.klsm_world.specs.Worlds.{Limits}
+use Rattle.klsm_world.specs.Worlds.{Limits, limits_of}
 use Rattle.klsm_world.proofs.kept.CommitTakenLemmas.{put_taken}
 use Rattle.klsm_world.proofs.kept.MemoryLemmas.{lists_kept, refused_for_memory}
 use Rattle.klsm_world.proofs.kept.PlaceLemmas.{ascending_place, list_place, own_place}
@@ -8,14 +8,14 @@ use Rattle.klsm_world.proofs.world.World.put.Goals as goal
 
 pub invariant_of-self-2 : goal.invariant_of-self-2
 invariant_of-self-2 g c =
-    let limits : Limits = record { threads = c.self.inside.threads; k = c.self.inside.k } in
+    let limits : Limits = limits_of c.self.inside.threads c.self.inside.k in
     (put_taken c.args.self.now limits c.self.inside.words.items c.self.inside.contents.items c.self.inside.lists.items c.note.new.lists.items c.args.thread c.self.view_is c.self.invariant
     c.args.item c.own_part-own.result c.index.result.now c.as_slice.result.now c.new-2.result c.requires c.in_ok-note.ensures.noted
     c.own_part-own.ensures c.index.ensures c.as_slice.ensures (c.new-2.ensures ∙ c.in_ok-after.ensures.with_all)).0
 
 pub returns : goal.returns
 returns g c =
-    let limits : Limits = record { threads = c.self.inside.threads; k = c.self.inside.k } in
+    let limits : Limits = limits_of c.self.inside.threads c.self.inside.k in
     (put_taken c.args.self.now limits c.self.inside.words.items c.self.inside.contents.items c.self.inside.lists.items c.note.new.lists.items c.args.thread c.self.view_is c.self.invariant
     c.args.item c.own_part-own.result c.index.result.now c.as_slice.result.now c.new-2.result c.requires c.in_ok-note.ensures.noted
     c.own_part-own.ensures c.index.ensures c.as_slice.ensures (c.new-2.ensures ∙ c.in_ok-after.ensures.with_all)).1

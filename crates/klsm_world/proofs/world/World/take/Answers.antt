@@ -1,7 +1,7 @@
 use Rattle.std.proofs.Common.{◌≡◌, ◌⊎◌, true, false, inl, inr, ◌∙◌, sym, subst, refl}
 use Rattle.klsm_world.proofs.world.World.take.Goals.{then-is_own, else-is_own}
 use Rattle.klsm_world.specs.Kept.{IsKept}
-use Rattle.klsm_world.specs.Worlds.{Limits}
+use Rattle.klsm_world.specs.Worlds.{Limits, limits_of}
 use Rattle.klsm_world.proofs.kept.CommitTakenLemmas.{take_taken}
 use Rattle.klsm_world.proofs.kept.MemoryLemmas.{lists_kept, refused_for_memory}
 use Rattle.klsm_world.proofs.kept.PlaceLemmas.{list_place, own_place}
@@ -9,7 +9,7 @@ use Rattle.klsm_world.proofs.world.World.take.Goals as goal
 
 pub invariant_of-self-2 : goal.invariant_of-self-2
 invariant_of-self-2 g c =
-    let limits : Limits = record { threads = c.self.inside.threads; k = c.self.inside.k } in
+    let limits : Limits = limits_of c.self.inside.threads c.self.inside.k in
     let place : ((c.if-is_own.part ≡ c.own_part-own.result) × (c.has-is_own.result ≡ true)) ⊎ ((c.if-is_own.part ≡ 0) × (c.has-is_own.result ≡ false)) =
     elim c.if-is_own.branch [ then-is_own w ↦ inl (w.part-is, w.if-is_own.true) | else-is_own w ↦ inr (w.part-is, w.if-is_own.false) ] in
     (take_taken c.args.self.now limits c.self.inside.words.items c.self.inside.contents.items c.self.inside.lists.items c.note.new.lists.items c.args.thread c.self.view_is c.self.invariant
@@ -19,7 +19,7 @@ invariant_of-self-2 g c =
 
 pub returns : goal.returns
 returns g c =
-    let limits : Limits = record { threads = c.self.inside.threads; k = c.self.inside.k } in
+    let limits : Limits = limits_of c.self.inside.threads c.self.inside.k in
     let place : ((c.if-is_own.part ≡ c.own_part-own.result) × (c.has-is_own.result ≡ true)) ⊎ ((c.if-is_own.part ≡ 0) × (c.has-is_own.result ≡ false)) =
     elim c.if-is_own.branch [ then-is_own w ↦ inl (w.part-is, w.if-is_own.true) | else-is_own w ↦ inr (w.part-is, w.if-is_own.false) ] in
     (take_taken c.args.self.now limits c.self.inside.words.items c.self.inside.contents.items c.self.inside.lists.items c.note.new.lists.items c.args.thread c.self.view_is c.self.invariant
