@@ -2,6 +2,7 @@
 use Rattle.std.proofs.Common.{◌≡◌, ◌&&◌, ◌≢◌, ℕ, ◌+◌, ◌<◌, ◌≤◌, ◌==◌, Bool, true, false, not, ◌||◌, List, [], ◌∷◌, length, refl, sym, ap, ◌∙◌, subst, arith, inl, inr}
 use Rattle.std.specs.List.{AllByRecursion, list_any}
 use Rattle.std.proofs.lemmas.Bool.{eqb-true, eq-eqb}
+use Rattle.std.proofs.lemmas.List.{nil_from_length}
 use Rattle.std.specs.Cmp.Lexicographic.{pointwise, pointwise_decides}
 use lib.Dec.{eqb}
 use Rattle.klsm_run.specs.declared.item.Stamp.{Stamp}
@@ -115,8 +116,7 @@ stay_counted own moved x within =
 
 -- a part whose length is 0 by a test is empty
 pub empty_if_no_length : (c : List Item) → true ≡ (length c == 0) → c ≡ []
-empty_if_no_length [] is = refl
-empty_if_no_length (x ∷ c) is = absurd (omega (arith, eqb-true (length (x ∷ c)) 0 (sym is)))
+empty_if_no_length c is = nil_from_length c (eqb-true (length c) 0 (sym is))
 
 -- and one whose length is not is not empty
 pub some_if_length : (c : List Item) (none some : Bool) → none ≡ (length c == 0) → some ≡ not none → some ≡ true → c ≢ []
