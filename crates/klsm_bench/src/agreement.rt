@@ -1,21 +1,32 @@
 //! The run whose output does not depend on time.
 
-use crate::contenders::Contender;
+use crate::contenders::{Contender, Heap};
+use crate::crew::{OnBoard, board_of_one};
 use crate::trio::Trio;
 use crate::workloads::{Workload, fill};
 use rand_core::SeedableRng;
 use rand_pcg::Pcg32;
 use std::alloc::Global;
 use std::io;
+use std::sync::Wait;
 
 /// Prints, for each workload and several k, whether the queue with the least candidate gives what the heap gives, and whether
-/// the other one gives as many.
-pub(crate) fn print<R: Print + AllocGlobal>(rt: &R) -> io::Result<()> {
+/// the other one gives as many. Then it prints whether a board of one member gives what the heap gives.
+pub(crate) fn print<R: Print + AllocGlobal + Wait>(rt: &R) -> io::Result<()> {
     for workload in Workload::all() {
         for k in [8, 64, 128] {
             let agreement = agree(rt.alloc(), workload, &mut Trio::new(rt.alloc(), k));
             print_row(rt, workload, k, agreement)?;
         }
+    }
+    for workload in Workload::all() {
+        let Some(in_order) = board_agrees(rt, rt.alloc(), workload, 64) else {
+            return println!(rt; "{} k 64: no memory", workload.name());
+        };
+        println!(rt;
+            "{} k 64: a board of one member gives the heap's keys: {in_order}",
+            workload.name()
+        )?;
     }
     Ok(())
 }
@@ -59,6 +70,25 @@ fn agree(alloc: Global, workload: Workload, trio: &mut Trio) -> Option<Agreement
         in_order: least == heap,
         as_many: random.count == heap.count,
     })
+}
+
+// Whether the keys of a board of one member are those of a heap in their order.
+fn board_agrees<R: Wait>(rt: &R, alloc: Global, workload: Workload, k: usize) -> Option<bool> {
+    let Some((board, member)) = board_of_one(alloc, k) else {
+        return None;
+    };
+    let mut on_board = OnBoard {
+        rt,
+        board: &board,
+        member,
+    };
+    let mut draws = Pcg32::seed_from_u64(42);
+    let first = workload.keys(alloc, &mut draws, 0, 500).ok()?;
+    let then = workload.keys(alloc, &mut draws, 500, 1_000).ok()?;
+    let mut heap = Heap::new(alloc);
+    let exact = keys_of(workload, &mut heap, first.as_slice(), then.as_slice())?;
+    let least = keys_of(workload, &mut on_board, first.as_slice(), then.as_slice())?;
+    Some(least == exact)
 }
 
 // What a contender gave: a sum that depends on the order of the keys, and how many keys came in all.

@@ -1,16 +1,21 @@
-//! Measures the queue for one thread beside the kit's binary heap.
+//! Measures the queue for one thread, and the board, beside the kit's binary heap.
 //!
-//! Each workload is run on a heap, on a queue with the picker of the least candidate, and on one with a picker of random
-//! candidates, one after another in each of five rounds. With the word `times` it prints the medians, in tenths of
-//! nanoseconds an operation; so it does for insertions alone, and for own parts that are filled and emptied. Without words
-//! it makes small runs, and prints what does not depend on time.
+//! With the word `times`, each workload is run on a heap, on a queue with the picker of the least candidate, and on one with
+//! a picker of random candidates, one after another in each of five rounds. It prints the medians, in tenths of nanoseconds
+//! an operation; so it does for insertions alone, and for own parts that are filled and emptied. With the word `threads` it
+//! does so for a heap behind a lock and a board, each used by one, two and four threads, and then for an own part with its
+//! lock and without. Without words it makes small runs, and prints what does not depend on time.
 #![tactic(auto)]
 
 mod agreement;
 mod contenders;
+mod crew;
+mod own;
 mod rounds;
+mod threads;
 mod times;
 mod trio;
+mod worker;
 mod workloads;
 
 use std::process::ExitCode;
@@ -23,10 +28,13 @@ fn main(rt: HostRuntime) -> io::Result<ExitCode> {
         agreement::print(&rt)?;
         return Ok(ExitCode::SUCCESS);
     };
-    if word.as_str() != "times" {
-        println!(rt; "words: none, or times")?;
-        return Ok(ExitCode::FAILURE);
+    match word.as_str() {
+        "times" => times::print(&rt)?,
+        "threads" => threads::print(&rt)?,
+        _ => {
+            println!(rt; "words: none, times, or threads")?;
+            return Ok(ExitCode::FAILURE);
+        }
     }
-    times::print(&rt)?;
     Ok(ExitCode::SUCCESS)
 }

@@ -83,8 +83,8 @@ impl Rounds {
     }
 }
 
-// Nanoseconds of calls on one of the three.
-fn time_of<C: Contender, R: Clock>(
+/// Nanoseconds of calls on one of them. `None` where it had no room.
+pub(crate) fn time_of<C: Contender, R: Clock>(
     rt: &R,
     contender: &mut C,
     calls: Calls,
@@ -99,7 +99,8 @@ fn time_of<C: Contender, R: Clock>(
     Ok(done.then_some(nanoseconds))
 }
 
-fn per_operation(mut times: [u128; ROUNDS], operations: usize) -> u128 {
+/// The median of some rounds, in tenths of nanoseconds for each of so many operations.
+pub(crate) fn per_operation(mut times: [u128; ROUNDS], operations: usize) -> u128 {
     times.sort_unstable();
     if operations == 0 {
         return 0;

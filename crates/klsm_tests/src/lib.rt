@@ -3,6 +3,7 @@
 //! A crate with tests is proved twice, with them and without, so they stand here, above all that
 //! they test. Each folder has the tests of one subject:
 //!
+//! - `board`: a board and its members, in one thread and in several;
 //! - `runs`: copies and merges of runs on the heap;
 //! - `lsm`: LSMs over runs on the heap, with the blocks that each call leaves;
 //! - `parts`: a queue for one thread and its parts, beside a plain program written from the rules;
@@ -12,6 +13,8 @@
 //!   definitions.
 #![tactic(auto)]
 
+#[cfg(test)]
+mod board;
 #[cfg(test)]
 mod lsm;
 #[cfg(test)]

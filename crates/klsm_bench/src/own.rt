@@ -1,0 +1,90 @@
+//! What the locks of a board cost a member that meets no other.
+ghost use Rattle.std.specs.Prelude.{◌<◌, ◌≤◌};
+
+use crate::contenders::{Contender, WithFirst};
+use crate::crew::{OnBoard, board_of_one};
+use crate::rounds::{Calls, ROUNDS, per_operation, time_of};
+use crate::workloads::Workload;
+use klsm_parts::Queue;
+use rand_core::SeedableRng;
+use rand_pcg::Pcg32;
+use std::io;
+use std::sync::Wait;
+use std::time::Clock;
+
+// How often an own part is filled and emptied in one round.
+const FILLINGS: usize = 1_000;
+
+/// Prints what insertions into an own part that has room for them cost, and the deletions of its items, in a queue for one
+/// thread and on a board of one member.
+pub(crate) fn print<R: Print + Clock + AllocGlobal + Wait>(rt: &R, k: usize) -> io::Result<()>
+    requires { k ≤ 128 }
+{
+    let Some((board, member)) = board_of_one(rt.alloc(), k) else {
+        return println!(rt; "own {k}: no memory");
+    };
+    let mut on_board = OnBoard {
+        rt,
+        board: &board,
+        member,
+    };
+    let mut queue = WithFirst {
+        queue: Queue::new(rt.alloc(), k),
+    };
+    let mut draws = Pcg32::seed_from_u64(42);
+    let mut in_queue = Times::new();
+    let mut by_member = Times::new();
+    for round in 0..ROUNDS {
+        for _ in 0..FILLINGS {
+            let keys = Workload::Uniform.keys(rt.alloc(), &mut draws, 0, k)?;
+            in_queue.add(rt, round, &mut queue, keys.as_slice())?;
+            by_member.add(rt, round, &mut on_board, keys.as_slice())?;
+        }
+    }
+    let calls = FILLINGS.wrapping_mul(k);
+    println!(rt;
+        "own-insertions {k} {} {}",
+        per_operation(in_queue.filling, calls),
+        per_operation(by_member.filling, calls)
+    )?;
+    println!(rt;
+        "own-deletions {k} {} {}",
+        per_operation(in_queue.draining, calls),
+        per_operation(by_member.draining, calls)
+    )
+}
+
+// Nanoseconds of each round.
+#[derive(Clone, Copy)]
+struct Times {
+    filling: [u128; ROUNDS],
+    draining: [u128; ROUNDS],
+}
+
+impl Times {
+    // No time in any round.
+    fn new() -> Self {
+        Times {
+            filling: [0; ROUNDS],
+            draining: [0; ROUNDS],
+        }
+    }
+
+    // Adds to a round the times of the insertions of these keys, and of as many deletions. The own part has room for them, so
+    // that none is refused.
+    fn add<C: Contender, R: Clock>(
+        &mut self,
+        rt: &R,
+        round: usize,
+        contender: &mut C,
+        keys: &[u64],
+    ) -> io::Result<()>
+        requires { round < 5 }
+    {
+        let filling = time_of(rt, contender, Calls::Fill(keys))?.unwrap_or(0);
+        let draining = time_of(rt, contender, Calls::Drain(keys.len()))?.unwrap_or(0);
+        self.filling[round] = self.filling[round].saturating_add(filling);
+        self.draining[round] = self.draining[round].saturating_add(draining);
+        Ok(())
+    }
+}

@@ -1,0 +1,172 @@
+//! The measurements of several threads.
+ghost use Rattle.std.specs.Prelude.{All};
+ghost use Rattle.klsm_board.specs.Boards.{IsOf};
+
+use crate::contenders::{Contender, Heap};
+use crate::crew::{InTurn, OnBoard, board_of};
+use crate::own;
+use crate::rounds::{ROUNDS, per_operation};
+use crate::worker::{Worker, time_of_all};
+use crate::workloads::Workload;
+use klsm_board::{Board, Member};
+use std::alloc::{AllocError, Global};
+use std::io;
+use std::sync::{Mutex, Wait};
+use std::thread::Threads;
+use std::time::Clock;
+
+// Insertions and deletions in turn, by each thread in one round.
+const PAIRS: usize = 50_000;
+
+// How many items an own part may have.
+const K: usize = 64;
+
+/// Prints a line for each workload, number of items and number of threads.
+pub(crate) fn print<R: Print + Clock + AllocGlobal + Threads + Wait + Sync>(
+    rt: &R,
+) -> io::Result<()> {
+    println!(rt;
+        "medians of five, in tenths of nanoseconds an operation of all threads together:"
+    )?;
+    println!(rt; "workload items threads heap board")?;
+    for workload in [Workload::Uniform, Workload::Hold] {
+        for items in [1_000, 100_000] {
+            for threads in [1, 2, 4] {
+                print_threads(rt, workload, items, threads)?;
+            }
+        }
+    }
+    println!(rt; "calls k queue board")?;
+    own::print(rt, K)
+}
+
+// Measures a heap and a board with so many threads each.
+fn print_threads<R: Print + Clock + AllocGlobal + Threads + Wait + Sync>(
+    rt: &R,
+    workload: Workload,
+    items: usize,
+    threads: usize,
+) -> io::Result<()> {
+    let heap = Mutex::new(Heap::new(rt.alloc()));
+    let in_turn = all_in_turn(rt, rt.alloc(), &heap, threads)?;
+    let Some((board, members)) = board_of(rt.alloc(), threads, K) else {
+        return println!(rt; "{} {items} {threads}: no memory", workload.name());
+    };
+    let on_board = all_on_board(rt, rt.alloc(), &board, members)?;
+    let share = items / threads.max(1);
+    let Some(times) = time_both(rt, workload, share, in_turn, on_board)? else {
+        return println!(rt; "{} {items} {threads}: no room", workload.name());
+    };
+    let operations = PAIRS.wrapping_mul(2).wrapping_mul(threads);
+    println!(rt;
+        "{} {items} {threads} {} {}",
+        workload.name(),
+        per_operation(times.heap, operations),
+        per_operation(times.board, operations)
+    )
+}
+
+// So many threads that use a heap in turns.
+fn all_in_turn<'a, R: Wait>(
+    rt: &'a R,
+    alloc: Global,
+    heap: &'a Mutex<Heap>,
+    threads: usize,
+) -> Result<Vec<Worker<InTurn<'a, R>>>, AllocError> {
+    let mut workers = Vec::new(alloc);
+    for number in 0..threads {
+        workers.push(Worker::new(alloc, number, InTurn { rt, heap }))?;
+    }
+    Ok(workers)
+}
+
+// A thread for each of these members.
+fn all_on_board<'a, R: Wait>(
+    rt: &'a R,
+    alloc: Global,
+    board: &'a Board<128, 21>,
+    mut members: Vec<Member<128, 21>>,
+) -> Result<Vec<Worker<OnBoard<'a, R>>>, AllocError>
+    requires { All (λ member. IsOf member board.now) members.items }
+{
+    let mut workers = Vec::new(alloc);
+    for number in 0..members.len() {
+        let Some(member) = members.pop() else {
+            return Ok(workers);
+        };
+        workers.push(Worker::new(alloc, number, OnBoard { rt, board, member }))?;
+    }
+    Ok(workers)
+}
+
+// Nanoseconds of each round.
+#[derive(Clone, Copy)]
+struct Times {
+    heap: [u128; ROUNDS],
+    board: [u128; ROUNDS],
+}
+
+// Fills the heap and the board, and measures them one after the other in each round. `None` where one of them had no room.
+fn time_both<
+    H: Contender + Send + Drop,
+    B: Contender + Send + Drop,
+    R: Clock + AllocGlobal + Threads + Sync,
+>(
+    rt: &R,
+    workload: Workload,
+    share: usize,
+    mut heap: Vec<Worker<H>>,
+    mut board: Vec<Worker<B>>,
+) -> io::Result<Option<Times>> {
+    let heap_has_room = fill_all(rt.alloc(), workload, share, &mut heap)?;
+    let board_has_room = fill_all(rt.alloc(), workload, share, &mut board)?;
+    let mut times = Times {
+        heap: [0; ROUNDS],
+        board: [0; ROUNDS],
+    };
+    let mut is_done = heap_has_room && board_has_room;
+    for round in 0..ROUNDS {
+        draw_all(rt.alloc(), workload, &mut heap)?;
+        draw_all(rt.alloc(), workload, &mut board)?;
+        let (after, time) = time_of_all(rt, heap, workload)?;
+        heap = after;
+        times.heap[round] = time;
+        let (after, time) = time_of_all(rt, board, workload)?;
+        board = after;
+        times.board[round] = time;
+        is_done = is_done && all_done(&heap) && all_done(&board);
+    }
+    Ok(is_done.then_some(times))
+}
+
+// Inserts so many items by each of the workers. Whether there was room for all.
+fn fill_all<C: Contender>(
+    alloc: Global,
+    workload: Workload,
+    share: usize,
+    workers: &mut Vec<Worker<C>>,
+) -> Result<bool, AllocError> {
+    for worker in workers.as_mut_slice() {
+        if !worker.fill(alloc, workload, share)? {
+            return Ok(false);
+        }
+    }
+    Ok(true)
+}
+
+// Draws keys for the next round of all workers.
+fn draw_all<C: Contender>(
+    alloc: Global,
+    workload: Workload,
+    workers: &mut Vec<Worker<C>>,
+) -> Result<(), AllocError> {
+    for worker in workers.as_mut_slice() {
+        worker.draw(alloc, workload, PAIRS)?;
+    }
+    Ok(())
+}
+
+// Whether no worker was refused in the last round.
+fn all_done<C: Contender>(workers: &Vec<Worker<C>>) -> bool {
+    workers.iter().all(|worker| worker.is_done())
+}

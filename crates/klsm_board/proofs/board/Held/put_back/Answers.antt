@@ -1,0 +1,49 @@
+use Rattle.std.proofs.Common.{List, ◌∷◌, ◌∙◌, [], length, sym, ap, refl, subst}
+use Rattle.klsm_run.specs.declared.item.Item.{Item}
+use Rattle.klsm_world.specs.declared.step.Entry.TheVariants.{Released}
+use Rattle.klsm_world.specs.OwnSteps.{content_in, hand_of}
+use Rattle.klsm_board.specs.Steps.{mine}
+use Rattle.klsm_board.specs.Seats.{Has, Stands}
+use Rattle.klsm_board.specs.Slots.{slot_content, IsSlotOf}
+use Rattle.klsm_board.proofs.seats.RestLemmas.{stands_holding, rests_after}
+use Rattle.klsm_board.proofs.calls.AddedLemmas.{quiet_same}
+use Rattle.klsm_board.proofs.board.Held.put_back.Goals as goal
+
+pub give_part-requires-clause-has : goal.give_part-requires-clause-has
+give_part-requires-clause-has g c =
+    let me = c.args.self in let t = me.number in let lock = me.lock in let seat = me.seat.me in
+    let board = c.args.board.now in let same = board.key ∙ sym c.requires.1 in
+    let found = content_in (hand_of t (mine seat.0)) lock in (
+      found,
+      [],
+      subst (λ m. Stands slot_content IsSlotOf m t ((lock, found) ∷ []) seat) (sym same) (stands_holding g.row.CAP me.sizes me.in_range t me.inserted me.deleted lock me.len me.least seat me.holds),
+      refl,
+    )
+
+pub invariant_of-result : goal.invariant_of-result
+invariant_of-result g c =
+    let me = c.args.self in let t = me.number in let lock = me.lock in let seat = me.seat.me in let after = c.give_part.new.seat.me in
+    let board = c.args.board.now in let same = board.key ∙ sym c.requires.1 in let holds = me.holds in
+    let found = content_in (hand_of t (mine seat.0)) lock in
+    let stands = stands_holding g.row.CAP me.sizes me.in_range t me.inserted me.deleted lock me.len me.least seat holds in
+    let has = c.give_part.ensures.gave found [] (subst (λ m. Stands slot_content IsSlotOf m t ((lock, found) ∷ []) seat) (sym same) stands) refl in
+    let quiet = quiet_same (mine seat.0) (Released lock ∷ []) (mine after.0) c.give_part.ensures.list refl in
+    record {
+      rests = rests_after g.row.CAP me.sizes me.in_range t me.inserted me.deleted after (subst (λ m. Has slot_content IsSlotOf m t [] after) same has)
+          (ap (λ (z : List Item). length z) quiet.inserted_are ∙ holds.insertions_are) (ap (λ (z : List Item). length z) quiet.deleted_are ∙ holds.deletions_are);
+      in_range = me.in_range;
+      capacity = me.capacity;
+      levels = me.levels;
+    }
+
+pub returns-clause-same : goal.returns-clause-same
+returns-clause-same g c =
+    let me = c.args.self in let seat = me.seat.me in let after = c.give_part.new.seat.me in
+    let quiet = quiet_same (mine seat.0) (Released me.lock ∷ []) (mine after.0) c.give_part.ensures.list refl in
+    record {
+      number = refl;
+      sizes = refl;
+      seat = sym c.give_part.ensures.same.0;
+      inserted_are = sym quiet.inserted_are;
+      deleted_are = sym quiet.deleted_are;
+    }

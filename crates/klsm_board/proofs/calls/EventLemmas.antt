@@ -1,0 +1,46 @@
+-- Which events the entries of a list have, and so what it inserts and deletes.
+use Rattle.std.proofs.Common.{◌≡◌, ℕ, ◌<◌, List, [], ◌∷◌, ◌++◌, length, sym, refl, ap, ◌∙◌, subst}
+use Rattle.std.proofs.lemmas.List.{append-nil}
+use Rattle.std.proofs.lemmas.Grind.{flat_map-append}
+use Rattle.std.proofs.lemmas.List.Concat.{flat_map-cons}
+use Rattle.std.specs.List.{flat_map}
+use Rattle.klsm_run.specs.declared.item.Item.{Item}
+use Rattle.klsm_world.specs.declared.step.Event.{Event}
+use Rattle.klsm_world.specs.declared.step.Entry.{Entry}
+use Rattle.klsm_world.specs.declared.step.Entry.TheVariants.{Acquired, Missed}
+use Rattle.klsm_world.specs.OwnSteps.{event_at, inserted, inserted_by}
+use Rattle.klsm_world.specs.LegalSteps.{BearsStamp}
+use Rattle.klsm_board.specs.Entries.{missed}
+
+-- the events of a list
+abbrev pub events : List Entry → List Event
+events es = flat_map event_at es
+
+-- entries without an event
+abbrev pub IsQuiet : List Entry → Type 0
+IsQuiet es = events es ≡ []
+
+pub events_append : (es fs : List Entry) → events (es ++ fs) ≡ events es ++ events fs
+events_append es fs = flat_map-append event_at es fs
+
+pub quiet_append : (es fs : List Entry) → IsQuiet es → IsQuiet fs → IsQuiet (es ++ fs)
+quiet_append es fs quiet quiet' = events_append es fs ∙ λ i. quiet i ++ quiet' i
+
+misses_are_quiet : (p : ℕ) (bys : List ℕ) → IsQuiet (missed p bys)
+misses_are_quiet p [] = refl
+misses_are_quiet p (by ∷ bys) = flat_map-cons event_at (Missed p by) (missed p bys) ∙ misses_are_quiet p bys
+
+-- tries in vain, and then the part was taken
+pub taking_is_quiet : (p : ℕ) (bys : List ℕ) (found : List Item) → IsQuiet (missed p bys ++ Acquired p found ∷ [])
+taking_is_quiet p bys found = quiet_append (missed p bys) (Acquired p found ∷ []) (misses_are_quiet p bys) refl
+
+-- a list that goes on quietly has the same events
+pub same_events : (es fs es' : List Entry) → es' ≡ es ++ fs → IsQuiet fs → events es' ≡ events es
+same_events es fs es' is quiet = ap events is ∙ (events_append es fs ∙ (ap (λ z. events es ++ z) quiet ∙ append-nil (events es)))
+
+-- and the same next stamp and room
+pub stamp_kept : (t : ℕ) (x : Item) (es es' : List Entry) → events es' ≡ events es → BearsStamp t (length (inserted es)) x → BearsStamp t (length (inserted es')) x
+stamp_kept t x es es' same bears = subst (λ (z : List Event). BearsStamp t (length (flat_map inserted_by z)) x) (sym same) bears
+
+pub room_kept : (quota : ℕ) (es es' : List Entry) → events es' ≡ events es → length (inserted es) < quota → length (inserted es') < quota
+room_kept quota es es' same room = subst (λ (z : List Event). length (flat_map inserted_by z) < quota) (sym same) room

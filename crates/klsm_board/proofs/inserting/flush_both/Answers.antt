@@ -1,0 +1,100 @@
+use Rattle.std.proofs.Common.{ℕ, ◌+◌, ◌≤◌, ◌∷◌, ◌++◌, ◌∙◌, [], length, ap, refl, sym, subst, append_assoc}
+use Rattle.klsm_run.specs.Capacity.{heap_room}
+use Rattle.klsm_parts.specs.Limit.{limit_of}
+use Rattle.klsm_parts.specs.Events.{own_after_flush, shared_after_flush}
+use Rattle.klsm_world.specs.declared.step.Entry.TheVariants.{Committed, Released}
+use Rattle.klsm_world.specs.declared.step.Event.TheVariants.{Flush}
+use Rattle.klsm_board.specs.Steps.{mine}
+use Rattle.klsm_board.specs.Seats.{own_in_hand, both_in_hand}
+use Rattle.klsm_board.proofs.seats.StandLemmas.{stands}
+use Rattle.klsm_board.proofs.hands.EventLemmas.{own_in_both, shared_in_both, shared_not_in_one, not_shared}
+use Rattle.klsm_board.proofs.hands.PossibleLemmas.{apart_in_hand, new_in_hand}
+use Rattle.klsm_board.proofs.hands.CommitLemmas.{has_still, flush_out, flush_told}
+use Rattle.klsm_board.proofs.inserting.flush_both.Goals as goal
+
+pub flush_in-requires : goal.flush_in-requires
+flush_in-requires g c =
+    let content = g.S.Holding.content in let suits = g.S.Holding.suits in
+    let m = c.args.table.now.key in let t = c.args.thread in let me = c.args.seat.now.me in let k = c.requires.has in
+    let in_own = own_in_both t k.0 k.1 in let in_shared = shared_in_both t k.0 k.1 in let hand = both_in_hand t k.0 k.1 in
+    record {
+      sized = c.requires.sized;
+      seat = c.requires.seat;
+      carries = (
+        k.0,
+        k.1,
+        k.2.carries,
+        k.3,
+        apart_in_hand content suits m t hand me (t + 1) 0 k.0 k.1 k.2 (not_shared t) in_own in_shared,
+        new_in_hand content suits m t hand me (t + 1) k.0 c.args.item k.2 c.requires.stamp in_own,
+        new_in_hand content suits m t hand me 0 k.1 c.args.item k.2 c.requires.stamp in_shared,
+      );
+    }
+
+pub commit_moving-requires-clause-out : goal.commit_moving-requires-clause-out
+commit_moving-requires-clause-out g c =
+    let content = g.S.Holding.content in let suits = g.S.Holding.suits in
+    let m = c.args.table.now.key in let t = c.args.thread in let k = c.requires.has in
+    let did = c.in-Ok.ensures.done k.0 k.1 k.2.carries in (
+      did.0,
+      shared_after_flush k.1 did.0,
+      own_in_hand t (own_after_flush k.0 c.args.item did.0),
+      flush_out content suits m t k.0 k.1 c.args.item did.0 c.args.seat.now.me c.flush_in.new.seat.me k.2 c.flush_in.ensures.same.2 c.requires.stamp did.1 did.2,
+      shared_not_in_one t (own_after_flush k.0 c.args.item did.0),
+    )
+
+pub give_part-requires-clause-has : goal.give_part-requires-clause-has
+give_part-requires-clause-has g c =
+    let t = c.args.thread in let k = c.requires.has in
+    let did = c.in-Ok.ensures.done k.0 k.1 k.2.carries in
+    let left = own_after_flush k.0 c.args.item did.0 in
+    (left, [], stands (c.commit_moving.ensures.gave (shared_after_flush k.1 did.0) (own_in_hand t left) did.2 (shared_not_in_one t left)), refl)
+
+pub give_part-requires-in-Err-clause-has : goal.give_part-requires-in-Err-clause-has
+give_part-requires-in-Err-clause-has g c =
+    let content = g.S.Holding.content in let suits = g.S.Holding.suits in
+    let m = c.args.table.now.key in let t = c.args.thread in let k = c.requires.has in (
+      k.1,
+      own_in_hand t k.0,
+      stands (has_still content suits m t (both_in_hand t k.0 k.1) c.args.seat.now.me c.flush_in.new.seat.me k.2 c.flush_in.ensures.same.2 (c.in-Err.ensures.unchanged k.0 k.1 k.2.carries)),
+      shared_not_in_one t k.0,
+    )
+
+pub give_part-requires-in-Err-2-clause-has : goal.give_part-requires-in-Err-2-clause-has
+give_part-requires-in-Err-2-clause-has g c =
+    let content = g.S.Holding.content in let suits = g.S.Holding.suits in
+    let m = c.args.table.now.key in let t = c.args.thread in let k = c.requires.has in
+    let both = has_still content suits m t (both_in_hand t k.0 k.1) c.args.seat.now.me c.flush_in.new.seat.me k.2 c.flush_in.ensures.same.2 (c.in-Err.ensures.unchanged k.0 k.1 k.2.carries) in
+    (k.0, [], stands (c.give_part-in-Err.ensures.gave k.1 (own_in_hand t k.0) (stands both) (shared_not_in_one t k.0)), refl)
+
+pub returns-in-Ok-clause-has : goal.returns-in-Ok-clause-has
+returns-in-Ok-clause-has g c =
+    let t = c.args.thread in let k = c.requires.has in
+    let did = c.in-Ok.ensures.done k.0 k.1 k.2.carries in
+    let left = own_after_flush k.0 c.args.item did.0 in
+    c.give_part.ensures.gave left [] (stands (c.commit_moving.ensures.gave (shared_after_flush k.1 did.0) (own_in_hand t left) did.2 (shared_not_in_one t left))) refl
+
+pub returns-in-Ok-clause-done : goal.returns-in-Ok-clause-done
+returns-in-Ok-clause-done g c own shared has =
+    let content = g.S.Holding.content in let suits = g.S.Holding.suits in
+    let m = c.args.table.now.key in let t = c.args.thread in let me = c.args.seat.now.me in
+    let did = c.in-Ok.ensures.done own shared has.carries in
+    let named = c.commit_moving.ensures.list (shared_after_flush shared did.0) (own_in_hand t (own_after_flush own c.args.item did.0)) did.2 in
+    let told = flush_told content suits m t own shared c.args.item did.0 named.0 me c.flush_in.new.seat.me has c.flush_in.ensures.same.2 named.1 in
+    let limit : ℕ = limit_of g.S.PartSlot.levels heap_room in (
+      named.0,
+      told.0,
+      subst (λ n. length shared + n ≤ limit) (sym told.1) did.3,
+      c.give_part.ensures.list ∙ (ap (λ z. z ++ Released (t + 1) ∷ []) (named.2 ∙ ap (λ v. mine v ++ Committed (Flush c.args.item named.0) ∷ Released 0 ∷ []) c.flush_in.ensures.same.2)
+          ∙ append_assoc (mine me.0) (Committed (Flush c.args.item named.0) ∷ Released 0 ∷ []) (Released (t + 1) ∷ [])),
+    )
+
+pub returns-in-Err-clause-has : goal.returns-in-Err-clause-has
+returns-in-Err-clause-has g c =
+    let content = g.S.Holding.content in let suits = g.S.Holding.suits in
+    let m = c.args.table.now.key in let t = c.args.thread in let k = c.requires.has in
+    let both = has_still content suits m t (both_in_hand t k.0 k.1) c.args.seat.now.me c.flush_in.new.seat.me k.2 c.flush_in.ensures.same.2 (c.in-Err.ensures.unchanged k.0 k.1 k.2.carries) in
+    c.give_part-in-Err-2.ensures.gave k.0 [] (stands (c.give_part-in-Err.ensures.gave k.1 (own_in_hand t k.0) (stands both) (shared_not_in_one t k.0))) refl
+
+pub returns-in-Err-clause-full : goal.returns-in-Err-clause-full
+returns-in-Err-clause-full g c is own shared has = c.in-Err.ensures.full is own shared has.carries

@@ -1,0 +1,84 @@
+use Rattle.std.proofs.Common.{◌+◌, ◌<◌, ◌≤◌, ◌∙◌, List, length, ap, max, refl, subst, sym}
+use Rattle.std.specs.List.{Contains}
+use Rattle.klsm_run.specs.declared.item.Item.{Item}
+use Rattle.klsm_run.specs.Capacity.{heap_room}
+use Rattle.klsm_run.specs.Content.{ShareNone}
+use Rattle.klsm_parts.specs.Limit.{limit_of}
+use Rattle.klsm_parts.specs.Events.{MayFlush, own_after_flush, shared_after_flush}
+use Rattle.klsm_board.specs.Seats.{Carries, both_in_hand}
+use Rattle.klsm_board.proofs.seats.LendLemmas.{lendable, lent_is, lends_changed}
+use Rattle.klsm_board.proofs.calls.TestLemmas.{where_ok, where_err, of_err}
+use Rattle.klsm_board.proofs.inserting.flush_in.Goals as goal
+
+pub lend_shared-shared-requires : goal.lend_shared-shared-requires
+lend_shared-shared-requires g c = let k = c.requires.carries in record { seat = c.requires.seat.0; carries = (k.0, k.1, k.2) }
+
+pub slot_mut-requires : goal.slot_mut-requires
+slot_mut-requires g c =
+    let k = c.requires.carries in let lent = c.lend_shared-shared.ensures in let lends = (lent.lent k.0 k.1 k.2).0 in
+    (lent.same.0 ∙ c.requires.seat.0, (lends.slot, lendable g.S.Holding.content g.S.Holding.suits g.S.PartSlot.is_vacant c.args.table.now.key c.args.thread k.0 c.lend_shared-shared.new.seat.me lends))
+
+pub flush-answer-requires : goal.flush-answer-requires
+flush-answer-requires g c =
+    let m = c.args.table.now.key in let t = c.args.thread in let k = c.requires.carries in
+    let lent = c.lend_shared-shared.ensures.lent k.0 k.1 k.2 in
+    let own = lent_is g.S.Holding.content g.S.Holding.suits g.S.PartSlot.is_vacant m t k.0 c.lend_shared-shared.new.seat.me lent.0 c.slot_mut.result.now c.slot_mut.ensures.value in
+    record {
+      sized = c.requires.sized;
+      parts = (m.k, t, own.1, lent.2, ap (λ (z : List Item). length z) own.0 ∙ k.3);
+      apart = subst (λ (z : List Item × List Item). ShareNone z.0 z.1) (λ i. (sym own.0 i, sym lent.1 i)) k.4;
+      new_to_own = λ within. k.5 (subst (λ z. Contains z c.args.item) own.0 within);
+      new_to_shared = λ within. k.6 (subst (λ z. Contains z c.args.item) lent.1 within);
+    }
+
+-- what is lent changes, and the part in hand with it
+pub return_shared-requires-clause-lends : goal.return_shared-requires-clause-lends
+return_shared-requires-clause-lends g c =
+    let content = g.S.Holding.content in let suits = g.S.Holding.suits in let is_vacant = g.S.PartSlot.is_vacant in
+    let m = c.args.table.now.key in let t = c.args.thread in let me = c.lend_shared-shared.new.seat.me in let answer = c.flush-answer in
+    let k = c.requires.carries in let lent = c.lend_shared-shared.ensures.lent k.0 k.1 k.2 in
+    let own = lent_is content suits is_vacant m t k.0 me lent.0 c.slot_mut.result.now c.slot_mut.ensures.value in
+    (content answer.new.self, lends_changed content suits is_vacant m t k.0 me lent.0 (content answer.new.self) answer.new.self refl (answer.ensures.kind m.k t own.1))
+
+pub return_shared-requires-clause-shared : goal.return_shared-requires-clause-shared
+return_shared-requires-clause-shared g c =
+    let m = c.args.table.now.key in let k = c.requires.carries in let lent = c.lend_shared-shared.ensures.lent k.0 k.1 k.2 in
+    c.flush-answer.ensures.shared_kind m.k lent.2
+
+pub returns-clause-done : goal.returns-clause-done
+returns-clause-done g c =
+    let content = g.S.Holding.content in let suits = g.S.Holding.suits in let is_vacant = g.S.PartSlot.is_vacant in
+    let m = c.args.table.now.key in let t = c.args.thread in let me = c.lend_shared-shared.new.seat.me in let answer = c.flush-answer in
+    where_ok answer.result _ _ answer.ensures.done
+    (λ done own shared carries.
+    let lent = c.lend_shared-shared.ensures.lent own shared carries in
+    let own_is = lent_is content suits is_vacant m t own me lent.0 c.slot_mut.result.now c.slot_mut.ensures.value in
+    let did = done m.k t own_is.1 in
+    let own' = own_after_flush own c.args.item did.0 in
+    let lends = lends_changed content suits is_vacant m t own me lent.0 own' answer.new.self (did.2 ∙ ap (λ z. own_after_flush z c.args.item did.0) own_is.0) (answer.ensures.kind m.k t own_is.1) in (
+      did.0,
+      subst (λ z. MayFlush m.k z c.args.item did.0) own_is.0 did.1,
+      subst (λ z. Carries content suits m t (both_in_hand t own' z) c.return_shared.new.seat.me) (did.3 ∙ ap (λ z. shared_after_flush z did.0) lent.1) (c.return_shared.ensures.back own' lends),
+      subst (λ (z : List Item). length z + length did.0 ≤ limit_of g.S.PartSlot.levels heap_room) lent.1 did.4,
+    ))
+
+pub returns-clause-unchanged : goal.returns-clause-unchanged
+returns-clause-unchanged g c =
+    let content = g.S.Holding.content in let suits = g.S.Holding.suits in let is_vacant = g.S.PartSlot.is_vacant in
+    let m = c.args.table.now.key in let t = c.args.thread in let me = c.lend_shared-shared.new.seat.me in let answer = c.flush-answer in
+    where_err answer.result _ _ answer.ensures.unchanged
+    (λ same own shared carries.
+    let lent = c.lend_shared-shared.ensures.lent own shared carries in
+    let own_is = lent_is content suits is_vacant m t own me lent.0 c.slot_mut.result.now c.slot_mut.ensures.value in
+    let lends = lends_changed content suits is_vacant m t own me lent.0 own answer.new.self (same.0 ∙ own_is.0) (answer.ensures.kind m.k t own_is.1) in
+    subst (λ z. Carries content suits m t (both_in_hand t own z) c.return_shared.new.seat.me) (same.1 ∙ lent.1) (c.return_shared.ensures.back own lends))
+
+pub returns-clause-full : goal.returns-clause-full
+returns-clause-full g c =
+    let content = g.S.Holding.content in let suits = g.S.Holding.suits in let is_vacant = g.S.PartSlot.is_vacant in
+    let m = c.args.table.now.key in let t = c.args.thread in let me = c.lend_shared-shared.new.seat.me in let answer = c.flush-answer in
+    of_err answer.result _ _ answer.ensures.full
+    (λ why full is own shared carries.
+    let lent = c.lend_shared-shared.ensures.lent own shared carries in
+    let own_is = lent_is content suits is_vacant m t own me lent.0 c.slot_mut.result.now c.slot_mut.ensures.value in
+    subst (λ (z : List Item). limit_of g.S.PartSlot.levels heap_room < length z + max 1 m.k) lent.1 (full is m.k t own_is.1))

@@ -1,0 +1,43 @@
+use Rattle.std.proofs.Common.{◌≡◌, length, sym, ap, ◌∙◌}
+use Rattle.klsm_run.proofs.SortedLemmas.{length_sorted}
+use Rattle.klsm_parts.specs.Parts.{items_in}
+use Rattle.klsm_parts.proofs.FitLemmas.{local_fits, shared_fits}
+use Rattle.klsm_board.specs.declared.slot.Slot.TheVariants.{Own, Common}
+use Rattle.klsm_board.proofs.slots.KindLemmas.{own_content, shared_content, is_full, absent_unsorted, apart_unsorted}
+use Rattle.klsm_board.proofs.slots.FlushLemmas.{flushed, lacks_room}
+use Rattle.klsm_board.proofs.slot.BoardSlotPartSlot.flush.Goals as goal
+
+pub flush-requires : goal.flush-requires
+flush-requires g c =
+    let own = c.get_mut.result.now in
+    let common = c.get_mut-in-Own-Common.result.now in
+    let own_is : c.args.self.now ≡ Own own = c.in-Own-Common.is-0 ∙ ap Own (sym c.get_mut.ensures.value) in
+    let common_is : c.args.shared.now ≡ Common common = c.in-Own-Common.is-1 ∙ ap Common (sym c.get_mut-in-Own-Common.ensures.value) in
+    let parts = c.requires.parts in
+    let full : length (items_in own) ≡ own.k = is_full parts.0 _ c.args.self.now own own_is parts.2 parts.4 in
+    let own_same = own_content c.args.self.now own own_is in
+    let common_same = shared_content c.args.shared.now common common_is in
+    let apart = apart_unsorted _ _ _ _ own_same common_same c.requires.apart in
+    let new_to_own = absent_unsorted _ _ _ own_same c.requires.new_to_own in
+    let new_to_shared = absent_unsorted _ _ _ common_same c.requires.new_to_shared in
+    let sized = c.requires.sized in
+    (local_fits _ sized.0, (shared_fits _ sized.1, (sized.0, (sym (length_sorted _) ∙ full, (apart, (new_to_own, new_to_shared))))))
+
+pub returns-clause-done : goal.returns-clause-done
+returns-clause-done g c =
+    let own = c.get_mut.result.now in
+    let common = c.get_mut-in-Own-Common.result.now in
+    let own_is : c.args.self.now ≡ Own own = c.in-Own-Common.is-0 ∙ ap Own (sym c.get_mut.ensures.value) in
+    let common_is : c.args.shared.now ≡ Common common = c.in-Own-Common.is-1 ∙ ap Common (sym c.get_mut-in-Own-Common.ensures.value) in
+    flushed g.row.LEVELS _ c.args.item c.args.self.now c.args.shared.now own common own_is common_is (length_sorted _)
+    c.flush.new.own c.flush.new.shared c.flush.result c.flush.ensures.event c.flush.ensures.full
+
+pub returns-clause-full : goal.returns-clause-full
+returns-clause-full g c =
+    let own = c.get_mut.result.now in
+    let common = c.get_mut-in-Own-Common.result.now in
+    let own_is : c.args.self.now ≡ Own own = c.in-Own-Common.is-0 ∙ ap Own (sym c.get_mut.ensures.value) in
+    let common_is : c.args.shared.now ≡ Common common = c.in-Own-Common.is-1 ∙ ap Common (sym c.get_mut-in-Own-Common.ensures.value) in
+    let parts = c.requires.parts in
+    lacks_room g.row.LEVELS _ c.args.item c.args.self.now c.args.shared.now own common own_is common_is (length_sorted _)
+    (is_full parts.0 _ c.args.self.now own own_is parts.2 parts.4) c.flush.result c.flush.ensures.full

@@ -1,0 +1,13 @@
+use Rattle.std.proofs.Common.{length, sym, ap, ◌∙◌}
+use Rattle.klsm_run.proofs.SortedLemmas.{length_sorted}
+use Rattle.klsm_parts.specs.Parts.{items_in}
+use Rattle.klsm_board.specs.Slots.{slot_content}
+use Rattle.klsm_board.proofs.slot.BoardSlotPartSlot.len.Goals as goal
+
+pub returns-in-Own : goal.returns-in-Own
+returns-in-Own g c =
+    c.len.ensures.len ∙ (sym (length_sorted _) ∙ (ap (λ part. length (items_in part)) c.get.ensures ∙ sym (ap (λ slot. length (slot_content slot)) c.in-Own.is)))
+
+pub returns-in-Common : goal.returns-in-Common
+returns-in-Common g c =
+    c.len-in-Common.ensures.len ∙ (sym (length_sorted _) ∙ (ap (λ part. length (items_in part)) c.get-in-Common.ensures ∙ sym (ap (λ slot. length (slot_content slot)) c.in-Common.is)))

@@ -1,0 +1,29 @@
+use Rattle.std.proofs.Common.{◌≡◌, sym, ap, ◌∙◌}
+use Rattle.klsm_parts.proofs.FitLemmas.{local_fits, shared_fits}
+use Rattle.klsm_board.specs.declared.slot.Slot.TheVariants.{Own, Common}
+use Rattle.klsm_board.proofs.slots.KindLemmas.{own_content, shared_content, own_k, shared_k, apart_unsorted}
+use Rattle.klsm_board.proofs.slots.TakeLemmas.{taken}
+use Rattle.klsm_board.proofs.slot.BoardSlotPartSlot.take.Goals as goal
+
+pub take-requires : goal.take-requires
+take-requires g c =
+    let own = c.get_mut.result.now in
+    let common = c.get_mut-in-Own-Common.result.now in
+    let own_is : c.args.self.now ≡ Own own = c.in-Own-Common.is-0 ∙ ap Own (sym c.get_mut.ensures.value) in
+    let common_is : c.args.shared.now ≡ Common common = c.in-Own-Common.is-1 ∙ ap Common (sym c.get_mut-in-Own-Common.ensures.value) in
+    let parts = c.requires.parts in
+    let same_k : own.k ≡ common.k = own_k parts.0 _ c.args.self.now own own_is parts.2 ∙ sym (shared_k parts.0 _ c.args.shared.now common common_is parts.3) in
+    let apart = apart_unsorted _ _ _ _ (own_content c.args.self.now own own_is) (shared_content c.args.shared.now common common_is) c.requires.apart in
+    (local_fits _ c.requires.sized.0, (shared_fits _ c.requires.sized.1, (same_k, apart)))
+
+pub returns-clause-done : goal.returns-clause-done
+returns-clause-done g c =
+    let own = c.get_mut.result.now in
+    let common = c.get_mut-in-Own-Common.result.now in
+    let own_is : c.args.self.now ≡ Own own = c.in-Own-Common.is-0 ∙ ap Own (sym c.get_mut.ensures.value) in
+    let common_is : c.args.shared.now ≡ Common common = c.in-Own-Common.is-1 ∙ ap Common (sym c.get_mut-in-Own-Common.ensures.value) in
+    let parts = c.requires.parts in
+    let same_k : own.k ≡ common.k = own_k parts.0 _ c.args.self.now own own_is parts.2 ∙ sym (shared_k parts.0 _ c.args.shared.now common common_is parts.3) in
+    let told = c.take.ensures in
+    taken g.P.Picker.may_pick c.args.picker.now c.take.new.picker c.args.self.now c.args.shared.now own common c.take.new.own c.take.new.shared own_is common_is same_k
+    c.take.result told.unasked told.asked told.left told.event told.nothing

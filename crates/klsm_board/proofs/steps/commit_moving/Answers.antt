@@ -1,0 +1,37 @@
+use Rattle.std.proofs.Common.{◌∷◌, ap, ◌∙◌, refl}
+use Rattle.atomic_table.specs.Table.{rest}
+use Rattle.klsm_world.specs.declared.step.Entry.TheVariants.{Committed, Released}
+use Rattle.klsm_board.specs.Steps.{gain}
+use Rattle.klsm_board.specs.Seats.{contents}
+use Rattle.klsm_board.proofs.table.SeatLemmas.{can_commit, out_of, as_carried, has_committed, mine_committed}
+use Rattle.klsm_board.proofs.steps.commit_moving.Goals as goal
+
+pub commit-requires-clause-told : goal.commit-requires-clause-told
+commit-requires-clause-told g c = (refl, refl)
+
+pub commit-requires-clause-view : goal.commit-requires-clause-view
+commit-requires-clause-view g c = let out = c.requires.out.3 in let carries = out.carries in carries.alone
+
+pub commit-requires-clause-event : goal.commit-requires-clause-event
+commit-requires-clause-event g c =
+    let me = c.args.seat.now.me in let p = c.args.part in
+    let q = c.requires.out in let e = g.T.Moving.event c.args.about.now q.0 in let out = q.3 in
+    let all = contents g.S.Holding.content g.S.Holding.suits c.args.table.now.key c.args.thread me.1 in
+    let named = out_of g.S.Holding.content g.S.Holding.suits c.args.table.now.key c.args.thread e ((p, q.1) ∷ q.2) all me out (as_carried g.S.Holding.content g.S.Holding.suits c.args.table.now.key c.args.thread ((p, q.1) ∷ q.2) me out.carries) in
+    (e, (q.0, refl, named), out.may, c.requires.room q.0, can_commit g.S.Holding.content g.S.Holding.suits c.args.table.now.key c.args.thread p q.1 e q.2 me out)
+
+pub returns-clause-gave : goal.returns-clause-gave
+returns-clause-gave g c = λ left hand carries away.
+    let me = c.args.seat.now.me in let me' = c.commit.new.seat.me in let p = c.args.part in
+    let told = c.commit.ensures.told in let q = told.1 in let e = g.T.Moving.event c.args.about.now q.0 in
+    has_committed g.S.Holding.content g.S.Holding.suits c.args.table.now.key c.args.thread p left e hand me me' (out_of g.S.Holding.content g.S.Holding.suits c.args.table.now.key c.args.thread e (contents g.S.Holding.content g.S.Holding.suits c.args.table.now.key c.args.thread me.1) ((p, left) ∷ hand) me q.2 carries) away
+    (told.2 ∙ ap (λ z. (gain (gain me.0 (Committed z)) (Released p), rest me.1)) q.1) told.3
+
+pub returns-clause-list : goal.returns-clause-list
+returns-clause-list g c = λ left hand carries.
+    let me = c.args.seat.now.me in let me' = c.commit.new.seat.me in let p = c.args.part in
+    let told = c.commit.ensures.told in let q = told.1 in let e = g.T.Moving.event c.args.about.now q.0 in (
+      q.0,
+      out_of g.S.Holding.content g.S.Holding.suits c.args.table.now.key c.args.thread e (contents g.S.Holding.content g.S.Holding.suits c.args.table.now.key c.args.thread me.1) ((p, left) ∷ hand) me q.2 carries,
+      mine_committed g.S.Holding.content g.S.Holding.suits c.args.table.now.key c.args.thread p e me me' carries.alone (told.2 ∙ ap (λ z. (gain (gain me.0 (Committed z)) (Released p), rest me.1)) q.1),
+    )

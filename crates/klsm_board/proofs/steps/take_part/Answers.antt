@@ -1,0 +1,16 @@
+use Rattle.std.proofs.Common.{refl, ap, ◌∙◌}
+use Rattle.klsm_world.specs.OwnSteps.{found_in}
+use Rattle.klsm_board.proofs.table.SeatLemmas.{tried}
+use Rattle.klsm_board.proofs.steps.take_part.Goals as goal
+
+pub acquire-requires-clause-told : goal.acquire-requires-clause-told
+acquire-requires-clause-told g c = (refl, refl)
+
+pub acquire-requires-clause-view : goal.acquire-requires-clause-view
+acquire-requires-clause-view g c = let has = c.requires.has.1 in let carries = has.carries in carries.alone
+
+pub acquire-requires-clause-away : goal.acquire-requires-clause-away
+acquire-requires-clause-away g c = let has = c.requires.has.1 in ap (λ h. found_in h c.args.part) has.hand_is ∙ c.requires.has.2
+
+pub returns-clause-told : goal.returns-clause-told
+returns-clause-told g c = λ hand has. tried g.S.Holding.content g.S.Holding.suits c.args.table.now.key c.args.thread c.args.part c.args.table.now.table_id.slots c.acquire.result hand c.args.seat.now.me c.acquire.new.seat.me has c.acquire.ensures.told

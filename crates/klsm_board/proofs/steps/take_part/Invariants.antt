@@ -1,0 +1,4 @@
+use Rattle.klsm_board.proofs.steps.take_part.Given as goal
+
+abbrev pub ghosts-acquire : goal.ghosts-acquire
+ghosts-acquire g a = record { sizes = a.table.now.key; thread = a.thread; fits = λ _. Unit {0} }

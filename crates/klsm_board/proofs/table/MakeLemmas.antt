@@ -1,0 +1,82 @@
+-- The slots and the members of a new board.
+use Rattle.std.proofs.Common.{◌≡◌, ℕ, zero, suc, replicate, ◌+◌, ◌<◌, List, [], ◌∷◌, ◌++◌, length, get_or, slice_index_or, sym, refl, ap, ◌∙◌, subst, arith}
+use mathlib.Core.Option.{some, some-injective, some-ne-none}
+use lib.ListN.{get_elem?}
+use Rattle.atomic_table.specs.Table.{Me}
+use Rattle.klsm_parts.specs.Parts.{PartState}
+use Rattle.klsm_world.specs.declared.step.Entry.{Entry}
+use Rattle.klsm_world.specs.OwnSteps.{inserted}
+use Rattle.klsm_world.specs.Worlds.{first_world}
+use Rattle.klsm_board.specs.declared.sizes.Sizes.{Sizes}
+use Rattle.klsm_board.specs.declared.rule.View.{View}
+use Rattle.klsm_board.specs.declared.slot.Slot.{Slot}
+use Rattle.klsm_board.specs.declared.slot.Slot.TheVariants.{Own, Common}
+use Rattle.klsm_board.specs.Rule.{own, fresh, view, limits_of, IsReached}
+use Rattle.klsm_board.specs.Slots.{slot_content, IsSlotOf}
+use Rattle.klsm_board.specs.Members.{IsResting}
+
+-- a part without items
+abbrev empty : ℕ → PartState
+empty k = record { k = k; blocks = [] }
+
+-- the parts of n members, from slot `from` on
+own_slots : (m : Sizes) (n from i : ℕ) (y : Slot PartState PartState) → 0 < from → get_elem? (replicate n (Own (empty m.k))) i ≡ some y → (slot_content y ≡ []) × IsSlotOf m.k (from + i) y
+own_slots m zero from i y pos e = absurd (some-ne-none y (sym e))
+own_slots m (suc n) from zero y pos e = subst (λ (z : Slot PartState PartState). (slot_content z ≡ []) × IsSlotOf m.k (from + 0) z) (some-injective (Own (empty m.k)) y e) (refl, (omega (arith, pos), refl))
+own_slots m (suc n) from (suc i) y pos e = let h = own_slots m n (suc from) i y (omega arith) e in let a : suc from + i ≡ from + suc i = omega arith in subst (λ z. (slot_content y ≡ []) × IsSlotOf m.k z y) a h
+
+-- each slot of a new board has its part, which is empty
+pub first_slots : (m : Sizes) (i : ℕ) (y : Slot PartState PartState) → get_elem? (Common (empty m.k) ∷ replicate m.threads (Own (empty m.k))) i ≡ some y → (slot_content y ≡ []) × IsSlotOf m.k i y
+first_slots m zero y e = subst (λ (z : Slot PartState PartState). (slot_content z ≡ []) × IsSlotOf m.k 0 z) (some-injective (Common (empty m.k)) y e) (refl, (refl, refl))
+first_slots m (suc i) y e = let h = own_slots m m.threads 1 i y (omega arith) e in let a : 1 + i ≡ suc i = omega arith in subst (λ z. (slot_content y ≡ []) × IsSlotOf m.k z y) a h
+
+-- the first of n + 1 fresh lists, and the others
+pub one_more_fresh : (n from : ℕ) → fresh from (n + 1) ≡ own from [] ∷ fresh (from + 1) n
+one_more_fresh n from = let a : n + 1 ≡ suc n = omega arith in let b : suc from ≡ from + 1 = omega arith in ap (fresh from) a ∙ ap (λ z. own from [] ∷ fresh z n) b
+
+-- a seat with n fresh lists, by another term for n
+pub so_many_fresh : {S : Type 0} (from n n' : ℕ) (me : Me S View) → n ≡ n' → me ≡ (view (fresh from n), []) → me ≡ (view (fresh from n'), [])
+so_many_fresh {S} from n n' me same is = is ∙ ap (λ z. (view (fresh from z), [])) same
+
+-- an empty list is that of each thread in the first world
+blank : (n t : ℕ) → ◌≡◌ {A = List Entry} (get_or (replicate n []) t []) []
+blank zero t = refl
+blank (suc n) zero = refl
+blank (suc n) (suc t) = blank n t
+
+pub fresh_is_reached : (m : Sizes) (t : ℕ) → t < m.threads → IsReached m t []
+fresh_is_reached m t thread = record {
+  world = first_world (limits_of m);
+  schedule = [];
+  leads = refl;
+  within = λ u lt. let none : ◌≡◌ {A = ℕ} (length (inserted (get_or (replicate m.threads []) u []))) 0 = ap (λ es. length (inserted es)) (blank m.threads u) in omega (arith, none);
+  list_is = blank m.threads t;
+  thread = thread;
+}
+
+-- what holds of each element by its place holds with one more at the end
+pub at_new_end : {A : Type 0} (xs : List A) (x : A) (n : ℕ) → length xs ≡ n → (P : ℕ → A → Type 0) → ((i : ℕ) (a : A) → get_elem? xs i ≡ some a → P i a) → P n x → (i : ℕ) (a : A) → get_elem? (xs ++ x ∷ []) i ≡ some a → P i a
+at_new_end {A} [] x n len P all last zero a e = subst (λ (z : ℕ × A). P z.0 z.1) (λ i. (sym len i, some-injective x a e i)) last
+at_new_end {A} [] x n len P all last (suc i) a e = absurd (some-ne-none a (sym e))
+at_new_end {A} (y ∷ ys) x n len P all last zero a e = all 0 a e
+at_new_end {A} (y ∷ ys) x n len P all last (suc i) a e = at_new_end ys x (length ys) refl (λ j z. P (suc j) z) (λ j z h. all (suc j) z h) (subst (λ z. P z x) (sym len) last) i a e
+
+-- what stands at a place within a list is found there
+pub found_at : {A : Type 0} (xs : List A) (k : ℕ) (d : A) → k < length xs → get_elem? xs k ≡ some (slice_index_or xs k d)
+found_at [] k d h = absurd (omega (arith, h))
+found_at (x ∷ xs) zero d h = refl
+found_at (x ∷ xs) (suc k) d h = found_at xs k d (omega (arith, h))
+
+-- a member without steps
+pub rests_at_first : (m : Sizes) (t : ℕ) (me : Me (Slot PartState PartState) View) → t < m.threads → me ≡ (view (own t [] ∷ []), []) → IsResting m t 0 0 me
+rests_at_first m t me thread is = subst (λ (z : Me (Slot PartState PartState) View). IsResting m t 0 0 z) (sym is) (record {
+  alone = refl;
+  carries_none = refl;
+  hand_is = refl;
+  insertions_are = refl;
+  deletions_are = refl;
+  within = omega arith;
+  few = omega arith;
+  thread = thread;
+  reached = ∣ fresh_is_reached m t thread ∣₁;
+})

@@ -1,0 +1,64 @@
+-- Lock words that stand apart, as the words of the world.
+use Rattle.std.proofs.Common.{◌≡◌, ◌≢◌, ℕ, zero, suc, ◌+◌, ◌*◌, ◌<◌, ◌≤◌, List, [], ◌∷◌, length, get_or, set, replicate, refl, ap, ◌∙◌, subst, arith}
+use Rattle.atomic_table.specs.Seated.{TableId}
+use Rattle.klsm_board.specs.declared.sizes.Sizes.{Sizes}
+use Rattle.klsm_board.specs.Rule.{place, locks_from, IsSized}
+
+-- what holds of a part holds of each part with the same word
+pub at_place : (F : ℕ → Type 0) (p : ℕ) → F p → (q : ℕ) → place q ≡ place p → F q
+at_place F p h q e = let e' : q * 16 ≡ p * 16 = e in let same : p ≡ q = omega (arith, e') in subst F same h
+
+got_here : (l : List ℕ) (i x : ℕ) → i < length l → get_or (set l i x) i 0 ≡ x
+got_here [] i x h = absurd (omega (arith, h))
+got_here (y ∷ ys) zero x h = refl
+got_here (y ∷ ys) (suc i) x h = got_here ys i x (omega (arith, h))
+
+got_else : (l : List ℕ) (i j x : ℕ) → j ≢ i → get_or (set l i x) j 0 ≡ get_or l j 0
+got_else [] i j x n = refl
+got_else (y ∷ ys) zero zero x n = absurd (n refl)
+got_else (y ∷ ys) zero (suc j) x n = refl
+got_else (y ∷ ys) (suc i) zero x n = refl
+got_else (y ∷ ys) (suc i) (suc j) x n = got_else ys i j x (λ e. n (ap suc e))
+
+got_blank : (k i : ℕ) → ◌≡◌ {A = ℕ} (get_or (replicate k 0) i 0) 0
+got_blank zero i = refl
+got_blank (suc k) zero = refl
+got_blank (suc k) (suc i) = got_blank k i
+
+-- the word of the part q + p
+lock_at : (q n : ℕ) (ws : List ℕ) (p : ℕ) → p < n → get_or (locks_from q n ws) p 0 ≡ get_or ws (place (q + p)) 0
+lock_at q zero ws p h = absurd (omega (arith, h))
+lock_at q (suc n) ws zero h = let e : q ≡ q + 0 = omega arith in ap (λ z. get_or ws (place z) 0) e
+lock_at q (suc n) ws (suc p) h = let e : suc q + p ≡ q + suc p = omega arith in lock_at (suc q) n ws p (omega (arith, h)) ∙ ap (λ z. get_or ws (place z) 0) e
+
+-- a word before those of the parts
+before : (q n : ℕ) (ws : List ℕ) (i x : ℕ) → i < q * 16 → locks_from q n (set ws i x) ≡ locks_from q n ws
+before q zero ws i x h = refl
+before q (suc n) ws i x h = λ k. got_else ws i (place q) x (λ e. let e' : q * 16 ≡ i = e in omega (arith, e', h)) k ∷ before (suc q) n ws i x (omega (arith, h)) k
+
+-- the word of the part q + p is set
+lock_set : (q n : ℕ) (ws : List ℕ) (p x : ℕ) → (q + p) * 16 < length ws → locks_from q n (set ws (place (q + p)) x) ≡ set (locks_from q n ws) p x
+lock_set q zero ws p x h = refl
+lock_set q (suc n) ws zero x h =
+    let e : q + 0 ≡ q = omega arith in
+    let inside : q * 16 < length ws = omega (arith, h) in
+    ap (λ z. locks_from q (suc n) (set ws (place z) x)) e ∙ (λ k. got_here ws (place q) x inside k ∷ before (suc q) n ws (place q) x (omega arith) k)
+lock_set q (suc n) ws (suc p) x h =
+    let e : q + suc p ≡ suc q + p = omega arith in
+    ap (λ z. locks_from q (suc n) (set ws (place z) x)) e
+    ∙ (λ k. got_else ws (place (suc q + p)) (place q) x (λ d. let d' : q * 16 ≡ (suc q + p) * 16 = d in omega (arith, d')) k ∷ lock_set (suc q) n ws p x (omega (arith, h)) k)
+
+-- the same from part 0 on
+pub word_at : (n : ℕ) (ws : List ℕ) (p : ℕ) → p < n → get_or (locks_from 0 n ws) p 0 ≡ get_or ws (place p) 0
+word_at n ws p h = let e : 0 + p ≡ p = omega arith in lock_at 0 n ws p h ∙ ap (λ z. get_or ws (place z) 0) e
+
+-- where the word of a part is set in the table, it is set in the world
+pub word_set_at : (n : ℕ) (ws : List ℕ) (p x : ℕ) → p * 16 < length ws → locks_from 0 n (set ws (place p) x) ≡ set (locks_from 0 n ws) p x
+word_set_at n ws p x h = let e : p ≡ 0 + p = omega arith in ap (λ z. locks_from 0 n (set ws (place z) x)) e ∙ lock_set 0 n ws p x (omega (arith, h))
+
+pub locks_blank : (q n k : ℕ) → locks_from q n (replicate k 0) ≡ replicate n 0
+locks_blank q zero k = refl
+locks_blank q (suc n) k = λ i. got_blank k (place q) i ∷ locks_blank (suc q) n k i
+
+pub inside : (z : TableId) (m : Sizes) (p : ℕ) → IsSized z m → p ≤ m.threads → place p < z.words
+inside z m p sized le = let w : z.words ≡ (m.threads + 1) * 16 = sized.0 in omega (arith, w, le)

@@ -1,0 +1,14 @@
+use Rattle.std.specs.Prelude.{◌≡◌}
+use Rattle.klsm_world.specs.OwnSteps.{Hand}
+use Rattle.klsm_board.specs.Steps.{mine}
+use Rattle.klsm_board.specs.Seats.{Stands}
+use Rattle.klsm_board.proofs.calls.MissLemmas.{Misses}
+use Rattle.klsm_board.proofs.taking.take_in_time.Given as goal
+
+abbrev pub invariant-loop : goal.invariant-loop
+invariant-loop g l = record {
+  same : l.seat.table_id ≡ l.initial.seat.table_id;
+  stands : (hand : Hand) → Stands g.S.Holding.content g.S.Holding.suits l.table.key l.thread hand l.initial.seat.me
+      → Stands g.S.Holding.content g.S.Holding.suits l.table.key l.thread hand l.seat.me;
+  misses : Misses l.part (mine l.initial.seat.me.0) (mine l.seat.me.0);
+}

@@ -1,0 +1,85 @@
+-- What a deletion adds to its member's list.
+use Rattle.std.specs.Prelude.{◌≡◌, ℕ, zero, suc, ◌+◌, ◌-◌, ◌<◌, ◌⊎◌, if◌then◌else◌, ltb, List, [], ◌∷◌, ◌++◌}
+use Rattle.klsm_run.specs.declared.item.Item.{Item}
+use Rattle.klsm_parts.specs.Least.{IsLeast}
+use Rattle.klsm_parts.specs.Events.{MayTake, MaySpy}
+use Rattle.klsm_world.specs.declared.step.Event.TheVariants.{Take, Nothing, Spy}
+use Rattle.klsm_world.specs.declared.step.Entry.{Entry}
+use Rattle.klsm_world.specs.declared.step.Entry.TheVariants.{Acquired, Committed, Released, Missed}
+use Rattle.klsm_world.specs.OwnSteps.{own_part}
+use Rattle.klsm_world.specs.OwnListLaws.{SkipsFew, LeavesFew}
+use Rattle.klsm_board.specs.declared.sizes.Sizes.{Sizes}
+use Rattle.klsm_board.specs.Rule.{limits_of}
+use Rattle.klsm_board.specs.Entries.{both_released}
+use Rattle.klsm_board.specs.declared.errors.Busy.{Busy}
+use Rattle.klsm_board.specs.Inserting.{MissesOwn, MissesShared}
+use Rattle.klsm_board.specs.Choosing.{Chooses}
+
+-- the member n places behind thread t, in the round of all
+abbrev pub victim_of : ℕ → ℕ → ℕ → ℕ
+victim_of threads t n = if ltb (t + n) threads then t + n else (t + n) - threads
+
+-- a victim was passed by: its lock was not free, or its part was empty and given back
+abbrev pub PassesBy : ℕ → List Entry → Type 0
+PassesBy victim added =
+    ((by : ℕ) × (added ≡ Missed (own_part victim) by ∷ []))
+    ⊎ (added ≡ Acquired (own_part victim) [] ∷ Released (own_part victim) ∷ [])
+
+-- the first n victims of thread t were passed by, one after another
+abbrev pub Passes : ℕ → ℕ → ℕ → List Entry → Type 0
+Passes threads t zero added = added ≡ []
+Passes threads t (suc n) added = (before : List Entry) × (one : List Entry)
+    × Passes threads t n before × PassesBy (victim_of threads t (suc n)) one × (added ≡ before ++ one)
+
+-- items moved from a victim's part to the own one, which was empty
+pub record Spies (victim : ℕ) (es es' : List Entry) (moved : List Item) : Type 0 where
+  pub found : List Item
+  pub may : MaySpy [] found moved
+  pub steps : es' ≡ es ++ Acquired (own_part victim) found ∷ Committed (Spy victim moved) ∷ Released (own_part victim) ∷ []
+
+-- some victims were passed by, and items moved from the next one's part
+pub record SpiesAfter (threads t : ℕ) (es es' : List Entry) (moved : List Item) : Type 0 where
+  pub passed : ℕ
+  pub some_left : passed < threads - 1
+  pub added : List Entry
+  pub passes : Passes threads t passed added
+  pub spies : Spies (victim_of threads t (suc passed)) (es ++ added) es' moved
+
+-- From the list `taken`, with both parts in hand: the item was taken out of one of them. It skips at
+-- most T·k items.
+pub record TakesOut (m : Sizes) (t : ℕ) (own shared : List Item) (taken es' : List Entry) (x : Item) : Type 0 where
+  pub may : MayTake m.k own shared x
+  pub skips : SkipsFew (limits_of m) t taken x
+  pub steps : es' ≡ taken ++ Committed (Take x) ∷ both_released t
+
+-- Both parts were found empty. Some victims were passed by, items moved from the next one's part,
+-- and the least of them was taken. It skips at most T·k items.
+pub record TakesSpied (m : Sizes) (t : ℕ) (own shared : List Item) (taken es' : List Entry) (x : Item) : Type 0 where
+  pub own_empty : own ≡ []
+  pub shared_empty : shared ≡ []
+  pub moved : List Item
+  pub least : IsLeast x moved
+  pub spied : List Entry
+  pub spies : SpiesAfter m.threads t taken spied moved
+  pub skips : SkipsFew (limits_of m) t spied x
+  pub steps : es' ≡ spied ++ Committed (Take x) ∷ both_released t
+
+-- Both parts were found empty, and all victims were passed by. At most (T-1)·k items live.
+pub record FindsNothing (m : Sizes) (t : ℕ) (own shared : List Item) (taken es' : List Entry) : Type 0 where
+  pub own_empty : own ≡ []
+  pub shared_empty : shared ≡ []
+  pub added : List Entry
+  pub passes : Passes m.threads t (m.threads - 1) added
+  pub leaves : LeavesFew (limits_of m) t (taken ++ added)
+  pub steps : es' ≡ (taken ++ added) ++ Committed Nothing ∷ both_released t
+
+-- The item x was deleted by a member that found these contents, and the picker went from `before`
+-- to `after`.
+abbrev pub Deletes : {P : Type 0} → (P → ℕ → ℕ → P → Type 0) → P → P → Sizes → ℕ → List Item → List Item → List Entry → List Entry → Item → Type 0
+Deletes may_pick before after m t own shared taken es' x =
+    (TakesOut m t own shared taken es' x × Chooses may_pick before after m.k own shared x)
+    ⊎ (TakesSpied m t own shared taken es' x × (after ≡ before))
+
+-- A lock was not free: the own one, or the shared one, and then the own part was given back.
+abbrev pub MissesDeletion : ℕ → List Entry → List Entry → Busy → Type 0
+MissesDeletion t es es' busy = MissesOwn t es es' busy ⊎ MissesShared t es es' busy (λ own. Unit {0})

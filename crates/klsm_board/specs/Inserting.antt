@@ -1,0 +1,85 @@
+-- What an insertion adds to its member's list.
+use Rattle.std.specs.Prelude.{◌≡◌, ℕ, ◌+◌, ◌<◌, ◌≤◌, ◌⊎◌, max, List, [], ◌∷◌, ◌++◌, length}
+use Rattle.klsm_run.specs.declared.item.Item.{Item}
+use Rattle.klsm_run.specs.declared.item.Stamp.{Stamp}
+use Rattle.klsm_run.specs.Capacity.{heap_room}
+use Rattle.klsm_parts.specs.Limit.{limit_of}
+use Rattle.klsm_parts.specs.Events.{MayPut, MayFlush}
+use Rattle.klsm_world.specs.declared.step.Event.TheVariants.{Put, Flush}
+use Rattle.klsm_world.specs.declared.step.Entry.{Entry}
+use Rattle.klsm_world.specs.declared.step.Entry.TheVariants.{Committed, Released, Missed}
+use Rattle.klsm_world.specs.OwnSteps.{own_part, shared_part}
+use Rattle.klsm_board.specs.declared.errors.Busy.{Busy}
+use Rattle.klsm_board.specs.declared.errors.TryInsertError.{TryInsertError}
+use Rattle.klsm_board.specs.declared.errors.TryInsertError.TheVariants as try_insert
+use Rattle.klsm_board.specs.declared.errors.InsertError.{InsertError}
+use Rattle.klsm_board.specs.declared.errors.InsertError.TheVariants as insert
+use Rattle.klsm_board.specs.Entries.{own_taken, both_taken, both_released}
+
+-- the stamp of a member's next insertion, and the item that it inserts
+abbrev pub stamp_of : ℕ → ℕ → Stamp
+stamp_of owner number = record { owner = owner; number = number }
+
+abbrev pub stamped : ℕ → Stamp → ℕ → Item
+stamped key stamp load = record { key = key; stamp = stamp; load = load }
+
+-- The own part was found with room, and the item was put there: the shared lock was not tried.
+pub record Puts (k t : ℕ) (misses : List ℕ) (es es' : List Entry) (x : Item) : Type 0 where
+  pub own : List Item
+  pub room : MayPut k own
+  pub steps : es' ≡ own_taken t misses own es ++ Committed (Put x) ∷ Released (own_part t) ∷ []
+
+-- The own part was found with k items, and some moved to the shared part, which had room for them.
+pub record Flushes (levels k t : ℕ) (own_misses shared_misses : List ℕ) (es es' : List Entry) (x : Item) : Type 0 where
+  pub own : List Item
+  pub shared : List Item
+  pub moved : List Item
+  pub full : length own ≡ k
+  pub may : MayFlush k own x moved
+  pub within : length shared + length moved ≤ limit_of levels heap_room
+  pub steps : es' ≡ both_taken t own_misses shared_misses own shared es ++ Committed (Flush x moved) ∷ both_released t
+
+-- an insertion after so many misses
+abbrev pub Inserts : ℕ → ℕ → ℕ → List ℕ → List ℕ → List Entry → List Entry → Item → Type 0
+Inserts levels k t own_misses shared_misses es es' x =
+    Puts k t own_misses es es' x ⊎ Flushes levels k t own_misses shared_misses es es' x
+
+-- The own part was found with k items; both parts were taken and given back.
+pub record GivesUp (k t : ℕ) (own_misses shared_misses : List ℕ) (es es' : List Entry) (Lacks : List Item → Type 0) : Type 0 where
+  pub own : List Item
+  pub shared : List Item
+  pub full : length own ≡ k
+  pub lacks : Lacks shared
+  pub steps : es' ≡ both_taken t own_misses shared_misses own shared es ++ both_released t
+
+-- the shared part has no room for a whole own part, or for the item where k is 0
+abbrev pub LacksRoom : ℕ → ℕ → List Item → Type 0
+LacksRoom levels k shared = limit_of levels heap_room < length shared + max 1 k
+
+-- the own lock was not free
+pub record MissesOwn (t : ℕ) (es es' : List Entry) (busy : Busy) : Type 0 where
+  pub lock : busy.lock ≡ own_part t
+  pub steps : es' ≡ es ++ Missed (own_part t) busy.by ∷ []
+
+-- it was, but the shared lock was not
+pub record MissesShared (t : ℕ) (es es' : List Entry) (busy : Busy) (Found : List Item → Type 0) : Type 0 where
+  pub own : List Item
+  pub found : Found own
+  pub lock : busy.lock ≡ shared_part
+  pub steps : es' ≡ own_taken t [] own es ++ Missed shared_part busy.by ∷ Released (own_part t) ∷ []
+
+-- why an insertion that waits for nobody is refused
+abbrev pub RefusesInsert : Type 0 → ℕ → ℕ → ℕ → List Entry → List Entry → TryInsertError → Type 0
+RefusesInsert IsSpent levels k t es es' try_insert.Spent = IsSpent × (es' ≡ es)
+RefusesInsert IsSpent levels k t es es' (try_insert.Busy busy) =
+    MissesOwn t es es' busy ⊎ MissesShared t es es' busy (λ own. length own ≡ k)
+RefusesInsert IsSpent levels k t es es' try_insert.Full = GivesUp k t [] [] es es' (LacksRoom levels k)
+RefusesInsert IsSpent levels k t es es' try_insert.NoMemory = GivesUp k t [] [] es es' (λ shared. Unit {0})
+
+-- why one that may wait is refused
+abbrev pub RefusesInsertInTime : Type 0 → ℕ → ℕ → ℕ → List Entry → List Entry → InsertError → Type 0
+RefusesInsertInTime IsSpent levels k t es es' insert.Spent = IsSpent × (es' ≡ es)
+RefusesInsertInTime IsSpent levels k t es es' insert.Full =
+    (own_misses : List ℕ) × (shared_misses : List ℕ) × GivesUp k t own_misses shared_misses es es' (LacksRoom levels k)
+RefusesInsertInTime IsSpent levels k t es es' insert.NoMemory =
+    (own_misses : List ℕ) × (shared_misses : List ℕ) × GivesUp k t own_misses shared_misses es es' (λ shared. Unit {0})

@@ -1,0 +1,11 @@
+-- The definitions, in the order in which they are best read.
+pub mod Rule  -- the rule of the table
+pub mod Entries  -- what stands in a list where parts are taken
+pub mod Inserting  -- what an insertion adds to its member's list
+pub mod Choosing  -- how a deletion chooses
+pub mod Deleting  -- what a deletion adds
+pub mod Boards  -- boards, their members, and what a member holds
+pub mod Steps  -- what a step on a lock tells
+pub mod Seats  -- what a seat has between two steps
+pub mod Slots  -- the parts as slots have them
+pub mod Members  -- what always holds of a member; no public contract cites it

@@ -1,0 +1,76 @@
+-- What a member's seat has between two of its steps.
+use Rattle.std.specs.Prelude.{◌≡◌, ℕ, ◌<◌, ⊤, List, [], ◌∷◌, length}
+use Rattle.atomic_table.specs.Table.{Me}
+use Rattle.atomic_table.specs.Seated.{TableId}
+use Rattle.klsm_run.specs.declared.item.Item.{Item}
+use Rattle.klsm_world.specs.declared.step.Event.{Event}
+use Rattle.klsm_world.specs.declared.step.Entry.{Entry}
+use Rattle.klsm_world.specs.OwnSteps.{Hand, own_part, shared_part, hand_of, after_event, inserted, inserted_by}
+use Rattle.klsm_world.specs.LegalSteps.{MayCommit}
+use Rattle.klsm_board.specs.declared.sizes.Sizes.{Sizes}
+use Rattle.klsm_board.specs.declared.rule.View.{View}
+use Rattle.klsm_board.specs.Rule.{IsReached, IsSized}
+use Rattle.klsm_board.specs.Steps.{mine, IsMine}
+
+-- hands with the own part, with the shared part too, and with a victim's as well
+abbrev pub own_in_hand : ℕ → List Item → Hand
+own_in_hand t own = (own_part t, own) ∷ []
+
+abbrev pub both_in_hand : ℕ → List Item → List Item → Hand
+both_in_hand t own shared = (shared_part, shared) ∷ own_in_hand t own
+
+abbrev pub three_in_hand : ℕ → ℕ → List Item → List Item → List Item → Hand
+three_in_hand t victim from own shared = (own_part victim, from) ∷ both_in_hand t own shared
+
+-- the seat is one of this table, for thread t
+abbrev pub IsSeatOf : TableId → TableId → Sizes → ℕ → Type 0
+IsSeatOf seat table m t = (seat ≡ table) × IsSized table m × (t < m.threads)
+
+module _ {S : Type 0} (content : S → List Item) (suits : ℕ → ℕ → S → Type 0) (m : Sizes) (t : ℕ) where
+  -- the parts that a seat carries, each with its content
+  abbrev pub contents : List (ℕ × S) → Hand
+  contents [] = []
+  contents (x ∷ xs) = (x.0, content x.1) ∷ contents xs
+
+  -- each of them is the part of its slot
+  abbrev pub AreSuited : List (ℕ × S) → Type 0
+  AreSuited [] = ⊤
+  AreSuited (x ∷ xs) = suits m.k x.0 x.1 × AreSuited xs
+
+  -- the seat is thread t's, and carries these parts, the last taken first
+  pub record Carries (hand : Hand) (me : Me S View) : Type 0 where
+    pub alone : IsMine me.0 t
+    pub contents_are : contents me.1 ≡ hand
+    pub suited : AreSuited me.1
+
+  -- they are thread t's hand by its list
+  pub record Stands (hand : Hand) (me : Me S View) : Type 0 where
+    pub carries : Carries hand me
+    pub hand_is : hand_of t (mine me.0) ≡ hand
+
+  -- and the list is that of the thread in some world to which a schedule leads
+  pub record Has (hand : Hand) (me : Me S View) : Type 0 where
+    pub carries : Carries hand me
+    pub hand_is : hand_of t (mine me.0) ≡ hand
+    pub reached : IsReached m t (mine me.0)
+
+  -- thread t may commit the event, and has carried it out in the parts
+  pub record CarriedOut (event : Event) (hand : Hand) (me : Me S View) : Type 0 where
+    pub carries : Carries hand me
+    pub may : MayCommit m.k t (hand_of t (mine me.0)) (length (inserted (mine me.0))) event
+    pub done : after_event t (hand_of t (mine me.0)) event ≡ hand
+
+module _ {S : Type 0} (content : S → List Item) (suits : ℕ → ℕ → S → Type 0) (is_vacant : S → Type 0) (m : Sizes) (t : ℕ) where
+  -- the seat carries thread t's own part, and a vacant slot in place of the shared one
+  pub record LendsShared (own : List Item) (me : Me S View) : Type 0 where
+    pub alone : IsMine me.0 t
+    pub slot : S
+    pub vacant : S
+    pub slots_are : me.1 ≡ (own_part t, slot) ∷ (shared_part, vacant) ∷ []
+    pub content_is : content slot ≡ own
+    pub suits_there : suits m.k (own_part t) slot
+    pub vacant_is : is_vacant vacant
+
+-- where an event inserts an item, the quota has room for it
+abbrev pub HasRoom : ℕ → List Entry → Event → Type 0
+HasRoom quota es event = 0 < length (inserted_by event) → length (inserted es) < quota

@@ -1,0 +1,51 @@
+//! A value on the heap, which a contract sees as the value alone.
+ghost use Rattle.std.specs.Prelude.{◌≡◌, IfOk};
+ghost use Rattle.std.specs.Borrow.{Lends, sem};
+ghost use Rattle.klsm_board.specs.contracts.boxed.Boxed.{the_row};
+
+use std::alloc::{AllocError, Global};
+use std::marker::Model;
+
+/// A box whose place no contract speaks of.
+#[derive(Drop)]
+pub struct Boxed<T> {
+    value: Box<T>,
+}
+
+impl<T> Model for Boxed<T> {
+    ghost use Rattle.std.specs.Prelude.{◌≡◌};
+
+    ghost Value = { T };
+
+    ghost view = { λ boxed. boxed.value.value };
+}
+
+impl<T: Drop> Boxed<T> {
+    /// Moves a value to the heap.
+    pub fn new(alloc: Global, value: T) -> Result<Boxed<T>, AllocError>
+        ensures { IfOk result (λ boxed. boxed ≡ value) }
+    {
+        Ok(Boxed {
+            value: Box::new(alloc, value)?,
+        })
+    }
+}
+
+impl<T> Boxed<T> {
+    /// The value.
+    #[inline]
+    pub fn get(&self) -> &T
+        ensures { result.now ≡ self.now }
+    {
+        &self.value
+    }
+
+    /// The value, to be changed in place.
+    #[inline]
+    pub fn get_mut(&mut self) -> &mut T
+        ensures* writes_back { sem 𝓛 (Lends (the_row T.row) T.row self.entry result (λ value. value)) }
+        ensures value { result.now ≡ self.old }
+    {
+        &mut self.value
+    }
+}

@@ -1,0 +1,72 @@
+//! Why calls are refused.
+
+use thiserror::Error;
+
+/// The first lock in the order of taking that was not free, and the member that held it.
+#[derive(Clone, Copy, Debug, PartialEq, Eq, Error)]
+#[error("lock {lock} is held by member {by}")]
+pub struct Busy {
+    /// The number of the lock: 0 for the shared part, `t + 1` for member t's own.
+    pub lock: usize,
+    /// The member that held it at that try.
+    pub by: u32,
+}
+
+/// Why a board is not made. The causes are tried in this order.
+#[derive(Clone, Copy, Debug, PartialEq, Eq, Error)]
+pub enum MakeError {
+    /// Not 1 to 16 members.
+    #[error("the number of members is not 1 to 16")]
+    BadThreads,
+    /// More items in an own part than a run can hold.
+    #[error("an own part cannot hold k items")]
+    BadK,
+    /// More than 2^48 insertions for each member.
+    #[error("the quota is more than 2^48 insertions")]
+    BadQuota,
+    /// A growth was refused.
+    #[error("out of memory")]
+    NoMemory,
+}
+
+/// Why an insertion that waits for nobody is refused. The causes are tried in this order.
+#[derive(Clone, Copy, Debug, PartialEq, Eq, Error)]
+pub enum TryInsertError {
+    /// The member has made all its insertions.
+    #[error("the member has made all its insertions")]
+    Spent,
+    /// A lock was not free.
+    #[error("{0}")]
+    Busy(Busy),
+    /// The shared part has no room for what would move.
+    #[error("the shared part is full")]
+    Full,
+    /// A growth was refused.
+    #[error("out of memory")]
+    NoMemory,
+}
+
+/// Why an insertion that may wait is refused. The causes are tried in this order.
+#[derive(Clone, Copy, Debug, PartialEq, Eq, Error)]
+pub enum InsertError {
+    /// The member has made all its insertions.
+    #[error("the member has made all its insertions")]
+    Spent,
+    /// The shared part has no room for what would move.
+    #[error("the shared part is full")]
+    Full,
+    /// A growth was refused.
+    #[error("out of memory")]
+    NoMemory,
+}
+
+/// Why a part is not held. The causes are tried in this order.
+#[derive(Clone, Copy, Debug, PartialEq, Eq, Error)]
+pub enum HoldError {
+    /// There is no lock of this number.
+    #[error("there is no such lock")]
+    NoSuchLock,
+    /// It was not free.
+    #[error("{0}")]
+    Busy(Busy),
+}

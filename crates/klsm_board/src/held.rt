@@ -1,0 +1,182 @@
+//! How a member holds a part, in order to look at it.
+ghost use Rattle.std.specs.Prelude.{◌≡◌, ◌<◌, ◌≤◌, ◌++◌, ◌↔◌, ◌∷◌, [], List, length, slice_get, IfOk, IfErr, IsErrAnd, IsTrue};
+ghost use Rattle.klsm_run.specs.declared.item.Item.{Item};
+ghost use Rattle.klsm_world.specs.declared.step.Entry.TheVariants.{Acquired, Released, Missed};
+ghost use Rattle.klsm_world.specs.OwnSteps.{inserted, deleted};
+ghost use Rattle.klsm_board.specs.Rule.{IsReached};
+ghost use Rattle.klsm_board.specs.declared.errors.Busy.{Busy};
+ghost use Rattle.klsm_board.specs.Seats.{Carries};
+ghost use Rattle.klsm_board.specs.Boards.{IsHeldBy, IsHeldOf, IsOf, IsSame, RefusesHold, held_content, held_steps, own_steps};
+
+use crate::board::{Board, Held, HoldRefused, Member};
+use crate::errors::HoldError;
+use crate::rule::{Locks, MemberSeat};
+use crate::slot::PartSlot;
+use crate::steps::give_part;
+use crate::taking::take_now;
+use klsm_run::Item;
+
+impl<const CAP: usize, const LEVELS: usize> Member<CAP, LEVELS> {
+    /// Takes any one part, in order to look at it: lock 0 has the shared part, and lock `t + 1` has
+    /// member t's own. It waits for nobody.
+    pub fn try_hold(
+        self,
+        board: &Board<CAP, LEVELS>,
+        lock: usize,
+    ) -> Result<Held<CAP, LEVELS>, HoldRefused<CAP, LEVELS>>
+        requires { IsOf self board.now }
+        ensures ok { IfOk result (λ held. IsHeldBy self.entry held × (held.lock ≡ lock)
+            × (held_steps held ≡ own_steps self.entry ++ Acquired lock (held_content held) ∷ [])) }
+        ensures refused { IfErr result (λ refused. IsSame self.entry refused.member
+            × RefusesHold lock (own_steps self.entry) (own_steps refused.member) refused.why) }
+        ensures no_such_lock { IsErrAnd result (λ refused. refused.why ≡ HoldError.NoSuchLock)
+            ↔ (self.entry.sizes.threads < lock) }
+    {
+        if lock > self.sizes.threads {
+            return Err(HoldRefused {
+                why: HoldError::NoSuchLock,
+                member: self,
+            });
+        }
+        self.hold(board, lock)
+    }
+
+    // The same for a lock that there is.
+    fn hold(
+        self,
+        board: &Board<CAP, LEVELS>,
+        lock: usize,
+    ) -> Result<Held<CAP, LEVELS>, HoldRefused<CAP, LEVELS>>
+        requires board { IsOf self board.now }
+        requires lock { lock ≤ self.sizes.threads }
+        ensures ok { IfOk result (λ held. IsHeldBy self.entry held × (held.lock ≡ lock)
+            × (held_steps held ≡ own_steps self.entry ++ Acquired lock (held_content held) ∷ [])) }
+        ensures refused { IfErr result (λ refused. IsSame self.entry refused.member
+            × ((busy : Busy) × (refused.why ≡ HoldError.Busy busy) × (busy.lock ≡ lock)
+            × (own_steps refused.member ≡ own_steps self.entry ++ Missed lock busy.by ∷ []))) }
+    {
+        let Member {
+            number,
+            sizes,
+            inserted,
+            deleted,
+            mut seat,
+        } = self;
+        let table = &board.table.shared;
+        if let Err(busy) = take_now(table, &mut seat, lock, number as usize) {
+            return Err(HoldRefused {
+                why: HoldError::Busy(busy),
+                member: Member {
+                    number,
+                    sizes,
+                    inserted,
+                    deleted,
+                    seat,
+                },
+            });
+        }
+        let (len, least) = look(table, &mut seat, lock, number as usize);
+        Ok(Held {
+            lock,
+            number,
+            sizes,
+            inserted,
+            deleted,
+            len,
+            least,
+            seat,
+        })
+    }
+}
+
+impl<const CAP: usize, const LEVELS: usize> Held<CAP, LEVELS> {
+    /// The number of the lock.
+    #[inline]
+    pub fn lock(&self) -> usize
+        ensures lock { result ≡ self.now.lock }
+        ensures in_range { self.now.lock ≤ self.now.sizes.threads }
+    {
+        self.lock
+    }
+
+    /// The number of the member that holds it.
+    #[inline]
+    pub fn number(&self) -> u32
+        ensures number { result ≡ self.now.number }
+        ensures thread { self.now.number < self.now.sizes.threads }
+        ensures rule { ∥ IsReached self.now.sizes self.now.number (held_steps self.now) ∥₁ }
+    {
+        self.number
+    }
+
+    /// The number of items of the part.
+    #[inline]
+    pub fn len(&self) -> usize
+        ensures { result ≡ length (held_content self.now) }
+    {
+        self.len
+    }
+
+    /// Whether the part has no item.
+    #[inline]
+    pub fn is_empty(&self) -> bool
+        ensures { IsTrue result ↔ (held_content self.now ≡ []) }
+    {
+        self.len() == 0
+    }
+
+    /// The least item of the part, if there is one.
+    #[inline]
+    pub fn least(&self) -> Option<Item>
+        ensures { result ≡ slice_get (held_content self.now) 0 }
+    {
+        self.least
+    }
+
+    /// Gives the part back, as it was.
+    pub fn put_back(self, board: &Board<CAP, LEVELS>) -> Member<CAP, LEVELS>
+        requires { IsHeldOf self board.now }
+        ensures same { IsHeldBy result self.entry }
+        ensures steps { own_steps result ≡ held_steps self.entry ++ Released self.entry.lock ∷ [] }
+    {
+        let Held {
+            lock,
+            number,
+            sizes,
+            inserted,
+            deleted,
+            len: _,
+            least: _,
+            mut seat,
+        } = self;
+        give_part(&board.table.shared, &mut seat, lock, number as usize);
+        Member {
+            number,
+            sizes,
+            inserted,
+            deleted,
+            seat,
+        }
+    }
+}
+
+// How many items a part has that the seat took, and the least of them.
+fn look<S: PartSlot>(
+    table: &Locks<S>,
+    seat: &mut MemberSeat<S>,
+    lock: usize,
+    thread: usize,
+) -> (usize, Option<Item>)
+    requires seat { seat.old.table_id ≡ table.now.table_id }
+    requires carries { (found : List Item)
+        × Carries S.content S.suits table.now.key thread ((lock, found) ∷ []) seat.old.me }
+    ensures same { (seat.new.table_id ≡ seat.old.table_id) × (seat.new.me.0 ≡ seat.old.me.0) }
+    ensures looked { (found : List Item)
+        → Carries S.content S.suits table.now.key thread ((lock, found) ∷ []) seat.old.me
+        → Carries S.content S.suits table.now.key thread ((lock, found) ∷ []) seat.new.me
+        × (result.0 ≡ length found) × (result.1 ≡ slice_get found 0) }
+{
+    let _ = thread;
+    let slot = seat.slot_mut(table, lock);
+    (slot.len(), slot.least())
+}

@@ -1,0 +1,72 @@
+//! The running board: a k-LSM with locks, for up to sixteen members, each of which may be used by a
+//! thread of its own.
+//!
+//! Each member has an own part, of at most k items, and all share one part more. An insertion takes
+//! the member's own lock alone, and the shared one only where the own part is full. A deletion takes
+//! both, and gives the least own item or one of the k+1 least shared ones, whichever is smaller;
+//! where both parts are empty it spies items from another member's part. So members seldom meet, and
+//! in return a deletion may skip as many as T·k smaller items.
+//!
+//! ```text
+//! let (board, mut members) = Board::<64, 21>::new(alloc, 4, 16, 1 << 40)?;
+//! // each member in a thread of its own, all with the one board
+//! member.insert(&wait, &board, bound_of(&root), 0)?;
+//! while let Some(item) = member.delete_min(&wait, &board, &mut picker) {
+//!     for node in children_of(item.load) {
+//!         member.insert(&wait, &board, bound_of(&node), index_of(&node))?;
+//!     }
+//! }
+//! ```
+//!
+//! `try_insert` and `try_delete_min` wait for nobody: where a lock is held they give back what they
+//! took, and say who held it. `try_hold` takes one part in order to look at it.
+//!
+//! **What a member promises** is told by its list of own steps, which is for the proof alone: which
+//! parts it took and what it found there, what it committed, what it gave back. The contract of each
+//! call says which entries the call adds.
+//!
+//! - **The board is a world.** Whatever the threads do, the lock words, the parts that are free and
+//!   the members' lists are a world to which some schedule of legal steps leads, as `klsm_world` has
+//!   them. That is the invariant of the table that all members step on (`rule`), and each atomic step
+//!   keeps it. A member's share of it, that its list is that of such a world, is clause `rule` of
+//!   `Member::number` and `Held::number`.
+//! - **The bound, call by call.** Each deletion's list, just before its commit, tells that at most T·k
+//!   of all live items are smaller, those in parts that others hold included; and where the answer is
+//!   `None`, that at most (T-1)·k live: `TakesOut` and `FindsNothing` in `Member::try_delete_min` and
+//!   `Member::delete_min`.
+//! - **Each answer is an event.** An item is answered where its `Take` was committed, and a stamp where
+//!   its `Put` or `Flush` was: clauses `ok` and `adds`.
+//! - **A refusal changes no part**, and its cause holds: clauses `refused` and `busy`.
+//! - **A call that may wait** promises the same, less the refusal for a lock that is held. Nothing is
+//!   promised of how long it waits.
+//! - **Deletions take no memory**, and are refused for want of none. An insertion takes some only where
+//!   items move to the shared part.
+//!
+//! How the locks are taken, what commits and why a stale look does no harm is told in
+//! docs/ARCHITECTURE.md, "How a locked call becomes steps of a schedule".
+//!
+//! The files, from the atomic steps up: `rule` and `plays` (what always holds, and what a step tells),
+//! `steps` (acquire, release, commit), `slot` (what is done to the parts), `lending`, `taking` (one try, or as
+//! many as it needs), `inserting`, `spying`, `deleting`, and the public calls in `making`, `member`
+//! and `held`.
+#![tactic(auto)]
+
+mod board;
+mod boxed;
+mod deleting;
+mod errors;
+mod held;
+mod inserting;
+mod lending;
+mod making;
+mod member;
+mod plays;
+mod rule;
+mod sizes;
+mod slot;
+mod spying;
+mod steps;
+mod taking;
+
+pub use board::{Board, Held, HoldRefused, Member};
+pub use errors::{Busy, HoldError, InsertError, MakeError, TryInsertError};

@@ -1,0 +1,154 @@
+//! How a board is made.
+ghost use Rattle.std.specs.Prelude.{All, ◌≡◌, ◌<◌, ◌≤◌, ◌+◌, ◌∷◌, ◌↔◌, ◌⊎◌, ℕ, [], length, replicate, IfOk, IsErrAnd};
+ghost use Rattle.klsm_run.specs.Capacity.{IsCapacity};
+ghost use Rattle.klsm_parts.specs.Limit.{IsLevelCount};
+ghost use Rattle.klsm_board.specs.Rule.{view, fresh};
+ghost use Rattle.klsm_board.specs.Members.{AreSizes};
+ghost use Rattle.klsm_board.specs.Boards.{IsCrew, IsOf, own_steps};
+
+use crate::board::{Board, Member};
+use crate::boxed::Boxed;
+use crate::errors::MakeError;
+use crate::rule::{STRIDE, View};
+use crate::sizes::Sizes;
+use crate::slot::{BoardSlot, Slot};
+use atomic_table::{Seat, Split, Table};
+use klsm_parts::{Local, Shared};
+use std::alloc::{AllocError, Global};
+
+/// The most members of a board.
+const MOST_THREADS: usize = 16;
+
+/// The most insertions of a member: 2^48.
+const MOST_INSERTIONS: u64 = 281_474_976_710_656;
+
+impl<const CAP: usize, const LEVELS: usize> Board<CAP, LEVELS> {
+    /// A board of empty parts, and its members in order.
+    ///
+    /// It alone takes the memory of the board itself: a part of about `CAP` items for each member,
+    /// the shared part, two lines of the cache for each lock, and the list of members. Later calls
+    /// take memory for shared blocks alone.
+    pub fn new(
+        alloc: Global,
+        threads: usize,
+        k: usize,
+        quota: u64,
+    ) -> Result<(Self, Vec<Member<CAP, LEVELS>>), MakeError>
+        requires capacity { IsCapacity CAP }
+        requires levels { IsLevelCount LEVELS }
+        ensures sizes { IfOk result (λ made.
+            made.0.sizes ≡ record { threads = threads; k = k; quota = quota }) }
+        ensures of { IfOk result (λ made. All (λ member. IsOf member made.0) made.1.items) }
+        ensures count { IfOk result (λ made. length made.1.items ≡ threads) }
+        ensures crew { IfOk result (λ made. IsCrew made.1.items) }
+
+        // Each refusal comes exactly where its cause holds and none before it; else memory lacks.
+        ensures bad_threads { IsErrAnd result (λ why. why ≡ MakeError.BadThreads)
+            ↔ ((threads ≡ 0) ⊎ (16 < threads)) }
+        ensures bad_k { IsErrAnd result (λ why. why ≡ MakeError.BadK)
+            ↔ ((1 ≤ threads) × (threads ≤ 16) × (CAP < k)) }
+        ensures bad_quota { IsErrAnd result (λ why. why ≡ MakeError.BadQuota)
+            ↔ ((1 ≤ threads) × (threads ≤ 16) × (k ≤ CAP) × (281474976710656 < quota)) }
+    {
+        if threads == 0 || threads > MOST_THREADS {
+            return Err(MakeError::BadThreads);
+        }
+        if k > CAP {
+            return Err(MakeError::BadK);
+        }
+        if quota > MOST_INSERTIONS {
+            return Err(MakeError::BadQuota);
+        }
+        let sizes = Sizes { threads, k, quota };
+        let Ok((board, mut seat)) = table_of(alloc, sizes) else {
+            return Err(MakeError::NoMemory);
+        };
+        let Ok(mut members) = Vec::with_capacity(alloc, threads) else {
+            return Err(MakeError::NoMemory);
+        };
+        for number in 0..threads {
+            if members
+                .push(next_member(&board, &mut seat, number as u32))
+                .is_err()
+            {
+                return Err(MakeError::NoMemory);
+            }
+        }
+        Ok((board, members))
+    }
+}
+
+// The board, and a seat that knows all members' lists.
+fn table_of<const CAP: usize, const LEVELS: usize>(
+    alloc: Global,
+    sizes: Sizes,
+) -> Result<(Board<CAP, LEVELS>, Seat<BoardSlot<CAP, LEVELS>, View>), AllocError>
+    requires capacity { IsCapacity CAP }
+    requires levels { IsLevelCount LEVELS }
+    requires sizes { AreSizes CAP sizes }
+    ensures { IfOk result (λ made. (made.0.sizes ≡ sizes)
+        × (made.1.table_id ≡ made.0.table.shared.table_id)
+        × (made.1.me ≡ (view (fresh 0 sizes.threads), []))) }
+{
+    let words = Vec::from_elem(alloc, 0u64, (sizes.threads + 1) * STRIDE)?;
+    let slots = parts(alloc, sizes.threads, sizes.k)?;
+    let Ok((table, seat)) = Table::new(alloc, words.as_slice(), slots, &sizes) else {
+        return Err(AllocError);
+    };
+    Ok((Board { table, sizes }, seat))
+}
+
+// The parts of a new board, in the order of their slots.
+fn parts<const CAP: usize, const LEVELS: usize>(
+    alloc: Global,
+    threads: usize,
+    k: usize,
+) -> Result<Vec<BoardSlot<CAP, LEVELS>>, AllocError>
+    requires capacity { IsCapacity CAP }
+    requires levels { IsLevelCount LEVELS }
+    requires k { k ≤ CAP }
+    ensures { IfOk result (λ all. all.items ≡ Slot.Common (record { k = k; blocks = [] })
+        ∷ replicate threads (Slot.Own (record { k = k; blocks = [] }))) }
+{
+    let mut all = Vec::new(alloc);
+    all.push(Slot::Common(Boxed::new(alloc, Shared::new(alloc, k))?))?;
+    for _ in 0..threads {
+        all.push(Slot::Own(Boxed::new(alloc, Local::new(k))?))?;
+    }
+    Ok(all)
+}
+
+/// The first list goes to a new seat.
+pub(crate) struct First;
+
+impl Split<View> for First {
+    ghost use Rattle.klsm_board.specs.Rule.{view};
+    ghost use Rattle.klsm_board.specs.Steps.{others, first_of_all};
+
+    ghost left = { λ v. view (others v.lists) };
+
+    ghost right = { λ v. view (first_of_all v.lists) };
+}
+
+// The next member, whose list is the first that the seat knows.
+fn next_member<const CAP: usize, const LEVELS: usize>(
+    board: &Board<CAP, LEVELS>,
+    seat: &mut Seat<BoardSlot<CAP, LEVELS>, View>,
+    number: u32,
+) -> Member<CAP, LEVELS>
+    requires number { number < board.now.sizes.threads }
+    requires table { seat.old.table_id ≡ board.now.table.shared.table_id }
+    requires view { (left : ℕ) × (seat.old.me ≡ (view (fresh number (left + 1)), [])) }
+    ensures table { seat.new.table_id ≡ seat.old.table_id }
+    ensures seat { (left : ℕ) → seat.old.me ≡ (view (fresh number (left + 1)), [])
+        → seat.new.me ≡ (view (fresh (number + 1) left), []) }
+    ensures member { (result.number ≡ number) × IsOf result board.now × (own_steps result ≡ []) }
+{
+    Member {
+        number,
+        sizes: board.sizes,
+        inserted: 0,
+        deleted: 0,
+        seat: board.table.shared.split_seat::<First>(seat),
+    }
+}

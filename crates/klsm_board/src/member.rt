@@ -1,0 +1,200 @@
+//! What the members of a board do.
+ghost use Rattle.std.specs.Prelude.{◌≡◌, ◌<◌, ◌≤◌, ◌+◌, ◌++◌, ℕ, List, [], ◌∷◌, length, IfOk, IfErr, MatchOption, None};
+ghost use Rattle.std.specs.Option.{option_to_list};
+ghost use Rattle.klsm_run.specs.declared.item.Item.{Item};
+ghost use Rattle.klsm_world.specs.OwnSteps.{inserted, deleted};
+ghost use Rattle.klsm_board.specs.Rule.{IsReached};
+ghost use Rattle.klsm_board.specs.Boards.{Adds, IsOf, IsSame, own_steps};
+ghost use Rattle.klsm_board.specs.Entries.{both_taken};
+ghost use Rattle.klsm_board.specs.Inserting.{Inserts, RefusesInsert, RefusesInsertInTime, stamp_of, stamped};
+ghost use Rattle.klsm_board.specs.Deleting.{Deletes, FindsNothing, MissesDeletion};
+
+use crate::board::{Board, Member};
+use crate::deleting::{delete_in_time, delete_now};
+use crate::errors::{Busy, InsertError, TryInsertError};
+use crate::inserting::{insert_in_time, insert_now};
+use klsm_parts::Picker;
+use klsm_run::{Item, Stamp};
+use std::sync::Wait;
+
+impl<const CAP: usize, const LEVELS: usize> Member<CAP, LEVELS> {
+    /// The member's number.
+    #[inline]
+    pub fn number(&self) -> u32
+        ensures number { result ≡ self.now.number }
+        ensures thread { self.now.number < self.now.sizes.threads }
+        ensures rule { ∥ IsReached self.now.sizes self.now.number (own_steps self.now) ∥₁ }
+    {
+        self.number
+    }
+
+    /// How many insertions it has made. They are at most the quota.
+    #[inline]
+    pub fn inserted_count(&self) -> u64
+        ensures count { result ≡ length (inserted (own_steps self.now)) }
+        ensures within { result ≤ self.now.sizes.quota }
+    {
+        self.inserted
+    }
+
+    /// How many items it has deleted. They are at most 2^52, as many as all members may insert.
+    #[inline]
+    pub fn deleted_count(&self) -> u64
+        ensures count { result ≡ length (deleted (own_steps self.now)) }
+        ensures within { result ≤ 4503599627370496 }
+    {
+        self.deleted
+    }
+
+    // The item of its next insertion.
+    #[inline]
+    fn next_item(&self, key: u64, load: u64) -> Item
+        ensures { result ≡ stamped key
+            (stamp_of self.now.number (length (inserted (own_steps self.now)))) load }
+    {
+        let stamp = Stamp {
+            owner: self.number,
+            number: self.inserted,
+        };
+        Item { key, stamp, load }
+    }
+
+    /// Inserts a key with a load, and answers the item's stamp. It waits for nobody.
+    ///
+    /// An insertion takes the own lock and, where the own part has k items, the shared one, which
+    /// items then move to.
+    pub fn try_insert(
+        &mut self,
+        board: &Board<CAP, LEVELS>,
+        key: u64,
+        load: u64,
+    ) -> Result<Stamp, TryInsertError>
+        requires { IsOf self.old board.now }
+        ensures same { IsSame self.old self.new }
+        ensures stamp { IfOk result (λ stamp.
+            stamp ≡ stamp_of self.old.number (length (inserted (own_steps self.old)))) }
+        ensures ok { IfOk result (λ stamp. Inserts LEVELS self.old.sizes.k self.old.number [] []
+            (own_steps self.old) (own_steps self.new) (stamped key stamp load)) }
+        ensures adds { IfOk result (λ stamp. Adds self.old self.new
+            (stamped key stamp load ∷ []) []) }
+        ensures refused { IfErr result (λ why. Adds self.old self.new [] []
+            × RefusesInsert (length (inserted (own_steps self.old)) ≡ self.old.sizes.quota) LEVELS
+            self.old.sizes.k self.old.number (own_steps self.old) (own_steps self.new) why) }
+    {
+        if self.inserted == self.sizes.quota {
+            return Err(TryInsertError::Spent);
+        }
+        let item = self.next_item(key, load);
+        let thread = self.number as usize;
+        insert_now(&board.table.shared, &mut self.seat, thread, item)?;
+        self.inserted += 1;
+        Ok(item.stamp)
+    }
+
+    /// Inserts a key with a load, and answers the item's stamp. It may wait for a lock.
+    ///
+    /// While a lock is held, it looks away and tries again, longer each time, and then lets other
+    /// threads run.
+    pub fn insert(
+        &mut self,
+        rt: &impl Wait,
+        board: &Board<CAP, LEVELS>,
+        key: u64,
+        load: u64,
+    ) -> Result<Stamp, InsertError>
+        requires { IsOf self.old board.now }
+        ensures same { IsSame self.old self.new }
+        ensures stamp { IfOk result (λ stamp.
+            stamp ≡ stamp_of self.old.number (length (inserted (own_steps self.old)))) }
+        ensures ok { IfOk result (λ stamp. (own_misses : List ℕ) × (shared_misses : List ℕ)
+            × Inserts LEVELS self.old.sizes.k self.old.number own_misses shared_misses
+            (own_steps self.old) (own_steps self.new) (stamped key stamp load)) }
+        ensures adds { IfOk result (λ stamp. Adds self.old self.new
+            (stamped key stamp load ∷ []) []) }
+        ensures refused { IfErr result (λ why. Adds self.old self.new [] []
+            × RefusesInsertInTime (length (inserted (own_steps self.old)) ≡ self.old.sizes.quota)
+            LEVELS self.old.sizes.k self.old.number (own_steps self.old) (own_steps self.new)
+            why) }
+    {
+        if self.inserted == self.sizes.quota {
+            return Err(InsertError::Spent);
+        }
+        let item = self.next_item(key, load);
+        let thread = self.number as usize;
+        insert_in_time(rt, &board.table.shared, &mut self.seat, thread, item)?;
+        self.inserted += 1;
+        Ok(item.stamp)
+    }
+
+    /// Deletes a small item and answers it. It waits for nobody. `None` where the own part, the
+    /// shared one and each other part that could be looked into were empty.
+    ///
+    /// At most T·k smaller items live then, in all parts together, and where the answer is `None` at
+    /// most (T-1)·k items.
+    pub fn try_delete_min<P: Picker>(
+        &mut self,
+        board: &Board<CAP, LEVELS>,
+        picker: &mut P,
+    ) -> Result<Option<Item>, Busy>
+        requires { IsOf self.old board.now }
+        ensures same { IsSame self.old self.new }
+        ensures ok { IfOk result (λ answer. (own : List Item) × (shared : List Item)
+            × MatchOption answer
+            (FindsNothing self.old.sizes self.old.number own shared
+            (both_taken self.old.number [] [] own shared (own_steps self.old)) (own_steps self.new)
+            × (picker.new ≡ picker.old))
+            (Deletes P.may_pick picker.old picker.new self.old.sizes self.old.number own shared
+            (both_taken self.old.number [] [] own shared (own_steps self.old))
+            (own_steps self.new))) }
+        ensures adds { IfOk result (λ answer. Adds self.old self.new [] (option_to_list answer)) }
+        ensures busy { IfErr result (λ busy. Adds self.old self.new [] []
+            × (picker.new ≡ picker.old)
+            × MissesDeletion self.old.number (own_steps self.old) (own_steps self.new) busy) }
+    {
+        let thread = self.number as usize;
+        let threads = self.sizes.threads;
+        let answer = delete_now(&board.table.shared, &mut self.seat, thread, threads, picker)?;
+        if answer.is_some() {
+            self.deleted += 1;
+        }
+        Ok(answer)
+    }
+
+    /// Deletes a small item and answers it, as `try_delete_min`. It may wait for the own lock and
+    /// for the shared one, as `insert` does.
+    pub fn delete_min<P: Picker>(
+        &mut self,
+        rt: &impl Wait,
+        board: &Board<CAP, LEVELS>,
+        picker: &mut P,
+    ) -> Option<Item>
+        requires { IsOf self.old board.now }
+        ensures same { IsSame self.old self.new }
+        ensures ok { (own_misses : List ℕ) × (shared_misses : List ℕ)
+            × (own : List Item) × (shared : List Item)
+            × MatchOption result
+            (FindsNothing self.old.sizes self.old.number own shared
+            (both_taken self.old.number own_misses shared_misses own shared (own_steps self.old))
+            (own_steps self.new)
+            × (picker.new ≡ picker.old))
+            (Deletes P.may_pick picker.old picker.new self.old.sizes self.old.number own shared
+            (both_taken self.old.number own_misses shared_misses own shared (own_steps self.old))
+            (own_steps self.new)) }
+        ensures adds { Adds self.old self.new [] (option_to_list result) }
+    {
+        let thread = self.number as usize;
+        let threads = self.sizes.threads;
+        let answer = delete_in_time(
+            rt,
+            &board.table.shared,
+            &mut self.seat,
+            thread,
+            threads,
+            picker,
+        );
+        if answer.is_some() {
+            self.deleted += 1;
+        }
+        answer
+    }
+}

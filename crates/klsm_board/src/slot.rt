@@ -1,0 +1,236 @@
+//! The parts as the slots of a board have them.
+ghost use Rattle.std.specs.Prelude.{◌≡◌, ℕ, ◌<◌, ◌≤◌, ◌+◌, List, [], length, max, slice_get, IfErr, OnOk, OnErr, MatchBool, MatchOption};
+ghost use Rattle.std.specs.List.{Contains};
+ghost use Rattle.klsm_run.specs.declared.item.Item.{Item};
+ghost use Rattle.klsm_run.specs.Capacity.{IsCapacity, heap_room};
+ghost use Rattle.klsm_run.specs.Content.{ShareNone};
+ghost use Rattle.klsm_parts.specs.Limit.{IsLevelCount, limit_of};
+ghost use Rattle.klsm_parts.specs.Parts.{items_in};
+ghost use Rattle.klsm_parts.specs.Events.{MayPut, MayFlush, MayTake, MayFindNothing, MaySpy, own_after_put, own_after_flush, shared_after_flush, own_after_take, shared_after_take, own_after_spy, victim_after_spy};
+ghost use Rattle.klsm_world.specs.OwnSteps.{own_part, shared_part};
+ghost use Rattle.klsm_board.specs.Choosing.{Chooses};
+
+use crate::boxed::Boxed;
+use crate::rule::Holding;
+use klsm_parts::{Local, LsmError, Picker, Shared, flush, put, spy, take};
+use klsm_run::Item;
+
+/// What the calls of a board do to the parts in its slots.
+///
+/// It says of contents alone what `klsm_parts` says of parts, so that whoever takes locks need not
+/// know how a part is made.
+pub trait PartSlot: Holding + Drop {
+    /// How many levels the shared part has.
+    ghost levels: { ℕ };
+
+    // What the sizes of the parts' types have to meet.
+    ghost is_sized: { Type 0 };
+
+    // It has no part.
+    ghost is_vacant: { Self → Type 0 };
+
+    /// What stands in a slot for as long as its part is in the hands of a call.
+    fn vacant() -> Self
+        ensures { is_vacant result };
+
+    /// Drops what stood in for a part.
+    fn discard(self)
+        requires { is_vacant self };
+
+    /// The number of items.
+    fn len(&self) -> usize
+        ensures { result ≡ length (Self.content self.now) };
+
+    /// The least item, if there is one.
+    fn least(&self) -> Option<Item>
+        ensures { result ≡ slice_get (Self.content self.now) 0 };
+
+    /// Puts an item into an own part, if it has room: then the answer is true.
+    fn put(&mut self, item: Item) -> bool
+        requires sized { is_sized }
+        requires own { (k : ℕ) × (t : ℕ) × Self.suits k (own_part t) self.old }
+        requires new { ¬ Contains (Self.content self.old) item }
+        ensures kind { (k t : ℕ) → Self.suits k (own_part t) self.old
+            → Self.suits k (own_part t) self.new }
+        ensures done { (k t : ℕ) → Self.suits k (own_part t) self.old → MatchBool result
+            (MayPut k (Self.content self.old)
+            × (Self.content self.new ≡ own_after_put (Self.content self.old) item))
+            ((length (Self.content self.old) ≡ k)
+            × (Self.content self.new ≡ Self.content self.old)) };
+
+    /// Puts an item into an own part that has k items, some of which move to the shared part.
+    fn flush(&mut self, shared: &mut Self, item: Item) -> Result<(), LsmError>
+        requires sized { is_sized }
+        requires parts { (k : ℕ) × (t : ℕ) × Self.suits k (own_part t) self.old
+            × Self.suits k shared_part shared.old × (length (Self.content self.old) ≡ k) }
+        requires apart { ShareNone (Self.content self.old) (Self.content shared.old) }
+        requires new_to_own { ¬ Contains (Self.content self.old) item }
+        requires new_to_shared { ¬ Contains (Self.content shared.old) item }
+        ensures kind { (k t : ℕ) → Self.suits k (own_part t) self.old
+            → Self.suits k (own_part t) self.new }
+        ensures shared_kind { (k : ℕ) → Self.suits k shared_part shared.old
+            → Self.suits k shared_part shared.new }
+        ensures done { OnOk result ((k t : ℕ) → Self.suits k (own_part t) self.old
+            → (moved : List Item) × MayFlush k (Self.content self.old) item moved
+            × (Self.content self.new ≡ own_after_flush (Self.content self.old) item moved)
+            × (Self.content shared.new ≡ shared_after_flush (Self.content shared.old) moved)
+            × (length (Self.content shared.old) + length moved ≤ limit_of levels heap_room)) }
+        ensures unchanged { OnErr result ((Self.content self.new ≡ Self.content self.old)
+            × (Self.content shared.new ≡ Self.content shared.old)) }
+        ensures full { IfErr result (λ why. why ≡ LsmError.Full
+            → (k t : ℕ) → Self.suits k (own_part t) self.old
+            → limit_of levels heap_room < length (Self.content shared.old) + max 1 k) };
+
+    /// Takes an item out of an own part and the shared one. `None` where both are empty.
+    fn take<P: Picker>(&mut self, shared: &mut Self, picker: &mut P) -> Option<Item>
+        requires sized { is_sized }
+        requires parts { (k : ℕ) × (t : ℕ) × Self.suits k (own_part t) self.old
+            × Self.suits k shared_part shared.old }
+        requires apart { ShareNone (Self.content self.old) (Self.content shared.old) }
+        ensures kind { (k t : ℕ) → Self.suits k (own_part t) self.old
+            → Self.suits k (own_part t) self.new }
+        ensures shared_kind { (k : ℕ) → Self.suits k shared_part shared.old
+            → Self.suits k shared_part shared.new }
+        ensures done { (k t : ℕ) → Self.suits k (own_part t) self.old → MatchOption result
+            (MayFindNothing (Self.content self.old) (Self.content shared.old)
+            × (Self.content self.new ≡ Self.content self.old)
+            × (Self.content shared.new ≡ Self.content shared.old)
+            × (picker.new ≡ picker.old))
+            (λ item. MayTake k (Self.content self.old) (Self.content shared.old) item
+            × (Self.content self.new ≡ own_after_take (Self.content self.old) item)
+            × (Self.content shared.new
+            ≡ shared_after_take (Self.content self.old) (Self.content shared.old) item)
+            × Chooses P.may_pick picker.old picker.new k (Self.content self.old)
+            (Self.content shared.old) item) };
+
+    /// Moves items from a victim's part to an own one that is empty: true where some moved.
+    fn spy(&mut self, victim: &mut Self) -> bool
+        requires sized { is_sized }
+        requires parts { (k : ℕ) × (t : ℕ) × (v : ℕ) × Self.suits k (own_part t) self.old
+            × Self.suits k (own_part v) victim.old }
+        requires empty { Self.content self.old ≡ [] }
+        ensures kind { (k t : ℕ) → Self.suits k (own_part t) self.old
+            → Self.suits k (own_part t) self.new }
+        ensures victim_kind { (k t : ℕ) → Self.suits k (own_part t) victim.old
+            → Self.suits k (own_part t) victim.new }
+        ensures done { MatchBool result
+            ((moved : List Item) × MaySpy (Self.content self.old) (Self.content victim.old) moved
+            × (Self.content self.new ≡ own_after_spy moved)
+            × (Self.content victim.new ≡ victim_after_spy (Self.content victim.old) moved))
+            ((Self.content victim.old ≡ []) × (Self.content self.new ≡ Self.content self.old)
+            × (Self.content victim.new ≡ Self.content victim.old)) };
+}
+
+/// A part on the heap, so that a call that takes it moves a tag and a pointer.
+#[derive(Drop)]
+pub enum Slot<L, S> {
+    /// The part of one member.
+    Own(Boxed<L>),
+    /// The part that all members share.
+    Common(Boxed<S>),
+    /// No part.
+    Vacant,
+}
+
+/// A slot of a board.
+pub(crate) type BoardSlot<const CAP: usize, const LEVELS: usize> = Slot<Local<CAP>, Shared<LEVELS>>;
+
+impl<const CAP: usize, const LEVELS: usize> Holding for BoardSlot<CAP, LEVELS> {
+    ghost use Rattle.klsm_board.specs.Slots.{slot_content, IsSlotOf};
+
+    ghost content = { slot_content };
+
+    ghost suits = { IsSlotOf };
+}
+
+impl<const CAP: usize, const LEVELS: usize> PartSlot for BoardSlot<CAP, LEVELS> {
+    ghost use Rattle.klsm_board.specs.declared.slot.Slot.TheVariants.{Vacant};
+
+    ghost levels = { LEVELS };
+
+    ghost is_sized = { IsCapacity CAP × IsLevelCount LEVELS };
+
+    ghost is_vacant = { λ slot. slot ≡ Vacant };
+
+    #[inline]
+    fn vacant() -> Self {
+        Slot::Vacant
+    }
+
+    #[inline]
+    fn discard(self) {
+        let Slot::Vacant = self else {
+            unreachable!();
+        };
+    }
+
+    fn len(&self) -> usize {
+        match self {
+            Slot::Own(own) => own.get().len(),
+            Slot::Common(shared) => shared.get().len(),
+            Slot::Vacant => 0,
+        }
+    }
+
+    fn least(&self) -> Option<Item> {
+        match self {
+            Slot::Own(own) => own.get().least(),
+            Slot::Common(shared) => shared.get().least(),
+            Slot::Vacant => None,
+        }
+    }
+
+    #[inline]
+    fn put(&mut self, item: Item) -> bool {
+        match self {
+            Slot::Own(own) => put_where_room(own.get_mut(), item),
+            _ => unreachable!(),
+        }
+    }
+
+    #[inline]
+    fn flush(&mut self, shared: &mut Self, item: Item) -> Result<(), LsmError> {
+        match (self, shared) {
+            (Slot::Own(own), Slot::Common(shared)) => {
+                flush(own.get_mut(), shared.get_mut(), item)
+            }
+            _ => unreachable!(),
+        }
+    }
+
+    #[inline]
+    fn take<P: Picker>(&mut self, shared: &mut Self, picker: &mut P) -> Option<Item> {
+        match (self, shared) {
+            (Slot::Own(own), Slot::Common(shared)) => {
+                take(own.get_mut(), shared.get_mut(), picker)
+            }
+            _ => unreachable!(),
+        }
+    }
+
+    #[inline]
+    fn spy(&mut self, victim: &mut Self) -> bool {
+        match (self, victim) {
+            (Slot::Own(own), Slot::Own(victim)) => spy(own.get_mut(), victim.get_mut()) != 0,
+            _ => unreachable!(),
+        }
+    }
+}
+
+// Puts an item into an own part that has fewer than k.
+#[inline]
+fn put_where_room<const CAP: usize>(own: &mut Local<CAP>, item: Item) -> bool
+    requires capacity { IsCapacity CAP }
+    requires new { ¬ Contains (items_in own.old) item }
+    ensures k { own.new.k ≡ own.old.k }
+    ensures done { MatchBool result
+        (MayPut own.old.k (items_in own.old)
+        × (items_in own.new ≡ own_after_put (items_in own.old) item))
+        ((length (items_in own.old) ≡ own.old.k) × (own.new ≡ own.old)) }
+{
+    if own.len() == own.k() {
+        return false;
+    }
+    put(own, item);
+    true
+}

@@ -1,0 +1,219 @@
+//! The steps on a lock, as the world sees them.
+ghost use Rattle.std.specs.Prelude.{◌≡◌, ◌<◌, ◌≤◌, ◌+◌, ◌-◌, ◌++◌, ◌==◌, ℕ, [], ◌∷◌, List, length, MatchBool, None};
+ghost use mathlib.Core.Option.{none};
+ghost use Rattle.atomic_table.specs.Table.{rest, step};
+ghost use Rattle.klsm_run.specs.declared.item.Item.{Item};
+ghost use Rattle.klsm_world.specs.declared.step.Event.{Event};
+ghost use Rattle.klsm_world.specs.declared.step.Entry.TheVariants.{Acquired, Committed, Released, Missed};
+ghost use Rattle.klsm_world.specs.OwnSteps.{Hand, Holds, found_in, after_event, hand_of, inserted};
+ghost use Rattle.klsm_world.specs.LegalSteps.{MayCommit};
+ghost use Rattle.klsm_board.specs.Steps.{mine, IsMine, acquired, released, committed};
+ghost use Rattle.klsm_board.specs.Seats.{Carries, Stands, Has, CarriedOut, HasRoom, IsSeatOf};
+
+use crate::plays::{Acquire, Commit, Release, Told};
+use crate::rule::{Holding, Locks, MemberSeat, STRIDE};
+use klsm_run::Item;
+use klsm_world::Event;
+use std::marker::Brand;
+
+// A try to take a part. The word found is 0 where it came to the seat.
+fn acquire<S: Holding, D: Told>(
+    table: &Locks<S>,
+    seat: &mut MemberSeat<S>,
+    part: usize,
+    thread: usize,
+) -> u64
+    requires told { (D.sizes ≡ table.now.key) × (D.thread ≡ thread) }
+    requires seat { IsSeatOf seat.old.table_id table.now.table_id table.now.key thread }
+    requires part { part ≤ table.now.key.threads }
+    requires view { IsMine seat.old.me.0 thread }
+    requires away { found_in (hand_of thread (mine seat.old.me.0)) part ≡ None }
+    ensures same { (seat.new.table_id ≡ seat.old.table_id) × (seat.new.id ≡ seat.old.id) }
+    ensures told { acquired S.content S.suits table.now.key thread
+        (step table.now.table_id.slots part 0 (thread + 1) none) seat.old.me result seat.new.me }
+{
+    let free = 0;
+    table.compare_exchange::<Acquire<D>>(seat, part * STRIDE, free, thread as u64 + 1)
+}
+
+// Gives back the part that was taken last, with the content that the seat's list says.
+fn release<S: Holding, D: Told>(
+    table: &Locks<S>,
+    seat: &mut MemberSeat<S>,
+    part: usize,
+    thread: usize,
+)
+    requires told { (D.sizes ≡ table.now.key) × (D.thread ≡ thread) }
+    requires seat { IsSeatOf seat.old.table_id table.now.table_id table.now.key thread }
+    requires part { part ≤ table.now.key.threads }
+    requires view { IsMine seat.old.me.0 thread }
+    requires carried { (y : S) × (seat.old.me.1 ≡ (part, y) ∷ rest seat.old.me.1)
+        × S.suits table.now.key.k part y
+        × Holds (hand_of thread (mine seat.old.me.0)) part (S.content y) }
+    ensures same { (seat.new.table_id ≡ seat.old.table_id) × (seat.new.id ≡ seat.old.id) }
+    ensures told { released table.now.key thread (step table.now.table_id.slots part 0 0 none)
+        seat.old.me 0 seat.new.me }
+{
+    let _ = thread;
+    table.store::<Release<D>>(seat, part * STRIDE, 0);
+}
+
+// Commits some event that D fits, and gives back the part that was taken last, with the content
+// that the event leaves it. The caller knows the event by what it fits, and D by what the event is
+// about.
+fn commit<S: Holding, D: Told, T>(
+    table: &Locks<S>,
+    seat: &mut MemberSeat<S>,
+    part: usize,
+    thread: usize,
+    about: &T,
+)
+    requires told { (D.sizes ≡ table.now.key) × (D.thread ≡ thread) }
+    requires seat { IsSeatOf seat.old.table_id table.now.table_id table.now.key thread }
+    requires part { part ≤ table.now.key.threads }
+    requires view { IsMine seat.old.me.0 thread }
+    requires event { (e : Event) × D.fits e
+        × MayCommit table.now.key.k thread (hand_of thread (mine seat.old.me.0))
+        (length (inserted (mine seat.old.me.0))) e
+        × HasRoom table.now.key.quota (mine seat.old.me.0) e
+        × ((y : S) × (seat.old.me.1 ≡ (part, y) ∷ rest seat.old.me.1)
+        × S.suits table.now.key.k part y
+        × Holds (after_event thread (hand_of thread (mine seat.old.me.0)) e) part (S.content y)) }
+    ensures same { (seat.new.table_id ≡ seat.old.table_id) × (seat.new.id ≡ seat.old.id) }
+    ensures told { committed D.fits table.now.key thread
+        (step table.now.table_id.slots part 0 0 none) seat.old.me 0 seat.new.me }
+{
+    let _ = thread;
+    let _ = about;
+    table.store::<Commit<D>>(seat, part * STRIDE, 0);
+}
+
+/// A try to take a part. The word found is 0 where it came to the seat, and else names its holder.
+pub(crate) fn take_part<S: Holding>(
+    table: &Locks<S>,
+    seat: &mut MemberSeat<S>,
+    part: usize,
+    thread: usize,
+) -> u64
+    requires seat { IsSeatOf seat.old.table_id table.now.table_id table.now.key thread }
+    requires part { part ≤ table.now.key.threads }
+    requires has { (hand : Hand) × Stands S.content S.suits table.now.key thread hand seat.old.me
+        × (found_in hand part ≡ None) }
+    ensures same { (seat.new.table_id ≡ seat.old.table_id) × (seat.new.id ≡ seat.old.id) }
+    ensures told { (hand : Hand) → Stands S.content S.suits table.now.key thread hand seat.old.me
+        → MatchBool (result == 0)
+        ((found : List Item)
+        × Has S.content S.suits table.now.key thread ((part, found) ∷ hand) seat.new.me
+        × (mine seat.new.me.0 ≡ mine seat.old.me.0 ++ Acquired part found ∷ []))
+        (Has S.content S.suits table.now.key thread hand seat.new.me
+        × (mine seat.new.me.0 ≡ mine seat.old.me.0 ++ Missed part (result - 1) ∷ [])
+        × (result ≤ table.now.key.threads)) }
+{
+    acquire::<S, Brand>(table, seat, part, thread)
+}
+
+/// Gives back the part that was taken last.
+pub(crate) fn give_part<S: Holding>(
+    table: &Locks<S>,
+    seat: &mut MemberSeat<S>,
+    part: usize,
+    thread: usize,
+)
+    requires seat { IsSeatOf seat.old.table_id table.now.table_id table.now.key thread }
+    requires part { part ≤ table.now.key.threads }
+    requires has { (found : List Item) × (hand : Hand)
+        × Stands S.content S.suits table.now.key thread ((part, found) ∷ hand) seat.old.me
+        × (found_in hand part ≡ None) }
+    ensures same { (seat.new.table_id ≡ seat.old.table_id) × (seat.new.id ≡ seat.old.id) }
+    ensures gave { (found : List Item) → (hand : Hand)
+        → Stands S.content S.suits table.now.key thread ((part, found) ∷ hand) seat.old.me
+        → found_in hand part ≡ None
+        → Has S.content S.suits table.now.key thread hand seat.new.me }
+    ensures list { mine seat.new.me.0 ≡ mine seat.old.me.0 ++ Released part ∷ [] }
+{
+    release::<S, Brand>(table, seat, part, thread);
+}
+
+/// Commits an event that was carried out in the parts that the seat carries, and gives back the one
+/// that was taken last.
+pub(crate) fn commit_event<S: Holding>(
+    table: &Locks<S>,
+    seat: &mut MemberSeat<S>,
+    part: usize,
+    thread: usize,
+    event: &Event,
+)
+    requires seat { IsSeatOf seat.old.table_id table.now.table_id table.now.key thread }
+    requires part { part ≤ table.now.key.threads }
+    requires room { HasRoom table.now.key.quota (mine seat.old.me.0) event.now }
+    requires out { (left : List Item) × (hand : Hand)
+        × CarriedOut S.content S.suits table.now.key thread event.now ((part, left) ∷ hand)
+        seat.old.me
+        × (found_in hand part ≡ None) }
+    ensures same { (seat.new.table_id ≡ seat.old.table_id) × (seat.new.id ≡ seat.old.id) }
+    ensures gave { (left : List Item) → (hand : Hand)
+        → Carries S.content S.suits table.now.key thread ((part, left) ∷ hand) seat.old.me
+        → found_in hand part ≡ None
+        → Has S.content S.suits table.now.key thread hand seat.new.me }
+    ensures list { mine seat.new.me.0
+        ≡ mine seat.old.me.0 ++ Committed event.now ∷ Released part ∷ [] }
+{
+    commit::<S, Brand, Event>(table, seat, part, thread, event);
+}
+
+/// What an event is about by which items move from one part to another. No value names these items.
+pub(crate) trait Moving {
+    ghost use Rattle.std.specs.Prelude.{List};
+    ghost use Rattle.klsm_run.specs.declared.item.Item.{Item};
+    ghost use Rattle.klsm_world.specs.declared.step.Event.{Event};
+
+    // The event by which these items move.
+    ghost event: { Self → List Item → Event };
+}
+
+/// The insertion of an item, by which others move to the shared part.
+impl Moving for Item {
+    ghost use Rattle.klsm_world.specs.declared.step.Event.TheVariants.{Flush};
+
+    ghost event = { Flush };
+}
+
+/// A spying on the member with this number.
+impl Moving for u32 {
+    ghost use Rattle.klsm_world.specs.declared.step.Event.TheVariants.{Spy};
+
+    ghost event = { Spy };
+}
+
+/// Commits an event by which items moved, and gives back the part that was taken last. The caller
+/// learns of the items that its list names that their moving leaves what the seat carried.
+pub(crate) fn commit_moving<S: Holding, T: Moving>(
+    table: &Locks<S>,
+    seat: &mut MemberSeat<S>,
+    part: usize,
+    thread: usize,
+    about: &T,
+)
+    requires seat { IsSeatOf seat.old.table_id table.now.table_id table.now.key thread }
+    requires part { part ≤ table.now.key.threads }
+    requires room { (moved : List Item)
+        → HasRoom table.now.key.quota (mine seat.old.me.0) (T.event about.now moved) }
+    requires out { (moved : List Item) × (left : List Item) × (hand : Hand)
+        × CarriedOut S.content S.suits table.now.key thread (T.event about.now moved)
+        ((part, left) ∷ hand) seat.old.me
+        × (found_in hand part ≡ None) }
+    ensures same { (seat.new.table_id ≡ seat.old.table_id) × (seat.new.id ≡ seat.old.id) }
+    ensures gave { (left : List Item) → (hand : Hand)
+        → Carries S.content S.suits table.now.key thread ((part, left) ∷ hand) seat.old.me
+        → found_in hand part ≡ None
+        → Has S.content S.suits table.now.key thread hand seat.new.me }
+    ensures list { (left : List Item) → (hand : Hand)
+        → Carries S.content S.suits table.now.key thread ((part, left) ∷ hand) seat.old.me
+        → (moved : List Item)
+        × CarriedOut S.content S.suits table.now.key thread (T.event about.now moved)
+        ((part, left) ∷ hand) seat.old.me
+        × (mine seat.new.me.0
+        ≡ mine seat.old.me.0 ++ Committed (T.event about.now moved) ∷ Released part ∷ []) }
+{
+    commit::<S, Brand, T>(table, seat, part, thread, about);
+}

@@ -1,0 +1,89 @@
+//! How a member takes a part: by one try, or by as many as it needs.
+ghost use Rattle.std.specs.Prelude.{◌≡◌, ◌≤◌, ◌++◌, ℕ, [], ◌∷◌, List, IfErr, OnOk, None};
+ghost use Rattle.klsm_run.specs.declared.item.Item.{Item};
+ghost use Rattle.klsm_world.specs.declared.step.Entry.TheVariants.{Acquired, Missed};
+ghost use Rattle.klsm_world.specs.OwnSteps.{Hand, found_in};
+ghost use Rattle.klsm_board.specs.Steps.{mine};
+ghost use Rattle.klsm_board.specs.Seats.{Stands, Has, IsSeatOf};
+ghost use Rattle.klsm_board.specs.Entries.{missed};
+
+use crate::errors::Busy;
+use crate::rule::{Holding, Locks, MemberSeat};
+use crate::steps::take_part;
+use crossbeam_utils::Backoff;
+use std::hint;
+use std::sync::Wait;
+
+/// How often a member that missed a part looks away before its next try. Tries without a pause take
+/// the line of the lock word from the holder, who then needs longer.
+const PAUSE: u32 = 100;
+
+/// Takes a part, if it is free.
+pub(crate) fn take_now<S: Holding>(
+    table: &Locks<S>,
+    seat: &mut MemberSeat<S>,
+    part: usize,
+    thread: usize,
+) -> Result<(), Busy>
+    requires seat { IsSeatOf seat.old.table_id table.now.table_id table.now.key thread }
+    requires part { part ≤ table.now.key.threads }
+    requires has { (hand : Hand) × Stands S.content S.suits table.now.key thread hand seat.old.me
+        × (found_in hand part ≡ None) }
+    ensures same { seat.new.table_id ≡ seat.old.table_id }
+    ensures ok { OnOk result ((hand : Hand)
+        → Stands S.content S.suits table.now.key thread hand seat.old.me
+        → (found : List Item)
+        × Has S.content S.suits table.now.key thread ((part, found) ∷ hand) seat.new.me
+        × (mine seat.new.me.0 ≡ mine seat.old.me.0 ++ Acquired part found ∷ [])) }
+    ensures busy { IfErr result (λ busy. (busy.lock ≡ part)
+        × ((hand : Hand) → Stands S.content S.suits table.now.key thread hand seat.old.me
+        → Has S.content S.suits table.now.key thread hand seat.new.me)
+        × (mine seat.new.me.0 ≡ mine seat.old.me.0 ++ Missed part busy.by ∷ [])) }
+{
+    let found = take_part(table, seat, part, thread);
+    if found == 0 {
+        Ok(())
+    } else {
+        Err(Busy {
+            lock: part,
+            by: (found - 1) as u32,
+        })
+    }
+}
+
+/// Takes a part, and waits until it is free.
+pub(crate) fn take_in_time<S: Holding>(
+    rt: &impl Wait,
+    table: &Locks<S>,
+    seat: &mut MemberSeat<S>,
+    part: usize,
+    thread: usize,
+)
+    requires seat { IsSeatOf seat.old.table_id table.now.table_id table.now.key thread }
+    requires part { part ≤ table.now.key.threads }
+    requires has { (hand : Hand) × Stands S.content S.suits table.now.key thread hand seat.old.me
+        × (found_in hand part ≡ None) }
+    ensures same { seat.new.table_id ≡ seat.old.table_id }
+    ensures took { (hand : Hand) → Stands S.content S.suits table.now.key thread hand seat.old.me
+        → (bys : List ℕ) × (found : List Item)
+        × Has S.content S.suits table.now.key thread ((part, found) ∷ hand) seat.new.me
+        × (mine seat.new.me.0
+        ≡ mine seat.old.me.0 ++ (missed part bys ++ Acquired part found ∷ [])) }
+{
+    let backoff = Backoff::new();
+    for _ in rt.forever() {
+        match take_now(table, seat, part, thread) {
+            Ok(()) => return,
+            Err(_) => pause(&backoff),
+        }
+    }
+    unreachable!()
+}
+
+// Looks away before the next try, and longer each time.
+fn pause(backoff: &Backoff) {
+    for _ in 0..PAUSE {
+        hint::spin_loop();
+    }
+    backoff.snooze();
+}

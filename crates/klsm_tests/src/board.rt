@@ -1,0 +1,8 @@
+//! A board and its members, in one thread and in several.
+
+mod crew;
+mod refused;
+mod script;
+mod sixteen;
+mod threads;
+mod worked;

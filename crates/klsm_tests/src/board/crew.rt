@@ -1,0 +1,131 @@
+//! A board with its members, one of which may hold a part.
+ghost use Rattle.std.specs.Prelude.{All, IfSome};
+ghost use Rattle.std.proofs.Props.{props};
+ghost use Rattle.klsm_parts.specs.Limit.{IsLevelCount};
+ghost use Rattle.klsm_board.specs.Boards.{IsOf, IsHeldOf};
+
+use klsm_board::{
+    Board, Busy, Held, HoldError, HoldRefused, InsertError, MakeError, Member, TryInsertError,
+};
+use klsm_parts::Picker;
+use klsm_run::{Item, Stamp};
+use std::alloc::Global;
+use std::sync::Wait;
+
+/// A board, those of its members that hold no part, and the one that holds one.
+#[derive(Drop)]
+pub(super) struct Crew<const LEVELS: usize> {
+    pub board: Board<64, LEVELS>,
+    pub members: Vec<Member<64, LEVELS>>,
+    pub held: Option<Held<64, LEVELS>>,
+    ghost members_are_of: { All (λ member. IsOf member board) members.items },
+    ghost held_is_of: { IfSome held (λ held. IsHeldOf held board) } by { Prim.hlevel props },
+}
+
+impl<const LEVELS: usize> Crew<LEVELS> {
+    /// A new board and all its members.
+    pub(super) fn new(
+        alloc: Global,
+        threads: usize,
+        k: usize,
+        quota: u64,
+    ) -> Result<Self, MakeError>
+        requires { IsLevelCount LEVELS }
+    {
+        let (board, members) = Board::new(alloc, threads, k, quota)?;
+        Ok(Crew {
+            board,
+            members,
+            held: None,
+        })
+    }
+
+    /// How a member's insertion ends that waits for nobody.
+    pub(super) fn try_insert(
+        &mut self,
+        member: usize,
+        key: u64,
+        load: u64,
+    ) -> Option<Result<Stamp, TryInsertError>> {
+        let member = self.members.get_mut(member)?;
+        Some(member.try_insert(&self.board, key, load))
+    }
+
+    /// How a member's insertion ends that may wait.
+    pub(super) fn insert(
+        &mut self,
+        rt: &impl Wait,
+        member: usize,
+        key: u64,
+        load: u64,
+    ) -> Option<Result<Stamp, InsertError>> {
+        let member = self.members.get_mut(member)?;
+        Some(member.insert(rt, &self.board, key, load))
+    }
+
+    /// How a member's deletion ends that waits for nobody.
+    pub(super) fn try_delete_min<P: Picker>(
+        &mut self,
+        member: usize,
+        picker: &mut P,
+    ) -> Option<Result<Option<Item>, Busy>> {
+        let member = self.members.get_mut(member)?;
+        Some(member.try_delete_min(&self.board, picker))
+    }
+
+    /// How a member's deletion ends that may wait.
+    pub(super) fn delete_min<P: Picker>(
+        &mut self,
+        rt: &impl Wait,
+        member: usize,
+        picker: &mut P,
+    ) -> Option<Option<Item>> {
+        let member = self.members.get_mut(member)?;
+        Some(member.delete_min(rt, &self.board, picker))
+    }
+
+    /// How many insertions and deletions a member has made.
+    pub(super) fn counts(&self, member: usize) -> Option<(u64, u64)> {
+        let member = self.members.get(member)?;
+        Some((member.inserted_count(), member.deleted_count()))
+    }
+
+    /// The last member that holds no part tries to hold one.
+    pub(super) fn try_hold(&mut self, lock: usize) -> Option<Result<(), HoldError>> {
+        let member = self.members.pop()?;
+        match member.try_hold(&self.board, lock) {
+            Ok(held) => {
+                self.held = Some(held);
+                Some(Ok(()))
+            }
+            Err(HoldRefused { why, member }) => {
+                self.members.push(member).ok()?;
+                Some(Err(why))
+            }
+        }
+    }
+
+    /// Whether a member holds a part, of so many items and with this least one.
+    pub(super) fn holds(&self, member: u32, lock: usize, len: usize, least: Option<Item>) -> bool {
+        let Some(held) = &self.held else {
+            return false;
+        };
+        held.number() == member
+            && held.lock() == lock
+            && held.len() == len
+            && held.is_empty() == (len == 0)
+            && held.least() == least
+    }
+
+    /// How many items the part has that is held, and the least.
+    pub(super) fn seen(&self) -> Option<(usize, Option<Item>)> {
+        let held = self.held.as_ref()?;
+        Some((held.len(), held.least()))
+    }
+
+    /// The member that holds a part gives it back.
+    pub(super) fn put_back(&mut self) -> Option<()> {
+        let held = self.held.take()?;
+        self.members.push(held.put_back(&self.board)).ok()
+    }
+}

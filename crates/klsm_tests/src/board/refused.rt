@@ -1,0 +1,105 @@
+//! Calls that are refused a growth, made again: nothing has changed, and they go through. With ample
+//! memory none is refused; a run that fails one allocation after another refuses each growth here.
+
+use super::crew::Crew;
+use klsm_board::{MakeError, TryInsertError};
+use klsm_parts::First;
+use klsm_run::{Item, Stamp};
+use std::alloc::Global;
+
+// What can be seen of a part: how many items it has, and the least.
+type Sight = (usize, Option<Item>);
+
+// What a member sees of a part that it holds and puts back.
+fn sight(crew: &mut Crew<21>, lock: usize) -> Option<Sight> {
+    crew.try_hold(lock)?.ok()?;
+    let seen = crew.seen()?;
+    crew.put_back()?;
+    Some(seen)
+}
+
+// What can be seen of a board of two members, and how many insertions and deletions each has made.
+fn sights(crew: &mut Crew<21>) -> Option<([Sight; 3], [(u64, u64); 2])> {
+    Some((
+        [sight(crew, 0)?, sight(crew, 1)?, sight(crew, 2)?],
+        [crew.counts(0)?, crew.counts(1)?],
+    ))
+}
+
+// A board of two members. Where a growth is refused, it is made again.
+fn board_of_two(alloc: Global, k: usize) -> Option<Crew<21>> {
+    match Crew::new(alloc, 2, k, 1000) {
+        Err(MakeError::NoMemory) => Crew::new(alloc, 2, k, 1000).ok(),
+        made => made.ok(),
+    }
+}
+
+// A member inserts a key. Where a growth is refused, nothing changes, and it inserts it again.
+fn insert(crew: &mut Crew<21>, owner: u32, key: u64) -> Option<bool> {
+    let before = sights(crew)?;
+    let member = owner as usize;
+    let number = crew.counts(member)?.0;
+    let mut answer = crew.try_insert(member, key, number.saturating_add(1))?;
+    if answer == Err(TryInsertError::NoMemory) {
+        if sights(crew)? != before {
+            return Some(false);
+        }
+        answer = crew.try_insert(member, key, number.saturating_add(1))?;
+    }
+    Some(answer == Ok(Stamp { owner, number }))
+}
+
+// How many items each of the two members inserts.
+const EACH: u64 = 20;
+
+// Both insert their items, the least one last.
+fn insert_all(crew: &mut Crew<21>) -> Option<bool> {
+    for key in (0..EACH).rev() {
+        for member in 0..2 {
+            if !insert(crew, member, key)? {
+                return Some(false);
+            }
+        }
+    }
+    Some(true)
+}
+
+// Whether an item is one of theirs that was not found before. It is found now.
+fn is_next(found: &mut [bool], item: Item) -> Option<bool> {
+    let number = item.stamp.number;
+    let index = item.stamp.owner as usize % 2 * 20 + number as usize % 20;
+    let place = found.get_mut(index)?;
+    let was_found = *place;
+    *place = true;
+    Some(
+        !was_found
+            && item.key.saturating_add(item.load) == EACH
+            && item.load == number.saturating_add(1),
+    )
+}
+
+// Whether a member deletes each item once.
+fn delete_all(crew: &mut Crew<21>) -> Option<bool> {
+    let mut found = [false; 40];
+    for _ in 0..40 {
+        let item = crew.try_delete_min(0, &mut First)?.ok()??;
+        if !is_next(&mut found, item)? {
+            return Some(false);
+        }
+    }
+    Some(crew.try_delete_min(0, &mut First)? == Ok(None))
+}
+
+// Whether all insertions go through, at the second try where a growth is refused, and then all
+// deletions.
+fn goes_through(alloc: Global, k: usize) -> Option<bool> {
+    let mut crew = board_of_two(alloc, k)?;
+    Some(insert_all(&mut crew)? && delete_all(&mut crew)?)
+}
+
+#[test]
+fn refused_calls_go_through_later(rt: HostRuntime) {
+    for k in [0, 1, 4] {
+        assert!(rt; goes_through(rt.alloc(), k) == Some(true), "k = {k}");
+    }
+}

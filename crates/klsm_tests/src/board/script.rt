@@ -1,0 +1,174 @@
+//! Scripts of steps on a board, with what each has to answer.
+ghost use Rattle.klsm_parts.specs.Limit.{IsLevelCount};
+
+use super::crew::Crew;
+use klsm_board::{Busy, HoldError, InsertError, TryInsertError};
+use klsm_parts::First;
+use klsm_run::{Item, Stamp};
+use std::alloc::Global;
+use std::sync::Wait;
+
+/// An item as key, owner and number. Its load is one more than its number.
+pub(super) type Name = (u64, u32, u64);
+
+/// The item of that name.
+pub(super) fn item((key, owner, number): Name) -> Item {
+    Item {
+        key,
+        stamp: Stamp { owner, number },
+        load: number.saturating_add(1),
+    }
+}
+
+/// A step, and its answer. A member is named by its number.
+#[derive(Clone, Copy)]
+pub(super) enum Step {
+    /// The owner of an item inserts it.
+    Inserts(Name),
+    /// A member that inserts a key is refused.
+    IsRefused(u32, u64, TryInsertError),
+    /// A member deletes an item, or finds none.
+    Deletes(u32, Option<Name>),
+    /// A member that deletes misses a lock.
+    Misses(u32, Busy),
+    /// The last member that holds nothing, which is this one, holds a part of so many items and
+    /// with this least one.
+    Holds(u32, usize, usize, Option<Name>),
+    /// It cannot hold a part.
+    CannotHold(usize, HoldError),
+    /// The part that is held goes back.
+    PutsBack,
+    /// A member has made so many insertions and deletions.
+    Counts(u32, u64, u64),
+}
+
+/// Which calls insert and delete.
+#[derive(Clone, Copy, Debug, PartialEq, Eq)]
+pub(super) enum How {
+    /// Those that wait for nobody.
+    Try,
+    /// Those that may wait, except while a part is held.
+    Wait,
+}
+
+/// What a board is made for, and the steps on it.
+pub(super) struct Script {
+    pub threads: usize,
+    pub k: usize,
+    pub quota: u64,
+    pub steps: &'static [Step],
+}
+
+// An insertion that may wait, as one that does not.
+fn as_tried(answer: Result<Stamp, InsertError>) -> Result<Stamp, TryInsertError> {
+    match answer {
+        Ok(stamp) => Ok(stamp),
+        Err(InsertError::Spent) => Err(TryInsertError::Spent),
+        Err(InsertError::Full) => Err(TryInsertError::Full),
+        Err(InsertError::NoMemory) => Err(TryInsertError::NoMemory),
+    }
+}
+
+// How a member's insertion of a key ends.
+fn insert<const LEVELS: usize>(
+    rt: &impl Wait,
+    crew: &mut Crew<LEVELS>,
+    how: How,
+    member: u32,
+    key: u64,
+) -> Option<Result<Stamp, TryInsertError>> {
+    let index = member as usize;
+    let load = crew.counts(index)?.0.saturating_add(1);
+    match how {
+        How::Wait if crew.held.is_none() => Some(as_tried(crew.insert(rt, index, key, load)?)),
+        _ => crew.try_insert(index, key, load),
+    }
+}
+
+// How a member's deletion ends.
+fn delete<const LEVELS: usize>(
+    rt: &impl Wait,
+    crew: &mut Crew<LEVELS>,
+    how: How,
+    member: u32,
+) -> Option<Result<Option<Item>, Busy>> {
+    let index = member as usize;
+    match how {
+        How::Wait if crew.held.is_none() => Some(Ok(crew.delete_min(rt, index, &mut First)?)),
+        _ => crew.try_delete_min(index, &mut First),
+    }
+}
+
+// Whether a step goes as it has to.
+fn goes<const LEVELS: usize>(
+    rt: &impl Wait,
+    crew: &mut Crew<LEVELS>,
+    how: How,
+    step: Step,
+) -> Option<bool> {
+    Some(match step {
+        Step::Inserts((key, owner, number)) => {
+            insert(rt, crew, how, owner, key)? == Ok(Stamp { owner, number })
+        }
+        Step::IsRefused(member, key, why) => insert(rt, crew, how, member, key)? == Err(why),
+        Step::Deletes(member, name) => delete(rt, crew, how, member)? == Ok(name.map(item)),
+        Step::Misses(member, busy) => delete(rt, crew, how, member)? == Err(busy),
+        Step::Holds(member, lock, len, least) => {
+            crew.try_hold(lock)? == Ok(()) && crew.holds(member, lock, len, least.map(item))
+        }
+        Step::CannotHold(lock, why) => crew.try_hold(lock)? == Err(why),
+        Step::PutsBack => {
+            crew.put_back()?;
+            true
+        }
+        Step::Counts(member, inserted, deleted) => {
+            crew.counts(member as usize)? == (inserted, deleted)
+        }
+    })
+}
+
+/// The first step that goes otherwise, counted from 0.
+pub(super) fn first_otherwise<const LEVELS: usize>(
+    rt: &impl Wait,
+    crew: &mut Crew<LEVELS>,
+    how: How,
+    steps: &[Step],
+) -> Option<usize> {
+    for (index, step) in steps.iter().enumerate() {
+        if goes(rt, crew, how, *step) != Some(true) {
+            return Some(index);
+        }
+    }
+    None
+}
+
+// The same on a new board. Where there is none, its number is one too many.
+fn first_on_new<const LEVELS: usize>(
+    rt: &impl Wait,
+    alloc: Global,
+    script: &Script,
+    how: How,
+) -> Option<usize>
+    requires { IsLevelCount LEVELS }
+{
+    match Crew::<LEVELS>::new(alloc, script.threads, script.k, script.quota) {
+        Ok(mut crew) => first_otherwise(rt, &mut crew, how, script.steps),
+        Err(_) => Some(script.steps.len()),
+    }
+}
+
+/// The first step of a script that goes otherwise, by the calls of either kind.
+pub(super) fn wrong_step<const LEVELS: usize>(
+    rt: &impl Wait,
+    alloc: Global,
+    script: &Script,
+) -> Option<(How, usize)>
+    requires { IsLevelCount LEVELS }
+{
+    for how in [How::Try, How::Wait] {
+        if let Some(index) = first_on_new::<LEVELS>(rt, alloc, script, how) {
+            return Some((how, index));
+        }
+    }
+    None
+}

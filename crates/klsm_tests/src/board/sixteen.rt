@@ -1,0 +1,118 @@
+//! As many members as a board can have, and what no board is made for.
+
+use super::crew::Crew;
+use super::script::item;
+use klsm_board::{Board, MakeError};
+use klsm_parts::Last;
+use klsm_run::Item;
+use std::alloc::Global;
+
+// Members, k and quota of a board, and why there is none.
+const CAUSES: &[(usize, usize, u64, Option<MakeError>)] = &[
+    (0, 0, 1, Some(MakeError::BadThreads)),
+    (0, 65, 281_474_976_710_657, Some(MakeError::BadThreads)),
+    (17, 65, 1, Some(MakeError::BadThreads)),
+    (17, 64, 281_474_976_710_657, Some(MakeError::BadThreads)),
+    (16, 65, 1, Some(MakeError::BadK)),
+    (2, 65, 281_474_976_710_657, Some(MakeError::BadK)),
+    (16, 64, 281_474_976_710_657, Some(MakeError::BadQuota)),
+    (16, 64, 281_474_976_710_656, None),
+    (2, 64, 281_474_976_710_656, None),
+    (1, 0, 0, None),
+];
+
+// Whether a board has these sizes, and its members are numbered in turn and have done nothing.
+fn is_new(crew: &Crew<21>, threads: usize, k: usize, quota: u64) -> bool {
+    for (number, member) in crew.members.iter().enumerate() {
+        let counts = (member.inserted_count(), member.deleted_count());
+        if member.number() as usize != number || counts != (0, 0) {
+            return false;
+        }
+    }
+    let board = &crew.board;
+    (board.threads(), board.k(), board.quota()) == (threads, k, quota)
+        && crew.members.len() == threads
+}
+
+// Whether there is such a board, or none for this cause.
+fn is_made(alloc: Global, threads: usize, k: usize, quota: u64, cause: Option<MakeError>) -> bool {
+    match Crew::new(alloc, threads, k, quota) {
+        Ok(crew) => cause.is_none() && is_new(&crew, threads, k, quota),
+        Err(why) => cause == Some(why),
+    }
+}
+
+#[test]
+fn causes_in_their_order(rt: HostRuntime) {
+    for (threads, k, quota, cause) in CAUSES {
+        assert!(rt;
+            is_made(rt.alloc(), *threads, *k, *quota, *cause),
+            "{threads} members, k = {k}, quota {quota}"
+        );
+    }
+}
+
+// How many members there are, and how many items each of them inserts.
+const MEMBERS: u32 = 16;
+
+const EACH: u64 = 5;
+
+// The item that a member inserts after so many. Keys of all members mix, and some are equal.
+fn nth_item(member: u32, number: u64) -> Item {
+    let key = (u64::from(member) * 7 + number % EACH * 5) % 31;
+    item((key, member, number))
+}
+
+// Each member inserts an item.
+fn insert_round(crew: &mut Crew<21>, number: u64) -> Option<()> {
+    for member in 0..MEMBERS {
+        let item = nth_item(member, number);
+        crew.try_insert(member as usize, item.key, item.load)?.ok()?;
+    }
+    Some(())
+}
+
+// Each member deletes an item.
+fn delete_round(crew: &mut Crew<21>, deleted: &mut Vec<Item>) -> Option<()> {
+    for member in 0..MEMBERS {
+        let item = crew.try_delete_min(member as usize, &mut Last)?.ok()??;
+        deleted.push(item).ok()?;
+    }
+    Some(())
+}
+
+// What all members insert, ascending.
+fn all_items(alloc: Global) -> Option<Vec<Item>> {
+    let mut items = Vec::new(alloc);
+    for number in 0..EACH {
+        for member in 0..MEMBERS {
+            items.push(nth_item(member, number)).ok()?;
+        }
+    }
+    items.sort_unstable();
+    Some(items)
+}
+
+// What all members delete, ascending.
+fn all_deleted(alloc: Global, k: usize) -> Option<Vec<Item>> {
+    let mut crew = Crew::new(alloc, MEMBERS as usize, k, EACH).ok()?;
+    for number in 0..EACH {
+        insert_round(&mut crew, number)?;
+    }
+    let mut deleted = Vec::new(alloc);
+    for _ in 0..EACH {
+        delete_round(&mut crew, &mut deleted)?;
+    }
+    deleted.sort_unstable();
+    Some(deleted)
+}
+
+#[test]
+fn sixteen_members_find_all_items_once(rt: HostRuntime) {
+    for k in [0, 1, 3, 64] {
+        assert!(rt;
+            all_deleted(rt.alloc(), k) == all_items(rt.alloc()),
+            "k = {k}"
+        );
+    }
+}
