@@ -50,32 +50,39 @@ impl<const CAP: usize, const LEVELS: usize> Board<CAP, LEVELS> {
         ensures bad_quota { IsErrAnd result (λ why. why ≡ MakeError.BadQuota)
             ↔ ((1 ≤ threads) × (threads ≤ 16) × (k ≤ CAP) × (281474976710656 < quota)) }
     {
-        if threads == 0 || threads > MOST_THREADS {
-            return Err(MakeError::BadThreads);
-        }
-        if k > CAP {
-            return Err(MakeError::BadK);
-        }
-        if quota > MOST_INSERTIONS {
-            return Err(MakeError::BadQuota);
-        }
-        let sizes = Sizes { threads, k, quota };
-        let Ok((board, mut seat)) = table_of(alloc, sizes) else {
+        let sizes = sizes_for(CAP, threads, k, quota)?;
+        let Ok((board, seat)) = table_of(alloc, sizes) else {
             return Err(MakeError::NoMemory);
         };
-        let Ok(mut members) = Vec::with_capacity(alloc, threads) else {
+        let Ok(members) = deal(alloc, &board, seat) else {
             return Err(MakeError::NoMemory);
         };
-        for number in 0..threads {
-            if members
-                .push(next_member(&board, &mut seat, number as u32))
-                .is_err()
-            {
-                return Err(MakeError::NoMemory);
-            }
-        }
         Ok((board, members))
     }
+}
+
+// The sizes of a board, if one can be made for them.
+fn sizes_for(capacity: usize, threads: usize, k: usize, quota: u64) -> Result<Sizes, MakeError>
+    ensures sizes { IfOk result (λ sizes.
+        sizes ≡ record { threads = threads; k = k; quota = quota }) }
+    ensures in_range { IfOk result (λ sizes. AreSizes capacity sizes) }
+    ensures bad_threads { IsErrAnd result (λ why. why ≡ MakeError.BadThreads)
+        ↔ ((threads ≡ 0) ⊎ (16 < threads)) }
+    ensures bad_k { IsErrAnd result (λ why. why ≡ MakeError.BadK)
+        ↔ ((1 ≤ threads) × (threads ≤ 16) × (capacity < k)) }
+    ensures bad_quota { IsErrAnd result (λ why. why ≡ MakeError.BadQuota)
+        ↔ ((1 ≤ threads) × (threads ≤ 16) × (k ≤ capacity) × (281474976710656 < quota)) }
+{
+    if threads == 0 || threads > MOST_THREADS {
+        return Err(MakeError::BadThreads);
+    }
+    if k > capacity {
+        return Err(MakeError::BadK);
+    }
+    if quota > MOST_INSERTIONS {
+        return Err(MakeError::BadQuota);
+    }
+    Ok(Sizes { threads, k, quota })
 }
 
 // The board, and a seat that knows all members' lists.
@@ -116,6 +123,26 @@ fn parts<const CAP: usize, const LEVELS: usize>(
         all.push(Slot::Own(Boxed::new(alloc, Local::new(k))?))?;
     }
     Ok(all)
+}
+
+// The members, whose lists are those that the seat knows.
+fn deal<const CAP: usize, const LEVELS: usize>(
+    alloc: Global,
+    board: &Board<CAP, LEVELS>,
+    mut seat: Seat<BoardSlot<CAP, LEVELS>, View>,
+) -> Result<Vec<Member<CAP, LEVELS>>, AllocError>
+    requires table { seat.table_id ≡ board.now.table.shared.table_id }
+    requires view { seat.me ≡ (view (fresh 0 board.now.sizes.threads), []) }
+    ensures of { IfOk result (λ members. All (λ member. IsOf member board.now) members.items) }
+    ensures count { IfOk result (λ members. length members.items ≡ board.now.sizes.threads) }
+    ensures crew { IfOk result (λ members. IsCrew members.items) }
+{
+    let threads = board.sizes.threads;
+    let mut members = Vec::with_capacity(alloc, threads)?;
+    for number in 0..threads {
+        members.push(next_member(board, &mut seat, number as u32))?;
+    }
+    Ok(members)
 }
 
 /// The first list goes to a new seat.

@@ -1,5 +1,5 @@
 //! What the members of a board do.
-ghost use Rattle.std.specs.Prelude.{◌≡◌, ◌<◌, ◌≤◌, ◌+◌, ◌++◌, ℕ, List, [], ◌∷◌, length, IfOk, IfErr, MatchOption, None};
+ghost use Rattle.std.specs.Prelude.{◌≡◌, ◌<◌, ◌≤◌, ◌+◌, ◌++◌, ◌↔◌, ℕ, List, [], ◌∷◌, length, IfOk, IfErr, IsErrAnd, MatchOption, None};
 ghost use Rattle.std.specs.Option.{option_to_list};
 ghost use Rattle.klsm_run.specs.declared.item.Item.{Item};
 ghost use Rattle.klsm_world.specs.OwnSteps.{inserted, deleted};
@@ -80,6 +80,8 @@ impl<const CAP: usize, const LEVELS: usize> Member<CAP, LEVELS> {
         ensures refused { IfErr result (λ why. Adds self.old self.new [] []
             × RefusesInsert (length (inserted (own_steps self.old)) ≡ self.old.sizes.quota) LEVELS
             self.old.sizes.k self.old.number (own_steps self.old) (own_steps self.new) why) }
+        ensures spent { IsErrAnd result (λ why. why ≡ TryInsertError.Spent)
+            ↔ (length (inserted (own_steps self.old)) ≡ self.old.sizes.quota) }
     {
         if self.inserted == self.sizes.quota {
             return Err(TryInsertError::Spent);
@@ -115,6 +117,8 @@ impl<const CAP: usize, const LEVELS: usize> Member<CAP, LEVELS> {
             × RefusesInsertInTime (length (inserted (own_steps self.old)) ≡ self.old.sizes.quota)
             LEVELS self.old.sizes.k self.old.number (own_steps self.old) (own_steps self.new)
             why) }
+        ensures spent { IsErrAnd result (λ why. why ≡ InsertError.Spent)
+            ↔ (length (inserted (own_steps self.old)) ≡ self.old.sizes.quota) }
     {
         if self.inserted == self.sizes.quota {
             return Err(InsertError::Spent);

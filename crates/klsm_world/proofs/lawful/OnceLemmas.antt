@@ -1,5 +1,5 @@
 -- What was inserted is what was deleted and what is live, each item as often, also after a legal step.
-use Rattle.std.proofs.Common.{◌≡◌, ℕ, ◌+◌, ◌-◌, ◌<◌, [], length, Some, None, refl, ap, ◌∙◌, arith, unwrap_or}
+use Rattle.std.proofs.Common.{◌≡◌, ℕ, ◌+◌, ◌<◌, [], length, Some, None, refl, ap, ◌∙◌, arith, unwrap_or}
 use Rattle.std.specs.List.{flat_map}
 use Rattle.std.proofs.lemmas.List.{length-set}
 use Rattle.klsm_run.specs.declared.item.Item.{Item}

@@ -1,4 +1,4 @@
-use Rattle.std.proofs.Common.{◌≡◌, ◌+◌, ◌∷◌, ◌∙◌, [], length, sym, subst, arith}
+use Rattle.std.proofs.Common.{rules, ◌≡◌, ◌+◌, ◌∷◌, ◌∙◌, [], length, sym, subst, arith}
 use Rattle.klsm_world.specs.OwnSteps.{inserted, deleted}
 use Rattle.klsm_board.specs.Steps.{mine}
 use Rattle.klsm_board.specs.Seats.{Has}
@@ -24,3 +24,6 @@ invariant_of-self-2 g c =
     let counts = gained_counts es es' (x ∷ []) [] me.inserted me.deleted gains rests.insertions_are rests.deletions_are in
     let first : length (inserted es') ≡ me.inserted + 1 = omega (arith, counts.0) in let second : length (deleted es') ≡ me.deleted = omega (arith, counts.1) in
     record { rests = rests_after g.row.CAP me.sizes me.in_range t (me.inserted + 1) me.deleted c.insert_now.new.seat.me (subst (λ m. Has slot_content IsSlotOf m t [] c.insert_now.new.seat.me) same c.in_ok-insert_now.ensures.has) first second; in_range = me.in_range; capacity = me.capacity; levels = me.levels }
+
+pub returns-then-self-clause-refused : goal.returns-then-self-clause-refused
+returns-then-self-clause-refused g c = search rules

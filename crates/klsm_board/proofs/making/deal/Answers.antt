@@ -1,31 +1,28 @@
 use Rattle.std.proofs.Common.{rules, arith, ◌≡◌, ◌<◌, ◌+◌, ◌-◌, List, [], ◌∷◌, ◌++◌, length, slice_index_or, sym, ap, ◌∙◌, length-append}
 use lib.ListN.{get_elem?}
 use Rattle.klsm_board.specs.declared.board.Member.{Member}
-use Rattle.klsm_board.specs.declared.sizes.Sizes.{Sizes}
 use Rattle.klsm_board.specs.Boards.{IsOf, own_steps}
 use Rattle.klsm_board.proofs.table.MakeLemmas.{so_many_fresh, at_new_end, found_at}
-use Rattle.klsm_board.proofs.board.Board.new.Goals as goal
+use Rattle.klsm_board.proofs.making.deal.Goals as goal
 
 pub next_member-requires : goal.next_member-requires
 next_member-requires g c =
-    let inv = c.loop-number.invariant in let n = c.loop-number.number in let left = c.args.threads - n in
-    let test : n < c.args.threads = c.loop-number-test.true in
-    let threads = ap (λ (z : Sizes). z.threads) inv.sizes_are in
-    (search rules, (search rules, (search rules, (search rules, (omega (arith, threads, test), (inv.of_table, (left - 1, so_many_fresh n left ((left - 1) + 1) c.loop-number.seat.me (omega (arith, test)) inv.left)))))))
+    let inv = c.loop-number.invariant in let n = c.loop-number.number in let left = c.args.board.now.sizes.threads - n in
+    let test : n < c.args.board.now.sizes.threads = c.loop-number-test.true in
+    (search rules, (search rules, (search rules, (search rules, (test, (inv.of_table, (left - 1, so_many_fresh n left ((left - 1) + 1) c.loop-number.seat.me (omega (arith, test)) inv.left)))))))
 
 pub loop-number-preserved : goal.loop-number-preserved
 loop-number-preserved g c =
-    let inv = c.loop-number.invariant in let n = c.loop-number.number in let left = c.args.threads - n in
-    let test : n < c.args.threads = c.loop-number-test.true in
+    let inv = c.loop-number.invariant in let n = c.loop-number.number in let left = c.args.board.now.sizes.threads - n in
+    let test : n < c.args.board.now.sizes.threads = c.loop-number-test.true in
     let next = c.next_member.result in let told = c.next_member.ensures in
     let items : c.push.new.self.items ≡ c.loop-number.members.items ++ next ∷ [] = search rules in
     record {
-      sizes_are = inv.sizes_are;
       of_table = told.table ∙ inv.of_table;
-      left = so_many_fresh (n + 1) (left - 1) (c.args.threads - (n + 1)) c.next_member.new.seat.me (omega (arith, test))
+      left = so_many_fresh (n + 1) (left - 1) (c.args.board.now.sizes.threads - (n + 1)) c.next_member.new.seat.me (omega (arith, test))
           (told.seat (left - 1) (so_many_fresh n left ((left - 1) + 1) c.loop-number.seat.me (omega (arith, test)) inv.left));
       count = ap (λ (z : List (Member g.row.CAP g.row.LEVELS)). length z) items ∙ (length-append c.loop-number.members.items (next ∷ []) ∙ ap (λ z. z + 1) inv.count);
-      members = λ i member at. at_new_end c.loop-number.members.items next n inv.count (λ j z. (z.number ≡ j) × IsOf z c.in-Ok.board × (own_steps z ≡ [])) inv.members told.member i member
+      members = λ i member at. at_new_end c.loop-number.members.items next n inv.count (λ j z. (z.number ≡ j) × IsOf z c.args.board.now × (own_steps z ≡ [])) inv.members told.member i member
           (ap (λ (z : List (Member g.row.CAP g.row.LEVELS)). get_elem? z i) (sym items) ∙ at);
     }
 

@@ -4,13 +4,12 @@ use lib.ListN.{get_elem?}
 use Rattle.klsm_board.specs.declared.board.Member.{Member}
 use Rattle.klsm_board.specs.Boards.{IsOf, own_steps}
 use Rattle.klsm_board.specs.Rule.{view, fresh}
-use Rattle.klsm_board.proofs.board.Board.new.Given as goal
+use Rattle.klsm_board.proofs.making.deal.Given as goal
 
 abbrev pub invariant-loop-number : goal.invariant-loop-number
 invariant-loop-number g l = record {
-  sizes_are : l.board.sizes ≡ record { threads = l.threads; k = l.k; quota = l.quota };
   of_table : l.seat.table_id ≡ l.board.table.shared.table_id;
-  left : l.seat.me ≡ (view (fresh l.number (l.threads - l.number)), []);
+  left : l.seat.me ≡ (view (fresh l.number (l.board.sizes.threads - l.number)), []);
   count : length l.members.items ≡ l.number;
   members : (i : ℕ) (member : Member g.row.CAP g.row.LEVELS) → get_elem? l.members.items i ≡ some member → (member.number ≡ i) × IsOf member l.board × (own_steps member ≡ []);
 }
