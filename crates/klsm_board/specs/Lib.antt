@@ -5,6 +5,7 @@ pub mod Inserting  -- what an insertion adds to its member's list
 pub mod Choosing  -- how a deletion chooses
 pub mod Deleting  -- what a deletion adds
 pub mod Boards  -- boards, their members, and what a member holds
+pub mod Finishing  -- how a board ends
 pub mod Steps  -- what a step on a lock tells
 pub mod Seats  -- what a seat has between two steps
 pub mod Slots  -- the parts as slots have them

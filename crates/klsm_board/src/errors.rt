@@ -70,3 +70,14 @@ pub enum HoldError {
     #[error("{0}")]
     Busy(Busy),
 }
+
+/// Why a board is not finished. The causes are tried in this order.
+#[derive(Clone, Copy, Debug, PartialEq, Eq, Error)]
+pub enum FinishError {
+    /// No member of this number, the least one that is absent, was given back.
+    #[error("member {0} is missing")]
+    Missing(u32),
+    /// A growth was refused.
+    #[error("out of memory")]
+    NoMemory,
+}

@@ -34,6 +34,8 @@
 //!   of all live items are smaller, those in parts that others hold included; and where the answer is
 //!   `None`, that at most (T-1)·k live: `TakesOut` and `FindsNothing` in `Member::try_delete_min` and
 //!   `Member::delete_min`.
+//! - **Nothing is lost.** Once all members are back, `finish` tells how many items were inserted and
+//!   deleted, and which are left: each item inserted is one of these two, once (`each_once`).
 //! - **Each answer is an event.** An item is answered where its `Take` was committed, and a stamp where
 //!   its `Put` or `Flush` was: clauses `ok` and `adds`.
 //! - **A refusal changes no part**, and its cause holds: clauses `refused` and `busy`.
@@ -47,14 +49,15 @@
 //!
 //! The files, from the atomic steps up: `rule` and `plays` (what always holds, and what a step tells),
 //! `steps` (acquire, release, commit), `slot` (what is done to the parts), `lending`, `taking` (one try, or as
-//! many as it needs), `inserting`, `spying`, `deleting`, and the public calls in `making`, `member`
-//! and `held`.
+//! many as it needs), `inserting`, `spying`, `deleting`, and the public calls in `making`, `member`,
+//! `held` and `finishing`.
 #![tactic(auto)]
 
 mod board;
 mod boxed;
 mod deleting;
 mod errors;
+mod finishing;
 mod held;
 mod inserting;
 mod lending;
@@ -69,4 +72,5 @@ mod steps;
 mod taking;
 
 pub use board::{Board, Held, HoldRefused, Member};
-pub use errors::{Busy, HoldError, InsertError, MakeError, TryInsertError};
+pub use errors::{Busy, FinishError, HoldError, InsertError, MakeError, TryInsertError};
+pub use finishing::{Account, FinishRefused};

@@ -1,9 +1,9 @@
 //! The parts as the slots of a board have them.
-ghost use Rattle.std.specs.Prelude.{◌≡◌, ℕ, ◌<◌, ◌≤◌, ◌+◌, List, [], length, max, slice_get, IfErr, OnOk, OnErr, MatchBool, MatchOption};
+ghost use Rattle.std.specs.Prelude.{◌≡◌, ℕ, ◌<◌, ◌≤◌, ◌+◌, List, [], length, max, slice_get, ◌++◌, IsOk, IfErr, OnOk, vec_len, vec_capacity, OnErr, MatchBool, MatchOption};
 ghost use Rattle.std.specs.List.{Contains};
 ghost use Rattle.klsm_run.specs.declared.item.Item.{Item};
 ghost use Rattle.klsm_run.specs.Capacity.{IsCapacity, heap_room};
-ghost use Rattle.klsm_run.specs.Content.{ShareNone};
+ghost use Rattle.klsm_run.specs.Content.{ShareNone, sorted};
 ghost use Rattle.klsm_parts.specs.Limit.{IsLevelCount, limit_of};
 ghost use Rattle.klsm_parts.specs.Parts.{items_in};
 ghost use Rattle.klsm_parts.specs.Events.{MayPut, MayFlush, MayTake, MayFindNothing, MaySpy, own_after_put, own_after_flush, shared_after_flush, own_after_take, shared_after_take, own_after_spy, victim_after_spy};
@@ -14,6 +14,7 @@ use crate::boxed::Boxed;
 use crate::rule::Holding;
 use klsm_parts::{Local, LsmError, Picker, Shared, flush, put, spy, take};
 use klsm_run::Item;
+use std::alloc::AllocError;
 
 /// What the calls of a board do to the parts in its slots.
 ///
@@ -44,6 +45,14 @@ pub trait PartSlot: Holding + Drop {
     /// The least item, if there is one.
     fn least(&self) -> Option<Item>
         ensures { result ≡ slice_get (Self.content self.now) 0 };
+
+    /// Appends the items to a list.
+    fn append_to(&self, all: &mut Vec<Item>) -> Result<(), AllocError>
+        ensures items { OnOk result ((items : List Item) × (sorted items ≡ Self.content self.now)
+            × (all.new.items ≡ all.old.items ++ items)) }
+        ensures capacity { vec_capacity all.old ≤ vec_capacity all.new }
+        ensures succeeds { vec_len all.old + length (Self.content self.now) ≤ vec_capacity all.old
+            → IsOk result };
 
     /// Puts an item into an own part, if it has room: then the answer is true.
     fn put(&mut self, item: Item) -> bool
@@ -177,6 +186,14 @@ impl<const CAP: usize, const LEVELS: usize> PartSlot for BoardSlot<CAP, LEVELS> 
             Slot::Own(own) => own.get().least(),
             Slot::Common(shared) => shared.get().least(),
             Slot::Vacant => None,
+        }
+    }
+
+    fn append_to(&self, all: &mut Vec<Item>) -> Result<(), AllocError> {
+        match self {
+            Slot::Own(own) => own.get().append_to(all),
+            Slot::Common(shared) => shared.get().append_to(all),
+            Slot::Vacant => Ok(()),
         }
     }
 

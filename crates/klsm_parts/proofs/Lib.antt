@@ -1,4 +1,5 @@
 pub mod AddedLemmas
+pub mod AppendLemmas
 pub mod EmptyLemmas
 pub mod EventLemmas
 pub mod FitLemmas

@@ -45,6 +45,7 @@
 //!   comparison a block for them. `Shared::pivot_anew` counts, and its contract is that of `pivot`.
 #![tactic(auto)]
 
+mod appending;
 mod flushing;
 pub mod laws;
 mod local;

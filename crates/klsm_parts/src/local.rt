@@ -1,5 +1,5 @@
 //! The part of one member.
-ghost use Rattle.std.specs.Prelude.{◌≡◌, ◌<◌, ◌≤◌, ◌↔◌, ◌∷◌, [], length, slice_get, slice_index_or, Some, IsTrue};
+ghost use Rattle.std.specs.Prelude.{◌≡◌, ◌<◌, ◌≤◌, ◌↔◌, ◌∷◌, [], length, slice_get, slice_index_or, Some, IsTrue, ◌+◌, ◌++◌, IsOk, OnOk, vec_len, vec_capacity};
 ghost use Rattle.std.specs.List.{Contains};
 ghost use Rattle.std.specs.Option.{option_to_list};
 ghost use Rattle.klsm_run.specs.Capacity.{IsCapacity};
@@ -13,9 +13,11 @@ ghost use Rattle.klsm_parts.specs.Events.{MayPut, MayTake, own_after_put, own_af
 ghost use Rattle.klsm_parts.specs.Flushing.{kept};
 ghost use Rattle.klsm_parts.specs.Taking.{IsCutFrom};
 
+use crate::appending::append_blocks;
 use crate::ranks::{Place, least_place};
 use klsm_lsm::Lsm;
 use klsm_run::{FixedRun, Item};
+use std::alloc::{AllocError, Allocator};
 use std::fmt;
 use std::marker::Model;
 
@@ -84,6 +86,16 @@ impl<const CAP: usize> Local<CAP> {
         ensures { result.now ≡ self.now.blocks }
     {
         &self.lsm
+    }
+
+    /// Appends the items to a list, block after block. It takes no memory where the list has room.
+    pub fn append_to<B: Allocator>(&self, all: &mut Vec<Item, B>) -> Result<(), AllocError>
+        ensures items { OnOk result (all.new.items ≡ all.old.items ++ content self.now.blocks) }
+        ensures capacity { vec_capacity all.old ≤ vec_capacity all.new }
+        ensures succeeds { vec_len all.old + length (content self.now.blocks) ≤ vec_capacity all.old
+            → IsOk result }
+    {
+        append_blocks(&self.lsm, all)
     }
 
     // Puts an item in the place of the largest block, which has gone to the shared part. Where

@@ -1,5 +1,5 @@
 //! The part that all members share.
-ghost use Rattle.std.specs.Prelude.{◌≡◌, ◌≢◌, ◌+◌, ◌<◌, ◌≤◌, ◌↔◌, [], length, min, slice_get, slice_index_or, Some, IsTrue, IsOk, IfOk, IfErr, OnOk, OnErr, IsErrAnd};
+ghost use Rattle.std.specs.Prelude.{◌≡◌, ◌≢◌, ◌+◌, ◌<◌, ◌≤◌, ◌↔◌, [], length, min, slice_get, slice_index_or, Some, IsTrue, IsOk, IfOk, IfErr, OnOk, OnErr, IsErrAnd, ◌++◌, vec_len, vec_capacity};
 ghost use Rattle.std.specs.List.{Contains};
 ghost use Rattle.klsm_run.specs.Capacity.{IsCapacity, heap_room};
 ghost use Rattle.klsm_run.specs.Content.{sorted, ShareNone};
@@ -9,12 +9,13 @@ ghost use Rattle.klsm_lsm.specs.Adding.{add, cut};
 ghost use Rattle.klsm_parts.specs.Pivots.{ArePivots, IsPivotAt, count_in_least};
 ghost use Rattle.klsm_parts.specs.Parts.{PartState, IsShared, items_in, least_in, candidates_of};
 
+use crate::appending::append_blocks;
 use crate::mending::{added_by, mend_added, mend_cut, place_from_above};
 use crate::ranks::{Place, item_of, least_place, pivots_of, place_of};
 use arrayvec::ArrayVec;
 use klsm_lsm::{Lsm, LsmError};
 use klsm_run::{HeapRun, Item, Run};
-use std::alloc::{Allocator, Global};
+use std::alloc::{AllocError, Allocator, Global};
 use std::fmt;
 use std::marker::Model;
 
@@ -100,6 +101,16 @@ impl<const LEVELS: usize, A: Allocator + Copy> Shared<LEVELS, A> {
         ensures { result.now ≡ self.now.blocks }
     {
         &self.lsm
+    }
+
+    /// Appends the items to a list, block after block. It takes no memory where the list has room.
+    pub fn append_to<B: Allocator>(&self, all: &mut Vec<Item, B>) -> Result<(), AllocError>
+        ensures items { OnOk result (all.new.items ≡ all.old.items ++ content self.now.blocks) }
+        ensures capacity { vec_capacity all.old ≤ vec_capacity all.new }
+        ensures succeeds { vec_len all.old + length (content self.now.blocks) ≤ vec_capacity all.old
+            → IsOk result }
+    {
+        append_blocks(&self.lsm, all)
     }
 
     /// How many candidates block `block` has. They are its first items.

@@ -1,6 +1,7 @@
 //! A board and its members, in one thread and in several.
 
 mod crew;
+mod finished;
 mod refused;
 mod script;
 mod sixteen;

@@ -36,7 +36,7 @@ list_at (x ∷ ls) zero es e = some-injective x es e
 list_at (x ∷ ls) (suc t) es e = list_at ls t es e
 
 -- where each list is within the quota, each thread's is
-each_within : (quota : ℕ) (ls : List (List Entry)) → ((t : ℕ) (es : List Entry) → get_elem? ls t ≡ some es → length (inserted es) ≤ quota) → (t : ℕ) → length (inserted (get_or ls t [])) ≤ quota
+pub each_within : (quota : ℕ) (ls : List (List Entry)) → ((t : ℕ) (es : List Entry) → get_elem? ls t ≡ some es → length (inserted es) ≤ quota) → (t : ℕ) → length (inserted (get_or ls t [])) ≤ quota
 each_within quota [] few t = omega arith
 each_within quota (x ∷ ls) few zero = few 0 x refl
 each_within quota (x ∷ ls) few (suc t) = each_within quota ls (λ u es e. few (suc u) es e) t

@@ -1,25 +1,29 @@
-//! A board with its members, one of which may hold a part.
+//! A board with its members, one of which may hold a part, and some of which may be away.
 ghost use Rattle.std.specs.Prelude.{All, IfSome};
 ghost use Rattle.std.proofs.Props.{props};
 ghost use Rattle.klsm_parts.specs.Limit.{IsLevelCount};
 ghost use Rattle.klsm_board.specs.Boards.{IsOf, IsHeldOf};
 
 use klsm_board::{
-    Board, Busy, Held, HoldError, HoldRefused, InsertError, MakeError, Member, TryInsertError,
+    Account, Board, Busy, FinishError, FinishRefused, Held, HoldError, HoldRefused, InsertError,
+    MakeError, Member, TryInsertError,
 };
 use klsm_parts::Picker;
 use klsm_run::{Item, Stamp};
 use std::alloc::Global;
+use std::mem;
 use std::sync::Wait;
 
-/// A board, those of its members that hold no part, and the one that holds one.
+/// A board, those of its members that hold no part, the one that holds one, and those that are away.
 #[derive(Drop)]
 pub(super) struct Crew<const LEVELS: usize> {
     pub board: Board<64, LEVELS>,
     pub members: Vec<Member<64, LEVELS>>,
     pub held: Option<Held<64, LEVELS>>,
+    away: Vec<Member<64, LEVELS>>,
     ghost members_are_of: { All (λ member. IsOf member board) members.items },
     ghost held_is_of: { IfSome held (λ held. IsHeldOf held board) } by { Prim.hlevel props },
+    ghost away_are_of: { All (λ member. IsOf member board) away.items },
 }
 
 impl<const LEVELS: usize> Crew<LEVELS> {
@@ -37,6 +41,7 @@ impl<const LEVELS: usize> Crew<LEVELS> {
             board,
             members,
             held: None,
+            away: Vec::new(alloc),
         })
     }
 
@@ -127,5 +132,54 @@ impl<const LEVELS: usize> Crew<LEVELS> {
     pub(super) fn put_back(&mut self) -> Option<()> {
         let held = self.held.take()?;
         self.members.push(held.put_back(&self.board)).ok()
+    }
+
+    /// The last member that holds no part goes away.
+    pub(super) fn leave(&mut self) -> Option<()> {
+        let member = self.members.pop()?;
+        self.away.push(member).ok()
+    }
+
+    /// Those that are away come back, in their order, and those that are here go away.
+    pub(super) fn relieve(&mut self) {
+        mem::swap(&mut self.members, &mut self.away);
+    }
+
+    /// Whether the members that hold no part and are not away have these numbers, in this order.
+    pub(super) fn are(&self, numbers: &[u32]) -> bool {
+        self.members.len() == numbers.len()
+            && self
+                .members
+                .iter()
+                .zip(numbers)
+                .all(|(member, number)| member.number() == *number)
+    }
+
+    /// Ends the board, with the members that hold no part and are not away.
+    pub(super) fn finish(self, alloc: Global) -> Result<Account, (FinishError, Self)> {
+        let Crew {
+            board,
+            members,
+            held,
+            away,
+        } = self;
+        match board.finish(alloc, members) {
+            Ok(account) => Ok(account),
+            Err(
+                FinishRefused {
+                    why,
+                    board,
+                    members,
+                },
+            ) => Err((
+                why,
+                Crew {
+                    board,
+                    members,
+                    held,
+                    away,
+                },
+            )),
+        }
     }
 }

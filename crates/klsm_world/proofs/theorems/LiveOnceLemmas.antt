@@ -14,7 +14,7 @@ use Rattle.klsm_world.specs.declared.step.Entry.{Entry}
 use Rattle.klsm_world.specs.declared.step.Entry.TheVariants.{Released}
 use Rattle.klsm_world.specs.OwnSteps.{Holds, inserted_by, event_at, inserted}
 use Rattle.klsm_world.specs.LegalSteps.{BearsStamp, IsLegal}
-use Rattle.klsm_world.specs.Worlds.{Limits, World, steps_of, hand_in, content_of, live_below, live}
+use Rattle.klsm_world.specs.Worlds.{Limits, World, steps_of, hand_in, content_of, live_below}
 use Rattle.klsm_world.specs.LawfulWorlds.{IsLawful}
 use Rattle.klsm_world.specs.Laws.{LiveItemsDiffer, PartsShareNone}
 use Rattle.klsm_world.proofs.counts.EventCountLemmas.{times_append, times_contained, contained_if_counted}
@@ -75,14 +75,16 @@ once_in_lists k from (own ∷ lists) legal x =
       ]
     ]
 
--- no item is live twice
-pub live_items_differ : LiveItemsDiffer
-live_items_differ limits w x lawful =
-    let all : times x (flat_map inserted w.lists) ≤ 1 =
+-- no item is inserted twice
+pub inserted_once : (limits : Limits) (w : World) (x : Item) → IsLawful limits w → times x (flat_map inserted w.lists) ≤ 1
+inserted_once limits w x lawful =
     once_in_lists limits.k 0 w.lists (λ t less.
     let same : t ≡ 0 + t = omega arith in
-    subst (λ u. IsLegal limits.k u (get_or w.lists t [])) same (lawful.legal t (omega (arith, less, lawful.agreed.lists_are)))) x in
-    omega (arith, all, lawful.each_once x)
+    subst (λ u. IsLegal limits.k u (get_or w.lists t [])) same (lawful.legal t (omega (arith, less, lawful.agreed.lists_are)))) x
+
+-- no item is live twice
+pub live_items_differ : LiveItemsDiffer
+live_items_differ limits w x lawful = omega (arith, inserted_once limits w x lawful, lawful.each_once x)
 
 -- what the first n parts hold counts each of them
 part_counts : (w : World) (x : Item) (n p : ℕ) → p < n → times x (content_of w p) ≤ times x (live_below w n)

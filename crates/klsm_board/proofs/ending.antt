@@ -1,0 +1,7 @@
+-- The end of a board.
+pub mod NumberLemmas  -- the members by their numbers
+pub mod SumLemmas  -- how many items they inserted and deleted
+pub mod ListLemmas  -- the parts, taken out and listed
+pub mod JoinLemmas  -- a seat that takes in their lists
+pub mod EndLemmas  -- the lists of all members, by their numbers
+pub mod CloseLemmas  -- a closed board has the items that its account leaves

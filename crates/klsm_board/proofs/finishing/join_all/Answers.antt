@@ -1,0 +1,38 @@
+use Rattle.std.proofs.Common.{[], length, sym, subst, ◌∙◌, append-nil}
+use Rattle.std.proofs.lemmas.List.{nil_from_length}
+use Rattle.klsm_board.specs.Slots.{slot_content, IsSlotOf}
+use Rattle.klsm_board.proofs.table.OpeningLemmas.{gathers}
+use Rattle.klsm_board.proofs.ending.JoinLemmas.{AreJoined, join_last, joins_one, joined_all, last_of_whole}
+use Rattle.klsm_board.proofs.finishing.join_all.Goals as goal
+
+pub loop-member-init : goal.loop-member-init
+loop-member-init g c =
+    let whole = c.args.members.items in let left = c.pop.new.self.items in let member = c.in-Some.field-0 in (
+      c.requires.of (length left) member (last_of_whole whole whole left member [] (sym (append-nil whole)) c.in-Some.ensures.items),
+      joins_one whole left member member.seat.me.0 c.in-Some.ensures.items member.rests.alone,
+    )
+
+pub join_seat-requires : goal.join_seat-requires
+join_seat-requires g c =
+    let whole = c.args.members.items in let left = c.loop-member.members.items in let next = c.pop-in-loop-member.new.self.items in let member = c.in-Some-pop.member in
+    let joined = c.loop-member.invariant.1 in let seat = c.loop-member.seat in (
+      c.loop-member.invariant.0,
+      c.requires.of (length next) member (last_of_whole whole left next member joined.gone joined.whole_is c.in-Some-pop.ensures.items),
+      member.rests.carries_none,
+      c.requires.words,
+      gathers slot_content IsSlotOf c.args.table.now.key seat.id seat.me.0 member.seat.id member.seat.me.0,
+    )
+
+pub loop-member-preserved : goal.loop-member-preserved
+loop-member-preserved g c =
+    let whole = c.args.members.items in let left = c.loop-member.members.items in let next = c.pop-in-loop-member.new.self.items in let member = c.in-Some-pop.member in
+    let seat = c.loop-member.seat in let told = c.join_seat.ensures in (
+      told.0 ∙ c.loop-member.invariant.0,
+      subst (λ me. AreJoined whole next me.0) (sym told.2) (join_last whole left next member seat.me.0 member.seat.me.0 c.loop-member.invariant.1 c.in-Some-pop.ensures.items member.rests.alone),
+    )
+
+pub returns-clause-knows : goal.returns-clause-knows
+returns-clause-knows g c =
+    let left = c.loop-member.members in
+    joined_all c.args.members.items left.items c.loop-member.seat.me.0 c.loop-member.invariant.1
+    (nil_from_length left.items (sym left.ok.0 ∙ c.in_default-pop.ensures.cases.0))

@@ -1,0 +1,10 @@
+use Rattle.std.proofs.Common.{◌≡◌}
+use Rattle.klsm_board.proofs.ending.JoinLemmas.{AreJoined}
+use Rattle.klsm_board.proofs.finishing.join_all.Given as goal
+
+-- the seat knows the lists of the members that are gone
+abbrev pub invariant-loop-member : goal.invariant-loop-member
+invariant-loop-member g l = (l.seat.table_id ≡ l.table.table_id) × AreJoined l.fn.members.items l.members.items l.seat.me.0
+
+abbrev pub decreases-loop-member : goal.decreases-loop-member
+decreases-loop-member g l = goal.left-loop-member g l
