@@ -1,24 +1,39 @@
 //! What no contract says: texts and statuses of the whole program, and faults in mid-stream.
 
 mod faults;
+mod limits;
 mod process;
+mod refused;
+mod replayed;
+mod reports;
 mod scripts;
+mod skips;
+mod threads;
+mod waiting;
 mod words;
 
 use klsm_tool::run_program;
 use process::{Input, Output, Process};
 use std::alloc::Global;
+use std::sync::Wait;
 
 /// The words of a process that answers a script.
 const REPLAY: &[&[u8]] = &[b"klsm", b"replay"];
 
 /// The status of the program as a process of these words.
-fn run(alloc: Global, words: &[&[u8]], input: Input, output: &mut Output) -> u8 {
-    run_program(&(Process { words }, alloc), input, output).code()
+fn run(rt: &impl Wait, alloc: Global, words: &[&[u8]], input: Input, output: &mut Output) -> u8 {
+    run_program(&(Process { rt, words }, alloc), input, output).code()
 }
 
 /// Whether the program ends with this status, and this text is all that it writes.
-fn gives(alloc: Global, words: &[&[u8]], input: Input, status: u8, text: &[u8]) -> bool {
+fn gives(
+    rt: &impl Wait,
+    alloc: Global,
+    words: &[&[u8]],
+    input: Input,
+    status: u8,
+    text: &[u8],
+) -> bool {
     let mut output = Output::ample(alloc);
-    run(alloc, words, input, &mut output) == status && output.taken.as_slice() == text
+    run(rt, alloc, words, input, &mut output) == status && output.taken.as_slice() == text
 }

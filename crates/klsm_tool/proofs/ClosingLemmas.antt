@@ -1,12 +1,15 @@
 -- What the last line makes of a replay that has stopped.
-use Rattle.std.proofs.Common.{◌≡◌, ◌≢◌, ℕ, ◌+◌, ◌<◌, ◌⊎◌, inl, inr, List, [], ◌∷◌, ◌++◌, length, take, Option, Some, None, refl, sym, ap, ◌∙◌, subst, arith, codes, reverse}
-use Rattle.std.specs.Io.KnownBytes.{Appends}
-use Rattle.std.proofs.lemmas.List.{append-nil, length-append, take_all, reverse-append}
+use Rattle.std.proofs.Common.{◌≡◌, ◌≢◌, ℕ, ◌+◌, ◌*◌, ◌<◌, ◌≤◌, ◌^◌, ◌⊎◌, inl, inr, List, [], ◌∷◌, ◌++◌, length, take, Option, Some, None, refl, sym, ap, ◌∙◌, subst, arith, codes, reverse}
+use Rattle.std.specs.Io.KnownBytes.{Appends, Keeps}
+use Rattle.std.proofs.lemmas.List.{append-nil, append_assoc, length-append, take_all, reverse-append}
 use Rattle.csv.specs.declared.parser.State.{State}
 use Rattle.csv.specs.declared.parser.State.TheVariants as state
 use Rattle.csv.specs.declared.parser.Config.{Config}
 use Rattle.csv.specs.Reading.{Reached, default_config, strip_bom}
+use Rattle.klsm_world.specs.declared.step.Entry.{Entry}
 use Rattle.klsm_tool.specs.declared.answer.Line.{Line}
+use Rattle.klsm_tool.specs.declared.output.Output.{Output}
+use Rattle.klsm_tool.specs.declared.settings.End.{End}
 use Rattle.klsm_tool.specs.declared.settings.End.TheVariants as end
 use Rattle.klsm_tool.specs.declared.settings.Report.{Report}
 use Rattle.klsm_tool.specs.declared.stop.Closing.{Closing}
@@ -15,11 +18,12 @@ use Rattle.klsm_tool.specs.declared.stop.Stop.TheVariants as stop
 use Rattle.klsm_tool.specs.Script.{Row}
 use Rattle.klsm_tool.specs.Rows.{AreFirstRows, AreAllRows}
 use Rattle.klsm_tool.specs.AnswerText.{closing_text, greatest_skip, lines_text}
-use Rattle.klsm_tool.specs.Output.{Closes, GoesOrFails}
+use Rattle.klsm_tool.specs.Output.{Closes, pending, put_count}
 use Rattle.klsm_tool.specs.Progress.{HasStopped, IsCutOff, IsTold, IsToldUntil}
-use Rattle.klsm_tool.specs.Replay.{Answered, GoesOut, Replays, Stopped, end_of}
-use Rattle.klsm_tool.proofs.OutputLemmas.{appends_more, appends_nothing}
-use Rattle.klsm_tool.proofs.TellingLemmas.{take_into}
+use Rattle.klsm_tool.specs.Shown.{AreShown}
+use Rattle.klsm_tool.specs.Replay.{Answered, AreShownUntil, GoesOrFails, GoesOut, Replays, Stopped, end_of}
+use Rattle.klsm_tool.proofs.LengthLemmas.{closing_short}
+use Rattle.klsm_tool.proofs.OutputLemmas.{appends_more, appends_none, goes_after}
 
 reached_front : (config : Config) (from after : State) (text rest : List ℕ) (rows : List Row) (row : Row) → Reached config from text (rows ++ row ∷ []) after rest → (between : State) × (left : List ℕ) × Reached config from text rows between left
 unfolding Reached
@@ -46,21 +50,21 @@ all_are_first None rows all = tt
 all_are_first (Some text) rows all = (all.0, all.1, all.2)
 
 -- whatever the reason, the rows that were answered are the first ones
-stopped_first : (threads : ℕ) (input : Option (List ℕ)) (rows : List Row) (lines : List Line) (why : Stop) → Stopped threads input rows lines why → AreFirstRows input rows
-stopped_first threads input rows lines stop.AtEnd h = all_are_first input rows h
-stopped_first threads input rows lines (stop.Refused why) h = fewer_rows input rows h.0 h.1
-stopped_first threads input rows lines stop.Full h = fewer_rows input rows h.0 h.2
-stopped_first threads input rows lines stop.NoMemory h = h
-stopped_first threads input rows lines stop.ReadFault h = h
-stopped_first threads input rows lines stop.WriteFault h = h
+stopped_first : (threads k : ℕ) (lists : List (List Entry)) (input : Option (List ℕ)) (rows : List Row) (why : Stop) → Stopped threads k lists input rows why → AreFirstRows input rows
+stopped_first threads k lists input rows stop.AtEnd h = all_are_first input rows h
+stopped_first threads k lists input rows (stop.Refused why) h = fewer_rows input rows h.0 h.1
+stopped_first threads k lists input rows stop.Full h = fewer_rows input rows h.0 h.2
+stopped_first threads k lists input rows stop.NoMemory h = h
+stopped_first threads k lists input rows stop.ReadFault h = h
+stopped_first threads k lists input rows stop.WriteFault h = h
 
-told_in_full : (why : Stop) (before now : Option (List ℕ)) (lines : List Line) (written : ℕ) → why ≢ stop.WriteFault → IsToldUntil why before now lines written → IsTold before now lines written
-told_in_full stop.AtEnd before now lines written other told = told
-told_in_full (stop.Refused why) before now lines written other told = told
-told_in_full stop.Full before now lines written other told = told
-told_in_full stop.NoMemory before now lines written other told = told
-told_in_full stop.ReadFault before now lines written other told = told
-told_in_full stop.WriteFault before now lines written other told = absurd (other refl)
+told_in_full : (why : Stop) (before now : Option (List ℕ)) (lines : List Line) (output : Output) → why ≢ stop.WriteFault → IsToldUntil why before now lines output → IsTold before now lines output
+told_in_full stop.AtEnd before now lines output other told = told
+told_in_full (stop.Refused why) before now lines output other told = told
+told_in_full stop.Full before now lines output other told = told
+told_in_full stop.NoMemory before now lines output other told = told
+told_in_full stop.ReadFault before now lines output other told = told
+told_in_full stop.WriteFault before now lines output other told = absurd (other refl)
 
 other_end : (why : Stop) → why ≢ stop.WriteFault → end_of why ≢ end.WriteFault
 other_end stop.AtEnd other = λ e. cc
@@ -70,50 +74,59 @@ other_end stop.NoMemory other = λ e. cc
 other_end stop.ReadFault other = λ e. cc
 other_end stop.WriteFault other = absurd (other refl)
 
--- the lines went out, and then the last one, or a front of it
-whole_or_cut : (before now after : Option (List ℕ)) (front last : List ℕ) (why : Stop) (written : ℕ) (report : Report) → why ≢ stop.WriteFault → Appends before now front → written ≡ length front
-    → GoesOrFails now after last written report.written (end_of why) report.end → GoesOut before after (front ++ last) why report
-whole_or_cut before now after front last why written report other told count (inl whole) =
-    let all : report.written ≡ length (front ++ last) = omega (arith, whole.2, count, length-append front last) in
+-- a text went out, or a front of it
+whole_or_cut : (before after : Option (List ℕ)) (text : List ℕ) (why : Stop) (report : Report) → why ≢ stop.WriteFault → GoesOrFails before after text 0 report.written (end_of why) report.end → GoesOut before after text why report
+whole_or_cut before after text why report other (inl whole) =
+    let all : report.written ≡ length text = omega (arith, whole.2) in
     record {
-      appended = subst (Appends before after) (sym (take_all report.written (front ++ last) (omega (arith, all)))) (appends_more before now after front last told whole.1);
+      appended = subst (Appends before after) (sym (take_all report.written text (omega (arith, all)))) whole.1;
       within = omega (arith, all);
       cut = λ failed. absurd (other_end why other (sym whole.0 ∙ failed));
       whole = λ _. (all, whole.0);
     }
-whole_or_cut before now after front last why written report other told count (inr cut) =
-    let n = cut.1.0 in
-    let out : report.written ≡ length front + n = cut.1.3 ∙ ap (λ m. m + n) count in
-    let piece : take report.written (front ++ last) ≡ front ++ take n last = ap (λ m. take m (front ++ last)) out ∙ take_into n front last in
-    let short : report.written < length (front ++ last) = omega (arith, out, cut.1.1, length-append front last) in
+whole_or_cut before after text why report other (inr cut) =
+    let out : cut.1.0 ≡ report.written = omega (arith, cut.1.3) in
+    let short : report.written < length text = omega (arith, out, cut.1.1) in
     record {
-      appended = subst (Appends before after) (sym piece) (appends_more before now after front (take n last) told cut.1.2);
+      appended = subst (λ (n : ℕ). Appends before after (take n text)) out cut.1.2;
       within = omega arith;
       cut = λ _. short;
       whole = λ fine. absurd (fine cut.0);
     }
 
+-- the last line tells the greatest skip only where all rows are answered
+closing_same : (why : Stop) (row number most greatest bound : ℕ) → row ≡ number → (why ≡ stop.AtEnd → most ≡ greatest) → closing_text row most bound why ≡ closing_text number greatest bound why
+closing_same stop.AtEnd row number most greatest bound same is = ap (λ n. closing_text row n bound stop.AtEnd) (is refl) ∙ ap (λ n. closing_text n greatest bound stop.AtEnd) same
+closing_same (stop.Refused why) row number most greatest bound same is = ap (λ n. closing_text n greatest bound (stop.Refused why)) same
+closing_same stop.Full row number most greatest bound same is = ap (λ n. closing_text n greatest bound stop.Full) same
+closing_same stop.NoMemory row number most greatest bound same is = refl
+closing_same stop.ReadFault row number most greatest bound same is = refl
+closing_same stop.WriteFault row number most greatest bound same is = refl
+
 -- a replay that stopped for another reason than the writer, with its last line
-replays_with : (threads bound number : ℕ) (input before now after : Option (List ℕ)) (written : ℕ) (why why' : Stop) (report : Report) (rows : List Row) (lines : List Line)
-    → Answered threads rows lines → Stopped threads input rows lines why' → why' ≢ stop.WriteFault → greatest_skip lines ≡ 0 → number ≡ length lines + 1 → IsTold before now lines written
-    → GoesOrFails now after (closing_text number 0 bound why') written report.written (end_of why') report.end → Replays threads bound input before after report
-replays_with threads bound number input before now after written why why' report rows lines answered stopped other exact number_is told goes = record {
+replays_with : (threads k number most : ℕ) (lists : List (List Entry)) (input before now after : Option (List ℕ)) (output : Output) (why : Stop) (report : Report) (rows : List Row) (lines : List Line)
+    → Answered threads rows lines → AreShownUntil why threads lists lines → Stopped threads k lists input rows why → why ≢ stop.WriteFault → (why ≡ stop.AtEnd → most ≡ greatest_skip lines) → number ≡ length lines + 1 → IsTold before now lines output
+    → GoesOrFails now after (pending output ++ closing_text number most (threads * k) why) output.written report.written (end_of why) report.end → Replays threads k lists input before after report
+replays_with threads k number most lists input before now after output why report rows lines answered shown stopped other most_is number_is told goes = record {
   rows = rows;
   lines = lines;
-  why = why';
+  why = why;
   answered = answered;
+  shown = shown;
   stopped = stopped;
   goes_out =
-      let same : closing_text number 0 bound why' ≡ closing_text (length lines + 1) (greatest_skip lines) bound why' = ap (λ n. closing_text n 0 bound why') number_is ∙ ap (λ n. closing_text (length lines + 1) n bound why') (sym exact) in
-      whole_or_cut before now after (lines_text lines) _ why' written report other told.appended told.count
-      (subst (λ (last : List ℕ). GoesOrFails now after last written report.written (end_of why') report.end) same goes);
+      let last = closing_text number most (threads * k) why in
+      let same : last ≡ closing_text (length lines + 1) (greatest_skip lines) (threads * k) why = closing_same why number (length lines + 1) most (greatest_skip lines) (threads * k) number_is most_is in
+      let all : told.gone ++ (pending output ++ last) ≡ lines_text lines ++ closing_text (length lines + 1) (greatest_skip lines) (threads * k) why =
+      sym (append_assoc told.gone (pending output) last) ∙ (ap (λ front. front ++ last) told.all ∙ ap (λ z. lines_text lines ++ z) same) in
+      whole_or_cut before after _ why report other
+      (goes_after before now after told.gone (pending output ++ last) _ 0 output.written report.written (end_of why) report.end told.appended (omega (arith, told.count)) all goes);
 }
 
 -- a replay that was cut off, to which nothing is added
-replays_cut : (threads bound : ℕ) (input before now after : Option (List ℕ)) (written : ℕ) (report : Report) (rows : List Row) (lines : List Line)
-    → Answered threads rows lines → AreFirstRows input rows → IsCutOff before now lines written → GoesOrFails now after [] written report.written end.WriteFault report.end → Replays threads bound input before after report
-replays_cut threads bound input before now after written report rows lines answered first cut (inl whole) =
-    let same : report.written ≡ written = omega (arith, whole.2) in
+replays_cut : (threads k : ℕ) (lists : List (List Entry)) (input before now after : Option (List ℕ)) (output : Output) (report : Report) (rows : List Row) (lines : List Line)
+    → Answered threads rows lines → AreShown threads lists lines → AreFirstRows input rows → IsCutOff before now lines output.written → report.end ≡ end.WriteFault → Keeps now after → report.written ≡ output.written → Replays threads k lists input before after report
+replays_cut threads k lists input before now after output report rows lines answered shown first cut failed keeps same =
     let text : lines_text lines ++ [] ≡ lines_text lines = append-nil (lines_text lines) in
     let short : report.written < length (lines_text lines ++ []) = rw text (omega (arith, same, cut.short)) in
     record {
@@ -121,55 +134,70 @@ replays_cut threads bound input before now after written report rows lines answe
       lines = lines;
       why = stop.WriteFault;
       answered = answered;
+      shown = shown;
       stopped = first;
       goes_out = record {
-        appended = rw (text, same) (subst (Appends before after) (append-nil (take written (lines_text lines))) (appends_more before now after (take written (lines_text lines)) [] cut.appended whole.1));
+        appended = rw (text, same) (subst (Appends before after) (append-nil (take output.written (lines_text lines))) (appends_more before now after (take output.written (lines_text lines)) [] cut.appended (appends_none now after keeps)));
         within = omega arith;
         cut = λ _. short;
-        whole = λ fine. absurd (fine whole.0);
+        whole = λ fine. absurd (fine failed);
       };
     }
-replays_cut threads bound input before now after written report rows lines answered first cut (inr bad) = absurd (omega (arith, bad.1.1))
 
-writer_failed : (why : Stop) → (why ≡ stop.WriteFault) ⊎ (why ≢ stop.WriteFault)
-writer_failed stop.AtEnd = inr (λ e. cc)
-writer_failed (stop.Refused why) = inr (λ e. cc)
-writer_failed stop.Full = inr (λ e. cc)
-writer_failed stop.NoMemory = inr (λ e. cc)
-writer_failed stop.ReadFault = inr (λ e. cc)
-writer_failed stop.WriteFault = inl refl
-
-replays_for : (threads bound number : ℕ) (input before now after : Option (List ℕ)) (written : ℕ) (why why' : Stop) (report : Report) → HasStopped threads input before now number written why
-    → ((why' ≡ why) ⊎ ((why' ≡ stop.NoMemory) × (why ≢ stop.WriteFault))) → GoesOrFails now after (closing_text number 0 bound why') written report.written (end_of why') report.end → Replays threads bound input before after report
-replays_for threads bound number input before now after written why why' report stopped (inl same) goes = elim (writer_failed why) [
-  | inl failed ↦
-      let cut : IsCutOff before now stopped.lines written = subst (λ (w : Stop). IsToldUntil w before now stopped.lines written) failed stopped.told in
-      let nothing : GoesOrFails now after [] written report.written end.WriteFault report.end = subst (λ (w : Stop). GoesOrFails now after (closing_text number 0 bound w) written report.written (end_of w) report.end) (same ∙ failed) goes in
-      replays_cut threads bound input before now after written report stopped.rows stopped.lines stopped.answered (stopped_first threads input stopped.rows stopped.lines why stopped.stopped) cut nothing
-  | inr other ↦
-      let goes' : GoesOrFails now after (closing_text number 0 bound why) written report.written (end_of why) report.end = subst (λ (w : Stop). GoesOrFails now after (closing_text number 0 bound w) written report.written (end_of w) report.end) same goes in
-      replays_with threads bound number input before now after written why why report stopped.rows stopped.lines stopped.answered stopped.stopped other stopped.exact (stopped.number_is other) (told_in_full why before now stopped.lines written other stopped.told) goes'
-]
-replays_for threads bound number input before now after written why why' report stopped (inr wanted) goes =
-    let goes' : GoesOrFails now after (closing_text number 0 bound stop.NoMemory) written report.written (end_of stop.NoMemory) report.end = subst (λ (w : Stop). GoesOrFails now after (closing_text number 0 bound w) written report.written (end_of w) report.end) wanted.0 goes in
-    replays_with threads bound number input before now after written why stop.NoMemory report stopped.rows stopped.lines stopped.answered (stopped_first threads input stopped.rows stopped.lines why stopped.stopped) (λ e. cc) stopped.exact (stopped.number_is wanted.1) (told_in_full why before now stopped.lines written wanted.1 stopped.told) goes'
+-- where memory is wanted for the last line, the lines are still those of the lists
+shown_at_last : (why : Stop) (threads : ℕ) (lists : List (List Entry)) (lines : List Line) → AreShownUntil why threads lists lines → AreShownUntil stop.NoMemory threads lists lines
+shown_at_last stop.AtEnd threads lists lines shown = inl shown
+shown_at_last (stop.Refused why) threads lists lines shown = inl shown
+shown_at_last stop.Full threads lists lines shown = inl shown
+shown_at_last stop.NoMemory threads lists lines shown = shown
+shown_at_last stop.ReadFault threads lists lines shown = inl shown
+shown_at_last stop.WriteFault threads lists lines shown = inl shown
 
 -- a replay that stopped, and then closed
-pub replays : (threads bound : ℕ) (input before now after : Option (List ℕ)) (written : ℕ) (closing : Closing) (report : Report)
-    → HasStopped threads input before now closing.row written closing.stop → closing.most ≡ 0 → closing.bound ≡ bound → Closes now after closing written report.written report.end → Replays threads bound input before after report
-replays threads bound input before now after written closing report stopped most bound_is closes =
-    let text : closing_text closing.row closing.most closing.bound closes.0 ≡ closing_text closing.row 0 bound closes.0 =
-    ap (λ n. closing_text closing.row n closing.bound closes.0) most ∙ ap (λ n. closing_text closing.row 0 n closes.0) bound_is in
-    replays_for threads bound closing.row input before now after written closing.stop closes.0 report stopped closes.1
-    (subst (λ (last : List ℕ). GoesOrFails now after last written report.written (end_of closes.0) report.end) text closes.2)
+pub replays : (threads k : ℕ) (lists : List (List Entry)) (input before now after : Option (List ℕ)) (closing : Closing) (output output' : Output) (report : Report)
+    → HasStopped threads k lists input before now closing.row closing.most output closing.stop → closing.bound ≡ threads * k → report.written ≡ output'.written → Closes now after closing output output' report.end → Replays threads k lists input before after report
+replays threads k lists input before now after closing output output' report stopped bound_is written (inl failed) =
+    let cut : IsCutOff before now stopped.lines output.written = subst (λ (why : Stop). IsToldUntil why before now stopped.lines output) failed.0 stopped.told in
+    let shown : AreShown threads lists stopped.lines = subst (λ (why : Stop). AreShownUntil why threads lists stopped.lines) failed.0 stopped.shown in
+    let first : AreFirstRows input stopped.rows = stopped_first threads k lists input stopped.rows closing.stop stopped.stopped in
+    replays_cut threads k lists input before now after output report stopped.rows stopped.lines stopped.answered shown first cut failed.1 failed.2 (written ∙ failed.3)
+replays threads k lists input before now after closing output output' report stopped bound_is written (inr goes) =
+    let told : IsTold before now stopped.lines output = told_in_full closing.stop before now stopped.lines output goes.0 stopped.told in
+    let first : AreFirstRows input stopped.rows = stopped_first threads k lists input stopped.rows closing.stop stopped.stopped in
+    let goes' : GoesOrFails now after (pending output ++ closing_text closing.row closing.most (threads * k) goes.1.0) output.written report.written (end_of goes.1.0) report.end =
+    rw written (subst (λ (bound : ℕ). GoesOrFails now after (pending output ++ closing_text closing.row closing.most bound goes.1.0) output.written output'.written (end_of goes.1.0) report.end) bound_is goes.1.2) in
+    by_cause goes.1.0 goes.1.1 told first goes.0 goes'
+  where
+    by_cause : (why : Stop) → ((why ≡ closing.stop) ⊎ (why ≡ stop.NoMemory)) → IsTold before now stopped.lines output → AreFirstRows input stopped.rows → closing.stop ≢ stop.WriteFault
+        → GoesOrFails now after (pending output ++ closing_text closing.row closing.most (threads * k) why) output.written report.written (end_of why) report.end → Replays threads k lists input before after report
+    by_cause why (inl same) told first other out =
+        replays_with threads k closing.row closing.most lists input before now after output why report stopped.rows stopped.lines stopped.answered
+        (subst (λ (z : Stop). AreShownUntil z threads lists stopped.lines) (sym same) stopped.shown) (subst (Stopped threads k lists input stopped.rows) (sym same) stopped.stopped) (λ failed. other (sym same ∙ failed))
+        (λ at_end. stopped.most_is (sym same ∙ at_end)) (stopped.number_is other) told out
+    by_cause why (inr wanted) told first other out =
+        replays_with threads k closing.row closing.most lists input before now after output why report stopped.rows stopped.lines stopped.answered
+        (subst (λ (z : Stop). AreShownUntil z threads lists stopped.lines) (sym wanted) (shown_at_last closing.stop threads lists stopped.lines stopped.shown)) (subst (Stopped threads k lists input stopped.rows) (sym wanted) first) (λ failed. let bad = sym wanted ∙ failed in cc)
+        (λ at_end. let bad = sym wanted ∙ at_end in cc) (stopped.number_is other) told out
 
 -- a replay for which there was no memory at all
-pub replays_nothing : (threads bound : ℕ) (input before after : Option (List ℕ)) (report : Report) → GoesOrFails before after (codes "no memory\n") 0 report.written end.NoMemory report.end → Replays threads bound input before after report
-replays_nothing threads bound input before after report goes = record {
+pub replays_nothing : (threads k : ℕ) (lists : List (List Entry)) (input before after : Option (List ℕ)) (report : Report) → AreShown threads lists [] → GoesOrFails before after (codes "no memory\n") 0 report.written end.NoMemory report.end → Replays threads k lists input before after report
+replays_nothing threads k lists input before after report shown goes = record {
   rows = [];
   lines = [];
   why = stop.NoMemory;
   answered = tt;
+  shown = inl shown;
   stopped = no_rows input;
-  goes_out = whole_or_cut before before after [] (codes "no memory\n") stop.NoMemory 0 report (λ e. cc) (appends_nothing before) refl goes;
+  goes_out = whole_or_cut before after (codes "no memory\n") stop.NoMemory report (λ e. cc) goes;
 }
+
+-- no more goes out than was put, and the last line
+pub closes_few : (now after : Option (List ℕ)) (closing : Closing) (output output' : Output) (result : End) → closing.row < 2 ^ 64 → closing.most < 2 ^ 64 → closing.bound < 2 ^ 64 → Closes now after closing output output' result → output'.written ≤ put_count output + 160
+closes_few now after closing output output' result row most bound (inl failed) = let same = failed.3 in omega (arith, same)
+closes_few now after closing output output' result row most bound (inr goes) =
+    let last = closing_text closing.row closing.most closing.bound goes.1.0 in
+    few last (end_of goes.1.0) (closing_short closing.row closing.most closing.bound goes.1.0 row most bound) goes.1.2
+  where
+    few : (text : List ℕ) (good : End) → length text ≤ 160 → GoesOrFails now after (pending output ++ text) output.written output'.written good result → output'.written ≤ put_count output + 160
+    few text good short (inl whole) = let long = length-append (pending output) text in let out = whole.2 in omega (arith, long, out, short)
+    few text good short (inr cut) = let long = length-append (pending output) text in let out = cut.1.3 in let less = cut.1.1 in omega (arith, long, out, less, short)

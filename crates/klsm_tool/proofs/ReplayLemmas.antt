@@ -1,111 +1,167 @@
 -- What one row does to a replay.
-use Rattle.std.proofs.Common.{◌≡◌, ◌≢◌, ℕ, ◌<◌, Bool, true, false, List, [], ◌∷◌, length, Option, Some, None, Ok, Err, refl, sym, ap, ◌∙◌, subst, arith, eqb, if◌then◌else◌}
+use Rattle.std.proofs.Common.{◌≡◌, ◌≢◌, ℕ, ◌+◌, ◌<◌, ◌≤◌, Bool, true, false, List, [], ◌∷◌, ◌++◌, length, length-append, append-nil, max, Option, Result, Ok, Err, IfOk, IfErr, refl, sym, ap, ◌∙◌, subst, arith, eqb}
 use Rattle.std.proofs.lemmas.Bool.Decides.{nat_tests}
+use Rattle.std.specs.List.{count_by}
+use Rattle.std.specs.Result.{MatchResult}
+use mathlib.Core.Logic.{dite}
+use native.Mathlib.Decide.{ℕ_discrete}
 use Rattle.csv.specs.declared.reader.Reader.{Reader}
 use Rattle.klsm_run.specs.declared.item.Item.{Item}
-use Rattle.klsm_run.specs.Content.{placed, sorted, without, IsAscending}
-use Rattle.klsm_run.proofs.SortedLemmas.{sorted_ascending}
-use Rattle.klsm_run.proofs.LeastLemmas.{without_first, sorted_without_first, skipped_first}
-use Rattle.std.specs.Option.{option_map, IfSome, ok_or}
-use Rattle.std.specs.Result.{MatchResult}
+use Rattle.klsm_run.specs.ItemOrder.{is_smaller}
+use Rattle.klsm_run.specs.Content.{placed, skipped, sorted, without}
+use Rattle.klsm_run.proofs.RankLemmas.{count_sorted}
+use Rattle.klsm_run.proofs.WithoutLemmas.{sorted_without}
+use Rattle.klsm_world.specs.declared.step.Entry.{Entry}
+use Rattle.klsm_world.proofs.hands.HandLemmas.{choice_hit, choice_miss}
 use Rattle.klsm_tool.specs.declared.answer.Line.{Line}
+use Rattle.klsm_tool.specs.declared.answer.Printed.{Printed}
 use Rattle.klsm_tool.specs.declared.answer.Answer.{Answer}
 use Rattle.klsm_tool.specs.declared.answer.Answer.TheVariants.{Inserted, Deleted, Nothing}
 use Rattle.klsm_tool.specs.declared.request.Request.{Request}
-use Rattle.klsm_tool.specs.declared.request.Operation.{Operation}
-use Rattle.klsm_tool.specs.declared.request.Operation.TheVariants.{Insert, Delete}
 use Rattle.klsm_tool.specs.declared.request.Refusal.{Refusal}
 use Rattle.klsm_tool.specs.declared.request.Refusal.TheVariants as refusal
 use Rattle.klsm_tool.specs.declared.stop.Stop.{Stop}
 use Rattle.klsm_tool.specs.declared.stop.Stop.TheVariants as stop
+use Rattle.klsm_tool.specs.declared.watched.Watched.{Watched}
 use Rattle.klsm_tool.specs.Script.{Row, request_of, request_after, row_limit}
-use Rattle.klsm_tool.specs.AnswerText.{live, live_after, skip_of}
-use Rattle.klsm_tool.specs.ExactAnswers.{answer_to, inserted, inserted_after}
+use Rattle.klsm_tool.specs.AnswerText.{answer_text, greatest_skip, live, live_after, skip_of}
+use Rattle.klsm_tool.specs.Answering.{Answers}
+use Rattle.klsm_tool.specs.Crews.{AreFew, Goes, steps_in}
+use Rattle.klsm_tool.specs.Shown.{AreShown, answers_of, shown_in}
+use Rattle.klsm_tool.specs.Turns.{GivesUp}
 use Rattle.klsm_tool.specs.Replay.{Stopped}
-use Rattle.klsm_tool.specs.Progress.{HasRead, ReadStops, Stands}
+use Rattle.klsm_tool.specs.Progress.{HasRead, ReadStops, Stands, StopsBefore}
+use Rattle.klsm_tool.proofs.LengthLemmas.{answer_short}
 use Rattle.klsm_tool.proofs.RowLemmas.{first_rows}
 
 -- where no row could be read, no further row is answered
-pub read_stops : (failed : Bool) (threads : ℕ) (input : Option (List ℕ)) (rows : List Row) (lines : List Line) (why : Stop) → ReadStops failed input rows why → Stopped threads input rows lines why × (why ≢ stop.WriteFault)
-read_stops failed threads input rows lines stop.AtEnd h = (h, λ e. cc)
-read_stops failed threads input rows lines (stop.Refused why) h = absurd h
-read_stops failed threads input rows lines stop.Full h = absurd h
-read_stops failed threads input rows lines stop.NoMemory h = (h.0, λ e. cc)
-read_stops failed threads input rows lines stop.ReadFault h = (h.0, λ e. cc)
-read_stops failed threads input rows lines stop.WriteFault h = absurd h
+pub read_stops : (failed : Bool) (threads k : ℕ) (lists : List (List Entry)) (input : Option (List ℕ)) (rows : List Row) (why : Stop) → ReadStops failed input rows why → Stopped threads k lists input rows why × (why ≢ stop.WriteFault)
+read_stops failed threads k lists input rows stop.AtEnd h = (h, λ e. cc)
+read_stops failed threads k lists input rows (stop.Refused why) h = absurd h
+read_stops failed threads k lists input rows stop.Full h = absurd h
+read_stops failed threads k lists input rows stop.NoMemory h = (h.0, λ e. cc)
+read_stops failed threads k lists input rows stop.ReadFault h = (h.0, λ e. cc)
+read_stops failed threads k lists input rows stop.WriteFault h = absurd h
 
 -- below the limit a row is judged by its fields
 pub judged : (threads : ℕ) (rows : List Row) (row : Row) → length rows < row_limit → request_after threads rows row ≡ request_of threads row
 judged threads rows row below = let other : eqb (length rows) row_limit ≡ false = grind (arith, nat_tests) in rw other refl
 
-not_inserted : (a x : Item) (b : Bool) → (if b then None else Some (Inserted a)) ≡ Some (Deleted x) → ⊥
-not_inserted a x true is = cc
-not_inserted a x false is = cc
+-- an answer does the same to contents of one ascending list
+live_alike : (c d : List Item) (answer : Answer) → sorted c ≡ sorted d → sorted (live_after c answer) ≡ sorted (live_after d answer)
+live_alike c d (Inserted x) same = ap (placed x) same
+live_alike c d (Deleted x) same = sorted_without x c ∙ (ap (without x) same ∙ sym (sorted_without x d))
+live_alike c d Nothing same = same
 
--- a deletion's item is the first of the ascending live items
-deleted_first : (items : List Item) (count thread : ℕ) (operation : Operation) (x : Item) → answer_to items count thread operation ≡ Some (Deleted x) → (rest : List Item) × (items ≡ x ∷ rest)
-deleted_first items count thread (Insert key load) x is = absurd (not_inserted _ x (eqb (length items) 64) is)
-deleted_first [] count thread Delete x is = cc
-deleted_first (y ∷ ys) count thread Delete x is = (ys, cc)
+-- and skips as many items of them
+skip_alike : (c d : List Item) (answer : Answer) → sorted c ≡ sorted d → skip_of c answer ≡ skip_of d answer
+skip_alike c d (Inserted x) same = refl
+skip_alike c d (Deleted x) same =
+    let below : Item → Bool = λ y. is_smaller y x in
+    sym (count_sorted below c) ∙ (ap (count_by below) same ∙ count_sorted below d)
+skip_alike c d Nothing same = refl
 
--- an answer does the same to a content and to its sorted list
-live_sorted : (c : List Item) (count thread : ℕ) (operation : Operation) (answer : Answer) → IsAscending (sorted c) → answer_to (sorted c) count thread operation ≡ Some answer → sorted (live_after (sorted c) answer) ≡ sorted (live_after c answer)
-live_sorted c count thread operation (Inserted x) up is = ap (placed x) (sorted_ascending (sorted c) up)
-live_sorted c count thread operation (Deleted x) up is =
-    let first = deleted_first (sorted c) count thread operation x is in
-    let up' : IsAscending (x ∷ first.0) = subst IsAscending first.1 up in
-    ap (λ zs. sorted (without x zs)) first.1 ∙ (ap sorted (without_first x first.0) ∙ (sorted_ascending first.0 up'.1 ∙ sym (sorted_without_first x first.0 c first.1 up')))
-live_sorted c count thread operation Nothing up is = sorted_ascending (sorted c) up
+-- a list that goes on shows one answer more, in a line more
+pub shown_next : (threads : ℕ) (lists lists' : List (List Entry)) (lines : List Line) (line : Line) → AreShown threads lists lines → Goes line.thread lists lists' (line.answer ∷ []) → AreShown threads lists' (line ∷ lines)
+shown_next threads lists lists' lines line shown goes t below = dite (ℕ_discrete line.thread t)
+    (λ here. ap (λ z. answers_of t lines ++ z) (choice_hit line.thread t (line.answer ∷ []) [] here)
+    ∙ (ap (λ z. z ++ line.answer ∷ []) (shown t below)
+    ∙ sym (subst (λ u. shown_in (steps_in lists' u) ≡ shown_in (steps_in lists u) ++ line.answer ∷ []) here goes.here)))
+    (λ other. ap (λ z. answers_of t lines ++ z) (choice_miss line.thread t (line.answer ∷ []) [] other)
+    ∙ (append-nil (answers_of t lines) ∙ (shown t below ∙ ap shown_in (sym (goes.else t (λ same. other (sym same)))))))
 
-skip_none : (c : List Item) (count thread : ℕ) (operation : Operation) (answer : Answer) → IsAscending (sorted c) → answer_to (sorted c) count thread operation ≡ Some answer → skip_of c answer ≡ 0
-skip_none c count thread operation (Inserted x) up is = refl
-skip_none c count thread operation (Deleted x) up is = let first = deleted_first (sorted c) count thread operation x is in skipped_first x first.0 c first.1 (subst IsAscending first.1 up)
-skip_none c count thread operation Nothing up is = refl
+-- one that shows none more has the same lines
+pub shown_same : (threads t : ℕ) (lists lists' : List (List Entry)) (lines : List Line) → AreShown threads lists lines → Goes t lists lists' [] → AreShown threads lists' lines
+shown_same threads t lists lists' lines shown goes u below = dite (ℕ_discrete u t)
+    (λ here. shown u below ∙ sym (subst (λ v. shown_in (steps_in lists' v) ≡ shown_in (steps_in lists v)) (sym here) (goes.here ∙ append-nil (shown_in (steps_in lists t)))))
+    (λ other. shown u below ∙ ap shown_in (sym (goes.else u other)))
+
+-- a list that goes on shows at most so many answers more
+pub few_next : (threads t n : ℕ) (lists lists' : List (List Entry)) (answers : List Answer) → length answers ≤ 1 → AreFew threads n lists → Goes t lists lists' answers → AreFew threads (n + 1) lists'
+few_next threads t n lists lists' answers one few goes u below = dite (ℕ_discrete u t)
+    (λ here.
+    let more : length (shown_in (steps_in lists' u)) ≡ length (shown_in (steps_in lists u)) + length answers =
+    subst (λ v. length (shown_in (steps_in lists' v)) ≡ length (shown_in (steps_in lists v)) + length answers) (sym here) (ap (λ (z : List Answer). length z) goes.here ∙ length-append (shown_in (steps_in lists t)) answers) in
+    omega (arith, more, one, few u below))
+    (λ other. let same = ap (λ z. length (shown_in z)) (goes.else u other) in omega (arith, same, few u below))
+
+pub few_same : (threads n : ℕ) (lists : List (List Entry)) → AreFew threads n lists → AreFew threads (n + 1) lists
+few_same threads n lists few u below = omega (arith, few u below)
 
 -- a row that was read and answered
-pub next_stands : {R : Type 0} (rem : R → Option (List ℕ)) (threads : ℕ) (input : Option (List ℕ)) (rows : List Row) (lines : List Line) (a b : Reader R) (items items' : List Item) (count count' : ℕ) (row : Row) (request : Request) (line : Line)
-    → Stands rem threads input rows lines a items count → length rows < row_limit → HasRead rem input (row ∷ rows) b → request_of threads row ≡ Ok request → line.thread ≡ request.thread
-    → answer_to items count request.thread request.operation ≡ Some line.answer → items' ≡ sorted (live_after items line.answer) → count' ≡ inserted_after count line.answer → IsAscending items
-    → Stands rem threads input (row ∷ rows) (line ∷ lines) b items' count'
-next_stands rem threads input rows lines a b items items' count count' row request line now below read asks thread answers items_after count_after up =
-    let up' : IsAscending (sorted (live lines)) = subst IsAscending now.items_are up in
-    let answers' : answer_to (sorted (live lines)) (inserted lines) request.thread request.operation ≡ Some line.answer = rw (now.items_are, now.count_is) at answers in
-    let skip : skip_of (live lines) line.answer ≡ 0 = skip_none (live lines) (inserted lines) request.thread request.operation line.answer up' answers' in
-    record {
-      answered = ((request, judged threads rows row below ∙ asks, thread, answers'), now.answered);
-      read = read;
-      items_are = items_after ∙ (ap (λ zs. sorted (live_after zs line.answer)) now.items_are ∙ live_sorted (live lines) (inserted lines) request.thread request.operation line.answer up' answers');
-      count_is = count_after ∙ ap (λ n. inserted_after n line.answer) now.count_is;
-      exact = rw (now.exact, skip) refl;
-    }
+pub next_stands : {R : Type 0} (rem : R → Option (List ℕ)) (threads : ℕ) (lists lists' : List (List Entry)) (input : Option (List ℕ)) (rows : List Row) (lines : List Line) (a b : Reader (Watched R)) (items items' : List Item) (most most' : ℕ) (row : Row) (request : Request) (printed : Printed)
+    → Stands rem threads lists input rows lines a items most → length rows < row_limit → HasRead rem input (row ∷ rows) b → request_of threads row ≡ Ok request
+    → Answers request lists lists' items items' most most' printed
+    → (row : Row) × Stands rem threads lists' input (row ∷ rows) (printed.line ∷ lines) b items' most' × (printed.skip ≡ skip_of (live lines) printed.line.answer)
+next_stands rem threads lists lists' input rows lines a b items items' most most' row request printed now below read asks answers =
+    let skip = answers.skip ∙ skip_alike items (live lines) printed.line.answer now.items_are in (
+      row,
+      record {
+        answered = ((request, judged threads rows row below ∙ asks, answers.thread, answers.answer), now.answered);
+        shown = shown_next threads lists lists' lines printed.line now.shown (subst (λ t. Goes t lists lists' (printed.line.answer ∷ [])) (sym answers.thread) answers.goes);
+        read = read;
+        items_are = answers.live_is ∙ live_alike items (live lines) printed.line.answer now.items_are;
+        most_is = answers.most_is ∙ (ap (λ n. max n printed.skip) now.most_is ∙ ap (max (greatest_skip lines)) skip);
+      },
+      skip,
+    )
 
 -- a row that was read and refused
-pub refused : {R : Type 0} (rem : R → Option (List ℕ)) (threads : ℕ) (input : Option (List ℕ)) (rows : List Row) (lines : List Line) (b : Reader R) (row : Row) (why : Refusal)
-    → length rows < row_limit → HasRead rem input (row ∷ rows) b → request_of threads row ≡ Err why → Stopped threads input rows lines (stop.Refused why) × (stop.Refused why ≢ stop.WriteFault)
-refused rem threads input rows lines b row why below read asks = ((row, first_rows rem input (row ∷ rows) b read, judged threads rows row below ∙ asks), λ e. cc)
+pub refused : {R : Type 0} (rem : R → Option (List ℕ)) (threads k : ℕ) (lists : List (List Entry)) (input : Option (List ℕ)) (rows : List Row) (lines : List Line) (a b : Reader (Watched R)) (items : List Item) (most : ℕ) (row : Row) (why : Refusal)
+    → Stands rem threads lists input rows lines a items most → length rows < row_limit → HasRead rem input (row ∷ rows) b → request_of threads row ≡ Err why → StopsBefore threads k lists input rows lines most (stop.Refused why)
+refused rem threads k lists input rows lines a b items most row why now below read asks = record {
+  stopped = (row, first_rows rem input (row ∷ rows) b read, judged threads rows row below ∙ asks);
+  shown = now.shown;
+  most_is = now.most_is;
+  other = λ e. cc;
+}
 
--- a row that was read and finds no room
-pub full : {R : Type 0} (rem : R → Option (List ℕ)) (threads : ℕ) (input : Option (List ℕ)) (rows : List Row) (lines : List Line) (a b : Reader R) (items : List Item) (count : ℕ) (row : Row) (request : Request)
-    → Stands rem threads input rows lines a items count → length rows < row_limit → HasRead rem input (row ∷ rows) b → request_of threads row ≡ Ok request
-    → answer_to items count request.thread request.operation ≡ None → Stopped threads input rows lines stop.Full × (stop.Full ≢ stop.WriteFault)
-full rem threads input rows lines a b items count row request now below read asks answers =
-    ((row, request, first_rows rem input (row ∷ rows) b read, judged threads rows row below ∙ asks, rw (now.items_are, now.count_is) at answers), λ e. cc)
+-- a row that was read and is not answered
+pub given_up : {R : Type 0} (rem : R → Option (List ℕ)) (threads k : ℕ) (lists lists' : List (List Entry)) (input : Option (List ℕ)) (rows : List Row) (lines : List Line) (a b : Reader (Watched R)) (items : List Item) (most most' : ℕ) (row : Row) (request : Request) (why : Stop)
+    → Stands rem threads lists input rows lines a items most → length rows < row_limit → HasRead rem input (row ∷ rows) b → request_of threads row ≡ Ok request
+    → Goes request.thread lists lists' [] → most' ≡ most → GivesUp 21 k request.thread (steps_in lists' request.thread) why → StopsBefore threads k lists' input rows lines most' why
+given_up rem threads k lists lists' input rows lines a b items most most' row request why now below read asks goes same gives = record {
+  stopped = by_cause why gives;
+  shown = shown_same threads request.thread lists lists' lines now.shown goes;
+  most_is = same ∙ now.most_is;
+  other = λ e. subst (GivesUp 21 k request.thread (steps_in lists' request.thread)) e gives;
+}
+  where
+    by_cause : (why : Stop) → GivesUp 21 k request.thread (steps_in lists' request.thread) why → Stopped threads k lists' input rows why
+    by_cause stop.AtEnd h = absurd h
+    by_cause (stop.Refused refusal) h = absurd h
+    by_cause stop.Full h = (row, request, first_rows rem input (row ∷ rows) b read, judged threads rows row below ∙ asks, h)
+    by_cause stop.NoMemory h = first_rows rem input rows a now.read
+    by_cause stop.ReadFault h = absurd h
+    by_cause stop.WriteFault h = absurd h
 
--- a row that was read, by what the queue answers
-pub answered_or_full : {R : Type 0} (rem : R → Option (List ℕ)) (threads : ℕ) (input : Option (List ℕ)) (rows : List Row) (lines : List Line) (a b : Reader R) (items items' : List Item) (count count' : ℕ) (row : Row) (request : Request) (result : Option Line)
-    → Stands rem threads input rows lines a items count → length rows < row_limit → HasRead rem input (row ∷ rows) b → request_of threads row ≡ Ok request
-    → option_map (λ line. line.answer) result ≡ answer_to items count request.thread request.operation → IfSome result (λ line. line.thread ≡ request.thread)
-    → IfSome result (λ line. items' ≡ sorted (live_after items line.answer)) → IfSome result (λ line. count' ≡ inserted_after count line.answer) → IsAscending items
-    → MatchResult (ok_or result stop.Full) (λ line. (row : Row) × Stands rem threads input (row ∷ rows) (line ∷ lines) b items' count') (λ why. Stopped threads input rows lines why × (why ≢ stop.WriteFault))
-answered_or_full rem threads input rows lines a b items items' count count' row request (Some line) now below read asks answers thread items_after count_after up =
-    (row, next_stands rem threads input rows lines a b items items' count count' row request line now below read asks thread (sym answers) items_after count_after up)
-answered_or_full rem threads input rows lines a b items items' count count' row request None now below read asks answers thread items_after count_after up =
-    full rem threads input rows lines a b items count row request now below read asks (sym answers)
+-- a row that was read, by how its thread's member answers
+pub row_after : {R : Type 0} (rem : R → Option (List ℕ)) (threads k : ℕ) (lists lists' : List (List Entry)) (input : Option (List ℕ)) (rows : List Row) (lines : List Line) (a b : Reader (Watched R)) (items items' : List Item) (most most' : ℕ) (row : Row) (request : Request) (result : Result Printed Stop)
+    → Stands rem threads lists input rows lines a items most → length rows < row_limit → HasRead rem input (row ∷ rows) b → request_of threads row ≡ Ok request
+    → IfOk result (Answers request lists lists' items items' most most') → IfErr result (λ why. Goes request.thread lists lists' [] × (most' ≡ most) × GivesUp 21 k request.thread (steps_in lists' request.thread) why)
+    → MatchResult result (λ printed. (row : Row) × Stands rem threads lists' input (row ∷ rows) (printed.line ∷ lines) b items' most' × (printed.skip ≡ skip_of (live lines) printed.line.answer)) (StopsBefore threads k lists' input rows lines most')
+row_after rem threads k lists lists' input rows lines a b items items' most most' row request (Ok printed) now below read asks ok err =
+    next_stands rem threads lists lists' input rows lines a b items items' most most' row request printed now below read asks ok
+row_after rem threads k lists lists' input rows lines a b items items' most most' row request (Err why) now below read asks ok err =
+    given_up rem threads k lists lists' input rows lines a b items most most' row request why now below read asks err.0 err.1 err.2
+
+-- and the lists show at most one answer more
+pub few_after : (threads k n : ℕ) (lists lists' : List (List Entry)) (items items' : List Item) (most most' : ℕ) (request : Request) (result : Result Printed Stop) → AreFew threads n lists
+    → IfOk result (Answers request lists lists' items items' most most') → IfErr result (λ why. Goes request.thread lists lists' [] × (most' ≡ most) × GivesUp 21 k request.thread (steps_in lists' request.thread) why)
+    → AreFew threads (n + 1) lists'
+few_after threads k n lists lists' items items' most most' request (Ok printed) few ok err = few_next threads request.thread n lists lists' (printed.line.answer ∷ []) (omega arith) few ok.goes
+few_after threads k n lists lists' items items' most most' request (Err why) few ok err = few_next threads request.thread n lists lists' [] (omega arith) few err.0
+
+-- the line is short
+pub short_after : (lists lists' : List (List Entry)) (items items' : List Item) (most most' : ℕ) (request : Request) (result : Result Printed Stop) → IfOk result (Answers request lists lists' items items' most most')
+    → IfOk result (λ printed. length (answer_text printed.line.thread printed.line.answer printed.skip) ≤ 160)
+short_after lists lists' items items' most most' request (Ok printed) ok = answer_short printed.line.thread printed.line.answer printed.skip ok.fits.0 ok.fits.1 ok.fits.2
+short_after lists lists' items items' most most' request (Err why) ok = tt
 
 -- a row beyond the limit is refused for that
-pub too_many : {R : Type 0} (rem : R → Option (List ℕ)) (threads : ℕ) (input : Option (List ℕ)) (rows : List Row) (lines : List Line) (b : Reader R) (row : Row)
-    → length rows ≡ row_limit → HasRead rem input (row ∷ rows) b → Stopped threads input rows lines (stop.Refused refusal.Rows) × (stop.Refused refusal.Rows ≢ stop.WriteFault)
-too_many rem threads input rows lines b row all read =
+pub too_many : {R : Type 0} (rem : R → Option (List ℕ)) (threads k : ℕ) (lists : List (List Entry)) (input : Option (List ℕ)) (rows : List Row) (b : Reader (Watched R)) (row : Row)
+    → length rows ≡ row_limit → HasRead rem input (row ∷ rows) b → Stopped threads k lists input rows (stop.Refused refusal.Rows) × (stop.Refused refusal.Rows ≢ stop.WriteFault)
+too_many rem threads k lists input rows b row all read =
     let beyond : eqb (length rows) row_limit ≡ true = grind (arith, nat_tests) in
     let asks : request_after threads rows row ≡ Err refusal.Rows = rw beyond refl in
     ((row, first_rows rem input (row ∷ rows) b read, asks), λ e. cc)

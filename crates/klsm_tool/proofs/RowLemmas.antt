@@ -6,24 +6,25 @@ use Rattle.csv.specs.declared.reader.Reader.{Reader}
 use Rattle.csv.specs.declared.parser.State.TheVariants as state
 use Rattle.csv.specs.Reading.{ReadRecord, Reached, default_config, is_flexible, reader_config, reader_state, source_of, strip_bom, took_first}
 use Rattle.csv.proofs.ReadFacts.{rows-more}
+use Rattle.klsm_tool.specs.declared.watched.Watched.{Watched}
 use Rattle.klsm_tool.specs.Script.{Row}
 use Rattle.klsm_tool.specs.Rows.{AreFirstRows}
-use Rattle.klsm_tool.specs.Progress.{HasLeft, HasRead}
+use Rattle.klsm_tool.specs.Progress.{HasLeft, HasRead, left_within}
 
 -- a reader of all the bytes has read no row
-pub left_first : {R : Type 0} (rem : R → Option (List ℕ)) (input : Option (List ℕ)) (reader : Reader R) → source_of rem reader ≡ option_map strip_bom input → reader_state reader ≡ state.StartRecord → HasLeft rem input [] reader
+pub left_first : {R : Type 0} (rem : R → Option (List ℕ)) (input : Option (List ℕ)) (reader : Reader (Watched R)) → source_of (left_within rem) reader ≡ option_map strip_bom input → reader_state reader ≡ state.StartRecord → HasLeft rem input [] reader
 unfolding Reached
 left_first rem None reader source start = tt
 left_first rem (Some text) reader source start = (strip_bom text, source, (sym start, refl))
 
-left_more : {R : Type 0} (rem : R → Option (List ℕ)) (input : Option (List ℕ)) (rows : List Row) (a b : Reader R) (row : Row) → reader_config a ≡ default_config → HasLeft rem input rows a → ReadRecord rem a b true row → HasLeft rem input (row ∷ rows) b
+left_more : {R : Type 0} (rem : R → Option (List ℕ)) (input : Option (List ℕ)) (rows : List Row) (a b : Reader (Watched R)) (row : Row) → reader_config a ≡ default_config → HasLeft rem input rows a → ReadRecord (left_within rem) a b true row → HasLeft rem input (row ∷ rows) b
 left_more rem None rows a b row config left reads = tt
 left_more rem (Some text) rows a b row config left reads =
-    let more = rows-more rem a b row default_config state.StartRecord (strip_bom text) left.0 (reverse rows) config left.1 left.2 reads in
+    let more = rows-more (left_within rem) a b row default_config state.StartRecord (strip_bom text) left.0 (reverse rows) config left.1 left.2 reads in
     (more.0, more.1, subst (λ (rs : List Row). Reached default_config state.StartRecord (strip_bom text) rs (reader_state b) more.0) (sym (reverse-append (row ∷ []) rows)) more.2)
 
 -- a record that was read is the next row
-pub read_more : {R : Type 0} (rem : R → Option (List ℕ)) (input : Option (List ℕ)) (rows : List Row) (a b : Reader R) (row : Row) → HasRead rem input rows a → ReadRecord rem a b true row → is_flexible b ≡ is_flexible a → took_first b ≡ true → HasRead rem input (row ∷ rows) b
+pub read_more : {R : Type 0} (rem : R → Option (List ℕ)) (input : Option (List ℕ)) (rows : List Row) (a b : Reader (Watched R)) (row : Row) → HasRead rem input rows a → ReadRecord (left_within rem) a b true row → is_flexible b ≡ is_flexible a → took_first b ≡ true → HasRead rem input (row ∷ rows) b
 read_more rem input rows a b row before reads flexible first = record {
   config = reads.2 ∙ before.config;
   trim = reads.3 ∙ before.trim;
@@ -33,6 +34,6 @@ read_more rem input rows a b row before reads flexible first = record {
 }
 
 -- the rows that were read are the first ones
-pub first_rows : {R : Type 0} (rem : R → Option (List ℕ)) (input : Option (List ℕ)) (rows : List Row) (a : Reader R) → HasRead rem input rows a → AreFirstRows input rows
+pub first_rows : {R : Type 0} (rem : R → Option (List ℕ)) (input : Option (List ℕ)) (rows : List Row) (a : Reader (Watched R)) → HasRead rem input rows a → AreFirstRows input rows
 first_rows rem None rows a before = tt
 first_rows rem (Some text) rows a before = (reader_state a, before.left.0, before.left.2)

@@ -3,8 +3,14 @@ pub mod Number  -- the numbers of a script
 pub mod Script  -- what a row asks for, and what is wrong with it
 pub mod Rows  -- the rows of an input
 pub mod AnswerText  -- the answer text
-pub mod ExactAnswers  -- the answers of a queue that gives its least item
+pub mod Shown  -- what a member's list shows in the text
+pub mod Crews  -- the members that answer rows
+pub mod LiveParts  -- the window of live items, and the others
+pub mod LiveItems  -- the live items beside a board
+pub mod Turns  -- what a member answers to a row
+pub mod Answering  -- what is kept beside the board, and how a row is answered
 pub mod Replay  -- what `replay_over` promises
+pub mod Options  -- the options of `replay`, as the parser reads them
 pub mod CommandLine  -- the command line, as its parser reads it
 pub mod Program  -- what `run_words` promises
 pub mod Output  -- what writing a line does; no public contract cites it

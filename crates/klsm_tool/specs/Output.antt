@@ -1,42 +1,64 @@
--- What writing a line does.
-use Rattle.std.specs.Prelude.{ℕ, ◌≡◌, ◌≢◌, ◌+◌, ◌<◌, ◌⊎◌, List, length, take, Option, Result, Ok}
-use Rattle.std.specs.Prelude.{Err}
+-- What putting a line does to what has gone out and to what is pending.
+use Rattle.std.specs.Prelude.{ℕ, ◌≡◌, ◌≢◌, ◌+◌, ◌<◌, ◌⊎◌, List, [], ◌++◌, length, take, Option}
+use Rattle.std.specs.Prelude.{Result, Ok, Err}
 use Rattle.std.specs.Io.KnownBytes.{Appends, Keeps}
+use Rattle.klsm_tool.specs.declared.output.Output.{Output}
 use Rattle.klsm_tool.specs.declared.settings.End.{End}
 use Rattle.klsm_tool.specs.declared.settings.End.TheVariants as end
 use Rattle.klsm_tool.specs.declared.stop.Stop.{Stop}
 use Rattle.klsm_tool.specs.declared.stop.Stop.TheVariants as stop
 use Rattle.klsm_tool.specs.declared.stop.Closing.{Closing}
 use Rattle.klsm_tool.specs.AnswerText.{closing_text}
-use Rattle.klsm_tool.specs.Replay.{end_of}
+use Rattle.klsm_tool.specs.Replay.{end_of, GoesOrFails, IsCut}
 
--- a front of the text went out, but not all of it
-abbrev pub IsCut : Option (List ℕ) → Option (List ℕ) → List ℕ → ℕ → ℕ → Type 0
-IsCut before after text written written' =
-    (n : ℕ) × (n < length text) × Appends before after (take n text) × (written' ≡ written + n)
+-- the text that was put and has not gone out yet
+abbrev pub pending : Output → List ℕ
+pending output = output.buffer.items
 
-abbrev pub Stops : Option (List ℕ) → Option (List ℕ) → List ℕ → ℕ → ℕ → Stop → Type 0
-Stops before after text written written' stop.NoMemory = Keeps before after × (written' ≡ written)
-Stops before after text written written' stop.WriteFault = IsCut before after text written written'
-Stops before after text written written' why = ⊥
+-- how many bytes were put, gone out or not
+abbrev pub put_count : Output → ℕ
+put_count output = output.written + length (pending output)
 
--- the text went out; or it was not made, for want of memory; or the writer failed before its end
-abbrev pub Puts : Option (List ℕ) → Option (List ℕ) → List ℕ → ℕ → ℕ → Result (Unit {0}) Stop
+-- of what was pending and the text, a front went out, and the rest is pending
+abbrev pub Adds : Option (List ℕ) → Option (List ℕ) → List ℕ → Output → Output → Type 0
+Adds before after text output output' =
+    (gone : List ℕ) × Appends before after gone
+    × (output'.written ≡ output.written + length gone)
+    × (gone ++ pending output' ≡ pending output ++ text)
+
+abbrev pub Stops : Option (List ℕ) → Option (List ℕ) → List ℕ → Output → Output → Stop → Type 0
+Stops before after text output output' stop.NoMemory =
+    Keeps before after × (output'.written ≡ output.written) × (pending output' ≡ pending output)
+Stops before after text output output' stop.WriteFault =
+    IsCut before after (pending output ++ text) output.written output'.written
+    × (pending output' ≡ [])
+Stops before after text output output' why = ⊥
+
+-- the text was added; or it was not made, for want of memory; or the writer failed before its end,
+-- and nothing is pending
+abbrev pub Puts : Option (List ℕ) → Option (List ℕ) → List ℕ → Output → Output
+    → Result (Unit {0}) Stop → Type 0
+Puts before after text output output' (Ok done) = Adds before after text output output'
+Puts before after text output output' (Err why) = Stops before after text output output' why
+
+-- what was pending went out, or the writer failed before its end; nothing is pending
+abbrev pub Flushes : Option (List ℕ) → Option (List ℕ) → Output → Output → Result (Unit {0}) Stop
     → Type 0
-Puts before after text written written' (Ok done) =
-    Appends before after text × (written' ≡ written + length text)
-Puts before after text written written' (Err why) = Stops before after text written written' why
+Flushes before after output output' (Ok done) =
+    Appends before after (pending output)
+    × (output'.written ≡ put_count output) × (pending output' ≡ [])
+Flushes before after output output' (Err why) =
+    (why ≡ stop.WriteFault) × IsCut before after (pending output) output.written output'.written
+    × (pending output' ≡ [])
 
--- the whole text went out and the run ends so, or the writer failed before its end
-abbrev pub GoesOrFails : Option (List ℕ) → Option (List ℕ) → List ℕ → ℕ → ℕ → End → End → Type 0
-GoesOrFails before after text written written' good result =
-    ((result ≡ good) × Appends before after text × (written' ≡ written + length text))
-    ⊎ ((result ≡ end.WriteFault) × IsCut before after text written written')
-
--- the last line, or, unless the writer has failed, the one that says that memory is wanted
-abbrev pub Closes : Option (List ℕ) → Option (List ℕ) → Closing → ℕ → ℕ → End → Type 0
-Closes before after closing written written' result =
-    (why : Stop)
-    × ((why ≡ closing.stop) ⊎ ((why ≡ stop.NoMemory) × (closing.stop ≢ stop.WriteFault)))
-    × GoesOrFails before after (closing_text closing.row closing.most closing.bound why)
-    written written' (end_of why) result
+-- after a write fault nothing more goes out; else what was pending does, and then the last line or
+-- the one that says that memory is wanted
+abbrev pub Closes : Option (List ℕ) → Option (List ℕ) → Closing → Output → Output → End → Type 0
+Closes before after closing output output' result =
+    ((closing.stop ≡ stop.WriteFault) × (result ≡ end.WriteFault) × Keeps before after
+    × (output'.written ≡ output.written))
+    ⊎ ((closing.stop ≢ stop.WriteFault)
+    × ((why : Stop) × ((why ≡ closing.stop) ⊎ (why ≡ stop.NoMemory))
+    × (let last = closing_text closing.row closing.most closing.bound why in
+    GoesOrFails before after (pending output ++ last) output.written output'.written (end_of why)
+    result)))

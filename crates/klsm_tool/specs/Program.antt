@@ -1,15 +1,16 @@
 -- What the program does on its words.
-use Rattle.std.specs.Prelude.{ℕ, ⊤, ◌≡◌, ◌<◌, ◌⊎◌, List, length, take, Option, codes, IsUtf8}
+use Rattle.std.specs.Prelude.{ℕ, ⊤, ◌≡◌, ◌<◌, ◌⊎◌, List, length, take, Option, Some, None, codes, IsUtf8}
 use Rattle.std.specs.List.{All}
 use Rattle.std.specs.Io.KnownBytes.{Appends}
 use Rattle.clap.specs.declared.error.kind.ErrorKind.{ErrorKind}
 use Rattle.klsm_tool.specs.declared.command_line.Fault.{Fault}
-use Rattle.klsm_tool.specs.declared.command_line.Fault.TheVariants.{Said, NotText, NoMemory}
+use Rattle.klsm_tool.specs.declared.command_line.Fault.TheVariants.{Said, UnknownPick, NotText, NoMemory}
 use Rattle.klsm_tool.specs.declared.settings.End.{End}
 use Rattle.klsm_tool.specs.declared.settings.End.TheVariants as end
 use Rattle.klsm_tool.specs.declared.settings.Report.{Report}
-use Rattle.klsm_tool.specs.CommandLine.{HasStatus, IsCommand, status_of_text}
-use Rattle.klsm_tool.specs.Replay.{Replays}
+use Rattle.klsm_tool.specs.declared.settings.Settings.{Settings}
+use Rattle.klsm_tool.specs.CommandLine.{HasStatus, IsCommand, settings_in, status_of_text, usual_settings}
+use Rattle.klsm_tool.specs.Replay.{ReplaysAlone}
 
 -- the status of a run
 abbrev pub status_of : End → ℕ
@@ -20,16 +21,18 @@ status_of end.NoMemory = 3
 status_of end.ReadFault = 4
 status_of end.WriteFault = 4
 
--- why words ask for no run: the parser has a text on them, one of them is not UTF-8, or memory is
--- wanted
+-- why words ask for no run: the parser has a text on them, the word of `--pick` is none that it
+-- takes, one of them is not UTF-8, or memory is wanted
 abbrev pub IsFaultIn : List (List ℕ) → Fault → Type 0
 IsFaultIn words (Said text status) = HasStatus words status
+IsFaultIn words UnknownPick = IsCommand words × (settings_in words ≡ None)
 IsFaultIn words NotText = ¬ (All IsUtf8 words)
 IsFaultIn words NoMemory = ⊤
 
 -- what an error of the parser leads to
 abbrev pub Explains : ErrorKind → Fault → Type 0
 Explains what (Said text status) = status ≡ status_of_text what
+Explains what UnknownPick = ⊥
 Explains what NotText = ⊥
 Explains what NoMemory = ⊤
 
@@ -58,21 +61,28 @@ AnswersWords words before after result =
     ⊎ LacksMemory before after result)
 
 -- the input is replayed, and the status is that of the replay's end
-abbrev pub RunsReplay : Option (List ℕ) → Option (List ℕ) → Option (List ℕ) → ℕ → Type 0
-RunsReplay input before after result =
-    (report : Report) × Replays 1 64 input before after report × (result ≡ status_of report.end)
+abbrev pub RunsReplay : Settings → Option (List ℕ) → Option (List ℕ) → Option (List ℕ) → ℕ → Type 0
+RunsReplay settings input before after result =
+    (report : Report) × ReplaysAlone settings.threads settings.k input before after report
+    × (result ≡ status_of report.end)
+
+-- a command is run by its settings, unless it names an unknown pick
+abbrev pub RunsBy : Option Settings → Option (List ℕ) → Option (List ℕ) → Option (List ℕ) → ℕ
+    → Type 0
+RunsBy (Some settings) input before after result = RunsReplay settings input before after result
+RunsBy None input before after result = Says before after (codes "refused: pick\n") 2 result
 
 -- words that are a command are a replay of the input; others are answered
 abbrev pub Runs : List (List ℕ) → Option (List ℕ) → Option (List ℕ) → Option (List ℕ) → ℕ → Type 0
 Runs words input before after result =
-    (IsCommand words × RunsReplay input before after result)
+    (IsCommand words × RunsBy (settings_in words) input before after result)
     ⊎ AnswersWords words before after result
 
 -- a replay, unless there was no memory to read the words
 abbrev pub RunsReplayOrLacksMemory : Option (List ℕ) → Option (List ℕ) → Option (List ℕ) → ℕ
     → Type 0
 RunsReplayOrLacksMemory input before after result =
-    RunsReplay input before after result ⊎ LacksMemory before after result
+    RunsReplay usual_settings input before after result ⊎ LacksMemory before after result
 
 -- what the program does on some words
 abbrev pub RunsSome : Option (List ℕ) → Option (List ℕ) → Option (List ℕ) → ℕ → Type 0

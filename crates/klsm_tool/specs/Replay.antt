@@ -1,7 +1,11 @@
--- What `replay_over` promises.
-use Rattle.std.specs.Prelude.{ℕ, ◌≡◌, ◌<◌, ◌≤◌, ◌≢◌, List, [], ◌∷◌, length, take, Option, Some}
-use Rattle.std.specs.Prelude.{None, Ok, Err}
+-- What a replay promises.
+use Rattle.std.specs.Prelude.{ℕ, ◌≡◌, ◌+◌, ◌*◌, ◌<◌, ◌≤◌, ◌≢◌, ◌⊎◌, List, [], ◌∷◌, length, take, Option, Some}
+use Rattle.std.specs.Prelude.{None, Ok, Err, codes}
 use Rattle.std.specs.Io.KnownBytes.{Appends}
+use Rattle.klsm_world.specs.declared.step.Entry.{Entry}
+use Rattle.klsm_board.specs.declared.sizes.Sizes.{Sizes}
+use Rattle.klsm_board.specs.Rule.{IsReached}
+use Rattle.klsm_board.specs.Finishing.{AreListsAtEnd}
 use Rattle.klsm_tool.specs.declared.answer.Line.{Line}
 use Rattle.klsm_tool.specs.declared.request.Request.{Request}
 use Rattle.klsm_tool.specs.declared.settings.End.{End}
@@ -12,7 +16,13 @@ use Rattle.klsm_tool.specs.declared.stop.Stop.TheVariants as stop
 use Rattle.klsm_tool.specs.Script.{Row, request_after}
 use Rattle.klsm_tool.specs.Rows.{AreFirstRows, AreAllRows}
 use Rattle.klsm_tool.specs.AnswerText.{text_of}
-use Rattle.klsm_tool.specs.ExactAnswers.{exact_answer}
+use Rattle.klsm_tool.specs.Shown.{AreShown}
+use Rattle.klsm_tool.specs.Crews.{steps_in}
+use Rattle.klsm_tool.specs.Turns.{EndsFull, IsAnswer}
+
+-- the sizes of the board that a replay makes
+abbrev pub sizes_of : ℕ → ℕ → Sizes
+sizes_of threads k = record { threads = threads; k = k; quota = 281474976710656 }
 
 -- each row is answered by its line: rows and lines, the latest first
 abbrev pub Answered : ℕ → List Row → List Line → Type 0
@@ -21,20 +31,33 @@ Answered threads [] (line ∷ lines) = ⊥
 Answered threads (row ∷ rows) [] = ⊥
 Answered threads (row ∷ rows) (line ∷ lines) =
     ((request : Request) × (request_after threads rows row ≡ Ok request)
-    × (line.thread ≡ request.thread) × (exact_answer lines request ≡ Some line.answer))
+    × (line.thread ≡ request.thread) × IsAnswer request.operation line.answer)
     × Answered threads rows lines
 
--- why no further row of the input is answered
-abbrev pub Stopped : ℕ → Option (List ℕ) → List Row → List Line → Stop → Type 0
-Stopped threads input rows lines stop.AtEnd = AreAllRows input rows
-Stopped threads input rows lines (stop.Refused why) =
+-- the answers are those of the members' lists; only where memory was wanted the last one may have
+-- no line
+abbrev pub AreShownUntil : Stop → ℕ → List (List Entry) → List Line → Type 0
+AreShownUntil stop.AtEnd threads lists lines = AreShown threads lists lines
+AreShownUntil (stop.Refused why) threads lists lines = AreShown threads lists lines
+AreShownUntil stop.Full threads lists lines = AreShown threads lists lines
+AreShownUntil stop.NoMemory threads lists lines =
+    AreShown threads lists lines ⊎ ((line : Line) × AreShown threads lists (line ∷ lines))
+AreShownUntil stop.ReadFault threads lists lines = AreShown threads lists lines
+AreShownUntil stop.WriteFault threads lists lines = AreShown threads lists lines
+
+-- why no further row of the input is answered. Where there was no room for an item, the list of the
+-- row's thread ends with that
+abbrev pub Stopped : ℕ → ℕ → List (List Entry) → Option (List ℕ) → List Row → Stop → Type 0
+Stopped threads k lists input rows stop.AtEnd = AreAllRows input rows
+Stopped threads k lists input rows (stop.Refused why) =
     (row : Row) × AreFirstRows input (row ∷ rows) × (request_after threads rows row ≡ Err why)
-Stopped threads input rows lines stop.Full =
+Stopped threads k lists input rows stop.Full =
     (row : Row) × (request : Request) × AreFirstRows input (row ∷ rows)
-    × (request_after threads rows row ≡ Ok request) × (exact_answer lines request ≡ None)
-Stopped threads input rows lines stop.NoMemory = AreFirstRows input rows
-Stopped threads input rows lines stop.ReadFault = AreFirstRows input rows
-Stopped threads input rows lines stop.WriteFault = AreFirstRows input rows
+    × (request_after threads rows row ≡ Ok request)
+    × EndsFull 21 k request.thread (steps_in lists request.thread)
+Stopped threads k lists input rows stop.NoMemory = AreFirstRows input rows
+Stopped threads k lists input rows stop.ReadFault = AreFirstRows input rows
+Stopped threads k lists input rows stop.WriteFault = AreFirstRows input rows
 
 abbrev pub end_of : Stop → End
 end_of stop.AtEnd = end.Done
@@ -43,6 +66,17 @@ end_of stop.Full = end.Full
 end_of stop.NoMemory = end.NoMemory
 end_of stop.ReadFault = end.ReadFault
 end_of stop.WriteFault = end.WriteFault
+
+-- a front of the text went out, but not all of it
+abbrev pub IsCut : Option (List ℕ) → Option (List ℕ) → List ℕ → ℕ → ℕ → Type 0
+IsCut before after text written written' =
+    (n : ℕ) × (n < length text) × Appends before after (take n text) × (written' ≡ written + n)
+
+-- the whole text went out and the run ends so, or the writer failed before its end
+abbrev pub GoesOrFails : Option (List ℕ) → Option (List ℕ) → List ℕ → ℕ → ℕ → End → End → Type 0
+GoesOrFails before after text written written' good result =
+    ((result ≡ good) × Appends before after text × (written' ≡ written + length text))
+    ⊎ ((result ≡ end.WriteFault) × IsCut before after text written written')
 
 -- the first `written` bytes of a text went out, and all of it unless the writer failed
 pub record GoesOut (before after : Option (List ℕ)) (text : List ℕ) (why : Stop) (report : Report)
@@ -53,12 +87,34 @@ pub record GoesOut (before after : Option (List ℕ)) (text : List ℕ) (why : S
   pub whole : report.end ≢ end.WriteFault
       → (report.written ≡ length text) × (report.end ≡ end_of why)
 
--- the answer text of the rows that were read goes out
-pub record Replays (threads bound : ℕ) (input before after : Option (List ℕ)) (report : Report)
-    : Type 0 where
+-- the answer text of the rows that were read goes out, and its answers are those of these lists
+pub record Replays (threads k : ℕ) (lists : List (List Entry)) (input before after : Option (List ℕ))
+    (report : Report) : Type 0 where
   pub rows : List Row
   pub lines : List Line
   pub why : Stop
   pub answered : Answered threads rows lines
-  pub stopped : Stopped threads input rows lines why
-  pub goes_out : GoesOut before after (text_of bound lines why) why report
+  pub shown : AreShownUntil why threads lists lines
+  pub stopped : Stopped threads k lists input rows why
+  pub goes_out : GoesOut before after (text_of (threads * k) lines why) why report
+
+-- the same, and then, where all rows are answered and a growth was refused in the end, one line more
+abbrev pub ReplaysToTheEnd : ℕ → ℕ → List (List Entry) → Option (List ℕ) → Option (List ℕ)
+    → Option (List ℕ) → Report → Type 0
+ReplaysToTheEnd threads k lists input before after report =
+    Replays threads k lists input before after report
+    ⊎ ((middle : Option (List ℕ)) × (done : Report)
+    × Replays threads k lists input before middle done × (done.end ≡ end.Done)
+    × GoesOrFails middle after (codes "no memory\n") done.written report.written end.NoMemory
+    report.end)
+
+-- the lists are those of a board of its own: each is that of a world to which a schedule leads, and
+-- where all is done they are so together
+pub record ReplaysAlone (threads k : ℕ) (input before after : Option (List ℕ)) (report : Report)
+    : Type 0 where
+  pub lists : List (List Entry)
+  pub many : length lists ≡ threads
+  pub reached : (t : ℕ) → t < threads
+      → ∥ IsReached (sizes_of threads k) t (steps_in lists t) ∥₁
+  pub replays : ReplaysToTheEnd threads k lists input before after report
+  pub at_end : report.end ≡ end.Done → AreListsAtEnd (sizes_of threads k) lists

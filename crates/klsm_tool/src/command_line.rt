@@ -1,26 +1,31 @@
 //! The program on its words.
-ghost use Rattle.std.specs.Prelude.{◌≡◌, IfErr, IfOk, OnOk, IsUtf8, map};
+ghost use Rattle.std.specs.Prelude.{◌≡◌, Some, IfErr, IfOk, IfSome, OnOk, IsUtf8, false, map};
 ghost use Rattle.std.specs.List.{All};
-ghost use Rattle.clap.specs.Words.{app_of, kind_of};
-ghost use Rattle.klsm_tool.specs.CommandLine.{IsCommand, klsm_command, replay_words};
+ghost use Rattle.clap.specs.Words.{app_of, kind_of, subcommand_rows_of};
+ghost use Rattle.clap.specs.declared.builder.command.Command.TheViews.{out-Command as fields_of};
+ghost use Rattle.klsm_tool.specs.CommandLine.{IsCommand, klsm_command, replay_app, replay_words};
+ghost use Rattle.klsm_tool.specs.CommandLine.{settings_in as settings_in_words, settings_under};
+ghost use Rattle.klsm_tool.specs.Options.{AreInRange};
 ghost use Rattle.klsm_tool.specs.Program.{Explains, IsFaultIn, RefusesBytes, Runs, RunsReplay};
 ghost use Rattle.klsm_tool.specs.Program.{RunsReplayOrLacksMemory, RunsSome, Says};
 ghost use Rattle.klsm_tool.specs.Program.{status_of as status_of_end};
 
+use crate::options::{settings_of, with_options};
 use crate::output::{NO_MEMORY, write_text};
 use crate::process_words::process_words;
 use crate::replay::replay_over;
-use crate::settings::{End, Pick, Settings};
+use crate::settings::{End, Settings};
 use crate::status::Status;
 use clap::error::ErrorKind;
-use clap::{Command, Error};
+use clap::{ArgMatches, Command, Error};
 use std::alloc::{AllocError, Global};
 use std::io::{Read, Write};
 use std::rt::Env;
 use std::str;
+use std::sync::Wait;
 
 /// Runs the program on the words that its process was given.
-pub fn run_program<P: Env + AllocGlobal, R: Read + Drop, W: Write>(
+pub fn run_program<P: Env + AllocGlobal + Wait, R: Read + Drop, W: Write>(
     rt: &P,
     reader: R,
     writer: &mut W,
@@ -38,7 +43,7 @@ pub fn run_program<P: Env + AllocGlobal, R: Read + Drop, W: Write>(
 /// 0 where all is done, 1 where a row is refused, 2 for a fault of the command line,
 /// 3 where room or memory is wanted, and 4 where reading or writing failed.
 pub fn run_words<R: Read + Drop, W: Write>(
-    rt: &impl AllocGlobal,
+    rt: &(impl AllocGlobal + Wait),
     words: &[Vec<u8>],
     reader: R,
     writer: &mut W,
@@ -50,24 +55,25 @@ pub fn run_words<R: Read + Drop, W: Write>(
         (W.contents writer.old) (W.contents writer.new) result.code }
 {
     match parse(rt.alloc(), words) {
-        Ok(()) => run_replay(rt, reader, writer),
+        Ok(settings) => run_replay(rt, reader, writer, &settings),
         Err(Fault::Said { text, status }) => say(writer, text.as_bytes(), status),
+        Err(Fault::UnknownPick) => say(writer, UNKNOWN_PICK, USAGE),
         Err(Fault::NotText) => refuse_bytes(writer),
         Err(Fault::NoMemory) => say(writer, NO_MEMORY, EXHAUSTED),
     }
 }
 
-fn run_replay<R: Read + Drop, W: Write>(rt: &impl AllocGlobal, reader: R, writer: &mut W) -> Status
-    ensures { RunsReplay (R.remaining reader) (W.contents writer.old) (W.contents writer.new)
-        result.code }
+fn run_replay<R: Read + Drop, W: Write>(
+    rt: &(impl AllocGlobal + Wait),
+    reader: R,
+    writer: &mut W,
+    settings: &Settings,
+) -> Status
+    requires { AreInRange settings.now }
+    ensures { RunsReplay settings.now (R.remaining reader) (W.contents writer.old)
+        (W.contents writer.new) result.code }
 {
-    let settings = Settings {
-        threads: 1,
-        k: 64,
-        pick: Pick::First,
-        seed: 1,
-    };
-    status_of(replay_over(rt, reader, writer, &settings).end)
+    status_of(replay_over(rt, reader, writer, settings).end)
 }
 
 fn refuse_bytes<W: Write>(writer: &mut W) -> Status
@@ -81,24 +87,38 @@ fn refuse_bytes<W: Write>(writer: &mut W) -> Status
 enum Fault {
     /// This text of the parser answers them, and the program ends with this status.
     Said { text: String, status: u8 },
+    /// The word of `--pick` is none that it takes.
+    UnknownPick,
     /// One of them is not UTF-8.
     NotText,
     /// A growth was refused.
     NoMemory,
 }
 
-fn parse(alloc: Global, words: &[Vec<u8>]) -> Result<(), Fault>
+fn parse(alloc: Global, words: &[Vec<u8>]) -> Result<Settings, Fault>
     ensures fault { IfErr result (IsFaultIn (map (λ word. word.items) words.now)) }
     ensures asked { OnOk result (IsCommand (map (λ word. word.items) words.now)) }
+    ensures settings { IfOk result (λ settings.
+        settings_in_words (map (λ word. word.items) words.now) ≡ Some settings) }
+    ensures range { IfOk result AreInRange }
 {
     let texts = texts_of(alloc, words)?;
     let Ok(command) = command(alloc) else {
         return Err(Fault::NoMemory);
     };
     match command.try_get_matches_from(texts.as_slice()) {
-        Ok(_) => Ok(()),
+        Ok(matches) => settings_in(&matches).ok_or(Fault::UnknownPick),
         Err(error) => Err(fault_of(alloc, &error)),
     }
+}
+
+// The settings by the options of the command that the words name.
+fn settings_in(matches: &ArgMatches) -> Option<Settings>
+    ensures settings { result ≡ settings_under (subcommand_rows_of matches.now) }
+    ensures range { IfSome result AreInRange }
+{
+    let (_, options) = matches.subcommand()?;
+    settings_of(options)
 }
 
 fn texts_of(alloc: Global, words: &[Vec<u8>]) -> Result<Vec<&str>, Fault>
@@ -145,15 +165,23 @@ fn command<'a>(alloc: Global) -> Result<Command<'a>, AllocError>
 fn unnamed_command<'a>(alloc: Global) -> Result<Command<'a>, AllocError>
     ensures { IfOk result (λ command. app_of command ≡ klsm_command) }
 {
-    let replay = Command::new(alloc, "replay")
-        .about("Answers a script of insertions and deletions, row by row")
-        .after_help(REPLAY_HELP);
+    let replay = replay_command(alloc)?;
     Command::new(alloc, "klsm")
         .about("A priority queue that answers scripts, with a proof of its answers")
         .no_binary_name(true)
         .subcommand_required(true)
         .arg_required_else_help(true)
         .subcommand(replay)
+}
+
+fn replay_command<'a>(alloc: Global) -> Result<Command<'a>, AllocError>
+    ensures app { IfOk result (λ command. app_of command ≡ replay_app) }
+    ensures local { IfOk result (λ command. (fields_of command).has_globals ≡ false) }
+{
+    let command = Command::new(alloc, "replay")
+        .about("Answers a script of insertions and deletions, row by row")
+        .after_help(REPLAY_HELP);
+    with_options(alloc, command)
 }
 
 fn say<W: Write>(writer: &mut W, text: &[u8], status: u8) -> Status
@@ -187,16 +215,19 @@ const FAULT: u8 = 4;
 
 const NOT_TEXT: &[u8] = b"error: a word is not UTF-8\n\nFor more information, try '--help'.\n";
 
+const UNKNOWN_PICK: &[u8] = b"refused: pick\n";
+
 const REPLAY_HELP: &str = "\
-The script comes on standard input, one row a line. Each row is answered on standard output
-before the next one is looked at.
+The script comes on standard input, one row a line. The answers go to standard output, each row's
+before the program waits for a further row.
 
 Rows:
-  THREAD,i,KEY,LOAD  Insert an item. The least key is deleted first. KEY and LOAD are
+  THREAD,i,KEY,LOAD  Insert an item. The least key is the most urgent. KEY and LOAD are
                      numbers from 0 to 18446744073709551615
-  THREAD,d,,         Delete the least item
+  THREAD,d,,         Delete an item, one of the least
 
-Threads are numbered from 0. There is one today, so THREAD is 0. At most 64 items live at a time.
+Threads are numbered from 0. Each keeps K items for itself; what is more goes to a part that all
+share, of which a deletion takes a candidate.
 
 Answers:
   THREAD i KEY STAMP                      The item was inserted
@@ -204,7 +235,7 @@ Answers:
   THREAD d none                           There was no item to delete
 
 A STAMP is the inserting thread, a dot, and how many items that thread had inserted before.
-SKIP is always 0 today.
+SKIP is at most THREADS times K.
 
 The last line, and the status of the program:
   max skip SKIP bound BOUND  0  All rows are answered; the greatest SKIP, and what it may be
@@ -218,4 +249,11 @@ The last line, and the status of the program:
 Words that are no command are answered with a text on them, status 2.
 
 Example:
-  printf '0,i,5,50\\n0,i,3,30\\n0,d,,\\n' | klsm replay";
+  $ printf '1,i,3,0\\n1,i,2,0\\n1,i,9,0\\n0,i,1,0\\n1,d,,\\n' |
+      klsm replay --threads 2 --k 1 --pick last
+  1 i 3 1.0
+  1 i 2 1.1
+  1 i 9 1.2
+  0 i 1 0.0
+  1 d 3 1.0 load 0 skip 2
+  max skip 2 bound 2";

@@ -1,5 +1,5 @@
 //! Judging the rows of a script.
-ghost use Rattle.std.specs.Prelude.{◌≡◌, ◌≤◌, ◌^◌};
+ghost use Rattle.std.specs.Prelude.{◌≡◌, ◌<◌, ◌≤◌, ◌^◌, IfOk};
 ghost use Rattle.csv.specs.Records.{fields_of};
 ghost use Rattle.klsm_tool.specs.Number.{number_of};
 ghost use Rattle.klsm_tool.specs.Script.{insertion_of, deletion_of, operation_of, asked_below};
@@ -20,7 +20,8 @@ const DELETE: &[u8] = b"d";
 /// wrong with it.
 pub(crate) fn request_of(row: &ByteRecord, threads: usize) -> Result<Request, Refusal>
     requires { threads ≤ 2 ^ 32 }
-    ensures { result ≡ request_of_row threads (fields_of row.now) }
+    ensures request { result ≡ request_of_row threads (fields_of row.now) }
+    ensures below { IfOk result (λ request. request.thread < threads) }
 {
     if row.len() != FIELDS {
         return Err(Refusal::Fields);
@@ -44,8 +45,9 @@ fn request(
     load: &[u8],
 ) -> Result<Request, Refusal>
     requires { threads ≤ 2 ^ 32 }
-    ensures { result ≡ asked_below threads (number_of thread.now)
+    ensures request { result ≡ asked_below threads (number_of thread.now)
         (operation_of operation.now key.now load.now) }
+    ensures below { IfOk result (λ request. request.thread < threads) }
 {
     let thread = match number(thread) {
         Some(thread) if thread < threads as u64 => thread as u32,

@@ -12,30 +12,38 @@
 //! // report.end is End::Done, and the text ends with "max skip 0 bound 64"
 //! ```
 //!
+//! A board of the caller's own, and its members, go to `replay_on`.
+//!
 //! `script` reads a row into a record that is used again, `judge` says what the row asks for or
-//! what is wrong with it, `exact_queue` answers it, and `output` writes the line before the next
-//! row is looked at. A `Stop` is why no further row is answered, and makes the last line.
-//! `command_line` has the words: the kit's `clap` parses them, after a look whether they are text.
+//! what is wrong with it, `beside` lets the member of its thread answer and counts the skip among
+//! `live_items`, and `output` keeps the line, which goes out with others before a further row is
+//! waited for: `watched` knows how far the whole rows go that were read. A `Stop` is why no further
+//! row is answered, and makes the last line. `command_line` has the words, and `options` what they
+//! may say: the kit's `clap` parses them, after a look whether they are text.
 //!
 //! - **The text is that of the definition.** What goes out is the first `written` bytes of the
 //!   answer text of the rows that were read, and all of it unless the writer failed: `Replays`, the
-//!   one clause of `replay_over`.
-//! - **The answers are exact**: those of the sorted list of live items. A row is refused for the
-//!   first reason that holds, and full is answered exactly where 64 items live and the row is an
-//!   insertion: the same clause.
+//!   clause of `replay_on`.
+//! - **The answers are those of the board's members**: the members' lists have these and no others.
+//!   A row is refused for the first reason that holds: the same clause. The board of `replay_over`
+//!   is its own, and finished: `ReplaysAlone`.
 //! - **Words are a replay or are answered with one text**, and each end has its status: clauses
 //!   `runs` and `replays` of `run_words`.
 //! - **The process ends with that status.** Nothing outside this crate makes a `Status`, and
 //!   `Status::report` says that the process ends with its number.
-//! - **What no contract says**: that the process's words are those that the system gave, and what
-//!   standard input and output carried.
+//! - **What no contract says**: that the process's words are those that the system gave, what
+//!   standard input and output carried, how a replay picks, and that each printed skip is at most
+//!   the printed bound.
 #![tactic(auto)]
 
 mod answer;
+mod beside;
 mod command_line;
-mod exact_queue;
 mod judge;
+mod live_items;
+mod options;
 mod output;
+mod picking;
 mod process_words;
 mod replay;
 mod request;
@@ -43,8 +51,10 @@ mod script;
 mod settings;
 mod status;
 mod stop;
+mod turns;
+mod watched;
 
 pub use command_line::{run_program, run_words};
-pub use replay::replay_over;
+pub use replay::{replay_on, replay_over};
 pub use settings::{End, Pick, Report, Settings};
 pub use status::Status;

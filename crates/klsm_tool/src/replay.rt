@@ -1,170 +1,309 @@
-//! `klsm replay`: a script, answered row by row.
+//! `klsm replay`: a script, answered row by row by the members of a board.
 ghost use Rattle.std.specs.Prelude.{◌≡◌, ◌≢◌, ℕ, ◌+◌, ◌*◌, ◌<◌, ◌≤◌, ◌^◌, List, [], ◌∷◌};
 ghost use Rattle.std.specs.Prelude.{length, Option, IfOk, MatchResult, codes};
-ghost use Rattle.klsm_run.specs.Content.{sorted};
-ghost use Rattle.klsm_lsm.specs.Lsm.{content};
+ghost use Rattle.std.specs.List.{All};
+ghost use Rattle.klsm_run.specs.declared.item.Item.{Item};
+ghost use Rattle.klsm_world.specs.declared.step.Entry.{Entry};
+ghost use Rattle.klsm_board.specs.Boards.{IsCrew, IsOf};
 ghost use Rattle.klsm_tool.specs.declared.settings.End.TheVariants as end;
-ghost use Rattle.klsm_tool.specs.Output.{GoesOrFails};
-ghost use Rattle.klsm_tool.specs.AnswerText.{answer_text};
+ghost use Rattle.klsm_tool.specs.Output.{pending, put_count};
+ghost use Rattle.klsm_tool.specs.AnswerText.{answer_text, live, skip_of};
 ghost use Rattle.klsm_tool.specs.declared.answer.Line.{Line};
 ghost use Rattle.klsm_tool.specs.declared.stop.Stop.TheVariants as stop;
 ghost use Rattle.klsm_tool.specs.Script.{Row, row_limit};
-ghost use Rattle.klsm_tool.specs.Progress.{HasStopped, IsTold, Stands};
-ghost use Rattle.klsm_tool.specs.Replay.{Replays, Stopped};
+ghost use Rattle.klsm_tool.specs.Crews.{AreFew, AreMembers, lists_in};
+ghost use Rattle.klsm_tool.specs.Answering.{live_beside, picker_count};
+ghost use Rattle.klsm_tool.specs.Progress.{HasRead, HasStopped, IsCutOff, IsTold, Stands};
+ghost use Rattle.klsm_tool.specs.Progress.{StopsBefore};
+ghost use Rattle.klsm_tool.specs.Replay.{GoesOrFails, Replays, ReplaysAlone, sizes_of};
 
-use crate::answer::{Line, Printed};
-use crate::exact_queue::ExactQueue;
+use crate::answer::Printed;
+use crate::beside::Beside;
 use crate::judge::request_of;
 use crate::output::{NO_MEMORY, Output, write_text};
 use crate::request::Refusal;
 use crate::script::Script;
 use crate::settings::{End, Report, Settings};
 use crate::stop::{Closing, Stop};
+use klsm_board::{Board, Member};
+use std::alloc::{AllocError, Global};
 use std::io::{Read, Write};
+use std::sync::Wait;
 
 /// The most rows of a script.
 const ROW_LIMIT: u64 = 1_000_000;
 
-/// Answers the rows of a script in their order, each before the next one is looked at.
-pub fn replay_over<R: Read + Drop, W: Write>(
-    rt: &impl AllocGlobal,
+/// The most insertions of each member of a board that a replay makes.
+const QUOTA: u64 = 281_474_976_710_656;
+
+/// Answers the rows of a script over a board of its own, which is finished where all are answered.
+pub fn replay_over<P: AllocGlobal + Wait, R: Read + Drop, W: Write>(
+    rt: &P,
     reader: R,
     writer: &mut W,
     settings: &Settings,
 ) -> Report
-    requires threads { settings.now.threads ≡ 1 }
-    requires k { settings.now.k ≡ 64 }
-    ensures { Replays settings.now.threads (settings.now.threads * settings.now.k)
-        (R.remaining reader) (W.contents writer.old) (W.contents writer.new) result }
+    requires some_thread { 1 ≤ settings.now.threads }
+    requires threads { settings.now.threads ≤ 16 }
+    requires k { settings.now.k ≤ 64 }
+    ensures { ReplaysAlone settings.now.threads settings.now.k (R.remaining reader)
+        (W.contents writer.old) (W.contents writer.new) result }
 {
-    let Ok(mut output) = Output::new(rt.alloc()) else {
-        return report_no_memory(writer);
+    let Ok((board, mut members)) = Board::new(rt.alloc(), settings.threads, settings.k, QUOTA)
+    else {
+        return report_no_memory(writer, 0);
     };
-    let mut script = Script::new(rt.alloc(), reader);
-    let mut queue = ExactQueue::new();
-    let closing = answer_rows(&mut script, &mut queue, &mut output, writer, settings);
-    let end = output.close(writer, closing);
-    Report {
-        end,
-        written: output.written,
+    let report = replay_on(rt, reader, writer, settings, &board, &mut members);
+    if report.end != End::Done {
+        return report;
+    }
+    match board.finish(rt.alloc(), members) {
+        Ok(_) => report,
+        // All members are back, so it is memory that is wanted.
+        Err(_) => report_no_memory(writer, report.written),
     }
 }
 
-// Where there is not even memory for a line.
-fn report_no_memory<W: Write>(writer: &mut W) -> Report
-    ensures { GoesOrFails (W.contents writer.old) (W.contents writer.new)
-        (codes "no memory\n") 0 result.written end.NoMemory result.end }
+/// Answers the rows of a script in their order, each by the member of its thread, and each before
+/// the next one is looked at. The lines go out many at a time, and all of them before a further row
+/// is waited for.
+pub fn replay_on<P: AllocGlobal + Wait, R: Read + Drop, W: Write>(
+    rt: &P,
+    reader: R,
+    writer: &mut W,
+    settings: &Settings,
+    board: &Board<64, 21>,
+    members: &mut [Member<64, 21>],
+) -> Report
+    requires sizes { board.now.sizes ≡ sizes_of settings.now.threads settings.now.k }
+    requires of { All (λ member. IsOf member board.now) members.old }
+    requires count { length members.old ≡ settings.now.threads }
+    requires crew { IsCrew members.old }
+    ensures members { AreMembers board.now members.new }
+    ensures written { result.written < 2 ^ 63 }
+    ensures replays { Replays settings.now.threads settings.now.k (lists_in members.new)
+        (R.remaining reader) (W.contents writer.old) (W.contents writer.new) result }
 {
-    let written = write_text(writer, NO_MEMORY);
-    let end = if written < NO_MEMORY.len() {
+    let Ok(mut replay) = Replay::new(rt.alloc(), reader, settings) else {
+        return report_no_memory(writer, 0);
+    };
+    let closing = replay.answer_rows(rt, writer, board, members, settings);
+    let end = replay.output.close(writer, closing);
+    Report {
+        end,
+        written: replay.output.written,
+    }
+}
+
+// Where memory is wanted before the first row, or after the last line.
+fn report_no_memory<W: Write>(writer: &mut W, written: u64) -> Report
+    requires { written < 2 ^ 63 }
+    ensures { GoesOrFails (W.contents writer.old) (W.contents writer.new)
+        (codes "no memory\n") written result.written end.NoMemory result.end }
+{
+    let out = write_text(writer, NO_MEMORY);
+    let end = if out < NO_MEMORY.len() {
         End::WriteFault
     } else {
         End::NoMemory
     };
     Report {
         end,
-        written: written as u64,
+        written: written + out as u64,
     }
 }
 
-// Answers rows until there is a reason to stop, and says what the last line is.
-fn answer_rows<R: Read + Drop, W: Write>(
-    script: &mut Script<R>,
-    queue: &mut ExactQueue,
-    output: &mut Output,
-    writer: &mut W,
-    settings: &Settings,
-) -> Closing
-    requires threads { settings.now.threads ≡ 1 }
-    requires k { settings.now.k ≡ 64 }
-    requires inserted { queue.old.inserted ≡ 0 }
-    requires written { output.old.written ≡ 0 }
-    ensures written { output.new.written < 2 ^ 63 }
-    ensures row { result.row ≤ row_limit + 1 }
-    ensures most { result.most ≡ 0 }
-    ensures bound { result.bound ≡ settings.now.threads * settings.now.k }
-    ensures stops { (input before : Option (List ℕ)) →
-        Stands R.remaining settings.now.threads input [] [] script.old.rows
-        (sorted (content queue.old.live)) queue.old.inserted
-        → IsTold before (W.contents writer.old) [] output.old.written
-        → HasStopped settings.now.threads input before (W.contents writer.new) result.row
-        output.new.written result.stop }
-{
-    let bound = settings.threads * settings.k;
-    for answered in 0..ROW_LIMIT {
-        if let Err(stop) = answer_row(script, queue, output, writer, settings.threads) {
-            return Closing {
-                stop,
-                row: answered + 1,
-                most: 0,
-                bound,
-            };
+// A replay on its way.
+#[derive(Drop)]
+struct Replay<R> {
+    script: Script<R>,
+    beside: Beside,
+    output: Output,
+}
+
+impl<R: Read + Drop> Replay<R> {
+    fn new(alloc: Global, reader: R, settings: &Settings) -> Result<Self, AllocError>
+        requires { settings.now.threads * settings.now.k ≤ 1024 }
+        ensures read { IfOk result (λ replay.
+            HasRead R.remaining (R.remaining reader) [] replay.script.rows) }
+        ensures pickers { IfOk result (λ replay.
+            picker_count replay.beside ≡ settings.now.threads) }
+        ensures live { IfOk result (λ replay. live_beside replay.beside ≡ []) }
+        ensures most { IfOk result (λ replay. replay.beside.most ≡ 0) }
+        ensures written { IfOk result (λ replay. replay.output.written ≡ 0) }
+        ensures empty { IfOk result (λ replay. pending replay.output ≡ []) }
+    {
+        let script = Script::new(alloc, reader);
+        let beside = Beside::new(alloc, settings)?;
+        let output = Output::new(alloc)?;
+        Ok(Replay {
+            script,
+            beside,
+            output,
+        })
+    }
+
+    // Answers rows until there is a reason to stop, and says what the last line is.
+    fn answer_rows<W: Write>(
+        &mut self,
+        rt: &impl Wait,
+        writer: &mut W,
+        board: &Board<64, 21>,
+        members: &mut [Member<64, 21>],
+        settings: &Settings,
+    ) -> Closing
+        requires sizes { board.now.sizes ≡ sizes_of settings.now.threads settings.now.k }
+        requires members { AreMembers board.now members.old }
+        requires pickers { picker_count self.old.beside ≡ board.now.sizes.threads }
+        requires few { AreFew board.now.sizes.threads 0 (lists_in members.old) }
+        requires put { put_count self.old.output ≡ 0 }
+        ensures members { AreMembers board.now members.new }
+        ensures put { put_count self.new.output ≤ 160 * row_limit }
+        ensures row { result.row ≤ row_limit + 1 }
+        ensures bound { result.bound ≡ settings.now.threads * settings.now.k }
+        ensures stops { (input before : Option (List ℕ)) →
+            Stands R.remaining settings.now.threads (lists_in members.old) input [] []
+            self.old.script.rows (live_beside self.old.beside) self.old.beside.most
+            → IsTold before (W.contents writer.old) [] self.old.output
+            → HasStopped settings.now.threads settings.now.k (lists_in members.new) input before
+            (W.contents writer.new) result.row result.most self.new.output result.stop }
+    {
+        let bound = settings.threads * settings.k;
+        for answered in 0..ROW_LIMIT {
+            if let Err(stop) = self.answer_row(rt, writer, board, members) {
+                return Closing {
+                    stop,
+                    row: answered + 1,
+                    most: self.beside.most,
+                    bound,
+                };
+            }
+        }
+        Closing {
+            stop: stop_behind(&mut self.script, &mut self.output, writer),
+            row: ROW_LIMIT + 1,
+            most: self.beside.most,
+            bound,
         }
     }
-    let stop = match script.advance() {
-        Ok(()) => Stop::Refused(Refusal::Rows),
-        Err(stop) => stop,
-    };
-    Closing {
-        stop,
-        row: ROW_LIMIT + 1,
-        most: 0,
-        bound,
+
+    // Answers one row, or says why not.
+    fn answer_row<W: Write>(
+        &mut self,
+        rt: &impl Wait,
+        writer: &mut W,
+        board: &Board<64, 21>,
+        members: &mut [Member<64, 21>],
+    ) -> Result<(), Stop>
+        requires members { AreMembers board.now members.old }
+        requires quota { row_limit < board.now.sizes.quota }
+        requires few { AreFew board.now.sizes.threads row_limit (lists_in members.old) }
+        requires pickers { picker_count self.old.beside ≡ board.now.sizes.threads }
+        requires put { put_count self.old.output < 2 ^ 63 }
+        ensures members { AreMembers board.now members.new }
+        ensures pickers { picker_count self.new.beside ≡ board.now.sizes.threads }
+        ensures few { (n : ℕ) → AreFew board.now.sizes.threads n (lists_in members.old)
+            → AreFew board.now.sizes.threads (n + 1) (lists_in members.new) }
+        ensures put { put_count self.new.output ≤ put_count self.old.output + 160 }
+        ensures step { (input before : Option (List ℕ)) (rows : List Row) (lines : List Line) →
+            Stands R.remaining board.now.sizes.threads (lists_in members.old) input rows lines
+            self.old.script.rows (live_beside self.old.beside) self.old.beside.most
+            → length rows < row_limit
+            → IsTold before (W.contents writer.old) lines self.old.output
+            → MatchResult result
+            (λ _. (row : Row) × (line : Line)
+            × Stands R.remaining board.now.sizes.threads (lists_in members.new) input (row ∷ rows)
+            (line ∷ lines) self.new.script.rows (live_beside self.new.beside) self.new.beside.most
+            × IsTold before (W.contents writer.new) (line ∷ lines) self.new.output)
+            (λ why. HasStopped board.now.sizes.threads board.now.sizes.k (lists_in members.new)
+            input before (W.contents writer.new) (length rows + 1) self.new.beside.most
+            self.new.output why) }
+    {
+        send_before_wait(&self.script, &mut self.output, writer)?;
+        let line = next_line(rt, &mut self.script, &mut self.beside, board, members)?;
+        self.output.put(writer, line)
     }
 }
 
-// Answers one row, or says why not.
-fn answer_row<R: Read + Drop, W: Write>(
-    script: &mut Script<R>,
-    queue: &mut ExactQueue,
+// Sends what is pending where the next row may have to be waited for.
+fn send_before_wait<R: Read + Drop, W: Write>(
+    script: &Script<R>,
     output: &mut Output,
     writer: &mut W,
-    threads: usize,
 ) -> Result<(), Stop>
-    requires threads { threads ≤ 2 ^ 32 }
-    requires inserted { queue.old.inserted < 2 ^ 63 }
-    requires written { output.old.written < 2 ^ 63 }
-    ensures inserted { queue.new.inserted ≤ queue.old.inserted + 1 }
-    ensures written { output.new.written ≤ output.old.written + 160 }
-    ensures step { (input before : Option (List ℕ)) (rows : List Row) (lines : List Line) →
-        Stands R.remaining threads input rows lines script.old.rows
-        (sorted (content queue.old.live)) queue.old.inserted
-        → length rows < row_limit → IsTold before (W.contents writer.old) lines output.old.written
+    requires put { put_count output.old < 2 ^ 63 }
+    ensures put { put_count output.new ≤ put_count output.old }
+    ensures told { (before : Option (List ℕ)) (lines : List Line) →
+        IsTold before (W.contents writer.old) lines output.old
         → MatchResult result
-        (λ _. (row : Row) × (line : Line)
-        × Stands R.remaining threads input (row ∷ rows) (line ∷ lines) script.new.rows
-        (sorted (content queue.new.live)) queue.new.inserted
-        × IsTold before (W.contents writer.new) (line ∷ lines) output.new.written)
-        (λ why. HasStopped threads input before (W.contents writer.new) (length rows + 1)
-        output.new.written why) }
+        (λ _. IsTold before (W.contents writer.new) lines output.new)
+        (λ why. (why ≡ stop.WriteFault)
+        × IsCutOff before (W.contents writer.new) lines output.new.written) }
 {
-    let line = next_line(script, queue, threads)?;
-    output.put(writer, Printed { line, skip: 0 })
+    if script.may_wait() {
+        output.flush(writer)
+    } else {
+        Ok(())
+    }
 }
 
 // The answer to the next row, or why there is none.
 fn next_line<R: Read + Drop>(
+    rt: &impl Wait,
     script: &mut Script<R>,
-    queue: &mut ExactQueue,
-    threads: usize,
-) -> Result<Line, Stop>
-    requires threads { threads ≤ 2 ^ 32 }
-    requires inserted { queue.old.inserted < 2 ^ 63 }
-    ensures inserted { queue.new.inserted ≤ queue.old.inserted + 1 }
+    beside: &mut Beside,
+    board: &Board<64, 21>,
+    members: &mut [Member<64, 21>],
+) -> Result<Printed, Stop>
+    requires members { AreMembers board.now members.old }
+    requires pickers { picker_count beside.old ≡ board.now.sizes.threads }
+    requires quota { row_limit < board.now.sizes.quota }
+    requires few { AreFew board.now.sizes.threads row_limit (lists_in members.old) }
+    ensures members { AreMembers board.now members.new }
+    ensures pickers { picker_count beside.new ≡ board.now.sizes.threads }
+    ensures few { (n : ℕ) → AreFew board.now.sizes.threads n (lists_in members.old)
+        → AreFew board.now.sizes.threads (n + 1) (lists_in members.new) }
     ensures step { (input : Option (List ℕ)) (rows : List Row) (lines : List Line) →
-        Stands R.remaining threads input rows lines script.old.rows
-        (sorted (content queue.old.live)) queue.old.inserted
+        Stands R.remaining board.now.sizes.threads (lists_in members.old) input rows lines
+        script.old.rows (live_beside beside.old) beside.old.most
         → length rows < row_limit
         → MatchResult result
-        (λ line. (row : Row)
-        × Stands R.remaining threads input (row ∷ rows) (line ∷ lines) script.new.rows
-        (sorted (content queue.new.live)) queue.new.inserted)
-        (λ why. Stopped threads input rows lines why × (why ≢ stop.WriteFault)) }
-    ensures short { IfOk result (λ line. length (answer_text line.thread line.answer 0) ≤ 160) }
+        (λ printed. (row : Row)
+        × Stands R.remaining board.now.sizes.threads (lists_in members.new) input (row ∷ rows)
+        (printed.line ∷ lines) script.new.rows (live_beside beside.new) beside.new.most
+        × (printed.skip ≡ skip_of (live lines) printed.line.answer))
+        (StopsBefore board.now.sizes.threads board.now.sizes.k (lists_in members.new) input rows
+        lines beside.new.most) }
+    ensures short { IfOk result (λ printed.
+        length (answer_text printed.line.thread printed.line.answer printed.skip) ≤ 160) }
 {
     script.advance()?;
-    match request_of(&script.row, threads) {
-        Ok(request) => queue.answer(request).ok_or(Stop::Full),
+    match request_of(&script.row, board.threads()) {
+        Ok(request) => beside.answer(rt, board, members, request),
         Err(why) => Err(Stop::Refused(why)),
+    }
+}
+
+// Why no row is answered behind the last one that may be.
+fn stop_behind<R: Read + Drop, W: Write>(
+    script: &mut Script<R>,
+    output: &mut Output,
+    writer: &mut W,
+) -> Stop
+    requires put { put_count output.old < 2 ^ 63 }
+    ensures put { put_count output.new ≤ put_count output.old }
+    ensures stops { (threads k : ℕ) (lists : List (List Entry)) (input before : Option (List ℕ))
+        (rows : List Row) (lines : List Line) (items : List Item) (most : ℕ) →
+        Stands R.remaining threads lists input rows lines script.old.rows items most
+        → length rows ≡ row_limit → IsTold before (W.contents writer.old) lines output.old
+        → HasStopped threads k lists input before (W.contents writer.new) (length rows + 1) most
+        output.new result }
+{
+    if let Err(stop) = send_before_wait(script, output, writer) {
+        return stop;
+    }
+    match script.advance() {
+        Ok(()) => Stop::Refused(Refusal::Rows),
+        Err(stop) => stop,
     }
 }

@@ -6,6 +6,7 @@ ghost use Rattle.klsm_tool.specs.Script.{Row};
 ghost use Rattle.klsm_tool.specs.Progress.{HasRead, ReadStops};
 
 use crate::stop::Stop;
+use crate::watched::Watched;
 use csv::{ByteRecord, ErrorKind, Reader, ReaderBuilder};
 use std::alloc::Global;
 use std::io::Read;
@@ -13,7 +14,7 @@ use std::io::Read;
 /// A script that is read row by row, each into the same record.
 #[derive(Drop)]
 pub(crate) struct Script<R> {
-    rows: Reader<R>,
+    rows: Reader<Watched<R>>,
     pub row: ByteRecord,
 }
 
@@ -21,13 +22,20 @@ impl<R: Read + Drop> Script<R> {
     pub(crate) fn new(alloc: Global, reader: R) -> Self
         ensures { HasRead R.remaining (R.remaining reader) [] result.rows }
     {
+        let watched = Watched::new(reader);
         Script {
             rows: ReaderBuilder::new()
                 .has_headers(false)
                 .flexible(true)
-                .from_reader(alloc, reader),
+                .from_reader(alloc, watched),
             row: ByteRecord::new(alloc),
         }
+    }
+
+    /// Whether the next row may have to be waited for: none that is known to be whole was read
+    /// ahead.
+    pub(crate) fn may_wait(&self) -> bool {
+        self.rows.position().byte() >= self.rows.get_ref().whole_rows_end()
     }
 
     /// Reads the next row into `row`, and answers why not where there is none.

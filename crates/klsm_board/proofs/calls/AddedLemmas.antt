@@ -23,16 +23,24 @@ pub record Gains (es es' : List Entry) (ins dels : List Item) : Type 0 where
   pub deleted_are : deleted es' ≡ deleted es ++ dels
 
 -- an insertion
+pub puts_events : (k t : ℕ) (misses : List ℕ) (es es' : List Entry) (x : Item) → Puts k t misses es es' x → events es' ≡ events es ++ Put x ∷ []
+puts_events k t misses es es' x puts =
+    goes_on es (own_taken t misses puts.own es) (Committed (Put x) ∷ Released (own_part t) ∷ []) es' (own_quiet t misses puts.own es) puts.steps
+
 puts_gain : (k t : ℕ) (misses : List ℕ) (es es' : List Entry) (x : Item) → Puts k t misses es es' x → Gains es es' (x ∷ []) []
 puts_gain k t misses es es' x puts =
     let added : List Event = Put x ∷ [] in
-    let e : events es' ≡ events es ++ added = goes_on es (own_taken t misses puts.own es) (Committed (Put x) ∷ Released (own_part t) ∷ []) es' (own_quiet t misses puts.own es) puts.steps in
+    let e = puts_events k t misses es es' x puts in
     record { inserted_are = inserts es es' added e; deleted_are = deletes es es' added e }
+
+pub flushes_events : (levels k t : ℕ) (own_misses shared_misses : List ℕ) (es es' : List Entry) (x : Item) → (f : Flushes levels k t own_misses shared_misses es es' x) → events es' ≡ events es ++ Flush x f.moved ∷ []
+flushes_events levels k t own_misses shared_misses es es' x f =
+    goes_on es (both_taken t own_misses shared_misses f.own f.shared es) (Committed (Flush x f.moved) ∷ both_released t) es' (both_quiet t own_misses shared_misses f.own f.shared es) f.steps
 
 flushes_gain : (levels k t : ℕ) (own_misses shared_misses : List ℕ) (es es' : List Entry) (x : Item) → Flushes levels k t own_misses shared_misses es es' x → Gains es es' (x ∷ []) []
 flushes_gain levels k t own_misses shared_misses es es' x f =
     let added : List Event = Flush x f.moved ∷ [] in
-    let e : events es' ≡ events es ++ added = goes_on es (both_taken t own_misses shared_misses f.own f.shared es) (Committed (Flush x f.moved) ∷ both_released t) es' (both_quiet t own_misses shared_misses f.own f.shared es) f.steps in
+    let e = flushes_events levels k t own_misses shared_misses es es' x f in
     record { inserted_are = inserts es es' added e; deleted_are = deletes es es' added e }
 
 pub inserts_gain : (levels k t : ℕ) (own_misses shared_misses : List ℕ) (es es' : List Entry) (x : Item) → Inserts levels k t own_misses shared_misses es es' x → Gains es es' (x ∷ []) []
@@ -55,10 +63,13 @@ quiet_same es fs es' is quiet =
     let same : events es' ≡ events es = same_events es fs es' is quiet in
     record { inserted_are = ap (flat_map inserted_by) same; deleted_are = ap (flat_map deleted_by) same }
 
--- a call that gave up, or met a lock that was held
+-- a call that gave up
+gives_up_events : (k t : ℕ) (own_misses shared_misses : List ℕ) (es es' : List Entry) (Lacks : List Item → Type 0) → GivesUp k t own_misses shared_misses es es' Lacks → events es' ≡ events es
+gives_up_events k t own_misses shared_misses es es' Lacks up =
+    same_events (both_taken t own_misses shared_misses up.own up.shared es) (both_released t) es' up.steps refl ∙ both_quiet t own_misses shared_misses up.own up.shared es
+
 gives_up_gains : (k t : ℕ) (own_misses shared_misses : List ℕ) (es es' : List Entry) (Lacks : List Item → Type 0) → GivesUp k t own_misses shared_misses es es' Lacks → Gains es es' [] []
-gives_up_gains k t own_misses shared_misses es es' Lacks up =
-    quiet_gains es es' (same_events (both_taken t own_misses shared_misses up.own up.shared es) (both_released t) es' up.steps refl ∙ both_quiet t own_misses shared_misses up.own up.shared es)
+gives_up_gains k t own_misses shared_misses es es' Lacks up = quiet_gains es es' (gives_up_events k t own_misses shared_misses es es' Lacks up)
 
 -- how many these are
 pub gained_counts : (es es' : List Entry) (ins dels : List Item) (i d : ℕ) → Gains es es' ins dels → length (inserted es) ≡ i → length (deleted es) ≡ d
@@ -78,7 +89,10 @@ refused_gains levels k t es es' try_insert.Full told = gives_up_gains k t [] [] 
 refused_gains levels k t es es' try_insert.NoMemory told = gives_up_gains k t [] [] es es' (λ shared. Unit {0}) told
 
 -- the same of an insertion that may wait
+pub refused_in_time_events : (levels k t : ℕ) (es es' : List Entry) (why : InsertError) → RefusesInsertInTime ⊥ levels k t es es' why → events es' ≡ events es
+refused_in_time_events levels k t es es' insert.Spent told = absurd told.0
+refused_in_time_events levels k t es es' insert.Full told = gives_up_events k t told.0 told.1 es es' (LacksRoom levels k) told.2
+refused_in_time_events levels k t es es' insert.NoMemory told = gives_up_events k t told.0 told.1 es es' (λ shared. Unit {0}) told.2
+
 pub refused_in_time_gains : (levels k t : ℕ) (es es' : List Entry) (why : InsertError) → RefusesInsertInTime ⊥ levels k t es es' why → Gains es es' [] []
-refused_in_time_gains levels k t es es' insert.Spent told = absurd told.0
-refused_in_time_gains levels k t es es' insert.Full told = gives_up_gains k t told.0 told.1 es es' (LacksRoom levels k) told.2
-refused_in_time_gains levels k t es es' insert.NoMemory told = gives_up_gains k t told.0 told.1 es es' (λ shared. Unit {0}) told.2
+refused_in_time_gains levels k t es es' why told = quiet_gains es es' (refused_in_time_events levels k t es es' why told)

@@ -34,24 +34,31 @@ gained es es' added ins dels e i d = record {
 }
 
 module _ (m : Sizes) (t : ℕ) (own shared : List Item) (es taken es' : List Entry) (quiet : events taken ≡ events es) where
-  takes_gain : (x : Item) → TakesOut m t own shared taken es' x → Gains es es' [] (x ∷ [])
-  takes_gain x takes = gained es es' (Take x ∷ []) [] (x ∷ []) (goes_on es taken (Committed (Take x) ∷ both_released t) es' quiet takes.steps) refl refl
+  pub takes_events : (x : Item) → TakesOut m t own shared taken es' x → events es' ≡ events es ++ Take x ∷ []
+  takes_events x takes = goes_on es taken (Committed (Take x) ∷ both_released t) es' quiet takes.steps
 
-  spied_gain : (x : Item) → TakesSpied m t own shared taken es' x → Gains es es' [] (x ∷ [])
-  spied_gain x takes =
+  takes_gain : (x : Item) → TakesOut m t own shared taken es' x → Gains es es' [] (x ∷ [])
+  takes_gain x takes = gained es es' (Take x ∷ []) [] (x ∷ []) (takes_events x takes) refl refl
+
+  pub spied_events : (x : Item) → (takes : TakesSpied m t own shared taken es' x) → events es' ≡ events es ++ Spy (victim_of m.threads t (suc takes.spies.passed)) takes.moved ∷ Take x ∷ []
+  spied_events x takes =
       let spies = takes.spies in let one = spies.spies in
       let v : ℕ = victim_of m.threads t (suc spies.passed) in
       let passed : events (taken ++ spies.added) ≡ events es = same_events taken spies.added (taken ++ spies.added) refl (passes_are_quiet m.threads t spies.passed spies.added spies.passes) ∙ quiet in
       let spied : events takes.spied ≡ events es ++ Spy v takes.moved ∷ [] =
       goes_on es (taken ++ spies.added) (Acquired (own_part v) one.found ∷ Committed (Spy v takes.moved) ∷ Released (own_part v) ∷ []) takes.spied passed one.steps in
-      let all : events es' ≡ events es ++ Spy v takes.moved ∷ Take x ∷ [] =
-      ap events takes.steps ∙ (events_append takes.spied (Committed (Take x) ∷ both_released t) ∙ (ap (λ z. z ++ Take x ∷ []) spied ∙ append_assoc (events es) (Spy v takes.moved ∷ []) (Take x ∷ []))) in
-      gained es es' (Spy v takes.moved ∷ Take x ∷ []) [] (x ∷ []) all refl refl
+      ap events takes.steps ∙ (events_append takes.spied (Committed (Take x) ∷ both_released t) ∙ (ap (λ z. z ++ Take x ∷ []) spied ∙ append_assoc (events es) (Spy v takes.moved ∷ []) (Take x ∷ [])))
+
+  spied_gain : (x : Item) → TakesSpied m t own shared taken es' x → Gains es es' [] (x ∷ [])
+  spied_gain x takes = gained es es' (Spy (victim_of m.threads t (suc takes.spies.passed)) takes.moved ∷ Take x ∷ []) [] (x ∷ []) (spied_events x takes) refl refl
+
+  pub nothing_events : FindsNothing m t own shared taken es' → events es' ≡ events es ++ Nothing ∷ []
+  nothing_events finds =
+      let passed : events (taken ++ finds.added) ≡ events es = same_events taken finds.added (taken ++ finds.added) refl (passes_are_quiet m.threads t (m.threads - 1) finds.added finds.passes) ∙ quiet in
+      goes_on es (taken ++ finds.added) (Committed Nothing ∷ both_released t) es' passed finds.steps
 
   nothing_gains : FindsNothing m t own shared taken es' → Gains es es' [] []
-  nothing_gains finds =
-      let passed : events (taken ++ finds.added) ≡ events es = same_events taken finds.added (taken ++ finds.added) refl (passes_are_quiet m.threads t (m.threads - 1) finds.added finds.passes) ∙ quiet in
-      gained es es' (Nothing ∷ []) [] [] (goes_on es (taken ++ finds.added) (Committed Nothing ∷ both_released t) es' passed finds.steps) refl refl
+  nothing_gains finds = gained es es' (Nothing ∷ []) [] [] (nothing_events finds) refl refl
 
   deletes_gain : {P : Type 0} (may_pick : P → ℕ → ℕ → P → Type 0) (before after : P) (x : Item) → Deletes may_pick before after m t own shared taken es' x → Gains es es' [] (x ∷ [])
   deletes_gain may_pick before after x (inl takes) = takes_gain x takes.0

@@ -3,6 +3,7 @@
 use super::process::{Input, Output, Refusal};
 use super::{REPLAY, gives, run};
 use std::alloc::Global;
+use std::sync::Wait;
 
 #[test]
 fn a_failed_read_follows_the_answers_before_it(rt: HostRuntime) {
@@ -21,7 +22,7 @@ fn a_failed_read_follows_the_answers_before_it(rt: HostRuntime) {
                 at_a_time,
                 fails: true,
             };
-            assert!(rt; gives(rt.alloc(), REPLAY, input, 4, text));
+            assert!(rt; gives(&rt, rt.alloc(), REPLAY, input, 4, text));
         }
     }
 }
@@ -44,6 +45,7 @@ max skip 0 bound 64
 /// status, how many bytes the output took and how many writes it refused. `None` where the bytes do
 /// not begin with this text.
 fn cut_short(
+    rt: &impl Wait,
     alloc: Global,
     words: &[&[u8]],
     room: usize,
@@ -57,7 +59,7 @@ fn cut_short(
         refusal,
         ..Output::ample(alloc)
     };
-    let status = run(alloc, words, Input::whole(SCRIPT), &mut output);
+    let status = run(rt, alloc, words, Input::whole(SCRIPT), &mut output);
     if !output.taken.as_slice().starts_with(text) {
         return None;
     }
@@ -69,7 +71,7 @@ fn a_failed_write_leaves_the_first_bytes(rt: HostRuntime) {
     assert_eq!(rt; ANSWERS.len(), 134);
     for refusal in [Refusal::Fails, Refusal::TakesNothing] {
         for room in 0..134usize {
-            let left = cut_short(rt.alloc(), REPLAY, room, 10, refusal, &ANSWERS[..room]);
+            let left = cut_short(&rt, rt.alloc(), REPLAY, room, 10, refusal, &ANSWERS[..room]);
             assert!(rt; left == Some((4, room, 1)));
         }
     }
@@ -78,7 +80,15 @@ fn a_failed_write_leaves_the_first_bytes(rt: HostRuntime) {
 #[test]
 fn short_writes_give_the_whole_text(rt: HostRuntime) {
     for at_a_time in [1, 7] {
-        let left = cut_short(rt.alloc(), REPLAY, 1000, at_a_time, Refusal::Fails, ANSWERS);
+        let left = cut_short(
+            &rt,
+            rt.alloc(),
+            REPLAY,
+            1000,
+            at_a_time,
+            Refusal::Fails,
+            ANSWERS,
+        );
         assert!(rt; left == Some((0, 134, 0)));
     }
 }
@@ -87,7 +97,7 @@ fn short_writes_give_the_whole_text(rt: HostRuntime) {
 fn a_failed_write_of_another_text_is_status_4(rt: HostRuntime) {
     for word in [b"--help".as_slice(), b"live", b"\xff"] {
         for refusal in [Refusal::Fails, Refusal::TakesNothing] {
-            let left = cut_short(rt.alloc(), &[b"klsm", word], 20, 7, refusal, b"");
+            let left = cut_short(&rt, rt.alloc(), &[b"klsm", word], 20, 7, refusal, b"");
             assert!(rt; left == Some((4, 20, 1)));
         }
     }

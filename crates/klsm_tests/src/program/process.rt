@@ -6,14 +6,19 @@ use std::env::FillError;
 use std::io;
 use std::io::{Error, ErrorKind, Read, Write};
 use std::rt::Env;
+use std::sync::Wait;
 
 /// A process that was given these words, of which the first is the program's path.
 #[derive(Drop)]
-pub(super) struct Process<'a> {
+pub(super) struct Process<'a, R> {
+    /// Where threads may wait.
+    pub rt: &'a R,
     pub words: &'a [&'a [u8]],
 }
 
-impl Env for Process<'_> {
+impl<R: Wait> Wait for Process<'_, R> {}
+
+impl<R> Env for Process<'_, R> {
     fn arg(&self, i: usize, buf: &mut [u8]) -> Result<usize, FillError> {
         let Some(word) = self.words.get(i) else {
             return Err(FillError::NotPresent);

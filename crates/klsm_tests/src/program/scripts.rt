@@ -40,7 +40,7 @@ const SCRIPTS: &[(&[u8], u8, &[u8])] = &[
 #[test]
 fn scripts_are_answered_or_refused(rt: HostRuntime) {
     for (row, (script, status, text)) in SCRIPTS.iter().enumerate() {
-        let is_so = gives(rt.alloc(), REPLAY, Input::whole(script), *status, text);
+        let is_so = gives(&rt, rt.alloc(), REPLAY, Input::whole(script), *status, text);
         assert!(rt; is_so, "row {row}");
     }
 }

@@ -3,6 +3,7 @@
 use super::process::{Input, Output};
 use super::{REPLAY, gives, run};
 use std::alloc::Global;
+use std::sync::Wait;
 use std::test::Fail;
 
 const SCRIPT: &[u8] = b"0,d,,\n";
@@ -18,7 +19,14 @@ const OTHERS: &[(&[&[u8]], u8)] = &[
     (&[b"klsm", b"live"], 2),
     (&[b"klsm", b"replay", b""], 2),
     (&[b"klsm", b"replay", b"more"], 2),
-    (&[b"klsm", b"replay", b"--threads", b"1"], 2),
+    (&[b"klsm", b"replay", b"--threads"], 2),
+    (&[b"klsm", b"replay", b"--threads", b"0"], 2),
+    (&[b"klsm", b"replay", b"--threads", b"17"], 2),
+    (&[b"klsm", b"replay", b"--k", b"65"], 2),
+    (&[b"klsm", b"replay", b"--k=-1"], 2),
+    (&[b"klsm", b"replay", b"--seed", b"18446744073709551616"], 2),
+    (&[b"klsm", b"replay", b"--pick"], 2),
+    (&[b"klsm", b"replay", b"--idle", b"1"], 2),
     (&[b"klsm", b"--version"], 2),
     (&[b"klsm", b"help", b"live"], 2),
     (&[b"klsm", b"--help"], 0),
@@ -28,9 +36,9 @@ const OTHERS: &[(&[&[u8]], u8)] = &[
 ];
 
 /// Whether the words are answered with a text and this status, and no script is read.
-fn answers_words(alloc: Global, words: &[&[u8]], status: u8) -> bool {
+fn answers_words(rt: &impl Wait, alloc: Global, words: &[&[u8]], status: u8) -> bool {
     let mut output = Output::ample(alloc);
-    run(alloc, words, Input::whole(SCRIPT), &mut output) == status
+    run(rt, alloc, words, Input::whole(SCRIPT), &mut output) == status
         && !output.taken.is_empty()
         && !output.taken.as_slice().starts_with(b"0 d none")
 }
@@ -38,7 +46,7 @@ fn answers_words(alloc: Global, words: &[&[u8]], status: u8) -> bool {
 #[test]
 fn other_words_are_faults_or_requests_for_help(rt: HostRuntime) {
     for (row, (words, status)) in OTHERS.iter().enumerate() {
-        assert!(rt; answers_words(rt.alloc(), words, *status), "row {row}");
+        assert!(rt; answers_words(&rt, rt.alloc(), words, *status), "row {row}");
     }
 }
 
@@ -51,7 +59,7 @@ fn a_word_that_is_not_utf_8_is_a_fault(rt: HostRuntime) {
         &[b"klsm", b"repl\xe4y", b"more"],
     ];
     for words in table {
-        assert!(rt; gives(rt.alloc(), words, Input::whole(SCRIPT), 2, NOT_TEXT));
+        assert!(rt; gives(&rt, rt.alloc(), words, Input::whole(SCRIPT), 2, NOT_TEXT));
     }
 }
 
@@ -60,7 +68,7 @@ fn the_path_of_the_program_does_not_matter(rt: HostRuntime) {
     let answers = b"0 d none\nmax skip 0 bound 64\n";
     for path in [b"klsm".as_slice(), b"/a/\xff/klsm", b""] {
         let words = [path, b"replay"];
-        assert!(rt; gives(rt.alloc(), &words, Input::whole(SCRIPT), 0, answers));
+        assert!(rt; gives(&rt, rt.alloc(), &words, Input::whole(SCRIPT), 0, answers));
     }
 }
 
@@ -69,6 +77,7 @@ fn a_long_word_is_read_whole(rt: HostRuntime) -> Result<(), Fail> {
     let word = Vec::from_elem(rt.alloc(), b'a', 1000)?;
     let mut output = Output::ample(rt.alloc());
     let status = run(
+        &rt,
         rt.alloc(),
         &[b"klsm", word.as_slice()],
         Input::whole(SCRIPT),
@@ -81,4 +90,87 @@ fn a_long_word_is_read_whole(rt: HostRuntime) -> Result<(), Fail> {
         .any(|part| part == word.as_slice());
     assert!(rt; status == 2 && is_told);
     Ok(())
+}
+
+#[test]
+fn an_unknown_pick_is_refused_where_the_parser_finds_no_fault(rt: HostRuntime) {
+    let table: [&[&[u8]]; 3] = [
+        &[b"klsm", b"replay", b"--pick", b"least"],
+        &[b"klsm", b"replay", b"--pick=First", b"--k", b"3"],
+        &[b"klsm", b"replay", b"--pick", b""],
+    ];
+    for words in table {
+        let input = Input::whole(SCRIPT);
+        assert!(rt; gives(&rt, rt.alloc(), words, input, 2, b"refused: pick\n"));
+    }
+    let both = [
+        b"klsm".as_slice(),
+        b"replay",
+        b"--pick",
+        b"least",
+        b"--k",
+        b"65",
+    ];
+    assert!(rt;
+        !gives(
+            &rt,
+            rt.alloc(),
+            &both,
+            Input::whole(SCRIPT),
+            2,
+            b"refused: pick\n"
+        )
+    );
+}
+
+/// Options of a replay, a script, and what is written of it.
+type Call<'a> = (&'a [&'a [u8]], &'a [u8], &'a [u8]);
+
+const CALLS: &[Call] = &[
+    (
+        &[
+            b"klsm",
+            b"replay",
+            b"--threads",
+            b"2",
+            b"--k",
+            b"1",
+            b"--pick",
+            b"last",
+        ],
+        b"1,i,3,0\n1,i,2,0\n1,i,9,0\n0,i,1,0\n1,d,,\n",
+        b"\
+1 i 3 1.0
+1 i 2 1.1
+1 i 9 1.2
+0 i 1 0.0
+1 d 3 1.0 load 0 skip 2
+max skip 2 bound 2
+",
+    ),
+    (
+        &[b"klsm", b"replay", b"--k=0"],
+        b"0,i,2,0\n0,i,1,0\n0,d,,\n",
+        b"0 i 2 0.0\n0 i 1 0.1\n0 d 1 0.1 load 0 skip 0\nmax skip 0 bound 0\n",
+    ),
+    (
+        &[
+            b"klsm",
+            b"replay",
+            b"--threads=16",
+            b"--pick=random",
+            b"--seed",
+            b"18446744073709551615",
+        ],
+        b"15,d,,\n",
+        b"15 d none\nmax skip 0 bound 1024\n",
+    ),
+];
+
+#[test]
+fn options_are_those_of_the_replay(rt: HostRuntime) {
+    for (row, (words, script, text)) in CALLS.iter().enumerate() {
+        let is_so = gives(&rt, rt.alloc(), words, Input::whole(script), 0, text);
+        assert!(rt; is_so, "row {row}");
+    }
 }

@@ -1,13 +1,15 @@
-use Rattle.std.proofs.Common.{◌≡◌, ℕ, List, true, ap, ap₂, map, refl, sym, ◌∙◌, subst, inl, inr}
-use Rattle.std.specs.Prelude.{◌⊎◌, IsUtf8}
+use Rattle.std.proofs.Common.{◌≡◌, ℕ, List, Option, Some, None, Result, Ok, Err, true, ap, ap₂, map, refl, sym, ◌∙◌, subst, inl, inr}
+use Rattle.std.specs.Prelude.{◌⊎◌, IfErr, IfOk, OnOk, IsUtf8, ok_or}
 use Rattle.std.specs.List.{All}
-use Rattle.clap.specs.Words.{App, IsAmong, fault_of, is_simple_and_free}
+use Rattle.clap.specs.Words.{App, HasMatchesOf, IsAmong, fault_of, is_simple, is_simple_and_free, subcommand_of, subcommand_rows_of}
+use Rattle.clap.specs.declared.parser.matches.ArgMatches.{ArgMatches}
 use Rattle.clap.specs.declared.error.kind.ErrorKind.{ErrorKind}
 use Rattle.clap.specs.declared.error.kind.ErrorKind.TheVariants as kind
 use Rattle.clap.proofs.OnLiterals.{clap_on_literals}
 use Rattle.klsm_tool.specs.declared.command_line.Fault.{Fault}
-use Rattle.klsm_tool.specs.declared.command_line.Fault.TheVariants.{Said, NotText, NoMemory}
-use Rattle.klsm_tool.specs.CommandLine.{found_in, klsm_command}
+use Rattle.klsm_tool.specs.declared.command_line.Fault.TheVariants.{Said, UnknownPick, NotText, NoMemory}
+use Rattle.klsm_tool.specs.declared.settings.Settings.{Settings}
+use Rattle.klsm_tool.specs.CommandLine.{IsCommand, found_in, klsm_command, settings_in, settings_under}
 use Rattle.klsm_tool.specs.Program.{Explains, IsFaultIn}
 use Rattle.klsm_tool.proofs.command_line.parse.Goals as goal
 
@@ -24,14 +26,48 @@ found_is a texts words is same = ap₂ fault_of is same
 -- an error of the parser, as a fault in the words
 explained : (words : List (List ℕ)) (what : ErrorKind) (fault : Fault) → All IsUtf8 words → (what ≡ kind.OutOfMemory) ⊎ IsAmong what (found_in words) → Explains what fault → (what ≡ kind.OutOfMemory → fault ≡ NoMemory) → IsFaultIn words fault
 explained words what NoMemory text among explains memory = tt
+explained words what UnknownPick text among explains memory = absurd explains
 explained words what NotText text among explains memory = absurd explains
 explained words what (Said said status) text (inr among) explains memory = (text, (what, among, explains))
 explained words what (Said said status) text (inl lacks) explains memory = subst (IsFaultIn words) (sym (memory lacks)) tt
 
+-- the command is one of which the parser's matches are known
+matches_known : (a : App) → a ≡ klsm_command → is_simple a ≡ true
+unfolding clap_on_literals
+matches_known a is = subst (λ (b : App). is_simple b ≡ true) (sym is) refl
+
+-- the settings in the words are those under the subcommand that was found
+settings_found : (a : App) (texts words : List (List ℕ)) (m : ArgMatches) → a ≡ klsm_command → texts ≡ words → HasMatchesOf a texts m → settings_in words ≡ settings_under (subcommand_rows_of m)
+unfolding settings_in
+settings_found a texts words m is same has = sym (ap settings_under ((has (matches_known a is)).1 ∙ ap₂ subcommand_of is same))
+
+-- an unknown pick is what keeps a command from a run
+unknown_pick : (words : List (List ℕ)) (asked : Option Settings) (r : Result Settings Fault) → r ≡ ok_or asked UnknownPick → IsCommand words → settings_in words ≡ asked → IfErr r (IsFaultIn words)
+unknown_pick words None r is command found = subst (λ (x : Result Settings Fault). IfErr x (IsFaultIn words)) (sym is) (command, found)
+unknown_pick words (Some settings) r is command found = subst (λ (x : Result Settings Fault). IfErr x (IsFaultIn words)) (sym is) tt
+
+settings_asked : (words : List (List ℕ)) (asked : Option Settings) (r : Result Settings Fault) → r ≡ ok_or asked UnknownPick → settings_in words ≡ asked → IfOk r (λ settings. settings_in words ≡ Some settings)
+settings_asked words None r is found = subst (λ (x : Result Settings Fault). IfOk x (λ settings. settings_in words ≡ Some settings)) (sym is) tt
+settings_asked words (Some settings) r is found = subst (λ (x : Result Settings Fault). IfOk x (λ settings'. settings_in words ≡ Some settings')) (sym is) found
+
+command_asked : (words : List (List ℕ)) (r : Result Settings Fault) → IsCommand words → OnOk r (IsCommand words)
+command_asked words (Ok settings) command = command
+command_asked words (Err fault) command = tt
+
 pub returns-in-Ok-try_get_matches_from-clause-asked : goal.returns-in-Ok-try_get_matches_from-clause-asked
 returns-in-Ok-try_get_matches_from-clause-asked c =
     let same = ap (map (λ text. text.now)) c.as_slice.ensures.value ∙ c.in_ok-texts.ensures.texts in
-    (c.in_ok-texts.ensures.readable, sym (found_is _ _ _ c.in-Ok.ensures same) ∙ c.in-Ok-try_get_matches_from.ensures.kinds (command_simple _ c.in-Ok.ensures))
+    command_asked _ c.ok_or.result (c.in_ok-texts.ensures.readable, sym (found_is _ _ _ c.in-Ok.ensures same) ∙ c.in-Ok-try_get_matches_from.ensures.kinds (command_simple _ c.in-Ok.ensures))
+
+pub returns-in-Ok-try_get_matches_from-clause-settings : goal.returns-in-Ok-try_get_matches_from-clause-settings
+returns-in-Ok-try_get_matches_from-clause-settings c =
+    let same = ap (map (λ text. text.now)) c.as_slice.ensures.value ∙ c.in_ok-texts.ensures.texts in
+    settings_asked _ c.settings_in.result c.ok_or.result c.ok_or.ensures.value (settings_found _ _ _ c.in-Ok-try_get_matches_from.matches c.in-Ok.ensures same c.in-Ok-try_get_matches_from.ensures.matches ∙ sym c.settings_in.ensures.settings)
+
+pub returns-in-Ok-try_get_matches_from-clause-fault : goal.returns-in-Ok-try_get_matches_from-clause-fault
+returns-in-Ok-try_get_matches_from-clause-fault c =
+    let same = ap (map (λ text. text.now)) c.as_slice.ensures.value ∙ c.in_ok-texts.ensures.texts in
+    unknown_pick _ c.settings_in.result c.ok_or.result c.ok_or.ensures.value (c.in_ok-texts.ensures.readable, sym (found_is _ _ _ c.in-Ok.ensures same) ∙ c.in-Ok-try_get_matches_from.ensures.kinds (command_simple _ c.in-Ok.ensures)) (settings_found _ _ _ c.in-Ok-try_get_matches_from.matches c.in-Ok.ensures same c.in-Ok-try_get_matches_from.ensures.matches ∙ sym c.settings_in.ensures.settings)
 
 pub returns-clause-fault : goal.returns-clause-fault
 returns-clause-fault c =

@@ -1,10 +1,12 @@
-use Rattle.std.proofs.Common.{◌≡◌, ℕ, zero, suc, List, [], codes, arith, refl, sym, subst}
-use Rattle.std.specs.Prelude.{IsUtf8}
+use Rattle.std.proofs.Common.{◌≡◌, ◌∙◌, ℕ, zero, suc, List, [], Option, Some, None, ap, codes, arith, refl, sym, subst, inl}
+use Rattle.std.specs.Prelude.{IsUtf8, unwrap_or}
 use Rattle.std.specs.List.{All}
 use Rattle.clap.specs.Words.{IsAmong, Kinds}
 use Rattle.clap.specs.declared.error.kind.ErrorKind.{ErrorKind}
 use Rattle.clap.proofs.OnLiterals.{clap_on_literals}
-use Rattle.klsm_tool.specs.CommandLine.{HasStatus, found_in, replay_words}
+use Rattle.klsm_tool.specs.CommandLine.{HasStatus, found_in, replay_words, settings_in, usual_settings}
+use Rattle.klsm_tool.specs.Program.{RunsBy, RunsReplay, Says}
+use Rattle.klsm_tool.specs.declared.settings.Settings.{Settings}
 use Rattle.klsm_tool.proofs.command_line.run_words.Goals as goal
 
 -- the words that ask for a replay are text, and the parser finds nothing in them
@@ -28,3 +30,36 @@ returns-in-Err-Said-clause-replays g c are = absurd (replay_has_no_status _ c.in
 
 pub returns-in-Err-NotText-clause-replays : goal.returns-in-Err-NotText-clause-replays
 returns-in-Err-NotText-clause-replays g c are = absurd ((rw c.in-Err-NotText.field-0-is at c.in-Err-NotText.ensures.fault) (subst (All IsUtf8) (sym are) replay_is_text))
+
+-- they ask for the usual settings
+replay_is_usual : (words : List (List ℕ)) → words ≡ replay_words → settings_in words ≡ Some usual_settings
+unfolding clap_on_literals settings_in
+replay_is_usual words are = subst (λ (ws : List (List ℕ)). settings_in ws ≡ Some usual_settings) (sym are) refl
+
+abbrev settings_count : Option Settings → ℕ
+settings_count None = 0
+settings_count (Some settings) = 1
+
+none_is_not_usual : None ≡ Some usual_settings → ⊥
+none_is_not_usual is = let same : 0 ≡ 1 = ap settings_count is in omega (arith, same)
+
+by_usual : (settings : Settings) (input before after : Option (List ℕ)) (n : ℕ) → settings ≡ usual_settings → RunsReplay settings input before after n → RunsReplay usual_settings input before after n
+by_usual settings input before after n is runs = subst (λ (s : Settings). RunsReplay s input before after n) is runs
+
+unknown : (asked : Option Settings) (input before after : Option (List ℕ)) (n : ℕ) → asked ≡ None → Says before after (codes "refused: pick\n") 2 n → RunsBy asked input before after n
+unknown asked input before after n is says = subst (λ (o : Option Settings). RunsBy o input before after n) (sym is) says
+
+pub returns-in-Ok-clause-replays : goal.returns-in-Ok-clause-replays
+returns-in-Ok-clause-replays g c are =
+    let usual = ap (λ (o : Option Settings). unwrap_or o usual_settings) (sym c.in-Ok.ensures.settings ∙ replay_is_usual _ are) in
+    inl (by_usual _ _ _ _ c.run_replay.result.code usual c.run_replay.ensures)
+
+pub returns-in-Err-UnknownPick-clause-runs : goal.returns-in-Err-UnknownPick-clause-runs
+returns-in-Err-UnknownPick-clause-runs g c =
+    let fault = rw c.in-Err-UnknownPick.field-0-is at c.in-Err-UnknownPick.ensures.fault in
+    inl (fault.0, unknown _ _ _ _ c.say-in-Err-UnknownPick.result.code fault.1 c.say-in-Err-UnknownPick.ensures)
+
+pub returns-in-Err-UnknownPick-clause-replays : goal.returns-in-Err-UnknownPick-clause-replays
+returns-in-Err-UnknownPick-clause-replays g c are =
+    let fault = rw c.in-Err-UnknownPick.field-0-is at c.in-Err-UnknownPick.ensures.fault in
+    absurd (none_is_not_usual (sym fault.1 ∙ replay_is_usual _ are))

@@ -16,10 +16,10 @@ returns-in_default-3 c = absurd (present (fields_of c.args.row.now) 1 c.get-2.re
 pub returns-in_default-4 : goal.returns-in_default-4
 returns-in_default-4 c = absurd (present (fields_of c.args.row.now) 0 c.get.result (omega (arith, c.len.ensures, c.if-len-ne-FIELDS.false)) c.get.ensures.value c.in_default.is-0)
 
-pub returns : goal.returns
-returns c =
+pub returns-clause-request : goal.returns-clause-request
+returns-clause-request c =
     let w = c.in-Some-Some-Some-Some in
     let row = fields_of c.args.row.now in
     let all : length row ≡ 4 = omega (arith, c.len.ensures, c.if-len-ne-FIELDS.false) in
     let is = four row w.thread w.operation w.key w.load all w.ensures.value w.ensures'.value w.ensures''.value w.ensures'''.value in
-    subst (λ (fields : Row). c.request.result ≡ request_of c.args.threads fields) (sym is) c.request.ensures
+    subst (λ (fields : Row). c.request.result ≡ request_of c.args.threads fields) (sym is) c.request.ensures.request

@@ -1,30 +1,40 @@
-use Rattle.std.proofs.Common.{◌*◌, [], arith, ap, refl}
-use Rattle.klsm_run.specs.Content.{sorted}
-use Rattle.klsm_lsm.specs.Lsm.{content}
-use Rattle.klsm_tool.specs.Progress.{IsTold, Stands}
-use Rattle.klsm_tool.proofs.OutputLemmas.{appends_nothing}
-use Rattle.klsm_tool.proofs.ClosingLemmas.{replays, replays_nothing}
-use Rattle.klsm_tool.proofs.LengthLemmas.{closing_short}
+use Rattle.std.proofs.Common.{rules, arith, ap, sym, subst, inl, inr, ◌≡◌, ◌≢◌, length, drop, List}
+use Rattle.std.specs.List.{All}
+use Rattle.klsm_board.specs.declared.board.Member.{Member}
+use Rattle.klsm_board.specs.Boards.{IsOf}
+use Rattle.klsm_board.specs.Finishing.{AreListsAtEnd, lists_of}
+use Rattle.klsm_tool.specs.declared.settings.End.TheVariants as end
+use Rattle.klsm_tool.proofs.AloneLemmas.{alone, alone_without, not_done}
+use Rattle.klsm_tool.proofs.CrewLemmas.{crew_all, written_back}
 use Rattle.klsm_tool.proofs.replay.replay_over.Goals as goal
 
 pub returns-in_default : goal.returns-in_default
-returns-in_default g c = replays_nothing _ _ _ _ _ c.report_no_memory.result c.report_no_memory.ensures
+returns-in_default g c = alone_without c.args.settings.now.threads c.args.settings.now.k _ _ _ c.report_no_memory.result c.report_no_memory.ensures
 
-pub close-end-requires-clause-short : goal.close-end-requires-clause-short
-close-end-requires-clause-short g c =
-    let e = c.answer_rows-closing.ensures in
-    closing_short _ _ _ _ (omega (arith, e.row)) (omega (arith, e.most)) (let bound = rw (c.requires.threads, c.requires.k) at e.bound in omega (arith, bound))
+pub finish-requires : goal.finish-requires
+finish-requires g c =
+    let crew = c.replay_on-report.ensures.members in let members = c.replay_on-report.new.members in let v = c.in-Ok.members in
+    let threads = ap (λ z. z.threads) c.in-Ok.ensures.sizes in let many = crew.many in let count = c.in-Ok.ensures.count in let len = v.ok.0 in
+    let same = written_back members (drop (length members) v.items) v.len (omega (arith, many, threads, count, len)) in
+    (search rules, (search rules, (search rules, subst (λ (z : List (Member 64 21)). All (λ member. IsOf member c.in-Ok.board) z) (sym same) (crew_all c.in-Ok.board members crew))))
+
+pub returns-then-ne : goal.returns-then-ne
+returns-then-ne g c =
+    let other : c.replay_on-report.result.end ≢ end.Done = search rules in
+    alone c.args.settings.now.threads c.args.settings.now.k _ _ _ c.replay_on-report.result c.in-Ok.board c.replay_on-report.new.members c.replay_on-report.ensures.members c.in-Ok.ensures.sizes
+    (inl c.replay_on-report.ensures.replays) (λ done. absurd (other done))
+
+pub returns-in-Ok-finish : goal.returns-in-Ok-finish
+returns-in-Ok-finish g c =
+    let crew = c.replay_on-report.ensures.members in let members = c.replay_on-report.new.members in let v = c.in-Ok.members in
+    let threads = ap (λ z. z.threads) c.in-Ok.ensures.sizes in let many = crew.many in let count = c.in-Ok.ensures.count in let len = v.ok.0 in
+    let same = written_back members (drop (length members) v.items) v.len (omega (arith, many, threads, count, len)) in
+    alone c.args.settings.now.threads c.args.settings.now.k _ _ _ c.replay_on-report.result c.in-Ok.board members crew c.in-Ok.ensures.sizes
+    (inl c.replay_on-report.ensures.replays) (λ _. subst (λ (z : List (Member 64 21)). AreListsAtEnd c.in-Ok.board.sizes (lists_of c.in-Ok.board.sizes.threads z)) same c.in-Ok-finish.ensures.ok.1)
 
 pub returns : goal.returns
 returns g c =
-    let e = c.answer_rows-closing.ensures in
-    let stands : Stands {R = g.row.R.Denot} g.R.Read.remaining c.args.settings.now.threads (g.R.Read.remaining c.args.reader) [] [] c.new-script.result.rows (sorted (content c.new-queue.result.live)) c.new-queue.result.inserted = record {
-      answered = tt;
-      read = c.new-script.ensures;
-      items_are = ap sorted c.new-queue.ensures.live;
-      count_is = c.new-queue.ensures.inserted;
-      exact = refl;
-    } in
-    let told : IsTold (g.W.Write.contents c.args.writer.now) (g.W.Write.contents c.args.writer.now) [] c.in-Ok.output.written = record { appended = appends_nothing _; count = c.in-Ok.ensures } in
-    let threads = c.args.settings.now.threads in
-    replays threads (threads * c.args.settings.now.k) (g.R.Read.remaining c.args.reader) (g.W.Write.contents c.args.writer.now) (g.W.Write.contents c.answer_rows-closing.new.writer) (g.W.Write.contents c.close-end.new.writer) c.answer_rows-closing.new.output.written c.answer_rows-closing.result _ (e.stops (g.R.Read.remaining c.args.reader) (g.W.Write.contents c.args.writer.now) stands told) e.most e.bound c.close-end.ensures
+    let done : c.replay_on-report.result.end ≡ end.Done = search rules in
+    let goes = c.report_no_memory-in-Err.ensures in
+    alone c.args.settings.now.threads c.args.settings.now.k _ _ _ c.report_no_memory-in-Err.result c.in-Ok.board c.replay_on-report.new.members c.replay_on-report.ensures.members c.in-Ok.ensures.sizes
+    (inr (_, c.replay_on-report.result, c.replay_on-report.ensures.replays, done, goes)) (λ ended. absurd (not_done _ _ _ _ _ _ goes ended))

@@ -12,5 +12,5 @@ returns g c =
       trim = rw (set, no_headers) at f.trim ∙ c.new.ensures.trim;
       flexible = rw set at f.flexible;
       ready = inr (inr (rw (set, no_headers) at f.has_headers, f.headers));
-      left = left_first g.R.Read.remaining (g.R.Read.remaining c.args.reader) c.from_reader.result f.source f.state;
+      left = left_first g.R.Read.remaining (g.R.Read.remaining c.args.reader) c.from_reader.result (rw c.new-watched.ensures at f.source) f.state;
     }

@@ -1,0 +1,79 @@
+//! Scripts that are run with settings of the test's own, over a board of their own or over one that
+//! is given.
+
+use klsm_board::{Board, Member};
+use klsm_tool::{End, Report, Settings, replay_on, replay_over};
+use std::alloc::{AllocError, Global};
+use std::io::{Read, Write};
+use std::sync::Wait;
+
+/// The most insertions of a member.
+const MANY: u64 = 281_474_976_710_656;
+
+/// What a run wrote, and what it says of how it ended.
+#[derive(Drop)]
+pub(super) struct Run {
+    pub text: Vec<u8>,
+    pub report: Report,
+}
+
+impl Run {
+    /// Whether it wrote this text, ended so, and says that it wrote all of it.
+    pub(super) fn is(&self, text: &[u8], end: End) -> bool {
+        let written = text.len() as u64;
+        self.text.as_slice() == text && self.report == Report { end, written }
+    }
+}
+
+/// How many items a member has inserted and deleted.
+pub(super) type Counts = (u64, u64);
+
+/// What a run with a board of its own says of how it ended. `None` where no board has these
+/// settings.
+pub(super) fn report_of<R: Read + Drop, W: Write>(
+    rt: &(impl AllocGlobal + Wait),
+    reader: R,
+    writer: &mut W,
+    settings: &Settings,
+) -> Option<Report> {
+    if settings.threads < 1 || settings.threads > 16 || settings.k > 64 {
+        return None;
+    }
+    Some(replay_over(rt, reader, writer, settings))
+}
+
+/// A run with a board of its own, whose text goes behind this one.
+pub(super) fn run_over(
+    rt: &(impl AllocGlobal + Wait),
+    script: &[u8],
+    settings: &Settings,
+    empty: Vec<u8>,
+) -> Option<Run> {
+    let mut text = empty;
+    let report = report_of(rt, script, &mut text, settings)?;
+    Some(Run { text, report })
+}
+
+/// A run over a board that is made for it, and the members' counts afterwards. The text goes behind
+/// this one.
+pub(super) fn run_on(
+    rt: &(impl AllocGlobal + Wait),
+    script: &[u8],
+    settings: &Settings,
+    empty: Vec<u8>,
+) -> Option<(Run, Vec<Counts>)> {
+    let Ok((board, mut members)) = Board::new(rt.alloc(), settings.threads, settings.k, MANY) else {
+        return None;
+    };
+    let mut text = empty;
+    let report = replay_on(rt, script, &mut text, settings, &board, &mut members);
+    let counts = counts_of(rt.alloc(), members.as_slice()).ok()?;
+    Some((Run { text, report }, counts))
+}
+
+fn counts_of(alloc: Global, members: &[Member<64, 21>]) -> Result<Vec<Counts>, AllocError> {
+    members
+        .iter()
+        .map(|member| (member.inserted_count(), member.deleted_count()))
+        .collect(alloc)
+}

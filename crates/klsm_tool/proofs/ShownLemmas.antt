@@ -1,0 +1,74 @@
+-- What the calls of a member show in the text.
+use Rattle.std.proofs.Common.{◌≡◌, ◌≤◌, ℕ, suc, List, [], ◌∷◌, ◌++◌, length, length-append, ap, refl, ◌∙◌, inl, inr, arith}
+use Rattle.std.proofs.lemmas.Grind.{flat_map-append}
+use Rattle.std.proofs.lemmas.List.Concat.{flat_map-cons}
+use Rattle.std.specs.List.{flat_map}
+use Rattle.std.specs.Prelude.{MatchOption, Option, Some, None}
+use Rattle.klsm_run.specs.declared.item.Item.{Item}
+use Rattle.klsm_world.specs.declared.step.Event.{Event}
+use Rattle.klsm_world.specs.declared.step.Event.TheVariants as event
+use Rattle.klsm_world.specs.declared.step.Entry.{Entry}
+use Rattle.klsm_world.specs.OwnSteps.{inserted, inserted_by}
+use Rattle.klsm_board.specs.declared.sizes.Sizes.{Sizes}
+use Rattle.klsm_board.specs.declared.errors.InsertError.{InsertError}
+use Rattle.klsm_board.specs.Entries.{both_taken}
+use Rattle.klsm_board.specs.Inserting.{Inserts, RefusesInsertInTime}
+use Rattle.klsm_board.specs.Deleting.{Deletes, FindsNothing, victim_of}
+use Rattle.klsm_board.proofs.calls.EventLemmas.{events}
+use Rattle.klsm_board.proofs.calls.AddLemmas.{both_quiet}
+use Rattle.klsm_board.proofs.calls.AddedLemmas.{puts_events, flushes_events, refused_in_time_events}
+use Rattle.klsm_board.proofs.calls.DeletedLemmas.{takes_events, spied_events, nothing_events}
+use Rattle.klsm_tool.specs.declared.answer.Answer.{Answer}
+use Rattle.klsm_tool.specs.declared.answer.Answer.TheVariants.{Inserted, Deleted, Nothing}
+use Rattle.klsm_tool.specs.Shown.{shown, shown_in}
+
+-- events more show answers more
+shows_more : (es es' : List Entry) (added : List Event) → events es' ≡ events es ++ added → shown_in es' ≡ shown_in es ++ flat_map shown added
+shows_more es es' added is = ap (flat_map shown) is ∙ flat_map-append shown (events es) added
+
+-- each insertion is shown
+pub inserted_within : (es : List Entry) → length (inserted es) ≤ length (shown_in es)
+inserted_within es = by_events (events es)
+  where
+    one : (e : Event) → length (inserted_by e) ≤ length (shown e)
+    one (event.Put x) = omega arith
+    one (event.Flush x moved) = omega arith
+    one (event.Take x) = omega arith
+    one event.Nothing = omega arith
+    one (event.Spy victim moved) = omega arith
+
+    by_events : (all : List Event) → length (flat_map inserted_by all) ≤ length (flat_map shown all)
+    by_events [] = omega arith
+    by_events (e ∷ all) =
+        let more = ap length (flat_map-cons inserted_by e all) ∙ length-append (inserted_by e) (flat_map inserted_by all) in
+        let shows = ap length (flat_map-cons shown e all) ∙ length-append (shown e) (flat_map shown all) in
+        omega (arith, more, shows, one e, by_events all)
+
+-- an insertion shows its item
+pub insertion_shows : (levels k t : ℕ) (own_misses shared_misses : List ℕ) (es es' : List Entry) (x : Item) → Inserts levels k t own_misses shared_misses es es' x
+    → shown_in es' ≡ shown_in es ++ Inserted x ∷ []
+insertion_shows levels k t own_misses shared_misses es es' x (inl puts) = shows_more es es' (event.Put x ∷ []) (puts_events k t own_misses es es' x puts)
+insertion_shows levels k t own_misses shared_misses es es' x (inr flushes) =
+    shows_more es es' (event.Flush x flushes.moved ∷ []) (flushes_events levels k t own_misses shared_misses es es' x flushes)
+
+-- one that is refused shows nothing
+pub refusal_shows : (levels k t : ℕ) (es es' : List Entry) (why : InsertError) → RefusesInsertInTime ⊥ levels k t es es' why → shown_in es' ≡ shown_in es
+refusal_shows levels k t es es' why told = ap (flat_map shown) (refused_in_time_events levels k t es es' why told)
+
+module _ (m : Sizes) (t : ℕ) (own_misses shared_misses : List ℕ) (own shared : List Item) (es es' : List Entry) where
+  abbrev taken : List Entry
+  taken = both_taken t own_misses shared_misses own shared es
+
+  quiet : events taken ≡ events es
+  quiet = both_quiet t own_misses shared_misses own shared es
+
+  -- a deletion shows its item
+  pub deletion_shows : {P : Type 0} (may_pick : P → ℕ → ℕ → P → Type 0) (before after : P) (x : Item) → Deletes may_pick before after m t own shared taken es' x
+      → shown_in es' ≡ shown_in es ++ Deleted x ∷ []
+  deletion_shows may_pick before after x (inl takes) = shows_more es es' (event.Take x ∷ []) (takes_events m t own shared es taken es' quiet x takes.0)
+  deletion_shows may_pick before after x (inr takes) =
+      shows_more es es' (event.Spy (victim_of m.threads t (suc takes.0.spies.passed)) takes.0.moved ∷ event.Take x ∷ []) (spied_events m t own shared es taken es' quiet x takes.0)
+
+  -- and one that finds nothing shows that
+  pub nothing_shows : FindsNothing m t own shared taken es' → shown_in es' ≡ shown_in es ++ Nothing ∷ []
+  nothing_shows finds = shows_more es es' (event.Nothing ∷ []) (nothing_events m t own shared es taken es' quiet finds)

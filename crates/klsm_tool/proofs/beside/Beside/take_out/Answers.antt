@@ -1,0 +1,11 @@
+use Rattle.std.proofs.Common.{◌∙◌, ap, sym}
+use Rattle.klsm_run.specs.Content.{sorted}
+use Rattle.klsm_run.proofs.WithoutLemmas.{sorted_without}
+use Rattle.klsm_tool.specs.AnswerText.{live_after}
+use Rattle.klsm_tool.specs.Answering.{live_beside}
+use Rattle.klsm_tool.proofs.beside.Beside.take_out.Goals as goal
+
+pub returns-clause-live : goal.returns-clause-live
+returns-clause-live c =
+    let old = live_beside c.args.self.now in
+    c.remove-skip.ensures.content ∙ (sym (sorted_without c.in-Deleted.item old) ∙ ap (λ a. sorted (live_after old a)) (sym c.in-Deleted.is))

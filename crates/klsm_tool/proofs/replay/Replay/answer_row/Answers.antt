@@ -1,0 +1,32 @@
+use Rattle.std.proofs.Common.{arith}
+use Rattle.std.proofs.lemmas.Result.{err_from_is_err_and}
+use Rattle.klsm_tool.specs.AnswerText.{answer_text}
+use Rattle.klsm_tool.specs.Crews.{lists_in}
+use Rattle.klsm_tool.proofs.OutputLemmas.{puts_at_most}
+use Rattle.klsm_tool.proofs.TellingLemmas.{stops_told, stops_cut, line_put}
+use Rattle.klsm_tool.proofs.replay.Replay.answer_row.Goals as goal
+
+pub returns-in_err-send_before_wait-clause-step : goal.returns-in_err-send_before_wait-clause-step
+returns-in_err-send_before_wait-clause-step g c input before rows lines now below told =
+    let sizes = c.args.board.now.sizes in
+    let p = err_from_is_err_and c.from_residual.result c.from_residual.ensures.1 in
+    let failed = c.in_err-send_before_wait.ensures.told before lines told in
+    rw (p.1, p.2, failed.0) (stops_cut g.R.Read.remaining sizes.threads sizes.k (lists_in c.args.members.now) input before _ rows lines c.args.self.now.script.rows _ c.args.self.now.beside.most _ now.answered now.shown now.read failed.1)
+
+pub returns-in_err-line-clause-step : goal.returns-in_err-line-clause-step
+returns-in_err-line-clause-step g c input before rows lines now below told =
+    let sizes = c.args.board.now.sizes in
+    let p = err_from_is_err_and c.from_residual-in_err-line.result c.from_residual-in_err-line.ensures.1 in
+    let h = c.in_err-line.ensures.step input rows lines now below in
+    rw (p.1, p.2) (stops_told sizes.threads sizes.k (lists_in c.next_line.new.members) input before _ rows lines c.next_line.new.beside.most _ c.in_err-line.field-0.0 now.answered h (c.in_ok-send_before_wait.ensures.told before lines told))
+
+pub returns-clause-put : goal.returns-clause-put
+returns-clause-put g c =
+    let text = answer_text c.in_ok-line.line.line.thread c.in_ok-line.line.line.answer c.in_ok-line.line.skip in
+    omega (arith, puts_at_most (g.W.Write.contents c.send_before_wait.new.writer) (g.W.Write.contents c.put.new.writer) text c.send_before_wait.new.output c.put.new.self c.put.result c.put.ensures, c.in_ok-line.ensures.short, c.in_ok-send_before_wait.ensures.put)
+
+pub returns-clause-step : goal.returns-clause-step
+returns-clause-step g c input before rows lines now below told =
+    let sizes = c.args.board.now.sizes in
+    let h = c.in_ok-line.ensures.step input rows lines now below in
+    line_put g.R.Read.remaining sizes.threads sizes.k (lists_in c.args.members.now) (lists_in c.next_line.new.members) input before _ _ rows lines c.args.self.now.script.rows c.next_line.new.script.rows _ _ _ _ _ _ h.0 c.in_ok-line.line c.put.result now h.1 h.2 (c.in_ok-send_before_wait.ensures.told before lines told) c.put.ensures

@@ -1,0 +1,21 @@
+use Rattle.std.proofs.Common.{◌≡◌, ℕ, ◌*◌, ◌≤◌, List, [], length, Option}
+use Rattle.klsm_tool.specs.declared.answer.Line.{Line}
+use Rattle.klsm_tool.specs.Answering.{live_beside, picker_count}
+use Rattle.klsm_tool.specs.Crews.{AreFew, AreMembers, lists_in}
+use Rattle.klsm_tool.specs.Script.{Row}
+use Rattle.klsm_tool.specs.Output.{put_count}
+use Rattle.klsm_tool.specs.Progress.{IsTold, Stands}
+use Rattle.klsm_tool.proofs.replay.Replay.answer_rows.Given as goal
+
+-- so many rows are answered, and their lines are told
+abbrev pub invariant-loop-answered : goal.invariant-loop-answered
+invariant-loop-answered g l = record {
+  members : AreMembers l.board l.members;
+  pickers : picker_count l.self.beside ≡ l.board.sizes.threads;
+  few : AreFew l.board.sizes.threads l.answered (lists_in l.members);
+  short : put_count l.self.output ≤ 160 * l.answered;
+  stands : (input before : Option (List ℕ)) → Stands g.R.Read.remaining l.settings.threads (lists_in l.initial.members) input [] [] l.initial.self.script.rows (live_beside l.initial.self.beside) l.initial.self.beside.most
+      → IsTold before (g.W.Write.contents l.initial.writer) [] l.initial.self.output
+      → (rows : List Row) × (lines : List Line) × (length rows ≡ l.answered) × Stands g.R.Read.remaining l.board.sizes.threads (lists_in l.members) input rows lines l.self.script.rows (live_beside l.self.beside) l.self.beside.most
+      × IsTold before (g.W.Write.contents l.writer) lines l.self.output;
+}

@@ -1,0 +1,51 @@
+use Rattle.std.proofs.Common.{rules, [], arith, ap, sym, refl, ◌∙◌, length}
+use Rattle.klsm_tool.specs.Answering.{live_beside}
+use Rattle.klsm_tool.specs.Crews.{lists_in}
+use Rattle.klsm_run.specs.Content.{sorted}
+use Rattle.klsm_tool.specs.Progress.{IsTold, Stands}
+use Rattle.klsm_tool.proofs.CrewLemmas.{new_crew, new_crew_shows_none}
+use Rattle.klsm_tool.proofs.OutputLemmas.{appends_nothing}
+use Rattle.klsm_tool.proofs.ClosingLemmas.{closes_few, replays, replays_nothing}
+use Rattle.klsm_tool.proofs.LengthLemmas.{closing_short}
+use Rattle.klsm_tool.proofs.replay.replay_on.Goals as goal
+
+pub returns-in_default-clause-members : goal.returns-in_default-clause-members
+returns-in_default-clause-members g c =
+    new_crew c.args.board.now c.args.members.now c.requires.of (c.requires.count ∙ sym (ap (λ z. z.threads) c.requires.sizes)) c.requires.crew
+
+pub returns-in_default-clause-replays : goal.returns-in_default-clause-replays
+returns-in_default-clause-replays g c =
+    replays_nothing c.args.settings.now.threads c.args.settings.now.k (lists_in c.args.members.now) (g.R.Read.remaining c.args.reader) (g.W.Write.contents c.args.writer.now) _ c.report_no_memory.result
+    (λ t below. sym (new_crew_shows_none c.args.members.now t c.requires.crew)) c.report_no_memory.ensures
+
+pub answer_rows-closing-requires-clause-members : goal.answer_rows-closing-requires-clause-members
+answer_rows-closing-requires-clause-members g c =
+    new_crew c.args.board.now c.args.members.now c.requires.of (c.requires.count ∙ sym (ap (λ z. z.threads) c.requires.sizes)) c.requires.crew
+
+pub answer_rows-closing-requires-clause-few : goal.answer_rows-closing-requires-clause-few
+answer_rows-closing-requires-clause-few g c t below = let none = ap (λ z. length z) (new_crew_shows_none c.args.members.now t c.requires.crew) in omega (arith, none)
+
+pub close-end-requires-clause-short : goal.close-end-requires-clause-short
+close-end-requires-clause-short g c =
+    let e = c.answer_rows-closing.ensures in
+    closing_short _ _ _ _ (omega (arith, e.row)) (search rules) (search rules)
+
+pub returns-clause-replays : goal.returns-clause-replays
+returns-clause-replays g c =
+    let e = c.answer_rows-closing.ensures in let threads = c.args.settings.now.threads in let k = c.args.settings.now.k in
+    let stands : Stands {R = g.row.R.Denot} g.R.Read.remaining threads (lists_in c.args.members.now) (g.R.Read.remaining c.args.reader) [] [] c.in-Ok.replay.script.rows (live_beside c.in-Ok.replay.beside) c.in-Ok.replay.beside.most = record {
+      answered = tt;
+      shown = λ t below. sym (new_crew_shows_none c.args.members.now t c.requires.crew);
+      read = c.in-Ok.ensures.read;
+      items_are = ap sorted c.in-Ok.ensures.live;
+      most_is = c.in-Ok.ensures.most;
+    } in
+    let told : IsTold (g.W.Write.contents c.args.writer.now) (g.W.Write.contents c.args.writer.now) [] c.in-Ok.replay.output = record { gone = []; appended = appends_nothing _; count = c.in-Ok.ensures.written; all = c.in-Ok.ensures.empty } in
+    replays threads k (lists_in c.answer_rows-closing.new.members) (g.R.Read.remaining c.args.reader) (g.W.Write.contents c.args.writer.now) (g.W.Write.contents c.answer_rows-closing.new.writer) (g.W.Write.contents c.close-end.new.writer) c.answer_rows-closing.result c.answer_rows-closing.new.self.output c.close-end.new.self _
+    (e.stops (g.R.Read.remaining c.args.reader) (g.W.Write.contents c.args.writer.now) stands told) e.bound refl c.close-end.ensures
+
+pub returns-clause-written : goal.returns-clause-written
+returns-clause-written g c =
+    let e = c.answer_rows-closing.ensures in
+    let few = closes_few (g.W.Write.contents c.answer_rows-closing.new.writer) (g.W.Write.contents c.close-end.new.writer) c.answer_rows-closing.result c.answer_rows-closing.new.self.output c.close-end.new.self c.close-end.result (omega (arith, e.row)) (search rules) (search rules) c.close-end.ensures in
+    omega (arith, few, e.put)

@@ -1,0 +1,34 @@
+-- How a row is answered by a member of a board, and what is kept beside the board.
+use Rattle.std.specs.Prelude.{ℕ, ◌≡◌, ◌<◌, ◌^◌, List, [], ◌∷◌, length, max}
+use Rattle.klsm_run.specs.declared.item.Item.{Item}
+use Rattle.klsm_run.specs.Content.{sorted}
+use Rattle.klsm_world.specs.declared.step.Entry.{Entry}
+use Rattle.klsm_tool.specs.declared.answer.Printed.{Printed}
+use Rattle.klsm_tool.specs.declared.beside.Beside.{Beside}
+use Rattle.klsm_tool.specs.declared.request.Request.{Request}
+use Rattle.klsm_tool.specs.AnswerText.{live_after, skip_of}
+use Rattle.klsm_tool.specs.Crews.{Goes}
+use Rattle.klsm_tool.specs.Fits.{FitsAnswer}
+use Rattle.klsm_tool.specs.LiveItems.{live_content}
+use Rattle.klsm_tool.specs.Turns.{IsAnswer}
+
+-- how many pickers there are
+abbrev pub picker_count : Beside → ℕ
+picker_count beside = length beside.pickers.items
+
+-- the live items
+abbrev pub live_beside : Beside → List Item
+live_beside beside = live_content beside.live
+
+-- the answer is one to the row, the member's list has it, the live items are those after it, and
+-- its skip is counted
+pub record Answers (request : Request) (lists lists' : List (List Entry)) (live live' : List Item)
+    (most most' : ℕ) (printed : Printed) : Type 0 where
+  pub thread : printed.line.thread ≡ request.thread
+  pub answer : IsAnswer request.operation printed.line.answer
+  pub goes : Goes request.thread lists lists' (printed.line.answer ∷ [])
+  pub live_is : sorted live' ≡ sorted (live_after live printed.line.answer)
+  pub skip : printed.skip ≡ skip_of live printed.line.answer
+  pub most_is : most' ≡ max most printed.skip
+  -- the numbers of its line have 64 bits
+  pub fits : (printed.line.thread < 2 ^ 64) × FitsAnswer printed.line.answer × (printed.skip < 2 ^ 64)

@@ -1,0 +1,35 @@
+-- The members of a board that answer the rows of a script, and how one of them goes on.
+use Rattle.std.specs.Prelude.{ℕ, ◌≡◌, ◌≢◌, ◌<◌, ◌≤◌, List, ◌++◌, length, map, slice_index_or, []}
+use mathlib.Core.Option.{some}
+use lib.ListN.{get_elem?}
+use Rattle.klsm_world.specs.declared.step.Entry.{Entry}
+use Rattle.klsm_board.specs.declared.board.Board.{Board}
+use Rattle.klsm_board.specs.declared.board.Member.{Member}
+use Rattle.klsm_board.specs.Boards.{IsOf, own_steps}
+use Rattle.klsm_tool.specs.declared.answer.Answer.{Answer}
+use Rattle.klsm_tool.specs.Shown.{shown_in}
+
+module _ {CAP LEVELS : ℕ} where
+  -- the members of the board, in the order of their numbers
+  pub record AreMembers (board : Board CAP LEVELS) (members : List (Member CAP LEVELS)) : Type 0 where
+    pub of : (i : ℕ) (member : Member CAP LEVELS) → get_elem? members i ≡ some member → IsOf member board
+    pub many : length members ≡ board.sizes.threads
+    pub numbered : (i : ℕ) (member : Member CAP LEVELS) → get_elem? members i ≡ some member
+        → member.number ≡ i
+
+  -- their lists of own steps
+  abbrev pub lists_in : List (Member CAP LEVELS) → List (List Entry)
+  lists_in members = map own_steps members
+
+-- one thread's list
+abbrev pub steps_in : List (List Entry) → ℕ → List Entry
+steps_in lists t = slice_index_or lists t []
+
+-- thread t's list shows these answers more, and no other list has changed
+pub record Goes (t : ℕ) (lists lists' : List (List Entry)) (answers : List Answer) : Type 0 where
+  pub here : shown_in (steps_in lists' t) ≡ shown_in (steps_in lists t) ++ answers
+  pub else : (u : ℕ) → u ≢ t → steps_in lists' u ≡ steps_in lists u
+
+-- no thread's list shows more than n answers
+abbrev pub AreFew : ℕ → ℕ → List (List Entry) → Type 0
+AreFew threads n lists = (t : ℕ) → t < threads → length (shown_in (steps_in lists t)) ≤ n

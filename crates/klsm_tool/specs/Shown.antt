@@ -1,0 +1,33 @@
+-- What a member's list of own steps shows in the text, and what the lines of its thread show.
+use Rattle.std.specs.Prelude.{ℕ, ◌≡◌, ◌<◌, ◌==◌, if◌then◌else◌, List, [], ◌∷◌, ◌++◌, slice_index_or}
+use Rattle.std.specs.List.{flat_map}
+use Rattle.klsm_world.specs.declared.step.Event.{Event}
+use Rattle.klsm_world.specs.declared.step.Event.TheVariants as event
+use Rattle.klsm_world.specs.declared.step.Entry.{Entry}
+use Rattle.klsm_world.specs.OwnSteps.{event_at}
+use Rattle.klsm_tool.specs.declared.answer.Answer.{Answer}
+use Rattle.klsm_tool.specs.declared.answer.Answer.TheVariants.{Inserted, Deleted, Nothing}
+use Rattle.klsm_tool.specs.declared.answer.Line.{Line}
+
+-- the answer that an event is; spying is none
+abbrev pub shown : Event → List Answer
+shown (event.Put x) = Inserted x ∷ []
+shown (event.Flush x moved) = Inserted x ∷ []
+shown (event.Take x) = Deleted x ∷ []
+shown event.Nothing = Nothing ∷ []
+shown (event.Spy victim moved) = []
+
+-- the answers that a list of own steps has, the first one first
+abbrev pub shown_in : List Entry → List Answer
+shown_in es = flat_map shown (flat_map event_at es)
+
+-- the answers in the lines of a thread, the first one first. Lines are listed the latest first
+abbrev pub answers_of : ℕ → List Line → List Answer
+answers_of t [] = []
+answers_of t (line ∷ earlier) =
+    answers_of t earlier ++ (if line.thread == t then line.answer ∷ [] else [])
+
+-- the lines of each thread have the answers of its list, one by one and in order, and no other
+abbrev pub AreShown : ℕ → List (List Entry) → List Line → Type 0
+AreShown threads lists lines = (t : ℕ) → t < threads
+    → answers_of t lines ≡ shown_in (slice_index_or lists t [])

@@ -1,0 +1,41 @@
+-- What a member may answer to a row, and why it may not.
+use Rattle.std.specs.Prelude.{ℕ, ⊤, ◌≡◌, List}
+use Rattle.klsm_world.specs.declared.step.Entry.{Entry}
+use Rattle.klsm_board.specs.Inserting.{RefusesInsertInTime}
+use Rattle.klsm_board.specs.declared.errors.InsertError.TheVariants as insert
+use Rattle.klsm_tool.specs.declared.answer.Answer.{Answer}
+use Rattle.klsm_tool.specs.declared.answer.Answer.TheVariants.{Inserted, Deleted, Nothing}
+use Rattle.klsm_tool.specs.declared.request.Operation.{Operation}
+use Rattle.klsm_tool.specs.declared.request.Operation.TheVariants.{Insert, Delete}
+use Rattle.klsm_tool.specs.declared.stop.Stop.{Stop}
+use Rattle.klsm_tool.specs.declared.stop.Stop.TheVariants as stop
+
+-- an item, or nothing
+abbrev pub IsDeletion : Answer → Type 0
+IsDeletion (Inserted x) = ⊥
+IsDeletion (Deleted x) = ⊤
+IsDeletion Nothing = ⊤
+
+-- an item of this key and load was inserted
+abbrev pub IsInsertion : ℕ → ℕ → Answer → Type 0
+IsInsertion key load (Inserted x) = (x.key ≡ key) × (x.load ≡ load)
+IsInsertion key load (Deleted x) = ⊥
+IsInsertion key load Nothing = ⊥
+
+-- an answer to what a row asks for
+abbrev pub IsAnswer : Operation → Answer → Type 0
+IsAnswer (Insert key load) answer = IsInsertion key load answer
+IsAnswer Delete answer = IsDeletion answer
+
+-- a list of own steps ends with an insertion for which the shared part had no room
+abbrev pub EndsFull : ℕ → ℕ → ℕ → List Entry → Type 0
+EndsFull levels k t es = (before : List Entry) × RefusesInsertInTime ⊥ levels k t before es insert.Full
+
+-- why an insertion is not answered
+abbrev pub GivesUp : ℕ → ℕ → ℕ → List Entry → Stop → Type 0
+GivesUp levels k t es stop.AtEnd = ⊥
+GivesUp levels k t es (stop.Refused why) = ⊥
+GivesUp levels k t es stop.Full = EndsFull levels k t es
+GivesUp levels k t es stop.NoMemory = ⊤
+GivesUp levels k t es stop.ReadFault = ⊥
+GivesUp levels k t es stop.WriteFault = ⊥

@@ -1,0 +1,105 @@
+//! The options of the command `replay`.
+ghost use Rattle.std.specs.Prelude.{◌≡◌, None, IfOk, IfSome, false};
+ghost use Rattle.clap.specs.Words.{app_of, found_of, rows_of, rule_of};
+ghost use Rattle.clap.specs.declared.builder.command.Command.TheViews.{out-Command as fields_of};
+ghost use Rattle.klsm_tool.specs.Options.{AreInRange, number_at, option_rule, pick_at, pick_of};
+ghost use Rattle.klsm_tool.specs.Options.{settings_at};
+ghost use Rattle.klsm_tool.specs.Options.{with_options as with_options_of};
+
+use crate::settings::{Pick, Settings};
+use clap::{Arg, ArgMatches, Command, value_parser};
+use std::alloc::{AllocError, Global};
+
+/// The command with these options.
+pub(crate) fn with_options<'a>(
+    alloc: Global,
+    command: Command<'a>,
+) -> Result<Command<'a>, AllocError>
+    ensures app { IfOk result (λ with. app_of with ≡ with_options_of (app_of command.entry)) }
+    ensures local { (fields_of command.entry).has_globals ≡ false
+        → IfOk result (λ with. (fields_of with).has_globals ≡ false) }
+{
+    let one_to_16 = value_parser!(u64).range(1..=16);
+    let up_to_64 = value_parser!(u64).range(0..=64);
+    let any = value_parser!(u64);
+    let threads = option(alloc, THREADS, "1", "N", THREADS_HELP).value_parser(one_to_16);
+    let k = option(alloc, K, "64", "N", K_HELP).value_parser(up_to_64);
+    let pick = option(alloc, PICK, "first", "PICK", PICK_HELP);
+    let seed = option(alloc, SEED, "1", "N", SEED_HELP).value_parser(any);
+    command.arg(threads)?.arg(k)?.arg(pick)?.arg(seed)
+}
+
+fn option<'a>(
+    alloc: Global,
+    name: &'a str,
+    default: &'a str,
+    value: &'a str,
+    help: &'a str,
+) -> Arg<'a>
+    ensures rule { rule_of result ≡ option_rule name.entry.now default.entry.now None }
+    ensures local { result.global ≡ false }
+{
+    Arg::new(alloc, name)
+        .long(name)
+        .value_name(value)
+        .default_value(default)
+        .help(help)
+}
+
+/// The settings that the options come to, or `None` where the word of `--pick` is no pick.
+pub(crate) fn settings_of(options: &ArgMatches) -> Option<Settings>
+    ensures settings { result ≡ settings_at (rows_of (found_of options.now)) }
+    ensures range { IfSome result AreInRange }
+{
+    let pick = pick_in(options)?;
+    Some(Settings {
+        threads: number_in(options, THREADS, 1, 16) as usize,
+        k: number_in(options, K, 0, 64) as usize,
+        pick,
+        seed: number_in(options, SEED, 0, u64::MAX),
+    })
+}
+
+// The number of an option. The parser takes none outside the range.
+fn number_in(options: &ArgMatches, name: &str, least: u64, most: u64) -> u64
+    ensures { result ≡ number_at (rows_of (found_of options.now)) name.now least most }
+{
+    options
+        .get_one::<u64>(name)
+        .unwrap_or(0)
+        .max(least)
+        .min(most)
+}
+
+fn pick_in(options: &ArgMatches) -> Option<Pick>
+    ensures { result ≡ pick_at (rows_of (found_of options.now)) }
+{
+    pick_named(options.get_str(PICK)?)
+}
+
+fn pick_named(word: &str) -> Option<Pick>
+    ensures { result ≡ pick_of word.now }
+{
+    match word {
+        "first" => Some(Pick::First),
+        "last" => Some(Pick::Last),
+        "random" => Some(Pick::Random),
+        _ => None,
+    }
+}
+
+const THREADS: &str = "threads";
+
+const K: &str = "k";
+
+const PICK: &str = "pick";
+
+const SEED: &str = "seed";
+
+const THREADS_HELP: &str = "How many threads the rows may name, 1 to 16";
+
+const K_HELP: &str = "How many items a thread keeps for itself, 0 to 64";
+
+const SEED_HELP: &str = "What the random picks follow from";
+
+const PICK_HELP: &str = "Which candidate a deletion takes: first, last or random";
