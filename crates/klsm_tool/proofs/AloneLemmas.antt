@@ -1,8 +1,7 @@
 -- A replay over a board of its own.
-use Rattle.std.proofs.Common.{◌≡◌, ◌≢◌, ℕ, zero, suc, ◌<◌, List, [], length, replicate, Option, inl, inr, sym, refl, ap, subst, ◌∙◌, arith, codes}
+use Rattle.std.proofs.Common.{◌≡◌, ◌≢◌, ℕ, zero, suc, List, [], replicate, Option, inl, inr, sym, refl, ap, subst, ◌∙◌, arith, codes}
 use Rattle.std.proofs.lemmas.List.{length-map}
 use Rattle.std.proofs.lemmas.List.{length-replicate}
-use Rattle.klsm_world.specs.declared.step.Entry.{Entry}
 use Rattle.klsm_board.specs.declared.board.Board.{Board}
 use Rattle.klsm_board.specs.declared.board.Member.{Member}
 use Rattle.klsm_board.specs.Boards.{own_steps}
@@ -14,7 +13,7 @@ use Rattle.klsm_tool.specs.declared.settings.End.TheVariants as end
 use Rattle.klsm_tool.specs.declared.settings.Report.{Report}
 use Rattle.klsm_tool.specs.Crews.{AreMembers, lists_in, steps_in}
 use Rattle.klsm_tool.specs.Shown.{shown_in}
-use Rattle.klsm_tool.specs.Replay.{GoesOrFails, Replays, ReplaysAlone, ReplaysToTheEnd, sizes_of}
+use Rattle.klsm_tool.specs.Replay.{GoesOrFails, ReplaysAlone, ReplaysToTheEnd, sizes_of}
 use Rattle.klsm_tool.proofs.ClosingLemmas.{replays_nothing}
 use Rattle.klsm_tool.proofs.CrewLemmas.{crew_lists, crew_reached}
 

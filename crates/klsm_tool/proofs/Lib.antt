@@ -1,7 +1,7 @@
 pub mod AloneLemmas  -- a replay over a board of its own
 pub mod ClosingLemmas
 pub mod LengthLemmas
-pub mod LiveItemLemmas  -- the window of live items, and the others
+pub mod LiveItemLemmas  -- what joins and leaves the live items
 pub mod NumberLemmas
 pub mod OptionLemmas  -- what the options of a command come to
 pub mod OutputLemmas

@@ -1,10 +1,10 @@
 -- What the options of a command come to.
-use Rattle.std.proofs.Common.{◌≡◌, ◌||◌, ◌<◌, ◌≤◌, ◌^◌, ℕ, Bool, true, false, List, Option, Some, None, Result, Ok, Err, arith, refl, ap, ap₂, ◌∙◌, subst, ℤ}
+use Rattle.std.proofs.Common.{◌≡◌, ◌||◌, ℕ, Bool, true, false, List, Option, Some, None, Result, Ok, Err, arith, refl, ap, ap₂, ◌∙◌, subst, ℤ}
 use Rattle.std.specs.Prelude.{IfOk, option_map, unwrap_or}
 use Rattle.std.specs.declared.alloc.AllocError.{AllocError}
 use Rattle.std.specs.Str.Parse.{ParsesUnsigned}
 use Rattle.clap.specs.Matches.{ReadsOne, one_text}
-use Rattle.clap.proofs.WalkLemmas.{one_text-rows, first_value-rows}
+use Rattle.clap.proofs.WalkLemmas.{one_text-rows}
 use Rattle.clap.specs.Walk.{Rule, Text, one_of}
 use Rattle.clap.specs.Words.{Accepts, AddsArg, App, NarrowsTo, app_of, rows_of, rule_of, with_rule}
 use Rattle.clap.specs.declared.builder.arg.Arg.{Arg}

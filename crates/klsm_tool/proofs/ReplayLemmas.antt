@@ -8,7 +8,7 @@ use native.Mathlib.Decide.{ℕ_discrete}
 use Rattle.csv.specs.declared.reader.Reader.{Reader}
 use Rattle.klsm_run.specs.declared.item.Item.{Item}
 use Rattle.klsm_run.specs.ItemOrder.{is_smaller}
-use Rattle.klsm_run.specs.Content.{placed, skipped, sorted, without}
+use Rattle.klsm_run.specs.Content.{placed, sorted, without}
 use Rattle.klsm_run.proofs.RankLemmas.{count_sorted}
 use Rattle.klsm_run.proofs.WithoutLemmas.{sorted_without}
 use Rattle.klsm_world.specs.declared.step.Entry.{Entry}

@@ -1,9 +1,8 @@
 -- What the calls of a member show in the text.
-use Rattle.std.proofs.Common.{◌≡◌, ◌≤◌, ℕ, suc, List, [], ◌∷◌, ◌++◌, length, length-append, ap, refl, ◌∙◌, inl, inr, arith}
+use Rattle.std.proofs.Common.{◌≡◌, ◌≤◌, ℕ, suc, List, [], ◌∷◌, ◌++◌, length, length-append, ap, ◌∙◌, inl, inr, arith}
 use Rattle.std.proofs.lemmas.Grind.{flat_map-append}
 use Rattle.std.proofs.lemmas.List.Concat.{flat_map-cons}
 use Rattle.std.specs.List.{flat_map}
-use Rattle.std.specs.Prelude.{MatchOption, Option, Some, None}
 use Rattle.klsm_run.specs.declared.item.Item.{Item}
 use Rattle.klsm_world.specs.declared.step.Event.{Event}
 use Rattle.klsm_world.specs.declared.step.Event.TheVariants as event
@@ -18,7 +17,6 @@ use Rattle.klsm_board.proofs.calls.EventLemmas.{events}
 use Rattle.klsm_board.proofs.calls.AddLemmas.{both_quiet}
 use Rattle.klsm_board.proofs.calls.AddedLemmas.{puts_events, flushes_events, refused_in_time_events}
 use Rattle.klsm_board.proofs.calls.DeletedLemmas.{takes_events, spied_events, nothing_events}
-use Rattle.klsm_tool.specs.declared.answer.Answer.{Answer}
 use Rattle.klsm_tool.specs.declared.answer.Answer.TheVariants.{Inserted, Deleted, Nothing}
 use Rattle.klsm_tool.specs.Shown.{shown, shown_in}
 

@@ -5,7 +5,6 @@ pub mod Rows  -- the rows of an input
 pub mod AnswerText  -- the answer text
 pub mod Shown  -- what a member's list shows in the text
 pub mod Crews  -- the members that answer rows
-pub mod LiveParts  -- the window of live items, and the others
 pub mod LiveItems  -- the live items beside a board
 pub mod Turns  -- what a member answers to a row
 pub mod Answering  -- what is kept beside the board, and how a row is answered

@@ -30,16 +30,13 @@ pub(crate) struct Beside {
 
 impl Beside {
     pub(crate) fn new(alloc: Global, settings: &Settings) -> Result<Self, AllocError>
-        requires { settings.now.threads * settings.now.k ≤ 1024 }
         ensures pickers { IfOk result (λ beside. picker_count beside ≡ settings.now.threads) }
         ensures live { IfOk result (λ beside. live_beside beside ≡ []) }
         ensures most { IfOk result (λ beside. beside.most ≡ 0) }
     {
-        // A deletion skips no more than this, so its item is within one more.
-        let bound = settings.threads * settings.k;
         Ok(Beside {
             pickers: pickers_of(alloc, settings)?,
-            live: LiveItems::new(alloc, bound + 1)?,
+            live: LiveItems::new(alloc),
             most: 0,
         })
     }

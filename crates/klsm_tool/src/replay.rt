@@ -123,7 +123,6 @@ struct Replay<R> {
 
 impl<R: Read + Drop> Replay<R> {
     fn new(alloc: Global, reader: R, settings: &Settings) -> Result<Self, AllocError>
-        requires { settings.now.threads * settings.now.k ≤ 1024 }
         ensures read { IfOk result (λ replay.
             HasRead R.remaining (R.remaining reader) [] replay.script.rows) }
         ensures pickers { IfOk result (λ replay.

@@ -6,12 +6,12 @@ use Rattle.klsm_tool.proofs.live_items.take_first.Goals as goal
 
 pub returns-in-Some : goal.returns-in-Some
 returns-in-Some c =
-    let others = c.args.others.now.items in
-    let found : position (λ other. is_same c.args.item other.0) others ≡ Some c.in-Some.at = search rules in
-    taken_first c.args.item c.in-Some.at c.swap_remove.result others c.swap_remove.new.self.items found c.swap_remove.ensures.value c.swap_remove.ensures.items
+    let items = c.args.items.now.items in
+    let found : position (λ other. is_same c.args.item other) items ≡ Some c.in-Some.at = search rules in
+    taken_first c.args.item c.in-Some.at c.swap_remove.result items c.swap_remove.new.self.items found c.swap_remove.ensures.value c.swap_remove.ensures.items
 
 pub returns-in_default : goal.returns-in_default
 returns-in_default c =
-    let others = c.args.others.now.items in
-    let none : position (λ other. is_same c.args.item other.0) others ≡ None = search rules in
-    ap sorted (taken_nowhere c.args.item others none)
+    let items = c.args.items.now.items in
+    let none : position (λ other. is_same c.args.item other) items ≡ None = search rules in
+    ap sorted (taken_nowhere c.args.item items none)

@@ -1,9 +1,8 @@
-use Rattle.std.proofs.Common.{◌≡◌, ◌∙◌, ap, codes, Option}
+use Rattle.std.proofs.Common.{◌∙◌, ap, codes}
 use Rattle.std.specs.Prelude.{option_and_then}
 use Rattle.clap.specs.Words.{found_of}
 use Rattle.clap.proofs.WalkLemmas.{first_value-rows}
 use Rattle.klsm_tool.specs.Options.{pick_of}
-use Rattle.klsm_tool.specs.declared.settings.Pick.{Pick}
 use Rattle.klsm_tool.proofs.options.pick_in.Goals as goal
 
 pub returns : goal.returns

@@ -1,4 +1,4 @@
-use Rattle.std.proofs.Common.{◌≡◌, ◌∙◌, codes, pos, refl}
+use Rattle.std.proofs.Common.{◌∙◌, codes, pos, refl}
 use Rattle.klsm_tool.proofs.OptionLemmas.{added, added_last, last_none_global, local_too, narrowed, none_global, parsed}
 use Rattle.klsm_tool.proofs.options.with_options.Goals as goal
 
