@@ -1,17 +1,18 @@
-"""Times `klsm replay` beside the exact queue of exact.cpp over a million rows of four threads.
+"""Times `klsm replay` beside two exact queues over a million rows of four threads.
 
-    g++ -O2 -o exact exact.cpp
-    python3 compare.py ./exact ../../klsm/out/klsm
+    g++ -O2 -o streams streams.cpp && g++ -O2 -o buffers buffers.cpp
+    python3 compare.py ./streams ./buffers ../../klsm/out/klsm
 
-The program has to stand built: `./klsm --help` at the root of the repository builds it.
+The program has to stand built: `./klsm --help` at the root of the repository builds it. A number is
+the processor time of a run in seconds, the least and the median of nine.
 """
 
 import random
+import resource
 import statistics
 import subprocess
 import sys
 import tempfile
-import time
 
 ROWS = 1_000_000
 THREADS = 4
@@ -46,16 +47,22 @@ def ascending(draw):
 
 
 def seconds(command, script):
-    """How long the command takes over the script."""
+    """How much processor time the command takes over the script."""
     script.seek(0)
-    start = time.perf_counter()
+    before = resource.getrusage(resource.RUSAGE_CHILDREN)
     subprocess.run(command, stdin=script, stdout=subprocess.DEVNULL, check=True)
-    return time.perf_counter() - start
+    after = resource.getrusage(resource.RUSAGE_CHILDREN)
+    return after.ru_utime + after.ru_stime - before.ru_utime - before.ru_stime
 
 
-def main(exact, klsm):
+def main(streams, buffers, klsm):
     replay = [klsm, "replay", "--threads", str(THREADS), "--k", "64", "--pick"]
-    contenders = {"exact": [exact], "first": replay + ["first"], "random": replay + ["random"]}
+    contenders = {
+        "streams": [streams],
+        "buffers": [buffers],
+        "first": replay + ["first"],
+        "random": replay + ["random"],
+    }
     for workload in (uniform, hold, ascending):
         with tempfile.TemporaryFile() as script:
             for row in workload(random.Random(1)):

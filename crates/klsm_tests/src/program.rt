@@ -11,6 +11,7 @@ mod skips;
 mod threads;
 mod waiting;
 mod words;
+mod worked;
 
 use klsm_tool::run_program;
 use process::{Input, Output, Process};

@@ -1,5 +1,5 @@
 -- What the last line makes of a replay that has stopped.
-use Rattle.std.proofs.Common.{◌≡◌, ◌≢◌, ℕ, ◌+◌, ◌*◌, ◌<◌, ◌≤◌, ◌^◌, ◌⊎◌, inl, inr, List, [], ◌∷◌, ◌++◌, length, take, Option, Some, None, refl, sym, ap, ◌∙◌, subst, arith, codes, reverse}
+use Rattle.std.proofs.Common.{◌≡◌, ◌≢◌, ℕ, ◌+◌, ◌*◌, ◌<◌, ◌≤◌, ◌^◌, inl, inr, List, [], ◌∷◌, ◌++◌, length, take, Option, Some, None, refl, sym, ap, ◌∙◌, subst, arith, codes, reverse}
 use Rattle.std.specs.Io.KnownBytes.{Appends, Keeps}
 use Rattle.std.proofs.lemmas.List.{append-nil, append_assoc, length-append, take_all, reverse-append}
 use Rattle.csv.specs.declared.parser.State.{State}
@@ -144,40 +144,19 @@ replays_cut threads k lists input before now after output report rows lines answ
       };
     }
 
--- where memory is wanted for the last line, the lines are still those of the lists
-shown_at_last : (why : Stop) (threads : ℕ) (lists : List (List Entry)) (lines : List Line) → AreShownUntil why threads lists lines → AreShownUntil stop.NoMemory threads lists lines
-shown_at_last stop.AtEnd threads lists lines shown = inl shown
-shown_at_last (stop.Refused why) threads lists lines shown = inl shown
-shown_at_last stop.Full threads lists lines shown = inl shown
-shown_at_last stop.NoMemory threads lists lines shown = shown
-shown_at_last stop.ReadFault threads lists lines shown = inl shown
-shown_at_last stop.WriteFault threads lists lines shown = inl shown
-
 -- a replay that stopped, and then closed
-pub replays : (threads k : ℕ) (lists : List (List Entry)) (input before now after : Option (List ℕ)) (closing : Closing) (output output' : Output) (report : Report)
-    → HasStopped threads k lists input before now closing.row closing.most output closing.stop → closing.bound ≡ threads * k → report.written ≡ output'.written → Closes now after closing output output' report.end → Replays threads k lists input before after report
-replays threads k lists input before now after closing output output' report stopped bound_is written (inl failed) =
+pub replays : (threads k : ℕ) (lists : List (List Entry)) (input before now after : Option (List ℕ)) (closing : Closing) (output : Output) (report : Report)
+    → HasStopped threads k lists input before now closing.row closing.most output closing.stop → closing.bound ≡ threads * k → Closes now after closing output report → Replays threads k lists input before after report
+replays threads k lists input before now after closing output report stopped bound_is (inl failed) =
     let cut : IsCutOff before now stopped.lines output.written = subst (λ (why : Stop). IsToldUntil why before now stopped.lines output) failed.0 stopped.told in
     let shown : AreShown threads lists stopped.lines = subst (λ (why : Stop). AreShownUntil why threads lists stopped.lines) failed.0 stopped.shown in
     let first : AreFirstRows input stopped.rows = stopped_first threads k lists input stopped.rows closing.stop stopped.stopped in
-    replays_cut threads k lists input before now after output report stopped.rows stopped.lines stopped.answered shown first cut failed.1 failed.2 (written ∙ failed.3)
-replays threads k lists input before now after closing output output' report stopped bound_is written (inr goes) =
+    replays_cut threads k lists input before now after output report stopped.rows stopped.lines stopped.answered shown first cut failed.1 failed.2 failed.3
+replays threads k lists input before now after closing output report stopped bound_is (inr goes) =
     let told : IsTold before now stopped.lines output = told_in_full closing.stop before now stopped.lines output goes.0 stopped.told in
-    let first : AreFirstRows input stopped.rows = stopped_first threads k lists input stopped.rows closing.stop stopped.stopped in
-    let goes' : GoesOrFails now after (pending output ++ closing_text closing.row closing.most (threads * k) goes.1.0) output.written report.written (end_of goes.1.0) report.end =
-    rw written (subst (λ (bound : ℕ). GoesOrFails now after (pending output ++ closing_text closing.row closing.most bound goes.1.0) output.written output'.written (end_of goes.1.0) report.end) bound_is goes.1.2) in
-    by_cause goes.1.0 goes.1.1 told first goes.0 goes'
-  where
-    by_cause : (why : Stop) → ((why ≡ closing.stop) ⊎ (why ≡ stop.NoMemory)) → IsTold before now stopped.lines output → AreFirstRows input stopped.rows → closing.stop ≢ stop.WriteFault
-        → GoesOrFails now after (pending output ++ closing_text closing.row closing.most (threads * k) why) output.written report.written (end_of why) report.end → Replays threads k lists input before after report
-    by_cause why (inl same) told first other out =
-        replays_with threads k closing.row closing.most lists input before now after output why report stopped.rows stopped.lines stopped.answered
-        (subst (λ (z : Stop). AreShownUntil z threads lists stopped.lines) (sym same) stopped.shown) (subst (Stopped threads k lists input stopped.rows) (sym same) stopped.stopped) (λ failed. other (sym same ∙ failed))
-        (λ at_end. stopped.most_is (sym same ∙ at_end)) (stopped.number_is other) told out
-    by_cause why (inr wanted) told first other out =
-        replays_with threads k closing.row closing.most lists input before now after output why report stopped.rows stopped.lines stopped.answered
-        (subst (λ (z : Stop). AreShownUntil z threads lists stopped.lines) (sym wanted) (shown_at_last closing.stop threads lists stopped.lines stopped.shown)) (subst (Stopped threads k lists input stopped.rows) (sym wanted) first) (λ failed. let bad = sym wanted ∙ failed in cc)
-        (λ at_end. let bad = sym wanted ∙ at_end in cc) (stopped.number_is other) told out
+    let out : GoesOrFails now after (pending output ++ closing_text closing.row closing.most (threads * k) closing.stop) output.written report.written (end_of closing.stop) report.end =
+    subst (λ (bound : ℕ). GoesOrFails now after (pending output ++ closing_text closing.row closing.most bound closing.stop) output.written report.written (end_of closing.stop) report.end) bound_is goes.1 in
+    replays_with threads k closing.row closing.most lists input before now after output closing.stop report stopped.rows stopped.lines stopped.answered stopped.shown stopped.stopped goes.0 stopped.most_is (stopped.number_is goes.0) told out
 
 -- a replay for which there was no memory at all
 pub replays_nothing : (threads k : ℕ) (lists : List (List Entry)) (input before after : Option (List ℕ)) (report : Report) → AreShown threads lists [] → GoesOrFails before after (codes "no memory\n") 0 report.written end.NoMemory report.end → Replays threads k lists input before after report
@@ -192,12 +171,11 @@ replays_nothing threads k lists input before after report shown goes = record {
 }
 
 -- no more goes out than was put, and the last line
-pub closes_few : (now after : Option (List ℕ)) (closing : Closing) (output output' : Output) (result : End) → closing.row < 2 ^ 64 → closing.most < 2 ^ 64 → closing.bound < 2 ^ 64 → Closes now after closing output output' result → output'.written ≤ put_count output + 160
-closes_few now after closing output output' result row most bound (inl failed) = let same = failed.3 in omega (arith, same)
-closes_few now after closing output output' result row most bound (inr goes) =
-    let last = closing_text closing.row closing.most closing.bound goes.1.0 in
-    few last (end_of goes.1.0) (closing_short closing.row closing.most closing.bound goes.1.0 row most bound) goes.1.2
+pub closes_few : (now after : Option (List ℕ)) (closing : Closing) (output : Output) (report : Report) → closing.row < 2 ^ 64 → closing.most < 2 ^ 64 → closing.bound < 2 ^ 64 → Closes now after closing output report → report.written ≤ put_count output + 160
+closes_few now after closing output report row most bound (inl failed) = let same = failed.3 in omega (arith, same)
+closes_few now after closing output report row most bound (inr goes) =
+    few (closing_text closing.row closing.most closing.bound closing.stop) (end_of closing.stop) (closing_short closing.row closing.most closing.bound closing.stop row most bound) goes.1
   where
-    few : (text : List ℕ) (good : End) → length text ≤ 160 → GoesOrFails now after (pending output ++ text) output.written output'.written good result → output'.written ≤ put_count output + 160
+    few : (text : List ℕ) (good : End) → length text ≤ 160 → GoesOrFails now after (pending output ++ text) output.written report.written good report.end → report.written ≤ put_count output + 160
     few text good short (inl whole) = let long = length-append (pending output) text in let out = whole.2 in omega (arith, long, out, short)
     few text good short (inr cut) = let long = length-append (pending output) text in let out = cut.1.3 in let less = cut.1.1 in omega (arith, long, out, less, short)

@@ -12,7 +12,7 @@ use Rattle.klsm_tool.specs.declared.stop.Stop.TheVariants as stop
 use Rattle.klsm_tool.specs.Fits.{FitsAnswer}
 use Rattle.klsm_tool.specs.AnswerText.{answer_text, closing_text, refusal_word}
 
-number_short : (n : ℕ) → n < 2 ^ 64 → length (decimal n) ≤ 20
+pub number_short : (n : ℕ) → n < 2 ^ 64 → length (decimal n) ≤ 20
 number_short n fits = length-decimal-le 20 n (omega arith) (omega arith) fits
 
 word_short : (why : Refusal) → length (refusal_word why) ≤ 9

@@ -12,6 +12,7 @@ pub mod Replay  -- what `replay_over` promises
 pub mod Options  -- the options of `replay`, as the parser reads them
 pub mod CommandLine  -- the command line, as its parser reads it
 pub mod Program  -- what `run_words` promises
+pub mod LineText  -- the text of a line that is being made; no public contract cites it
 pub mod Output  -- what writing a line does; no public contract cites it
 pub mod Progress  -- how far a replay has come; no public contract cites it
 pub mod Fits  -- numbers of 64 bits; no public contract cites it

@@ -3,8 +3,8 @@ use Rattle.std.specs.Prelude.{ℕ, ◌≡◌, ◌≢◌, ◌+◌, ◌⊎◌, Lis
 use Rattle.std.specs.Prelude.{Result, Ok, Err}
 use Rattle.std.specs.Io.KnownBytes.{Appends, Keeps}
 use Rattle.klsm_tool.specs.declared.output.Output.{Output}
-use Rattle.klsm_tool.specs.declared.settings.End.{End}
 use Rattle.klsm_tool.specs.declared.settings.End.TheVariants as end
+use Rattle.klsm_tool.specs.declared.settings.Report.{Report}
 use Rattle.klsm_tool.specs.declared.stop.Stop.{Stop}
 use Rattle.klsm_tool.specs.declared.stop.Stop.TheVariants as stop
 use Rattle.klsm_tool.specs.declared.stop.Closing.{Closing}
@@ -51,14 +51,12 @@ Flushes before after output output' (Err why) =
     (why ≡ stop.WriteFault) × IsCut before after (pending output) output.written output'.written
     × (pending output' ≡ [])
 
--- after a write fault nothing more goes out; else what was pending does, and then the last line or
--- the one that says that memory is wanted
-abbrev pub Closes : Option (List ℕ) → Option (List ℕ) → Closing → Output → Output → End → Type 0
-Closes before after closing output output' result =
-    ((closing.stop ≡ stop.WriteFault) × (result ≡ end.WriteFault) × Keeps before after
-    × (output'.written ≡ output.written))
+-- after a write fault nothing more goes out; else what was pending does, and then the last line
+abbrev pub Closes : Option (List ℕ) → Option (List ℕ) → Closing → Output → Report → Type 0
+Closes before after closing output report =
+    ((closing.stop ≡ stop.WriteFault) × (report.end ≡ end.WriteFault) × Keeps before after
+    × (report.written ≡ output.written))
     ⊎ ((closing.stop ≢ stop.WriteFault)
-    × ((why : Stop) × ((why ≡ closing.stop) ⊎ (why ≡ stop.NoMemory))
-    × (let last = closing_text closing.row closing.most closing.bound why in
-    GoesOrFails before after (pending output ++ last) output.written output'.written (end_of why)
-    result)))
+    × (let last = closing_text closing.row closing.most closing.bound closing.stop in
+    GoesOrFails before after (pending output ++ last) output.written report.written
+    (end_of closing.stop) report.end))

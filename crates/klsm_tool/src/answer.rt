@@ -1,7 +1,10 @@
 //! The answers to a script's rows, and their text.
+ghost use Rattle.std.specs.Prelude.{◌≡◌, ◌≤◌};
+ghost use Rattle.klsm_tool.specs.AnswerText.{answer_text};
+ghost use Rattle.klsm_tool.specs.LineText.{made};
 
+use crate::line_text::LineText;
 use klsm_run::Item;
-use std::fmt;
 
 /// What the queue answers to a row.
 #[derive(Clone, Copy)]
@@ -28,26 +31,36 @@ pub(crate) struct Printed {
     pub skip: usize,
 }
 
-impl fmt::Display for Printed {
-    ghost use Rattle.std.specs.Prelude.{Some};
-    ghost use Rattle.klsm_tool.specs.AnswerText.{answer_text};
-
-    ghost output = { λ p. Some (answer_text p.line.thread p.line.answer p.skip) };
-
-    fn fmt<W: fmt::Write>(&self, f: &mut fmt::Formatter<W>) -> fmt::Result {
-        let thread = self.line.thread;
+impl Printed {
+    /// The line as it goes out.
+    pub(crate) fn text(&self) -> LineText
+        ensures start { result.start ≤ 160 }
+        ensures text { made result
+            ≡ answer_text self.now.line.thread self.now.line.answer self.now.skip }
+    {
+        let mut text = LineText::new();
         match self.line.answer {
             Answer::Inserted(item) => {
-                let Item { key, stamp, .. } = item;
-                writeln!(f, "{thread} i {key} {}.{}", stamp.owner, stamp.number)
+                text.prepend(b"\n");
+                text.prepend_stamp(item.stamp);
+                text.prepend(b" ");
+                text.prepend_number(item.key);
+                text.prepend(b" i ");
             }
             Answer::Deleted(item) => {
-                let skip = self.skip;
-                let Item { key, stamp, load } = item;
-                write!(f, "{thread} d {key} {}.{}", stamp.owner, stamp.number)?;
-                writeln!(f, " load {load} skip {skip}")
+                text.prepend(b"\n");
+                text.prepend_number(self.skip as u64);
+                text.prepend(b" skip ");
+                text.prepend_number(item.load);
+                text.prepend(b" load ");
+                text.prepend_stamp(item.stamp);
+                text.prepend(b" ");
+                text.prepend_number(item.key);
+                text.prepend(b" d ");
             }
-            Answer::Nothing => writeln!(f, "{thread} d none"),
+            Answer::Nothing => text.prepend(b" d none\n"),
         }
+        text.prepend_number(self.line.thread as u64);
+        text
     }
 }

@@ -16,10 +16,10 @@
 //!
 //! `script` reads a row into a record that is used again, `judge` says what the row asks for or
 //! what is wrong with it, `beside` lets the member of its thread answer and counts the skip among
-//! `live_items`, and `output` keeps the line, which goes out with others before a further row is
-//! waited for: `watched` knows how far the whole rows go that were read. A `Stop` is why no further
-//! row is answered, and makes the last line. `command_line` has the words, and `options` what they
-//! may say: the kit's `clap` parses them, after a look whether they are text.
+//! `live_items`, and `output` keeps the line, a `LineText`, which goes out with others before a
+//! further row is waited for: `watched` knows how far the whole rows go that were read. A `Stop` is
+//! why no further row is answered, and makes the last line. `command_line` has the words, and
+//! `options` what they may say: the kit's `clap` parses them, after a look whether they are text.
 //!
 //! - **The text is that of the definition.** What goes out is the first `written` bytes of the
 //!   answer text of the rows that were read, and all of it unless the writer failed: `Replays`, the
@@ -40,6 +40,7 @@ mod answer;
 mod beside;
 mod command_line;
 mod judge;
+mod line_text;
 mod live_items;
 mod options;
 mod output;

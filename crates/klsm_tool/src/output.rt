@@ -1,30 +1,24 @@
 //! The text that goes out: kept line by line, and sent many lines at a time.
 ghost use Rattle.std.specs.Prelude.{◌≡◌, ◌+◌, ◌<◌, ◌≤◌, ◌^◌, [], ◌++◌, length, take};
-ghost use Rattle.std.specs.Prelude.{IfSome, IsSomeAnd, IfOk, codes};
+ghost use Rattle.std.specs.Prelude.{IfOk};
 ghost use Rattle.std.specs.Io.KnownBytes.{Appends};
-ghost use Rattle.klsm_tool.specs.AnswerText.{closing_text};
 ghost use Rattle.klsm_tool.specs.Output.{Puts, Flushes, Closes, pending, put_count};
 ghost use Rattle.klsm_tool.specs.Replay.{GoesOrFails};
-ghost use Rattle.klsm_tool.specs.declared.settings.End.TheVariants as end;
 
-use crate::settings::End;
+use crate::line_text::LINE_ROOM;
+use crate::settings::{End, Report};
 use crate::stop::{Closing, Stop};
 use std::alloc::{AllocError, Global};
-use std::fmt::Display;
 use std::io::Write;
-
-/// The longest line has fewer bytes.
-const LINE_ROOM: usize = 160;
 
 /// So many pending bytes go out at once.
 const SEND_AT: usize = 65_536;
 
-/// How much was written so far, what is still to go out, and where the next line is made.
+/// How much was written so far, and what is still to go out.
 #[derive(Drop)]
 pub(crate) struct Output {
     pub written: u64,
     buffer: Vec<u8>,
-    line: String,
 }
 
 impl Output {
@@ -36,26 +30,16 @@ impl Output {
         Ok(Output {
             written: 0,
             buffer: Vec::with_capacity(alloc, SEND_AT + LINE_ROOM)?,
-            line: String::with_capacity(alloc, LINE_ROOM)?,
         })
     }
 
     /// Adds one line to what is pending, and sends it all where it is much.
-    pub(crate) fn put<W: Write, D: Display + Drop>(
-        &mut self,
-        writer: &mut W,
-        line: D,
-    ) -> Result<(), Stop>
-        requires { IsSomeAnd (D.output line) (λ text. put_count self.old + length text < 2 ^ 64) }
-        ensures { IfSome (D.output line) (λ text. Puts (W.contents writer.old)
-            (W.contents writer.new) text self.old self.new result) }
+    pub(crate) fn put<W: Write>(&mut self, writer: &mut W, line: &[u8]) -> Result<(), Stop>
+        requires { put_count self.old + length line.now < 2 ^ 64 }
+        ensures { Puts (W.contents writer.old) (W.contents writer.new) line.now self.old self.new
+            result }
     {
-        self.line.clear();
-        if write!(self.line, "{line}").is_err() {
-            return Err(Stop::NoMemory);
-        }
-        let made = self.line.as_bytes();
-        if self.buffer.extend_from_slice(made).is_err() {
+        if self.buffer.extend_from_slice(line).is_err() {
             return Err(Stop::NoMemory);
         }
         if self.buffer.len() < SEND_AT {
@@ -77,52 +61,30 @@ impl Output {
         if whole { Ok(()) } else { Err(Stop::WriteFault) }
     }
 
-    /// Puts the last line, sends all that is pending, and answers how the run ended. After a write
+    /// Sends all that is pending and then the last line, and says how the run ended. After a write
     /// fault nothing more is written.
-    pub(crate) fn close<W: Write>(&mut self, writer: &mut W, closing: Closing) -> End
-        requires room { put_count self.old < 2 ^ 63 }
-        requires short { length (closing_text closing.row closing.most closing.bound
-            closing.stop) ≤ 160 }
-        ensures { Closes (W.contents writer.old) (W.contents writer.new) closing self.old self.new
-            result }
+    pub(crate) fn close<W: Write>(&mut self, writer: &mut W, closing: Closing) -> Report
+        requires { put_count self.old < 2 ^ 63 }
+        ensures { Closes (W.contents writer.old) (W.contents writer.new) closing self.old result }
     {
         if closing.stop == Stop::WriteFault {
-            return End::WriteFault;
+            return Report {
+                end: End::WriteFault,
+                written: self.written,
+            };
         }
-        match self.put(writer, closing) {
-            Ok(()) => self.send_last(writer, closing.stop.end()),
-            Err(Stop::NoMemory) => self.close_without_memory(writer),
-            Err(stop) => stop.end(),
-        }
-    }
-
-    fn send_last<W: Write>(&mut self, writer: &mut W, good: End) -> End
-        requires { put_count self.old < 2 ^ 64 }
-        ensures { GoesOrFails (W.contents writer.old) (W.contents writer.new) (pending self.old)
-            self.old.written self.new.written good result }
-    {
-        match self.flush(writer) {
-            Ok(()) => good,
-            Err(stop) => stop.end(),
-        }
-    }
-
-    fn close_without_memory<W: Write>(&mut self, writer: &mut W) -> End
-        requires { put_count self.old < 2 ^ 63 }
-        ensures { GoesOrFails (W.contents writer.old) (W.contents writer.new)
-            (pending self.old ++ codes "no memory\n") self.old.written self.new.written end.NoMemory
-            result }
-    {
         if let Err(stop) = self.flush(writer) {
-            return stop.end();
+            return Report {
+                end: stop.end(),
+                written: self.written,
+            };
         }
-        let out = write_text(writer, NO_MEMORY);
-        self.written += out as u64;
-        if out < NO_MEMORY.len() {
-            End::WriteFault
-        } else {
-            End::NoMemory
-        }
+        write_last(
+            writer,
+            closing.text().as_bytes(),
+            self.written,
+            closing.stop.end(),
+        )
     }
 }
 
@@ -143,4 +105,23 @@ pub(crate) fn write_text<W: Write>(writer: &mut W, text: &[u8]) -> usize
         }
     }
     out
+}
+
+/// Writes the last text of a run that ends so, after what was written before, and says how the run
+/// ended.
+pub(crate) fn write_last<W: Write>(writer: &mut W, text: &[u8], written: u64, end: End) -> Report
+    requires { written + length text.now < 2 ^ 64 }
+    ensures { GoesOrFails (W.contents writer.old) (W.contents writer.new) text.now written
+        result.written end result.end }
+{
+    let out = write_text(writer, text);
+    let end = if out < text.len() {
+        End::WriteFault
+    } else {
+        end
+    };
+    Report {
+        end,
+        written: written + out as u64,
+    }
 }

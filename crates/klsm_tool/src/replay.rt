@@ -20,7 +20,7 @@ ghost use Rattle.klsm_tool.specs.Replay.{GoesOrFails, Replays, ReplaysAlone, siz
 use crate::answer::Printed;
 use crate::beside::Beside;
 use crate::judge::request_of;
-use crate::output::{NO_MEMORY, Output, write_text};
+use crate::output::{NO_MEMORY, Output, write_last};
 use crate::request::Refusal;
 use crate::script::Script;
 use crate::settings::{End, Report, Settings};
@@ -51,7 +51,7 @@ pub fn replay_over<P: AllocGlobal + Wait, R: Read + Drop, W: Write>(
 {
     let Ok((board, mut members)) = Board::new(rt.alloc(), settings.threads, settings.k, QUOTA)
     else {
-        return report_no_memory(writer, 0);
+        return write_last(writer, NO_MEMORY, 0, End::NoMemory);
     };
     let report = replay_on(rt, reader, writer, settings, &board, &mut members);
     if report.end != End::Done {
@@ -60,7 +60,7 @@ pub fn replay_over<P: AllocGlobal + Wait, R: Read + Drop, W: Write>(
     match board.finish(rt.alloc(), members) {
         Ok(_) => report,
         // All members are back, so it is memory that is wanted.
-        Err(_) => report_no_memory(writer, report.written),
+        Err(_) => write_last(writer, NO_MEMORY, report.written, End::NoMemory),
     }
 }
 
@@ -85,32 +85,10 @@ pub fn replay_on<P: AllocGlobal + Wait, R: Read + Drop, W: Write>(
         (R.remaining reader) (W.contents writer.old) (W.contents writer.new) result }
 {
     let Ok(mut replay) = Replay::new(rt.alloc(), reader, settings) else {
-        return report_no_memory(writer, 0);
+        return write_last(writer, NO_MEMORY, 0, End::NoMemory);
     };
     let closing = replay.answer_rows(rt, writer, board, members, settings);
-    let end = replay.output.close(writer, closing);
-    Report {
-        end,
-        written: replay.output.written,
-    }
-}
-
-// Where memory is wanted before the first row, or after the last line.
-fn report_no_memory<W: Write>(writer: &mut W, written: u64) -> Report
-    requires { written < 2 ^ 63 }
-    ensures { GoesOrFails (W.contents writer.old) (W.contents writer.new)
-        (codes "no memory\n") written result.written end.NoMemory result.end }
-{
-    let out = write_text(writer, NO_MEMORY);
-    let end = if out < NO_MEMORY.len() {
-        End::WriteFault
-    } else {
-        End::NoMemory
-    };
-    Report {
-        end,
-        written: written + out as u64,
-    }
+    replay.output.close(writer, closing)
 }
 
 // A replay on its way.
@@ -220,7 +198,7 @@ impl<R: Read + Drop> Replay<R> {
     {
         send_before_wait(&self.script, &mut self.output, writer)?;
         let line = next_line(rt, &mut self.script, &mut self.beside, board, members)?;
-        self.output.put(writer, line)
+        self.output.put(writer, line.text().as_bytes())
     }
 }
 

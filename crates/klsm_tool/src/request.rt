@@ -1,7 +1,5 @@
 //! What a row of a script asks for, and why it may be refused.
 
-use std::fmt;
-
 /// What a row asks its thread to do.
 #[derive(Clone, Copy)]
 pub(crate) enum Operation {
@@ -33,20 +31,21 @@ pub(crate) enum Refusal {
     Load,
 }
 
-impl fmt::Display for Refusal {
-    ghost use Rattle.std.specs.Prelude.{Some};
+impl Refusal {
+    ghost use Rattle.std.specs.Prelude.{◌≡◌};
     ghost use Rattle.klsm_tool.specs.AnswerText.{refusal_word};
 
-    ghost output = { λ why. Some (refusal_word why) };
-
-    fn fmt<W: fmt::Write>(&self, f: &mut fmt::Formatter<W>) -> fmt::Result {
+    /// The word that stands for it in the text.
+    pub(crate) fn word(self) -> &'static [u8]
+        ensures { result.now ≡ refusal_word self }
+    {
         match self {
-            Refusal::Rows => f.write_str("rows"),
-            Refusal::Fields => f.write_str("fields"),
-            Refusal::Thread => f.write_str("thread"),
-            Refusal::Operation => f.write_str("operation"),
-            Refusal::Key => f.write_str("key"),
-            Refusal::Load => f.write_str("load"),
+            Refusal::Rows => b"rows",
+            Refusal::Fields => b"fields",
+            Refusal::Thread => b"thread",
+            Refusal::Operation => b"operation",
+            Refusal::Key => b"key",
+            Refusal::Load => b"load",
         }
     }
 }

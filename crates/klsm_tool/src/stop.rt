@@ -1,8 +1,9 @@
 //! Why no further row is answered, and the line that says so.
 
+use crate::line_text::LineText;
+use crate::output::NO_MEMORY;
 use crate::request::Refusal;
 use crate::settings::End;
-use std::fmt;
 
 /// Why no further row is answered.
 #[derive(Clone, Copy, PartialEq, Eq)]
@@ -53,26 +54,42 @@ pub(crate) struct Closing {
     pub bound: usize,
 }
 
-impl fmt::Display for Closing {
-    ghost use Rattle.std.specs.Prelude.{Some};
+impl Closing {
+    ghost use Rattle.std.specs.Prelude.{◌≡◌, ◌≤◌};
     ghost use Rattle.klsm_tool.specs.AnswerText.{closing_text};
+    ghost use Rattle.klsm_tool.specs.LineText.{made};
 
-    ghost output = { λ c. Some (closing_text c.row c.most c.bound c.stop) };
-
-    fn fmt<W: fmt::Write>(&self, f: &mut fmt::Formatter<W>) -> fmt::Result {
-        let Closing {
-            stop,
-            row,
-            most,
-            bound,
-        } = *self;
-        match stop {
-            Stop::AtEnd => writeln!(f, "max skip {most} bound {bound}"),
-            Stop::Refused(why) => writeln!(f, "refused row {row}: {why}"),
-            Stop::Full => writeln!(f, "full row {row}"),
-            Stop::NoMemory => f.write_str("no memory\n"),
-            Stop::ReadFault => f.write_str("read fault\n"),
-            Stop::WriteFault => Ok(()),
+    /// The line as it goes out.
+    pub(crate) fn text(&self) -> LineText
+        ensures start { result.start ≤ 160 }
+        ensures text { made result
+            ≡ closing_text self.now.row self.now.most self.now.bound self.now.stop }
+    {
+        let mut text = LineText::new();
+        match self.stop {
+            Stop::AtEnd => {
+                text.prepend(b"\n");
+                text.prepend_number(self.bound as u64);
+                text.prepend(b" bound ");
+                text.prepend_number(self.most as u64);
+                text.prepend(b"max skip ");
+            }
+            Stop::Refused(why) => {
+                text.prepend(b"\n");
+                text.prepend(why.word());
+                text.prepend(b": ");
+                text.prepend_number(self.row);
+                text.prepend(b"refused row ");
+            }
+            Stop::Full => {
+                text.prepend(b"\n");
+                text.prepend_number(self.row);
+                text.prepend(b"full row ");
+            }
+            Stop::NoMemory => text.prepend(NO_MEMORY),
+            Stop::ReadFault => text.prepend(b"read fault\n"),
+            Stop::WriteFault => {}
         }
+        text
     }
 }

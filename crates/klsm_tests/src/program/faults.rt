@@ -1,6 +1,7 @@
 //! A reader or a writer that fails in mid-stream.
 
 use super::process::{Input, Output, Refusal};
+use super::worked::{ANSWERS, SCRIPT};
 use super::{REPLAY, gives, run};
 use std::alloc::Global;
 use std::sync::Wait;
@@ -27,21 +28,7 @@ fn a_failed_read_follows_the_answers_before_it(rt: HostRuntime) {
     }
 }
 
-// The script of the program's first worked run, and its answers.
-const SCRIPT: &[u8] = b"0,i,5,50\n0,i,3,30\n0,i,9,90\n0,d,,\n0,d,,\n0,d,,\n0,d,,\n";
-
-const ANSWERS: &[u8] = b"\
-0 i 5 0.0
-0 i 3 0.1
-0 i 9 0.2
-0 d 3 0.1 load 30 skip 0
-0 d 5 0.0 load 50 skip 0
-0 d 9 0.2 load 90 skip 0
-0 d none
-max skip 0 bound 64
-";
-
-/// How the program of these words ends over that script and an output with so much room: its
+/// How the program of these words ends over the script and an output with so much room: its
 /// status, how many bytes the output took and how many writes it refused. `None` where the bytes do
 /// not begin with this text.
 fn cut_short(

@@ -2,6 +2,7 @@
 
 use super::process::{Input, Output, Refusal};
 use super::replayed::report_of;
+use super::worked::{ANSWERS, SCRIPT};
 use klsm_tool::{End, Pick, Report, Settings};
 use std::alloc::Global;
 use std::sync::Wait;
@@ -43,20 +44,7 @@ fn a_failed_read_is_told(rt: HostRuntime) {
     }
 }
 
-const SCRIPT: &[u8] = b"0,i,5,50\n0,i,3,30\n0,i,9,90\n0,d,,\n0,d,,\n0,d,,\n0,d,,\n";
-
-const ANSWERS: &[u8] = b"\
-0 i 5 0.0
-0 i 3 0.1
-0 i 9 0.2
-0 d 3 0.1 load 30 skip 0
-0 d 5 0.0 load 50 skip 0
-0 d 9 0.2 load 90 skip 0
-0 d none
-max skip 0 bound 64
-";
-
-/// The output of that script where it has so much room, and what the run says.
+/// The output of the script where it has so much room, and what the run says.
 fn cut_short(
     rt: &(impl AllocGlobal + Wait),
     room: usize,

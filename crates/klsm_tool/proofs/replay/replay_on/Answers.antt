@@ -1,4 +1,4 @@
-use Rattle.std.proofs.Common.{rules, [], arith, ap, sym, refl, ◌∙◌, length}
+use Rattle.std.proofs.Common.{rules, [], arith, ap, sym, ◌∙◌, length}
 use Rattle.klsm_tool.specs.Answering.{live_beside}
 use Rattle.klsm_tool.specs.Crews.{lists_in}
 use Rattle.klsm_run.specs.Content.{sorted}
@@ -6,7 +6,6 @@ use Rattle.klsm_tool.specs.Progress.{IsTold, Stands}
 use Rattle.klsm_tool.proofs.CrewLemmas.{new_crew, new_crew_shows_none}
 use Rattle.klsm_tool.proofs.OutputLemmas.{appends_nothing}
 use Rattle.klsm_tool.proofs.ClosingLemmas.{closes_few, replays, replays_nothing}
-use Rattle.klsm_tool.proofs.LengthLemmas.{closing_short}
 use Rattle.klsm_tool.proofs.replay.replay_on.Goals as goal
 
 pub returns-in_default-clause-members : goal.returns-in_default-clause-members
@@ -15,8 +14,8 @@ returns-in_default-clause-members g c =
 
 pub returns-in_default-clause-replays : goal.returns-in_default-clause-replays
 returns-in_default-clause-replays g c =
-    replays_nothing c.args.settings.now.threads c.args.settings.now.k (lists_in c.args.members.now) (g.R.Read.remaining c.args.reader) (g.W.Write.contents c.args.writer.now) _ c.report_no_memory.result
-    (λ t below. sym (new_crew_shows_none c.args.members.now t c.requires.crew)) c.report_no_memory.ensures
+    replays_nothing c.args.settings.now.threads c.args.settings.now.k (lists_in c.args.members.now) (g.R.Read.remaining c.args.reader) (g.W.Write.contents c.args.writer.now) _ c.write_last.result
+    (λ t below. sym (new_crew_shows_none c.args.members.now t c.requires.crew)) c.write_last.ensures
 
 pub answer_rows-closing-requires-clause-members : goal.answer_rows-closing-requires-clause-members
 answer_rows-closing-requires-clause-members g c =
@@ -24,11 +23,6 @@ answer_rows-closing-requires-clause-members g c =
 
 pub answer_rows-closing-requires-clause-few : goal.answer_rows-closing-requires-clause-few
 answer_rows-closing-requires-clause-few g c t below = let none = ap (λ z. length z) (new_crew_shows_none c.args.members.now t c.requires.crew) in omega (arith, none)
-
-pub close-end-requires-clause-short : goal.close-end-requires-clause-short
-close-end-requires-clause-short g c =
-    let e = c.answer_rows-closing.ensures in
-    closing_short _ _ _ _ (omega (arith, e.row)) (search rules) (search rules)
 
 pub returns-clause-replays : goal.returns-clause-replays
 returns-clause-replays g c =
@@ -41,11 +35,11 @@ returns-clause-replays g c =
       most_is = c.in-Ok.ensures.most;
     } in
     let told : IsTold (g.W.Write.contents c.args.writer.now) (g.W.Write.contents c.args.writer.now) [] c.in-Ok.replay.output = record { gone = []; appended = appends_nothing _; count = c.in-Ok.ensures.written; all = c.in-Ok.ensures.empty } in
-    replays threads k (lists_in c.answer_rows-closing.new.members) (g.R.Read.remaining c.args.reader) (g.W.Write.contents c.args.writer.now) (g.W.Write.contents c.answer_rows-closing.new.writer) (g.W.Write.contents c.close-end.new.writer) c.answer_rows-closing.result c.answer_rows-closing.new.self.output c.close-end.new.self _
-    (e.stops (g.R.Read.remaining c.args.reader) (g.W.Write.contents c.args.writer.now) stands told) e.bound refl c.close-end.ensures
+    replays threads k (lists_in c.answer_rows-closing.new.members) (g.R.Read.remaining c.args.reader) (g.W.Write.contents c.args.writer.now) (g.W.Write.contents c.answer_rows-closing.new.writer) (g.W.Write.contents c.close.new.writer) c.answer_rows-closing.result c.answer_rows-closing.new.self.output c.close.result
+    (e.stops (g.R.Read.remaining c.args.reader) (g.W.Write.contents c.args.writer.now) stands told) e.bound c.close.ensures
 
 pub returns-clause-written : goal.returns-clause-written
 returns-clause-written g c =
     let e = c.answer_rows-closing.ensures in
-    let few = closes_few (g.W.Write.contents c.answer_rows-closing.new.writer) (g.W.Write.contents c.close-end.new.writer) c.answer_rows-closing.result c.answer_rows-closing.new.self.output c.close-end.new.self c.close-end.result (omega (arith, e.row)) (search rules) (search rules) c.close-end.ensures in
+    let few = closes_few (g.W.Write.contents c.answer_rows-closing.new.writer) (g.W.Write.contents c.close.new.writer) c.answer_rows-closing.result c.answer_rows-closing.new.self.output c.close.result (omega (arith, e.row)) (search rules) (search rules) c.close.ensures in
     omega (arith, few, e.put)

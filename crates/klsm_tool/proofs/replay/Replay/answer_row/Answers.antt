@@ -1,4 +1,4 @@
-use Rattle.std.proofs.Common.{arith}
+use Rattle.std.proofs.Common.{arith, ◌∙◌}
 use Rattle.std.proofs.lemmas.Result.{err_from_is_err_and}
 use Rattle.klsm_tool.specs.AnswerText.{answer_text}
 use Rattle.klsm_tool.specs.Crews.{lists_in}
@@ -23,10 +23,12 @@ returns-in_err-line-clause-step g c input before rows lines now below told =
 pub returns-clause-put : goal.returns-clause-put
 returns-clause-put g c =
     let text = answer_text c.in_ok-line.line.line.thread c.in_ok-line.line.line.answer c.in_ok-line.line.skip in
-    omega (arith, puts_at_most (g.W.Write.contents c.send_before_wait.new.writer) (g.W.Write.contents c.put.new.writer) text c.send_before_wait.new.output c.put.new.self c.put.result c.put.ensures, c.in_ok-line.ensures.short, c.in_ok-send_before_wait.ensures.put)
+    let puts = rw (c.as_bytes.ensures.text ∙ c.text.ensures.text) at c.put.ensures in
+    omega (arith, puts_at_most (g.W.Write.contents c.send_before_wait.new.writer) (g.W.Write.contents c.put.new.writer) text c.send_before_wait.new.output c.put.new.self c.put.result puts, c.in_ok-line.ensures.short, c.in_ok-send_before_wait.ensures.put)
 
 pub returns-clause-step : goal.returns-clause-step
 returns-clause-step g c input before rows lines now below told =
     let sizes = c.args.board.now.sizes in
     let h = c.in_ok-line.ensures.step input rows lines now below in
-    line_put g.R.Read.remaining sizes.threads sizes.k (lists_in c.args.members.now) (lists_in c.next_line.new.members) input before _ _ rows lines c.args.self.now.script.rows c.next_line.new.script.rows _ _ _ _ _ _ h.0 c.in_ok-line.line c.put.result now h.1 h.2 (c.in_ok-send_before_wait.ensures.told before lines told) c.put.ensures
+    let puts = rw (c.as_bytes.ensures.text ∙ c.text.ensures.text) at c.put.ensures in
+    line_put g.R.Read.remaining sizes.threads sizes.k (lists_in c.args.members.now) (lists_in c.next_line.new.members) input before _ _ rows lines c.args.self.now.script.rows c.next_line.new.script.rows _ _ _ _ _ _ h.0 c.in_ok-line.line c.put.result now h.1 h.2 (c.in_ok-send_before_wait.ensures.told before lines told) puts

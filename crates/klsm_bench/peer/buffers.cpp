@@ -1,5 +1,5 @@
-// Answers a script as `klsm replay` does, but by one exact priority queue: what the program is
-// measured beside. It judges no row.
+// Answers a script as `klsm replay` does, but by one exact priority queue, read and written by
+// buffers of its own. It judges no row.
 #include <charconv>
 #include <cstdint>
 #include <cstdio>
