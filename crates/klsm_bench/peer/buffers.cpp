@@ -1,29 +1,14 @@
 // Answers a script as `klsm replay` does, but by one exact priority queue, read and written by
 // buffers of its own. It judges no row.
+#include "exact.hpp"
+
 #include <charconv>
 #include <cstdint>
 #include <cstdio>
 #include <cstring>
-#include <queue>
 #include <string>
-#include <tuple>
-#include <vector>
 
-struct Item {
-    uint64_t key;
-    uint32_t owner;
-    uint64_t number;
-    uint64_t load;
-};
-
-// The least item is the first to come.
-struct IsAfter {
-    bool operator()(const Item& a, const Item& b) const {
-        return std::tie(a.key, a.owner, a.number) > std::tie(b.key, b.owner, b.number);
-    }
-};
-
-static std::priority_queue<Item, std::vector<Item>, IsAfter> live;
+static Exact live;
 static uint64_t inserted[16];
 static std::string text;
 

@@ -1,31 +1,16 @@
 // Answers a script as `klsm replay` does, but by one exact priority queue, read and written by the
 // streams of the standard library. It judges no row.
+#include "exact.hpp"
+
 #include <cstdint>
 #include <cstdlib>
 #include <iostream>
-#include <queue>
 #include <string>
-#include <tuple>
-#include <vector>
-
-struct Item {
-    uint64_t key;
-    uint32_t owner;
-    uint64_t number;
-    uint64_t load;
-};
-
-// The least item is the first to come.
-struct IsAfter {
-    bool operator()(const Item& a, const Item& b) const {
-        return std::tie(a.key, a.owner, a.number) > std::tie(b.key, b.owner, b.number);
-    }
-};
 
 int main() {
     std::ios::sync_with_stdio(false);
     std::cin.tie(nullptr);
-    std::priority_queue<Item, std::vector<Item>, IsAfter> live;
+    Exact live;
     uint64_t inserted[16] = {};
     std::string row;
     while (std::getline(std::cin, row)) {
