@@ -1,7 +1,7 @@
 -- What the last line makes of a replay that has stopped.
-use Rattle.std.proofs.Common.{◌≡◌, ◌≢◌, ℕ, ◌+◌, ◌*◌, ◌<◌, ◌≤◌, ◌^◌, inl, inr, List, [], ◌∷◌, ◌++◌, length, take, Option, Some, None, refl, sym, ap, ◌∙◌, subst, arith, codes, reverse}
+use Rattle.std.proofs.Common.{◌≡◌, ◌≢◌, ℕ, ◌+◌, ◌*◌, ◌<◌, inl, inr, List, [], ◌∷◌, ◌++◌, length, take, Option, Some, None, refl, sym, ap, ◌∙◌, subst, arith, codes, reverse}
 use Rattle.std.specs.Io.KnownBytes.{Appends, Keeps}
-use Rattle.std.proofs.lemmas.List.{append-nil, append_assoc, length-append, take_all, reverse-append}
+use Rattle.std.proofs.lemmas.List.{append-nil, append_assoc, take_all, reverse-append}
 use Rattle.csv.specs.declared.parser.State.{State}
 use Rattle.csv.specs.declared.parser.State.TheVariants as state
 use Rattle.csv.specs.declared.parser.Config.{Config}
@@ -9,7 +9,6 @@ use Rattle.csv.specs.Reading.{Reached, default_config, strip_bom}
 use Rattle.klsm_world.specs.declared.step.Entry.{Entry}
 use Rattle.klsm_tool.specs.declared.answer.Line.{Line}
 use Rattle.klsm_tool.specs.declared.output.Output.{Output}
-use Rattle.klsm_tool.specs.declared.settings.End.{End}
 use Rattle.klsm_tool.specs.declared.settings.End.TheVariants as end
 use Rattle.klsm_tool.specs.declared.settings.Report.{Report}
 use Rattle.klsm_tool.specs.declared.stop.Closing.{Closing}
@@ -18,11 +17,10 @@ use Rattle.klsm_tool.specs.declared.stop.Stop.TheVariants as stop
 use Rattle.klsm_tool.specs.Script.{Row}
 use Rattle.klsm_tool.specs.Rows.{AreFirstRows, AreAllRows}
 use Rattle.klsm_tool.specs.AnswerText.{closing_text, greatest_skip, lines_text}
-use Rattle.klsm_tool.specs.Output.{Closes, pending, put_count}
+use Rattle.klsm_tool.specs.Output.{Closes, pending}
 use Rattle.klsm_tool.specs.Progress.{HasStopped, IsCutOff, IsTold, IsToldUntil}
 use Rattle.klsm_tool.specs.Shown.{AreShown}
 use Rattle.klsm_tool.specs.Replay.{Answered, AreShownUntil, GoesOrFails, GoesOut, Replays, Stopped, end_of}
-use Rattle.klsm_tool.proofs.LengthLemmas.{closing_short}
 use Rattle.klsm_tool.proofs.OutputLemmas.{appends_more, appends_none, goes_after}
 
 reached_front : (config : Config) (from after : State) (text rest : List ℕ) (rows : List Row) (row : Row) → Reached config from text (rows ++ row ∷ []) after rest → (between : State) × (left : List ℕ) × Reached config from text rows between left
@@ -169,13 +167,3 @@ replays_nothing threads k lists input before after report shown goes = record {
   stopped = no_rows input;
   goes_out = whole_or_cut before after (codes "no memory\n") stop.NoMemory report (λ e. cc) goes;
 }
-
--- no more goes out than was put, and the last line
-pub closes_few : (now after : Option (List ℕ)) (closing : Closing) (output : Output) (report : Report) → closing.row < 2 ^ 64 → closing.most < 2 ^ 64 → closing.bound < 2 ^ 64 → Closes now after closing output report → report.written ≤ put_count output + 160
-closes_few now after closing output report row most bound (inl failed) = let same = failed.3 in omega (arith, same)
-closes_few now after closing output report row most bound (inr goes) =
-    few (closing_text closing.row closing.most closing.bound closing.stop) (end_of closing.stop) (closing_short closing.row closing.most closing.bound closing.stop row most bound) goes.1
-  where
-    few : (text : List ℕ) (good : End) → length text ≤ 160 → GoesOrFails now after (pending output ++ text) output.written report.written good report.end → report.written ≤ put_count output + 160
-    few text good short (inl whole) = let long = length-append (pending output) text in let out = whole.2 in omega (arith, long, out, short)
-    few text good short (inr cut) = let long = length-append (pending output) text in let out = cut.1.3 in let less = cut.1.1 in omega (arith, long, out, less, short)

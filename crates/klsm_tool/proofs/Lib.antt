@@ -1,6 +1,5 @@
 pub mod AloneLemmas  -- a replay over a board of its own
 pub mod ClosingLemmas
-pub mod LengthLemmas
 pub mod LiveItemLemmas  -- what joins and leaves the live items
 pub mod NumberLemmas
 pub mod OptionLemmas  -- what the options of a command come to

@@ -24,14 +24,13 @@ use Rattle.klsm_tool.specs.declared.stop.Stop.{Stop}
 use Rattle.klsm_tool.specs.declared.stop.Stop.TheVariants as stop
 use Rattle.klsm_tool.specs.declared.watched.Watched.{Watched}
 use Rattle.klsm_tool.specs.Script.{Row, request_of, request_after, row_limit}
-use Rattle.klsm_tool.specs.AnswerText.{answer_text, greatest_skip, live, live_after, skip_of}
+use Rattle.klsm_tool.specs.AnswerText.{greatest_skip, live, live_after, skip_of}
 use Rattle.klsm_tool.specs.Answering.{Answers}
 use Rattle.klsm_tool.specs.Crews.{AreFew, Goes, steps_in}
 use Rattle.klsm_tool.specs.Shown.{AreShown, answers_of, shown_in}
 use Rattle.klsm_tool.specs.Turns.{GivesUp}
 use Rattle.klsm_tool.specs.Replay.{Stopped}
 use Rattle.klsm_tool.specs.Progress.{HasRead, ReadStops, Stands, StopsBefore}
-use Rattle.klsm_tool.proofs.LengthLemmas.{answer_short}
 use Rattle.klsm_tool.proofs.RowLemmas.{first_rows}
 
 -- where no row could be read, no further row is answered
@@ -151,12 +150,6 @@ pub few_after : (threads k n : ℕ) (lists lists' : List (List Entry)) (items it
     → AreFew threads (n + 1) lists'
 few_after threads k n lists lists' items items' most most' request (Ok printed) few ok err = few_next threads request.thread n lists lists' (printed.line.answer ∷ []) (omega arith) few ok.goes
 few_after threads k n lists lists' items items' most most' request (Err why) few ok err = few_next threads request.thread n lists lists' [] (omega arith) few err.0
-
--- the line is short
-pub short_after : (lists lists' : List (List Entry)) (items items' : List Item) (most most' : ℕ) (request : Request) (result : Result Printed Stop) → IfOk result (Answers request lists lists' items items' most most')
-    → IfOk result (λ printed. length (answer_text printed.line.thread printed.line.answer printed.skip) ≤ 160)
-short_after lists lists' items items' most most' request (Ok printed) ok = answer_short printed.line.thread printed.line.answer printed.skip ok.fits.0 ok.fits.1 ok.fits.2
-short_after lists lists' items items' most most' request (Err why) ok = tt
 
 -- a row beyond the limit is refused for that
 pub too_many : {R : Type 0} (rem : R → Option (List ℕ)) (threads k : ℕ) (lists : List (List Entry)) (input : Option (List ℕ)) (rows : List Row) (b : Reader (Watched R)) (row : Row)

@@ -1,5 +1,5 @@
 -- How a row is answered by a member of a board, and what is kept beside the board.
-use Rattle.std.specs.Prelude.{ℕ, ◌≡◌, ◌<◌, ◌^◌, List, [], ◌∷◌, length, max}
+use Rattle.std.specs.Prelude.{ℕ, ◌≡◌, List, [], ◌∷◌, length, max}
 use Rattle.klsm_run.specs.declared.item.Item.{Item}
 use Rattle.klsm_run.specs.Content.{sorted}
 use Rattle.klsm_world.specs.declared.step.Entry.{Entry}
@@ -8,7 +8,6 @@ use Rattle.klsm_tool.specs.declared.beside.Beside.{Beside}
 use Rattle.klsm_tool.specs.declared.request.Request.{Request}
 use Rattle.klsm_tool.specs.AnswerText.{live_after, skip_of}
 use Rattle.klsm_tool.specs.Crews.{Goes}
-use Rattle.klsm_tool.specs.Fits.{FitsAnswer}
 use Rattle.klsm_tool.specs.LiveItems.{live_content}
 use Rattle.klsm_tool.specs.Turns.{IsAnswer}
 
@@ -30,5 +29,3 @@ pub record Answers (request : Request) (lists lists' : List (List Entry)) (live 
   pub live_is : sorted live' ≡ sorted (live_after live printed.line.answer)
   pub skip : printed.skip ≡ skip_of live printed.line.answer
   pub most_is : most' ≡ max most printed.skip
-  -- the numbers of its line have 64 bits
-  pub fits : (printed.line.thread < 2 ^ 64) × FitsAnswer printed.line.answer × (printed.skip < 2 ^ 64)

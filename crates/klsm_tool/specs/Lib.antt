@@ -15,4 +15,3 @@ pub mod Program  -- what `run_words` promises
 pub mod LineText  -- the text of a line that is being made; no public contract cites it
 pub mod Output  -- what writing a line does; no public contract cites it
 pub mod Progress  -- how far a replay has come; no public contract cites it
-pub mod Fits  -- numbers of 64 bits; no public contract cites it

@@ -1,5 +1,5 @@
 //! What is kept beside a board whose members answer rows.
-ghost use Rattle.std.specs.Prelude.{◌≡◌, ◌*◌, ◌<◌, ◌≤◌, [], ◌∷◌, length, max, IfOk, IfErr};
+ghost use Rattle.std.specs.Prelude.{◌≡◌, ◌<◌, [], ◌∷◌, length, max, IfOk, IfErr};
 ghost use Rattle.klsm_run.specs.Content.{sorted};
 ghost use Rattle.klsm_world.specs.OwnSteps.{inserted};
 ghost use Rattle.klsm_tool.specs.AnswerText.{live_after, skip_of};

@@ -1,5 +1,5 @@
 //! The text that goes out: kept line by line, and sent many lines at a time.
-ghost use Rattle.std.specs.Prelude.{◌≡◌, ◌+◌, ◌<◌, ◌≤◌, ◌^◌, [], ◌++◌, length, take};
+ghost use Rattle.std.specs.Prelude.{◌≡◌, ◌+◌, ◌<◌, ◌≤◌, ◌^◌, [], length, take};
 ghost use Rattle.std.specs.Prelude.{IfOk};
 ghost use Rattle.std.specs.Io.KnownBytes.{Appends};
 ghost use Rattle.klsm_tool.specs.Output.{Puts, Flushes, Closes, pending, put_count};
@@ -65,7 +65,9 @@ impl Output {
     /// fault nothing more is written.
     pub(crate) fn close<W: Write>(&mut self, writer: &mut W, closing: Closing) -> Report
         requires { put_count self.old < 2 ^ 63 }
-        ensures { Closes (W.contents writer.old) (W.contents writer.new) closing self.old result }
+        ensures closes { Closes (W.contents writer.old) (W.contents writer.new) closing self.old
+            result }
+        ensures few { result.written ≤ put_count self.old + 160 }
     {
         if closing.stop == Stop::WriteFault {
             return Report {
@@ -111,8 +113,9 @@ pub(crate) fn write_text<W: Write>(writer: &mut W, text: &[u8]) -> usize
 /// ended.
 pub(crate) fn write_last<W: Write>(writer: &mut W, text: &[u8], written: u64, end: End) -> Report
     requires { written + length text.now < 2 ^ 64 }
-    ensures { GoesOrFails (W.contents writer.old) (W.contents writer.new) text.now written
+    ensures goes { GoesOrFails (W.contents writer.old) (W.contents writer.new) text.now written
         result.written end result.end }
+    ensures few { result.written ≤ written + length text.now }
 {
     let out = write_text(writer, text);
     let end = if out < text.len() {

@@ -1,13 +1,12 @@
 //! `klsm replay`: a script, answered row by row by the members of a board.
-ghost use Rattle.std.specs.Prelude.{◌≡◌, ◌≢◌, ℕ, ◌+◌, ◌*◌, ◌<◌, ◌≤◌, ◌^◌, List, [], ◌∷◌};
-ghost use Rattle.std.specs.Prelude.{length, Option, IfOk, MatchResult, codes};
+ghost use Rattle.std.specs.Prelude.{◌≡◌, ℕ, ◌+◌, ◌*◌, ◌<◌, ◌≤◌, ◌^◌, List, [], ◌∷◌};
+ghost use Rattle.std.specs.Prelude.{length, Option, IfOk, MatchResult};
 ghost use Rattle.std.specs.List.{All};
 ghost use Rattle.klsm_run.specs.declared.item.Item.{Item};
 ghost use Rattle.klsm_world.specs.declared.step.Entry.{Entry};
 ghost use Rattle.klsm_board.specs.Boards.{IsCrew, IsOf};
-ghost use Rattle.klsm_tool.specs.declared.settings.End.TheVariants as end;
 ghost use Rattle.klsm_tool.specs.Output.{pending, put_count};
-ghost use Rattle.klsm_tool.specs.AnswerText.{answer_text, live, skip_of};
+ghost use Rattle.klsm_tool.specs.AnswerText.{live, skip_of};
 ghost use Rattle.klsm_tool.specs.declared.answer.Line.{Line};
 ghost use Rattle.klsm_tool.specs.declared.stop.Stop.TheVariants as stop;
 ghost use Rattle.klsm_tool.specs.Script.{Row, row_limit};
@@ -15,7 +14,7 @@ ghost use Rattle.klsm_tool.specs.Crews.{AreFew, AreMembers, lists_in};
 ghost use Rattle.klsm_tool.specs.Answering.{live_beside, picker_count};
 ghost use Rattle.klsm_tool.specs.Progress.{HasRead, HasStopped, IsCutOff, IsTold, Stands};
 ghost use Rattle.klsm_tool.specs.Progress.{StopsBefore};
-ghost use Rattle.klsm_tool.specs.Replay.{GoesOrFails, Replays, ReplaysAlone, sizes_of};
+ghost use Rattle.klsm_tool.specs.Replay.{Replays, ReplaysAlone, sizes_of};
 
 use crate::answer::Printed;
 use crate::beside::Beside;
@@ -251,8 +250,6 @@ fn next_line<R: Read + Drop>(
         × (printed.skip ≡ skip_of (live lines) printed.line.answer))
         (StopsBefore board.now.sizes.threads board.now.sizes.k (lists_in members.new) input rows
         lines beside.new.most) }
-    ensures short { IfOk result (λ printed.
-        length (answer_text printed.line.thread printed.line.answer printed.skip) ≤ 160) }
 {
     script.advance()?;
     match request_of(&script.row, board.threads()) {

@@ -3,7 +3,7 @@ use Rattle.csv.specs.Records.{fields_of}
 use Rattle.klsm_tool.specs.Answering.{live_beside}
 use Rattle.klsm_tool.specs.Crews.{lists_in, steps_in}
 use Rattle.klsm_tool.specs.Script.{request_of}
-use Rattle.klsm_tool.proofs.ReplayLemmas.{refused, row_after, few_after, short_after}
+use Rattle.klsm_tool.proofs.ReplayLemmas.{refused, row_after, few_after}
 use Rattle.klsm_tool.proofs.ShownLemmas.{inserted_within}
 use Rattle.klsm_tool.proofs.replay.next_line.Goals as goal
 
@@ -25,10 +25,6 @@ returns-in-Ok-clause-step g c = λ input rows lines now below.
     let asks = ap (λ n. request_of n (fields_of c.advance.new.self.row)) (sym c.threads.ensures.threads) ∙ (sym c.request_of.ensures.request ∙ c.in-Ok.is) in
     row_after g.R.Read.remaining c.args.board.now.sizes.threads c.args.board.now.sizes.k (lists_in c.args.members.now) (lists_in c.answer.new.members) input rows lines c.args.script.now.rows c.advance.new.self.rows (live_beside c.args.beside.now) (live_beside c.answer.new.self) c.args.beside.now.most c.answer.new.self.most (fields_of c.advance.new.self.row) c.in-Ok.request c.answer.result
     now below (c.in_ok-advance.ensures input rows now.read) asks c.answer.ensures.ok c.answer.ensures.refused
-
-pub returns-in-Ok-clause-short : goal.returns-in-Ok-clause-short
-returns-in-Ok-clause-short g c =
-    short_after (lists_in c.args.members.now) (lists_in c.answer.new.members) (live_beside c.args.beside.now) (live_beside c.answer.new.self) c.args.beside.now.most c.answer.new.self.most c.in-Ok.request c.answer.result c.answer.ensures.ok
 
 pub returns-in-Err-clause-step : goal.returns-in-Err-clause-step
 returns-in-Err-clause-step g c = λ input rows lines now below.

@@ -1,11 +1,11 @@
-use Rattle.std.proofs.Common.{rules, [], arith, ap, sym, ◌∙◌, length}
+use Rattle.std.proofs.Common.{[], arith, ap, sym, ◌∙◌, length}
 use Rattle.klsm_tool.specs.Answering.{live_beside}
 use Rattle.klsm_tool.specs.Crews.{lists_in}
 use Rattle.klsm_run.specs.Content.{sorted}
 use Rattle.klsm_tool.specs.Progress.{IsTold, Stands}
 use Rattle.klsm_tool.proofs.CrewLemmas.{new_crew, new_crew_shows_none}
 use Rattle.klsm_tool.proofs.OutputLemmas.{appends_nothing}
-use Rattle.klsm_tool.proofs.ClosingLemmas.{closes_few, replays, replays_nothing}
+use Rattle.klsm_tool.proofs.ClosingLemmas.{replays, replays_nothing}
 use Rattle.klsm_tool.proofs.replay.replay_on.Goals as goal
 
 pub returns-in_default-clause-members : goal.returns-in_default-clause-members
@@ -15,7 +15,7 @@ returns-in_default-clause-members g c =
 pub returns-in_default-clause-replays : goal.returns-in_default-clause-replays
 returns-in_default-clause-replays g c =
     replays_nothing c.args.settings.now.threads c.args.settings.now.k (lists_in c.args.members.now) (g.R.Read.remaining c.args.reader) (g.W.Write.contents c.args.writer.now) _ c.write_last.result
-    (λ t below. sym (new_crew_shows_none c.args.members.now t c.requires.crew)) c.write_last.ensures
+    (λ t below. sym (new_crew_shows_none c.args.members.now t c.requires.crew)) c.write_last.ensures.goes
 
 pub answer_rows-closing-requires-clause-members : goal.answer_rows-closing-requires-clause-members
 answer_rows-closing-requires-clause-members g c =
@@ -36,10 +36,10 @@ returns-clause-replays g c =
     } in
     let told : IsTold (g.W.Write.contents c.args.writer.now) (g.W.Write.contents c.args.writer.now) [] c.in-Ok.replay.output = record { gone = []; appended = appends_nothing _; count = c.in-Ok.ensures.written; all = c.in-Ok.ensures.empty } in
     replays threads k (lists_in c.answer_rows-closing.new.members) (g.R.Read.remaining c.args.reader) (g.W.Write.contents c.args.writer.now) (g.W.Write.contents c.answer_rows-closing.new.writer) (g.W.Write.contents c.close.new.writer) c.answer_rows-closing.result c.answer_rows-closing.new.self.output c.close.result
-    (e.stops (g.R.Read.remaining c.args.reader) (g.W.Write.contents c.args.writer.now) stands told) e.bound c.close.ensures
+    (e.stops (g.R.Read.remaining c.args.reader) (g.W.Write.contents c.args.writer.now) stands told) e.bound c.close.ensures.closes
 
 pub returns-clause-written : goal.returns-clause-written
 returns-clause-written g c =
     let e = c.answer_rows-closing.ensures in
-    let few = closes_few (g.W.Write.contents c.answer_rows-closing.new.writer) (g.W.Write.contents c.close.new.writer) c.answer_rows-closing.result c.answer_rows-closing.new.self.output c.close.result (omega (arith, e.row)) (search rules) (search rules) c.close.ensures in
+    let few = c.close.ensures.few in
     omega (arith, few, e.put)

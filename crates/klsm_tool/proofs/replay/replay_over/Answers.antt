@@ -9,7 +9,7 @@ use Rattle.klsm_tool.proofs.CrewLemmas.{crew_all, written_back}
 use Rattle.klsm_tool.proofs.replay.replay_over.Goals as goal
 
 pub returns-in_default : goal.returns-in_default
-returns-in_default g c = alone_without c.args.settings.now.threads c.args.settings.now.k _ _ _ c.write_last.result c.write_last.ensures
+returns-in_default g c = alone_without c.args.settings.now.threads c.args.settings.now.k _ _ _ c.write_last.result c.write_last.ensures.goes
 
 pub finish-requires : goal.finish-requires
 finish-requires g c =
@@ -35,6 +35,6 @@ returns-in-Ok-finish g c =
 pub returns : goal.returns
 returns g c =
     let done : c.replay_on-report.result.end ≡ end.Done = search rules in
-    let goes = c.write_last-in-Err.ensures in
+    let goes = c.write_last-in-Err.ensures.goes in
     alone c.args.settings.now.threads c.args.settings.now.k _ _ _ c.write_last-in-Err.result c.in-Ok.board c.replay_on-report.new.members c.replay_on-report.ensures.members c.in-Ok.ensures.sizes
     (inr (_, c.replay_on-report.result, c.replay_on-report.ensures.replays, done, goes)) (λ ended. absurd (not_done _ _ _ _ _ _ goes ended))

@@ -1,6 +1,5 @@
 use Rattle.std.proofs.Common.{arith, ◌∙◌}
 use Rattle.std.proofs.lemmas.Result.{err_from_is_err_and}
-use Rattle.klsm_tool.specs.AnswerText.{answer_text}
 use Rattle.klsm_tool.specs.Crews.{lists_in}
 use Rattle.klsm_tool.proofs.OutputLemmas.{puts_at_most}
 use Rattle.klsm_tool.proofs.TellingLemmas.{stops_told, stops_cut, line_put}
@@ -22,9 +21,7 @@ returns-in_err-line-clause-step g c input before rows lines now below told =
 
 pub returns-clause-put : goal.returns-clause-put
 returns-clause-put g c =
-    let text = answer_text c.in_ok-line.line.line.thread c.in_ok-line.line.line.answer c.in_ok-line.line.skip in
-    let puts = rw (c.as_bytes.ensures.text ∙ c.text.ensures.text) at c.put.ensures in
-    omega (arith, puts_at_most (g.W.Write.contents c.send_before_wait.new.writer) (g.W.Write.contents c.put.new.writer) text c.send_before_wait.new.output c.put.new.self c.put.result puts, c.in_ok-line.ensures.short, c.in_ok-send_before_wait.ensures.put)
+    omega (arith, puts_at_most (g.W.Write.contents c.send_before_wait.new.writer) (g.W.Write.contents c.put.new.writer) c.as_bytes.result.now c.send_before_wait.new.output c.put.new.self c.put.result c.put.ensures, c.as_bytes.ensures.short, c.in_ok-send_before_wait.ensures.put)
 
 pub returns-clause-step : goal.returns-clause-step
 returns-clause-step g c input before rows lines now below told =
