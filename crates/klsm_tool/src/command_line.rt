@@ -11,11 +11,12 @@ ghost use Rattle.klsm_tool.specs.Program.{RunsReplayOrLacksMemory, RunsSome, Say
 ghost use Rattle.klsm_tool.specs.Program.{status_of as status_of_end};
 
 use crate::options::{settings_of, with_options};
-use crate::output::{NO_MEMORY, write_text};
+use crate::output::write_text;
 use crate::process_words::process_words;
 use crate::replay::replay_over;
 use crate::settings::{End, Settings};
 use crate::status::Status;
+use crate::stop::NO_MEMORY;
 use clap::error::ErrorKind;
 use clap::{ArgMatches, Command, Error};
 use std::alloc::{AllocError, Global};

@@ -90,9 +90,6 @@ impl Output {
     }
 }
 
-/// The line that says that memory is wanted.
-pub(crate) const NO_MEMORY: &[u8] = b"no memory\n";
-
 /// Writes all of `text`, or stops at the first write that fails or takes nothing. Answers how many
 /// bytes went out.
 pub(crate) fn write_text<W: Write>(writer: &mut W, text: &[u8]) -> usize

@@ -1,7 +1,6 @@
 //! Why no further row is answered, and the line that says so.
 
 use crate::line_text::LineText;
-use crate::output::NO_MEMORY;
 use crate::request::Refusal;
 use crate::settings::End;
 
@@ -40,6 +39,9 @@ impl Stop {
         }
     }
 }
+
+/// The line that says that memory is wanted.
+pub(crate) const NO_MEMORY: &[u8] = b"no memory\n";
 
 /// The last line of a text.
 #[derive(Clone, Copy)]
