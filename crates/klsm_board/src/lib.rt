@@ -50,7 +50,7 @@
 //! The files, from the atomic steps up: `rule` and `plays` (what always holds, and what a step tells),
 //! `steps` (acquire, release, commit), `slot` (what is done to the parts), `lending`, `taking` (one try, or as
 //! many as it needs), `inserting`, `spying`, `deleting`, and the public calls in `making`, `member`,
-//! `held` and `finishing`.
+//! `held` and `finishing`. `gate` is for programs that run members in threads.
 #![tactic(auto)]
 
 mod board;
@@ -58,6 +58,7 @@ mod boxed;
 mod deleting;
 mod errors;
 mod finishing;
+mod gate;
 mod held;
 mod inserting;
 mod lending;
@@ -74,3 +75,4 @@ mod taking;
 pub use board::{Board, Held, HoldRefused, Member};
 pub use errors::{Busy, FinishError, HoldError, InsertError, MakeError, TryInsertError};
 pub use finishing::{Account, FinishRefused};
+pub use gate::{Gate, Open};

@@ -28,6 +28,10 @@ local s = up 8 (up 8 (0 + lsm 8 (option s)) + 8)
 pub field_fits : (a b c s n limit : ℕ) → up a (up 8 (up b c + s) + n) < limit → s < limit
 field_fits a b c s n limit whole = omega (arith, whole)
 
+-- the LSM of an own part
+pub first_fits : (a b s n limit : ℕ) → up a (up b (0 + s) + n) < limit → s < limit
+first_fits a b s n limit whole = omega (arith, whole)
+
 -- a run in one of the eight slots of an own part
 pub run_fits : (s limit : ℕ) → local s < limit → s < limit
 run_fits s limit whole = omega (arith, whole)

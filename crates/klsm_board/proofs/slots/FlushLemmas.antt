@@ -1,5 +1,5 @@
 -- A flush, by its answer: what the call of the parts ensures, said of the slots.
-use Rattle.std.proofs.Common.{◌≡◌, ℕ, ◌+◌, ◌<◌, ◌≤◌, ◌↔◌, max, List, [], ◌∷◌, length, ap, ◌∙◌, arith, Result, Ok, Err, OnOk, IfErr, IsErrAnd}
+use Rattle.std.proofs.Common.{◌≡◌, ℕ, ◌+◌, ◌<◌, ◌≤◌, ◌↔◌, max, List, [], ◌∷◌, length, sym, ap, ◌∙◌, arith, Result, Ok, Err, OnOk, OnErr, IfErr, IsErrAnd}
 use Rattle.std.proofs.lemmas.List.{length-append}
 use Rattle.klsm_run.specs.declared.item.Item.{Item}
 use Rattle.klsm_run.specs.Capacity.{heap_room}
@@ -32,6 +32,20 @@ moved_few k (b ∷ bs) x full =
 -- whether it was carried out
 abbrev Answer : Type 0
 Answer = Result (Unit {0}) LsmError
+
+-- neither answer changes a part's k
+pub own_keeps_k : (own after common common_after : PartState) (blocks : List (List Item)) (answer : Answer) → OnOk answer (after ≡ record { k = own.k; blocks = blocks }) → OnErr answer ((after ≡ own) × (common_after ≡ common)) → after.k ≡ own.k
+own_keeps_k own after common common_after blocks (Ok done) ok err = ap (λ (part : PartState). part.k) ok
+own_keeps_k own after common common_after blocks (Err why) ok err = ap (λ (part : PartState). part.k) err.0
+
+pub common_keeps_k : (own own_after common after : PartState) (blocks : List (List Item)) (answer : Answer) → OnOk answer (after ≡ record { k = common.k; blocks = blocks }) → OnErr answer ((own_after ≡ own) × (after ≡ common)) → after.k ≡ common.k
+common_keeps_k own own_after common after blocks (Ok done) ok err = ap (λ (part : PartState). part.k) ok
+common_keeps_k own own_after common after blocks (Err why) ok err = ap (λ (part : PartState). part.k) err.1
+
+-- a refusal leaves what both slots have
+pub unchanged : (self shared : AnySlot) (own own_after common common_after : PartState) → self ≡ Own own → shared ≡ Common common → (answer : Answer) → OnErr answer ((own_after ≡ own) × (common_after ≡ common)) → OnErr answer ((items_in own_after ≡ slot_content self) × (items_in common_after ≡ slot_content shared))
+unchanged self shared own own_after common common_after own_is common_is (Ok done) err = err
+unchanged self shared own own_after common common_after own_is common_is (Err why) err = (ap items_in err.0 ∙ sym (own_content self own own_is), ap items_in err.1 ∙ sym (shared_content shared common common_is))
 
 module _ (levels n : ℕ) (x : Item) (self shared : AnySlot) (own_before common_before : PartState) (own_is : self ≡ Own own_before) (common_is : shared ≡ Common common_before) (count : length (items_in common_before) ≡ n) where
   -- what the call says of the contents

@@ -1,10 +1,11 @@
 -- What is said of a slot, as the part in it has it.
-use Rattle.std.proofs.Common.{◌≡◌, ℕ, List, length, sym, ap, ◌∙◌, subst}
+use Rattle.std.proofs.Common.{◌≡◌, ℕ, List, length, Bool, true, false, MatchBool, sym, ap, ◌∙◌, subst}
 use Rattle.std.specs.List.{Contains}
 use Rattle.klsm_run.specs.declared.item.Item.{Item}
 use Rattle.klsm_run.specs.Content.{sorted, ShareNone}
 use Rattle.klsm_run.proofs.ContainsLemmas.{contains_sorted}
 use Rattle.klsm_parts.specs.Parts.{PartState, items_in}
+use Rattle.klsm_parts.specs.Events.{MayPut, own_after_put}
 use Rattle.klsm_board.specs.declared.slot.Slot.{Slot}
 use Rattle.klsm_board.specs.declared.slot.Slot.TheVariants.{Own, Common}
 use Rattle.klsm_board.specs.Slots.{slot_content, IsSlotOf}
@@ -28,6 +29,26 @@ own_k k p slot own is kind = let own_kind = subst (IsSlotOf k p) is kind in own_
 -- and the shared part has it too
 pub shared_k : (k p : ℕ) (slot : AnySlot) (shared : PartState) → slot ≡ Common shared → IsSlotOf k p slot → shared.k ≡ k
 shared_k k p slot shared is kind = let shared_kind = subst (IsSlotOf k p) is kind in shared_kind.1
+
+-- a slot stays one of a member where its part keeps its k
+pub keeps_own : (slot : AnySlot) (own new : PartState) → slot ≡ Own own → new.k ≡ own.k → (k p : ℕ) → IsSlotOf k p slot → IsSlotOf k p (Own new)
+keeps_own slot own new is same k p kind = let own_kind = subst (IsSlotOf k p) is kind in (own_kind.0, same ∙ own_kind.1)
+
+-- the same of the shared part's slot
+pub keeps_shared : (slot : AnySlot) (shared new : PartState) → slot ≡ Common shared → new.k ≡ shared.k → (k : ℕ) → IsSlotOf k 0 slot → IsSlotOf k 0 (Common new)
+keeps_shared slot shared new is same k kind = let shared_kind = subst (IsSlotOf k 0) is kind in (shared_kind.0, same ∙ shared_kind.1)
+
+-- what a try to put an item into the part does to the slot's content
+pub put_done : (slot : AnySlot) (own new : PartState) (x : Item) (done : Bool) → slot ≡ Own own
+    → MatchBool done ((MayPut own.k (items_in own)) × (items_in new ≡ own_after_put (items_in own) x)) ((length (items_in own) ≡ own.k) × (new ≡ own))
+    → (k p : ℕ) → IsSlotOf k p slot
+    → MatchBool done ((MayPut k (slot_content slot)) × (items_in new ≡ own_after_put (slot_content slot) x)) ((length (slot_content slot) ≡ k) × (items_in new ≡ slot_content slot))
+put_done slot own new x true is told k p kind =
+    let there = sym (own_content slot own is) in
+    (subst (λ (n : ℕ). MayPut n (slot_content slot)) (own_k k p slot own is kind) (subst (λ (c : List Item). MayPut own.k c) there told.0), told.1 ∙ ap (λ (c : List Item). own_after_put c x) there)
+put_done slot own new x false is told k p kind =
+    let there = own_content slot own is in
+    (ap length there ∙ (told.0 ∙ own_k k p slot own is kind), ap items_in told.1 ∙ sym there)
 
 -- the part in a slot of k items is full
 pub is_full : (k p : ℕ) (slot : AnySlot) (own : PartState) → slot ≡ Own own → IsSlotOf k p slot → length (slot_content slot) ≡ k → length (items_in own) ≡ own.k

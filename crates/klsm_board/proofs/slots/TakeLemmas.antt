@@ -11,6 +11,15 @@ use Rattle.klsm_board.specs.Slots.{slot_content, IsSlotOf}
 use Rattle.klsm_board.specs.Choosing.{Chooses}
 use Rattle.klsm_board.proofs.slots.KindLemmas.{AnySlot, own_content, shared_content, own_k}
 
+-- no answer changes a part's k
+pub own_keeps_k : (own after common common_after : PartState) (answer : Option Item) → MatchOption answer ((after ≡ own) × (common_after ≡ common)) (λ item. Leaves item own after common common_after) → after.k ≡ own.k
+own_keeps_k own after common common_after None left = ap (λ (part : PartState). part.k) left.0
+own_keeps_k own after common common_after (Some item) left = left.0
+
+pub common_keeps_k : (own own_after common after : PartState) (answer : Option Item) → MatchOption answer ((own_after ≡ own) × (after ≡ common)) (λ item. Leaves item own own_after common after) → after.k ≡ common.k
+common_keeps_k own own_after common after None left = ap (λ (part : PartState). part.k) left.1
+common_keeps_k own own_after common after (Some item) left = left.1
+
 module _ {P : Type 0} (may_pick : P → ℕ → ℕ → P → Type 0) (before after : P) (self shared : AnySlot) (own_before common_before own_after common_after : PartState)
     (own_is : self ≡ Own own_before) (common_is : shared ≡ Common common_before) (same_k : own_before.k ≡ common_before.k) where
   -- what the call says of the picker

@@ -1,5 +1,5 @@
 -- The slots and the members of a new board.
-use Rattle.std.proofs.Common.{◌≡◌, ℕ, zero, suc, replicate, ◌+◌, ◌<◌, List, [], ◌∷◌, ◌++◌, length, get_or, slice_index_or, sym, refl, ap, ◌∙◌, subst, arith}
+use Rattle.std.proofs.Common.{◌≢◌, ◌≡◌, ℕ, zero, suc, replicate, ◌+◌, ◌<◌, List, [], ◌∷◌, ◌++◌, length, get_or, slice_index_or, sym, refl, ap, ◌∙◌, subst, arith}
 use mathlib.Core.Option.{some, some-injective, some-ne-none}
 use lib.ListN.{get_elem?}
 use Rattle.atomic_table.specs.Table.{Me}
@@ -7,6 +7,7 @@ use Rattle.klsm_parts.specs.Parts.{PartState}
 use Rattle.klsm_world.specs.declared.step.Entry.{Entry}
 use Rattle.klsm_world.specs.OwnSteps.{inserted}
 use Rattle.klsm_world.specs.Worlds.{first_world}
+use Rattle.klsm_board.specs.declared.errors.MakeError.TheVariants.{BadThreads, BadK, BadQuota, NoMemory}
 use Rattle.klsm_board.specs.declared.sizes.Sizes.{Sizes}
 use Rattle.klsm_board.specs.declared.rule.View.{View}
 use Rattle.klsm_board.specs.declared.slot.Slot.{Slot}
@@ -80,3 +81,13 @@ rests_at_first m t me thread is = subst (λ (z : Me (Slot PartState PartState) V
   thread = thread;
   reached = ∣ fresh_is_reached m t thread ∣₁;
 })
+
+-- want of memory is no other cause
+pub memory_is_not_threads : NoMemory ≢ BadThreads
+memory_is_not_threads same = cc
+
+pub memory_is_not_k : NoMemory ≢ BadK
+memory_is_not_k same = cc
+
+pub memory_is_not_quota : NoMemory ≢ BadQuota
+memory_is_not_quota same = cc

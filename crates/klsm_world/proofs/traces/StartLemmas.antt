@@ -36,6 +36,16 @@ are_limits limits threads k =
       k_in_range = elim (cases_lt 128 limits.k) [ inl many ↦ absurd (k (some, most, many)) | inr few ↦ few ];
     }
 
+-- the causes differ
+pub k_is_not_threads : BadK ≢ BadThreads
+k_is_not_threads same = cc
+
+pub memory_is_not_threads : NoMemory ≢ BadThreads
+memory_is_not_threads same = cc
+
+pub memory_is_not_k : NoMemory ≢ BadK
+memory_is_not_k same = cc
+
 -- what is refused for want of memory is refused for nothing else
 pub only_memory : {T Bad : Type 0} (result : Result T WorldError) (why other : WorldError) → NoMemory ≢ other → IsErrAnd result (λ error. error ≡ why)
     → why ≡ NoMemory → (Bad → ⊥) → IsErrAnd result (λ error. error ≡ other) ↔ Bad

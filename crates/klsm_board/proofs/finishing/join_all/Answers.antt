@@ -1,5 +1,6 @@
 use Rattle.std.proofs.Common.{[], length, sym, subst, ◌∙◌, append-nil}
 use Rattle.std.proofs.lemmas.List.{nil_from_length}
+use Rattle.klsm_parts.proofs.FitLemmas.{local_fits, shared_fits}
 use Rattle.klsm_board.specs.Slots.{slot_content, IsSlotOf}
 use Rattle.klsm_board.proofs.table.OpeningLemmas.{gathers}
 use Rattle.klsm_board.proofs.ending.JoinLemmas.{AreJoined, join_last, joins_one, joined_all, last_of_whole}
@@ -36,3 +37,9 @@ returns-clause-knows g c =
     let left = c.loop-member.members in
     joined_all c.args.members.items left.items c.loop-member.seat.me.0 c.loop-member.invariant.1
     (nil_from_length left.items (sym left.ok.0 ∙ c.in_default-pop.ensures.cases.0))
+
+pub join_seat-requires-room-P-TableRule : goal.join_seat-requires-room-P-TableRule
+join_seat-requires-room-P-TableRule g c κs = local_fits _ c.in-Some-pop.member.capacity
+
+pub join_seat-requires-room-P-TableRule-2 : goal.join_seat-requires-room-P-TableRule-2
+join_seat-requires-room-P-TableRule-2 g c κs = shared_fits _ c.in-Some-pop.member.levels

@@ -1,5 +1,6 @@
 use Rattle.std.proofs.Common.{rules, arith, ◌≡◌, ◌<◌, ◌+◌, ◌-◌, List, [], ◌∷◌, ◌++◌, length, slice_index_or, sym, ap, ◌∙◌, length-append}
 use lib.ListN.{get_elem?}
+use Rattle.klsm_parts.proofs.FitLemmas.{local_fits, shared_fits}
 use Rattle.klsm_board.specs.declared.board.Member.{Member}
 use Rattle.klsm_board.specs.Boards.{IsOf, own_steps}
 use Rattle.klsm_board.proofs.table.MakeLemmas.{so_many_fresh, at_new_end, found_at}
@@ -9,7 +10,7 @@ pub next_member-requires : goal.next_member-requires
 next_member-requires g c =
     let inv = c.loop-number.invariant in let n = c.loop-number.number in let left = c.args.board.now.sizes.threads - n in
     let test : n < c.args.board.now.sizes.threads = c.loop-number-test.true in
-    (search rules, (search rules, (search rules, (search rules, (test, (inv.of_table, (left - 1, so_many_fresh n left ((left - 1) + 1) c.loop-number.seat.me (omega (arith, test)) inv.left)))))))
+    (search rules, (local_fits _ c.args.board.now.capacity, (shared_fits _ c.args.board.now.levels, (search rules, (test, (inv.of_table, (left - 1, so_many_fresh n left ((left - 1) + 1) c.loop-number.seat.me (omega (arith, test)) inv.left)))))))
 
 pub loop-number-preserved : goal.loop-number-preserved
 loop-number-preserved g c =
@@ -33,3 +34,12 @@ returns-clause-of g c k d h =
 
 pub returns-clause-crew : goal.returns-clause-crew
 returns-clause-crew g c i member at = let told = c.loop-number.invariant.members i member at in (told.0, told.2)
+
+pub drop-seat-requires-room-S-Destruct : goal.drop-seat-requires-room-S-Destruct
+drop-seat-requires-room-S-Destruct g c κs = shared_fits _ c.args.board.now.levels
+
+pub drop-seat-requires-in_err-push-room-S-Destruct : goal.drop-seat-requires-in_err-push-room-S-Destruct
+drop-seat-requires-in_err-push-room-S-Destruct g c κs = shared_fits _ c.args.board.now.levels
+
+pub drop-seat-requires-2-room-S-Destruct : goal.drop-seat-requires-2-room-S-Destruct
+drop-seat-requires-2-room-S-Destruct g c κs = shared_fits _ c.args.board.now.levels

@@ -1,5 +1,6 @@
 use Rattle.std.proofs.Common.{arith, ◌≡◌, ◌+◌, ◌*◌, List, [], ◌∷◌, sym, ap, ◌∙◌, subst}
 use Rattle.atomic_table.specs.Table.{Splits}
+use Rattle.klsm_parts.proofs.FitLemmas.{local_fits, shared_fits}
 use Rattle.klsm_board.specs.declared.rule.Own.{Own}
 use Rattle.klsm_board.specs.Slots.{slot_content, IsSlotOf}
 use Rattle.klsm_board.specs.Rule.{own, view, fresh, Ruled}
@@ -23,3 +24,18 @@ invariant_of-result-clause-rests g c =
     let h = c.requires.view in let n = c.args.number in
     let is : c.args.seat.now.me.0.lists ≡ own n [] ∷ fresh (n + 1) h.0 = ap (λ z. z.0.lists) h.1 ∙ one_more_fresh h.0 n in
     rests_at_first c.args.board.now.sizes n c.split_seat.result.me c.requires.number (c.split_seat.ensures.4 ∙ ap (λ (z : List Own). (view (first_of_all z), [])) is)
+
+pub split_seat-requires-room-P-TableRule : goal.split_seat-requires-room-P-TableRule
+split_seat-requires-room-P-TableRule g c κs = local_fits _ c.args.board.now.capacity
+
+pub split_seat-requires-room-P-TableRule-2 : goal.split_seat-requires-room-P-TableRule-2
+split_seat-requires-room-P-TableRule-2 g c κs = shared_fits _ c.args.board.now.levels
+
+pub invariant_of-result-clause-in_range : goal.invariant_of-result-clause-in_range
+invariant_of-result-clause-in_range g c = c.args.board.now.in_range
+
+pub invariant_of-result-clause-capacity : goal.invariant_of-result-clause-capacity
+invariant_of-result-clause-capacity g c = c.args.board.now.capacity
+
+pub invariant_of-result-clause-levels : goal.invariant_of-result-clause-levels
+invariant_of-result-clause-levels g c = c.args.board.now.levels

@@ -1,7 +1,8 @@
-use Rattle.std.proofs.Common.{rules, arith, ◌≡◌, ℕ, ◌+◌, List, [], ◌∷◌, replicate, sym, subst}
+use Rattle.std.proofs.Common.{rules, arith, ◌≡◌, ℕ, ◌+◌, List, [], ◌∷◌, replicate, length, refl, sym, ap, ◌∙◌, subst}
 use lib.ListN.{length-replicate}
 use Rattle.atomic_table.specs.Table.{opening}
 use Rattle.klsm_parts.specs.Parts.{PartState}
+use Rattle.klsm_parts.proofs.FitLemmas.{local_fits, shared_fits}
 use Rattle.klsm_board.specs.declared.sizes.Sizes.{Sizes}
 use Rattle.klsm_board.specs.declared.slot.Slot.{Slot}
 use Rattle.klsm_board.specs.declared.slot.Slot.TheVariants.{Own, Common}
@@ -21,3 +22,35 @@ new-requires g c =
     let n = length-replicate m.threads own in
     subst (λ (z : List ℕ × List (Slot PartState PartState)). Ruled slot_content IsSlotOf m (opening z.0 z.1 (everyone m))) (λ i. (sym words_are i, sym slots_are i))
     (opens slot_content IsSlotOf m slots (omega (arith, n)) (λ i y e. first_slots m i y e))
+
+pub new-requires-room-P-TableRule : goal.new-requires-room-P-TableRule
+new-requires-room-P-TableRule g c κs = local_fits _ c.requires.capacity
+
+pub new-requires-room-P-TableRule-2 : goal.new-requires-room-P-TableRule-2
+new-requires-room-P-TableRule-2 g c κs = shared_fits _ c.requires.levels
+
+pub drop-requires-room-T-Destruct : goal.drop-requires-room-T-Destruct
+drop-requires-room-T-Destruct g c κs = shared_fits _ c.requires.levels
+
+pub overflow_add-sizes : goal.overflow_add-sizes
+overflow_add-sizes g c = omega (arith, c.requires.sizes.threads)
+
+pub overflow_mul-sizes : goal.overflow_mul-sizes
+overflow_mul-sizes g c = omega (arith, c.requires.sizes.threads)
+
+pub parts-requires : goal.parts-requires
+parts-requires g c = (local_fits _ c.requires.capacity, (shared_fits _ c.requires.levels, (c.requires.capacity, (c.requires.levels, c.requires.sizes.k))))
+
+pub invariant_of-result : goal.invariant_of-result
+invariant_of-result g c =
+    let m : Sizes = c.args.sizes in
+    let own : Slot PartState PartState = Own (record { k = m.k; blocks = [] }) in
+    let told = c.in-Ok.ensures.ok in
+    let words_are : c.as_slice.result.now ≡ replicate (place (m.threads + 1)) 0 = search rules in
+    let slots_are : c.in_ok-slots.slots.items ≡ Common (record { k = m.k; blocks = [] }) ∷ replicate m.threads own = search rules in
+    let words : length c.as_slice.result.now ≡ place (m.threads + 1) = ap length words_are ∙ length-replicate (place (m.threads + 1)) 0 in
+    let slots : length c.in_ok-slots.slots.items ≡ m.threads + 1 = omega (arith, ap length slots_are, length-replicate m.threads own) in
+    record { key = told.5; sized = (told.0 ∙ words, told.1 ∙ slots, c.requires.sizes.threads); in_range = c.requires.sizes; capacity = c.requires.capacity; levels = c.requires.levels }
+
+pub returns : goal.returns
+returns g c = let told = c.in-Ok.ensures.ok in (refl, told.2, told.4)

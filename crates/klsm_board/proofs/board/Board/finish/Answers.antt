@@ -7,6 +7,7 @@ use Rattle.atomic_table.specs.Table.{Final, Seen}
 use Rattle.klsm_parts.specs.Parts.{PartState}
 use Rattle.klsm_world.specs.OwnSteps.{inserted, deleted}
 use Rattle.klsm_world.proofs.kept.LiveListLemmas.{sorted_by_sort}
+use Rattle.klsm_parts.proofs.FitLemmas.{local_fits, shared_fits}
 use Rattle.klsm_board.specs.declared.board.Member.{Member}
 use Rattle.klsm_board.specs.declared.errors.FinishError.{FinishError}
 use Rattle.klsm_board.specs.declared.errors.FinishError.TheVariants.{Missing, NoMemory}
@@ -53,7 +54,7 @@ join_all-seat-requires g c =
     let members = c.args.members.items in let board = c.args.self in
     let all = subst (λ (z : List (Member g.row.CAP g.row.LEVELS)). AreAll z board.sizes.threads) c.as_slice.ensures.value c.in-Ok.ensures.ok.0 in
     let first = all 0 (omega (arith, board.in_range.some_thread)) in let some_member : 0 < length members = omega (arith, place_within members first.0 first.1 first.2) in
-    (search rules, (search rules, (search rules, ((λ i member there. (each_of (λ z. IsOf z board) members c.requires i member there).0), (omega (arith, board.sized.0), some_member)))))
+    (local_fits _ board.capacity, (shared_fits _ board.levels, (search rules, ((λ i member there. (each_of (λ z. IsOf z board) members c.requires i member there).0), (omega (arith, board.sized.0), some_member)))))
 
 pub list_parts-requires-clause-room : goal.list_parts-requires-clause-room
 list_parts-requires-clause-room g c =
@@ -82,3 +83,24 @@ returns-clause-each_once g c =
     let members = c.args.members.items in let board = c.args.self in
     let all = subst (λ (z : List (Member g.row.CAP g.row.LEVELS)). AreAll z board.sizes.threads) c.as_slice.ensures.value c.in-Ok.ensures.ok.0 in
     (ends_of g.row.CAP g.row.LEVELS board.table.shared.key board.sizes members c.join_all-seat.result.me.0 c.join_all-seat.result.id (slots_items c.close_with-closed.result.words) (slots_items c.close_with-closed.result.slots) board.key all c.join_all-seat.ensures.knows c.close_with-closed.ensures.values.2).each_once
+
+pub close_with-closed-requires-room-P-TableRule : goal.close_with-closed-requires-room-P-TableRule
+close_with-closed-requires-room-P-TableRule g c κs = local_fits _ c.args.self.capacity
+
+pub list_parts-requires-room-S-PartSlot : goal.list_parts-requires-room-S-PartSlot
+list_parts-requires-room-S-PartSlot g c κs = local_fits _ c.args.self.capacity
+
+pub list_parts-requires-room-S-PartSlot-2 : goal.list_parts-requires-room-S-PartSlot-2
+list_parts-requires-room-S-PartSlot-2 g c κs = shared_fits _ c.args.self.levels
+
+pub list_parts-requires-room-S-Holding : goal.list_parts-requires-room-S-Holding
+list_parts-requires-room-S-Holding g c κs = local_fits _ c.args.self.capacity
+
+pub list_parts-requires-room-S-Holding-2 : goal.list_parts-requires-room-S-Holding-2
+list_parts-requires-room-S-Holding-2 g c κs = shared_fits _ c.args.self.levels
+
+pub list_parts-requires-room-S-Destruct : goal.list_parts-requires-room-S-Destruct
+list_parts-requires-room-S-Destruct g c κs = shared_fits _ c.args.self.levels
+
+pub close_with-closed-requires-room-P-TableRule-2 : goal.close_with-closed-requires-room-P-TableRule-2
+close_with-closed-requires-room-P-TableRule-2 g c κs = shared_fits _ c.args.self.levels

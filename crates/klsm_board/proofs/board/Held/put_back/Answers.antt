@@ -2,6 +2,7 @@ use Rattle.std.proofs.Common.{List, ◌∷◌, ◌∙◌, [], length, sym, ap, r
 use Rattle.klsm_run.specs.declared.item.Item.{Item}
 use Rattle.klsm_world.specs.declared.step.Entry.TheVariants.{Released}
 use Rattle.klsm_world.specs.OwnSteps.{content_in, hand_of}
+use Rattle.klsm_parts.proofs.FitLemmas.{local_fits, shared_fits}
 use Rattle.klsm_board.specs.Steps.{mine}
 use Rattle.klsm_board.specs.Seats.{Has, Stands}
 use Rattle.klsm_board.specs.Slots.{slot_content, IsSlotOf}
@@ -47,3 +48,9 @@ returns-clause-same g c =
       inserted_are = sym quiet.inserted_are;
       deleted_are = sym quiet.deleted_are;
     }
+
+pub give_part-requires-room-S-Holding : goal.give_part-requires-room-S-Holding
+give_part-requires-room-S-Holding g c κs = local_fits _ c.args.self.capacity
+
+pub give_part-requires-room-S-Holding-2 : goal.give_part-requires-room-S-Holding-2
+give_part-requires-room-S-Holding-2 g c κs = shared_fits _ c.args.self.levels

@@ -1,6 +1,7 @@
 use Rattle.std.proofs.Common.{◌≡◌, ◌+◌, ◌∙◌, [], length, sym, subst, arith}
 use Rattle.std.specs.Option.{option_to_list}
 use Rattle.klsm_world.specs.OwnSteps.{inserted, deleted}
+use Rattle.klsm_parts.proofs.FitLemmas.{local_fits, shared_fits}
 use Rattle.klsm_board.specs.Steps.{mine}
 use Rattle.klsm_board.specs.Seats.{Has}
 use Rattle.klsm_board.specs.Slots.{slot_content, IsSlotOf}
@@ -48,3 +49,18 @@ returns-else-is_some-clause-adds g c =
     let ok = did.ensures.ok in
     let gains : Gains es es' [] (option_to_list did.result) = answer_gains board.table.shared.key t ok.2 ok.3 es (both_taken t ok.0 ok.1 ok.2 ok.3 es) es' (both_quiet t ok.0 ok.1 ok.2 ok.3 es) g.P.Picker.may_pick c.args.picker.now did.new.picker did.result ok.4 in
     record { inserted_are = gains.inserted_are; deleted_are = gains.deleted_are }
+
+pub delete_in_time-answer-requires-room-S-PartSlot : goal.delete_in_time-answer-requires-room-S-PartSlot
+delete_in_time-answer-requires-room-S-PartSlot g c κs within = local_fits _ c.args.self.now.capacity
+
+pub delete_in_time-answer-requires-room-S-PartSlot-2 : goal.delete_in_time-answer-requires-room-S-PartSlot-2
+delete_in_time-answer-requires-room-S-PartSlot-2 g c κs within = shared_fits _ c.args.self.now.levels
+
+pub delete_in_time-answer-requires-room-S-Holding : goal.delete_in_time-answer-requires-room-S-Holding
+delete_in_time-answer-requires-room-S-Holding g c κs within = local_fits _ c.args.self.now.capacity
+
+pub delete_in_time-answer-requires-room-S-Holding-2 : goal.delete_in_time-answer-requires-room-S-Holding-2
+delete_in_time-answer-requires-room-S-Holding-2 g c κs within = shared_fits _ c.args.self.now.levels
+
+pub delete_in_time-answer-requires-room-S-Destruct : goal.delete_in_time-answer-requires-room-S-Destruct
+delete_in_time-answer-requires-room-S-Destruct g c κs within = shared_fits _ c.args.self.now.levels

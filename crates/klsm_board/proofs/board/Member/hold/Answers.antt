@@ -2,6 +2,7 @@ use Rattle.std.proofs.Common.{◌∷◌, ◌++◌, ◌∙◌, [], List, length, 
 use Rattle.klsm_run.specs.declared.item.Item.{Item}
 use Rattle.klsm_world.specs.declared.step.Entry.TheVariants.{Acquired, Missed}
 use Rattle.klsm_world.specs.OwnSteps.{hand_of}
+use Rattle.klsm_parts.proofs.FitLemmas.{local_fits, shared_fits}
 use Rattle.klsm_board.specs.Steps.{mine}
 use Rattle.klsm_board.specs.Seats.{Has, Stands}
 use Rattle.klsm_board.specs.Slots.{slot_content, IsSlotOf}
@@ -63,3 +64,24 @@ returns-clause-ok g c =
       refl,
       list ∙ ap (λ found. mine me.seat.me.0 ++ Acquired c.args.lock found ∷ []) (sym (content_held c.args.lock took.0 (hand_of t (mine after.0)) has.hand_is)),
     )
+
+pub take_now-requires-room-S-Holding : goal.take_now-requires-room-S-Holding
+take_now-requires-room-S-Holding g c κs = local_fits _ c.args.self.capacity
+
+pub take_now-requires-room-S-Holding-2 : goal.take_now-requires-room-S-Holding-2
+take_now-requires-room-S-Holding-2 g c κs = shared_fits _ c.args.self.levels
+
+pub look-len-requires-room-S-PartSlot : goal.look-len-requires-room-S-PartSlot
+look-len-requires-room-S-PartSlot g c κs = local_fits _ c.args.self.capacity
+
+pub look-len-requires-room-S-PartSlot-2 : goal.look-len-requires-room-S-PartSlot-2
+look-len-requires-room-S-PartSlot-2 g c κs = shared_fits _ c.args.self.levels
+
+pub look-len-requires-room-S-Holding : goal.look-len-requires-room-S-Holding
+look-len-requires-room-S-Holding g c κs = local_fits _ c.args.self.capacity
+
+pub look-len-requires-room-S-Holding-2 : goal.look-len-requires-room-S-Holding-2
+look-len-requires-room-S-Holding-2 g c κs = shared_fits _ c.args.self.levels
+
+pub look-len-requires-room-S-Destruct : goal.look-len-requires-room-S-Destruct
+look-len-requires-room-S-Destruct g c κs = shared_fits _ c.args.self.levels

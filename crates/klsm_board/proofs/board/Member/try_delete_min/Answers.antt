@@ -1,6 +1,7 @@
 use Rattle.std.proofs.Common.{◌≡◌, ◌+◌, ◌∙◌, [], length, sym, subst, arith}
 use Rattle.std.specs.Option.{option_to_list}
 use Rattle.klsm_world.specs.OwnSteps.{inserted, deleted}
+use Rattle.klsm_parts.proofs.FitLemmas.{local_fits, shared_fits}
 use Rattle.klsm_board.specs.Steps.{mine}
 use Rattle.klsm_board.specs.Seats.{Has}
 use Rattle.klsm_board.specs.Slots.{slot_content, IsSlotOf}
@@ -58,3 +59,18 @@ invariant_of-self g c =
     let counts = gained_counts es es' [] [] me.inserted me.deleted gains rests.insertions_are rests.deletions_are in
     let first : length (inserted es') ≡ me.inserted = omega (arith, counts.0) in let second : length (deleted es') ≡ me.deleted = omega (arith, counts.1) in
     record { rests = rests_after g.row.CAP me.sizes me.in_range t me.inserted me.deleted did.new.seat.me (subst (λ m. Has slot_content IsSlotOf m t [] did.new.seat.me) same c.in_err-answer.ensures.has) first second; in_range = me.in_range; capacity = me.capacity; levels = me.levels }
+
+pub delete_now-requires-room-S-PartSlot : goal.delete_now-requires-room-S-PartSlot
+delete_now-requires-room-S-PartSlot g c κs within = local_fits _ c.args.self.now.capacity
+
+pub delete_now-requires-room-S-PartSlot-2 : goal.delete_now-requires-room-S-PartSlot-2
+delete_now-requires-room-S-PartSlot-2 g c κs within = shared_fits _ c.args.self.now.levels
+
+pub delete_now-requires-room-S-Holding : goal.delete_now-requires-room-S-Holding
+delete_now-requires-room-S-Holding g c κs within = local_fits _ c.args.self.now.capacity
+
+pub delete_now-requires-room-S-Holding-2 : goal.delete_now-requires-room-S-Holding-2
+delete_now-requires-room-S-Holding-2 g c κs within = shared_fits _ c.args.self.now.levels
+
+pub delete_now-requires-room-S-Destruct : goal.delete_now-requires-room-S-Destruct
+delete_now-requires-room-S-Destruct g c κs within = shared_fits _ c.args.self.now.levels

@@ -1,5 +1,6 @@
 use Rattle.std.proofs.Common.{rules, ◌≡◌, ◌+◌, ◌∷◌, ◌∙◌, [], length, sym, subst, arith}
 use Rattle.klsm_world.specs.OwnSteps.{inserted, deleted}
+use Rattle.klsm_parts.proofs.FitLemmas.{local_fits, shared_fits}
 use Rattle.klsm_board.specs.Steps.{mine}
 use Rattle.klsm_board.specs.Seats.{Has}
 use Rattle.klsm_board.specs.Slots.{slot_content, IsSlotOf}
@@ -27,3 +28,18 @@ invariant_of-self-2 g c =
 
 pub returns-then-self-clause-refused : goal.returns-then-self-clause-refused
 returns-then-self-clause-refused g c = search rules
+
+pub insert_now-requires-room-S-PartSlot : goal.insert_now-requires-room-S-PartSlot
+insert_now-requires-room-S-PartSlot g c κs = local_fits _ c.args.self.now.capacity
+
+pub insert_now-requires-room-S-PartSlot-2 : goal.insert_now-requires-room-S-PartSlot-2
+insert_now-requires-room-S-PartSlot-2 g c κs = shared_fits _ c.args.self.now.levels
+
+pub insert_now-requires-room-S-Holding : goal.insert_now-requires-room-S-Holding
+insert_now-requires-room-S-Holding g c κs = local_fits _ c.args.self.now.capacity
+
+pub insert_now-requires-room-S-Holding-2 : goal.insert_now-requires-room-S-Holding-2
+insert_now-requires-room-S-Holding-2 g c κs = shared_fits _ c.args.self.now.levels
+
+pub insert_now-requires-room-S-Destruct : goal.insert_now-requires-room-S-Destruct
+insert_now-requires-room-S-Destruct g c κs = shared_fits _ c.args.self.now.levels

@@ -14,3 +14,9 @@ pub returns-in-Common-clause-succeeds : goal.returns-in-Common-clause-succeeds
 returns-in-Common-clause-succeeds g c =
     let same = ap (λ s. length (slot_content s)) c.in-Common.is ∙ (ap (λ (p : PartState). length (items_in p)) (sym c.get-in-Common.ensures) ∙ so_many_in c.get-in-Common.result.now) in
     λ room. c.append_to-in-Common.ensures.succeeds (omega (arith, room, same))
+
+pub append_to-requires : goal.append_to-requires
+append_to-requires g c = search
+
+pub append_to-requires-in-Common : goal.append_to-requires-in-Common
+append_to-requires-in-Common g c = search

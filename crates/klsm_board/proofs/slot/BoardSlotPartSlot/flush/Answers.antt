@@ -3,8 +3,8 @@ use Rattle.klsm_run.proofs.SortedLemmas.{length_sorted}
 use Rattle.klsm_parts.specs.Parts.{items_in}
 use Rattle.klsm_parts.proofs.FitLemmas.{local_fits, shared_fits}
 use Rattle.klsm_board.specs.declared.slot.Slot.TheVariants.{Own, Common}
-use Rattle.klsm_board.proofs.slots.KindLemmas.{own_content, shared_content, is_full, absent_unsorted, apart_unsorted}
-use Rattle.klsm_board.proofs.slots.FlushLemmas.{flushed, lacks_room}
+use Rattle.klsm_board.proofs.slots.KindLemmas.{own_content, shared_content, is_full, absent_unsorted, apart_unsorted, keeps_own, keeps_shared}
+use Rattle.klsm_board.proofs.slots.FlushLemmas.{flushed, lacks_room, own_keeps_k, common_keeps_k, unchanged}
 use Rattle.klsm_board.proofs.slot.BoardSlotPartSlot.flush.Goals as goal
 
 pub flush-requires : goal.flush-requires
@@ -41,3 +41,23 @@ returns-clause-full g c =
     let parts = c.requires.parts in
     lacks_room g.row.LEVELS _ c.args.item c.args.self.now c.args.shared.now own common own_is common_is (length_sorted _)
     (is_full parts.0 _ c.args.self.now own own_is parts.2 parts.4) c.flush.result c.flush.ensures.full
+
+pub returns-clause-kind : goal.returns-clause-kind
+returns-clause-kind g c = λ k t.
+    let own = c.get_mut.result.now in
+    let own_is : c.args.self.now ≡ Own own = c.in-Own-Common.is-0 ∙ ap Own (sym c.get_mut.ensures.value) in
+    keeps_own c.args.self.now own c.flush.new.own own_is (own_keeps_k own c.flush.new.own c.get_mut-in-Own-Common.result.now c.flush.new.shared _ c.flush.result c.flush.ensures.own c.flush.ensures.unchanged) k _
+
+pub returns-clause-shared_kind : goal.returns-clause-shared_kind
+returns-clause-shared_kind g c = λ k.
+    let common = c.get_mut-in-Own-Common.result.now in
+    let common_is : c.args.shared.now ≡ Common common = c.in-Own-Common.is-1 ∙ ap Common (sym c.get_mut-in-Own-Common.ensures.value) in
+    keeps_shared c.args.shared.now common c.flush.new.shared common_is (common_keeps_k c.get_mut.result.now c.flush.new.own common c.flush.new.shared _ c.flush.result c.flush.ensures.shared c.flush.ensures.unchanged) k
+
+pub returns-clause-unchanged : goal.returns-clause-unchanged
+returns-clause-unchanged g c =
+    let own = c.get_mut.result.now in
+    let common = c.get_mut-in-Own-Common.result.now in
+    let own_is : c.args.self.now ≡ Own own = c.in-Own-Common.is-0 ∙ ap Own (sym c.get_mut.ensures.value) in
+    let common_is : c.args.shared.now ≡ Common common = c.in-Own-Common.is-1 ∙ ap Common (sym c.get_mut-in-Own-Common.ensures.value) in
+    unchanged c.args.self.now c.args.shared.now own c.flush.new.own common c.flush.new.shared own_is common_is c.flush.result c.flush.ensures.unchanged

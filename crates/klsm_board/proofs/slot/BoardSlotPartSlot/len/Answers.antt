@@ -11,3 +11,9 @@ returns-in-Own g c =
 pub returns-in-Common : goal.returns-in-Common
 returns-in-Common g c =
     c.len-in-Common.ensures.len ∙ (sym (length_sorted _) ∙ (ap (λ part. length (items_in part)) c.get-in-Common.ensures ∙ sym (ap (λ slot. length (slot_content slot)) c.in-Common.is)))
+
+pub len-requires : goal.len-requires
+len-requires g c = search
+
+pub len-requires-in-Common : goal.len-requires-in-Common
+len-requires-in-Common g c = search

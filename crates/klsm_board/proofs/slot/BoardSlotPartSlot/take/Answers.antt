@@ -1,8 +1,8 @@
 use Rattle.std.proofs.Common.{◌≡◌, sym, ap, ◌∙◌}
 use Rattle.klsm_parts.proofs.FitLemmas.{local_fits, shared_fits}
 use Rattle.klsm_board.specs.declared.slot.Slot.TheVariants.{Own, Common}
-use Rattle.klsm_board.proofs.slots.KindLemmas.{own_content, shared_content, own_k, shared_k, apart_unsorted}
-use Rattle.klsm_board.proofs.slots.TakeLemmas.{taken}
+use Rattle.klsm_board.proofs.slots.KindLemmas.{own_content, shared_content, own_k, shared_k, apart_unsorted, keeps_own, keeps_shared}
+use Rattle.klsm_board.proofs.slots.TakeLemmas.{taken, own_keeps_k, common_keeps_k}
 use Rattle.klsm_board.proofs.slot.BoardSlotPartSlot.take.Goals as goal
 
 pub take-requires : goal.take-requires
@@ -27,3 +27,15 @@ returns-clause-done g c =
     let told = c.take.ensures in
     taken g.P.Picker.may_pick c.args.picker.now c.take.new.picker c.args.self.now c.args.shared.now own common c.take.new.own c.take.new.shared own_is common_is same_k
     c.take.result told.unasked told.asked told.left told.event told.nothing
+
+pub returns-clause-kind : goal.returns-clause-kind
+returns-clause-kind g c = λ k t.
+    let own = c.get_mut.result.now in
+    let own_is : c.args.self.now ≡ Own own = c.in-Own-Common.is-0 ∙ ap Own (sym c.get_mut.ensures.value) in
+    keeps_own c.args.self.now own c.take.new.own own_is (own_keeps_k own c.take.new.own c.get_mut-in-Own-Common.result.now c.take.new.shared c.take.result c.take.ensures.left) k _
+
+pub returns-clause-shared_kind : goal.returns-clause-shared_kind
+returns-clause-shared_kind g c = λ k.
+    let common = c.get_mut-in-Own-Common.result.now in
+    let common_is : c.args.shared.now ≡ Common common = c.in-Own-Common.is-1 ∙ ap Common (sym c.get_mut-in-Own-Common.ensures.value) in
+    keeps_shared c.args.shared.now common c.take.new.shared common_is (common_keeps_k c.get_mut.result.now c.take.new.own common c.take.new.shared c.take.result c.take.ensures.left) k

@@ -2,7 +2,7 @@ use Rattle.std.proofs.Common.{refl, ◌≡◌, ◌+◌, replicate, ap}
 use Rattle.klsm_world.specs.WorldView.{AreLimits}
 use Rattle.klsm_world.specs.Worlds.{Limits, World, limits_of}
 use Rattle.klsm_world.proofs.kept.NewLemmas.{first_is_new, first_is_kept}
-use Rattle.klsm_world.proofs.traces.StartLemmas.{some_thread, are_threads, is_k, only_memory}
+use Rattle.klsm_world.proofs.traces.StartLemmas.{some_thread, are_threads, is_k, only_memory, k_is_not_threads, memory_is_not_threads, memory_is_not_k}
 use Rattle.klsm_world.proofs.world.World.new.Goals as goal
 
 pub invariant_of-result : goal.invariant_of-result
@@ -21,7 +21,7 @@ returns-clause-made g c =
 
 pub returns-then-k-gt-MOST_K-clause-bad_threads : goal.returns-then-k-gt-MOST_K-clause-bad_threads
 returns-then-k-gt-MOST_K-clause-bad_threads g c =
-    (λ same. cc, λ bad. absurd (are_threads (limits_of c.args.threads c.args.k) c.if-threads-eq0.false c.if-threads-gt-MOST_THREADS.false bad))
+    (λ same. absurd (k_is_not_threads same), λ bad. absurd (are_threads (limits_of c.args.threads c.args.k) c.if-threads-eq0.false c.if-threads-gt-MOST_THREADS.false bad))
 
 pub returns-then-k-gt-MOST_K-clause-bad_k : goal.returns-then-k-gt-MOST_K-clause-bad_k
 returns-then-k-gt-MOST_K-clause-bad_k g c =
@@ -29,29 +29,29 @@ returns-then-k-gt-MOST_K-clause-bad_k g c =
 
 pub returns-in_default-clause-bad_threads : goal.returns-in_default-clause-bad_threads
 returns-in_default-clause-bad_threads g c =
-    (λ same. cc, λ bad. absurd (are_threads (limits_of c.args.threads c.args.k) c.if-threads-eq0.false c.if-threads-gt-MOST_THREADS.false bad))
+    (λ same. absurd (memory_is_not_threads same), λ bad. absurd (are_threads (limits_of c.args.threads c.args.k) c.if-threads-eq0.false c.if-threads-gt-MOST_THREADS.false bad))
 
 pub returns-in_default-clause-bad_k : goal.returns-in_default-clause-bad_k
-returns-in_default-clause-bad_k g c = (λ same. cc, λ bad. absurd (is_k (limits_of c.args.threads c.args.k) c.if-k-gt-MOST_K.false bad))
+returns-in_default-clause-bad_k g c = (λ same. absurd (memory_is_not_k same), λ bad. absurd (is_k (limits_of c.args.threads c.args.k) c.if-k-gt-MOST_K.false bad))
 
 pub returns-in_err-contents-clause-bad_threads : goal.returns-in_err-contents-clause-bad_threads
 returns-in_err-contents-clause-bad_threads g c =
-    only_memory _ _ _ (λ same. cc) c.from_residual.ensures.1 c.in_err-contents.ensures.refused
+    only_memory _ _ _ memory_is_not_threads c.from_residual.ensures.1 c.in_err-contents.ensures.refused
     (are_threads (limits_of c.args.threads c.args.k) c.if-threads-eq0.false c.if-threads-gt-MOST_THREADS.false)
 
 pub returns-in_err-contents-clause-bad_k : goal.returns-in_err-contents-clause-bad_k
 returns-in_err-contents-clause-bad_k g c =
-    only_memory _ _ _ (λ same. cc) c.from_residual.ensures.1 c.in_err-contents.ensures.refused
+    only_memory _ _ _ memory_is_not_k c.from_residual.ensures.1 c.in_err-contents.ensures.refused
     (is_k (limits_of c.args.threads c.args.k) c.if-k-gt-MOST_K.false)
 
 pub returns-in_err-lists-clause-bad_threads : goal.returns-in_err-lists-clause-bad_threads
 returns-in_err-lists-clause-bad_threads g c =
-    only_memory _ _ _ (λ same. cc) c.from_residual-in_err-lists.ensures.1 c.in_err-lists.ensures.refused
+    only_memory _ _ _ memory_is_not_threads c.from_residual-in_err-lists.ensures.1 c.in_err-lists.ensures.refused
     (are_threads (limits_of c.args.threads c.args.k) c.if-threads-eq0.false c.if-threads-gt-MOST_THREADS.false)
 
 pub returns-in_err-lists-clause-bad_k : goal.returns-in_err-lists-clause-bad_k
 returns-in_err-lists-clause-bad_k g c =
-    only_memory _ _ _ (λ same. cc) c.from_residual-in_err-lists.ensures.1 c.in_err-lists.ensures.refused
+    only_memory _ _ _ memory_is_not_k c.from_residual-in_err-lists.ensures.1 c.in_err-lists.ensures.refused
     (is_k (limits_of c.args.threads c.args.k) c.if-k-gt-MOST_K.false)
 
 pub returns-clause-bad_threads : goal.returns-clause-bad_threads
