@@ -1,9 +1,11 @@
 //! The program `klsm`: its words, standard input and standard output, and a status.
 #![tactic(auto)]
 
-use klsm_tool::{Status, run_program};
+use klsm_tool::{Status, TerminalLine, run_program};
 use std::io;
+use std::io::IsTerminal;
 
 fn main(rt: HostRuntime) -> Status {
-    run_program(&rt, rt.reader(), &mut io::writer(&rt))
+    let progress = TerminalLine::new(&rt, rt.stderr().is_terminal());
+    run_program(&rt, rt.reader(), &mut io::writer(&rt), &progress)
 }

@@ -1,5 +1,6 @@
-//! Runs each script of the folder that it is started in, `data`, through the program, and compares
-//! its answer with the text beside it. Where there are words beside it too, they are its options.
+//! Runs each script and each instance of the folder that it is started in, `data`, through the program,
+//! and compares the answer with the text beside it. Where there are words beside it too, they are
+//! those of the program; otherwise it is a replay.
 #![tactic(auto)]
 
 use klsm_tool::run_words;
@@ -9,6 +10,7 @@ use std::io;
 use std::io::ErrorKind;
 use std::process::ExitCode;
 use std::sync::Wait;
+use std::thread::Threads;
 
 fn main(rt: HostRuntime) -> io::Result<ExitCode> {
     let mut agreeing = 0u32;
@@ -27,27 +29,28 @@ fn main(rt: HostRuntime) -> io::Result<ExitCode> {
     Ok(ExitCode::SUCCESS)
 }
 
-/// Whether the program answers the script of this name as the text beside it says, and with its
+/// Whether the program answers the input of this name as the text beside it says, and with its
 /// status.
-fn agrees<R: Files + AllocGlobal + Wait>(rt: &R, stem: &str) -> io::Result<bool> {
-    let script = read(rt, format!(in rt.alloc(); "{stem}.csv")?)?;
+fn agrees<R: Files + AllocGlobal + Wait + Threads + Sync>(rt: &R, stem: &str) -> io::Result<bool> {
+    let input = read(rt, format!(in rt.alloc(); "{stem}.csv")?)?;
     let wanted = read(rt, format!(in rt.alloc(); "{stem}.txt")?)?;
     let words = words_of(rt, stem)?;
     let mut answer = Vec::new(rt.alloc());
-    let status = run_words(rt, words.as_slice(), script.as_slice(), &mut answer);
+    let status = run_words(rt, words.as_slice(), input.as_slice(), &mut answer);
     Ok(status.code() == status_of(stem) && answer.as_slice() == wanted.as_slice())
 }
 
-/// The words of a call, whose options stand in a file of their own, one word a line.
+/// The words of a call, which stand in a file of their own, one word a line.
 fn words_of<R: Files + AllocGlobal>(rt: &R, stem: &str) -> io::Result<Vec<Vec<u8>>> {
-    let mut words = Vec::new(rt.alloc());
-    words.push(String::from_str(rt.alloc(), "replay")?.into_bytes())?;
-    let options = match read(rt, format!(in rt.alloc(); "{stem}.args")?) {
-        Ok(options) => options,
-        Err(error) if error.kind() == ErrorKind::NotFound => return Ok(words),
+    let lines = match read(rt, format!(in rt.alloc(); "{stem}.args")?) {
+        Ok(lines) => lines,
+        Err(error) if error.kind() == ErrorKind::NotFound => {
+            Vec::from_slice(rt.alloc(), b"replay\n")?
+        }
         Err(error) => return Err(error),
     };
-    for word in options.split(|byte| *byte == b'\n') {
+    let mut words = Vec::new(rt.alloc());
+    for word in lines.split(|byte| *byte == b'\n') {
         if !word.is_empty() {
             words.push(Vec::from_slice(rt.alloc(), word)?)?;
         }

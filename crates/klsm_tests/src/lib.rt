@@ -4,6 +4,7 @@
 //! they test. Each folder has the tests of one subject:
 //!
 //! - `board`: a board and its members, in one thread and in several;
+//! - `knapsack`: the knapsack client, beside a plain loop over all selections;
 //! - `runs`: copies and merges of runs on the heap;
 //! - `lsm`: LSMs over runs on the heap, with the blocks that each call leaves;
 //! - `parts`: a queue for one thread and its parts, beside a plain program written from the rules;
@@ -15,6 +16,8 @@
 
 #[cfg(test)]
 mod board;
+#[cfg(test)]
+mod knapsack;
 #[cfg(test)]
 mod lsm;
 #[cfg(test)]

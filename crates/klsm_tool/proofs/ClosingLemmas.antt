@@ -43,7 +43,7 @@ fewer_rows (Some text) rows row first =
     reached_front default_config state.StartRecord first.0 (strip_bom text) first.1 (reverse rows) row
     (subst (λ (rs : List Row). Reached default_config state.StartRecord (strip_bom text) rs first.0 first.1) (reverse-append (row ∷ []) rows) first.2)
 
-all_are_first : (input : Option (List ℕ)) (rows : List Row) → AreAllRows input rows → AreFirstRows input rows
+pub all_are_first : (input : Option (List ℕ)) (rows : List Row) → AreAllRows input rows → AreFirstRows input rows
 all_are_first None rows all = tt
 all_are_first (Some text) rows all = (all.0, all.1, all.2)
 

@@ -1,5 +1,6 @@
 pub mod AloneLemmas  -- a replay over a board of its own
 pub mod ClosingLemmas
+pub mod KeepingLemmas  -- what one row does to the rows that are kept for the threads
 pub mod LiveItemLemmas  -- what joins and leaves the live items
 pub mod NumberLemmas
 pub mod OptionLemmas  -- what the options of a command come to
@@ -10,3 +11,6 @@ pub mod ReplayLemmas
 pub mod RowLemmas
 pub mod ScriptLemmas
 pub mod TellingLemmas
+pub mod WorkLemmas  -- what a worker's rows are answered with
+pub mod TotalLemmas  -- the totals of a script that was run
+pub mod PlaceLemmas  -- the workers at their places

@@ -65,13 +65,17 @@ refusal_word refusal.Operation = codes "operation"
 refusal_word refusal.Key = codes "key"
 refusal_word refusal.Load = codes "load"
 
+-- the line of a row that is refused
+abbrev pub row_text : ℕ → List ℕ → List ℕ
+row_text row word =
+    concat (codes "refused row " ∷ decimal row ∷ codes ": " ∷ word ∷ codes "\n" ∷ [])
+
 -- the last line: of the row that is not answered, or of the greatest skip and its bound. A text
 -- that a write fault cut off has none
 abbrev pub closing_text : ℕ → ℕ → ℕ → Stop → List ℕ
 closing_text row most bound stop.AtEnd =
     concat (codes "max skip " ∷ decimal most ∷ codes " bound " ∷ decimal bound ∷ codes "\n" ∷ [])
-closing_text row most bound (stop.Refused why) =
-    concat (codes "refused row " ∷ decimal row ∷ codes ": " ∷ refusal_word why ∷ codes "\n" ∷ [])
+closing_text row most bound (stop.Refused why) = row_text row (refusal_word why)
 closing_text row most bound stop.Full = concat (codes "full row " ∷ decimal row ∷ codes "\n" ∷ [])
 closing_text row most bound stop.NoMemory = codes "no memory\n"
 closing_text row most bound stop.ReadFault = codes "read fault\n"

@@ -1,20 +1,32 @@
 -- The command line, as the library clap reads it. Words are the bytes of those after the program's
 -- name.
-use Rattle.std.specs.Prelude.{ℕ, ◌≡◌, true, List, [], ◌∷◌, Option, codes, IsUtf8, option_and_then}
+use Rattle.std.specs.Prelude.{ℕ, ◌≡◌, true, if◌then◌else◌, List, [], ◌∷◌, Option, Some, codes, IsUtf8}
+use Rattle.std.specs.Prelude.{option_and_then, option_map}
+use Rattle.std.specs.Str.{bytes_eq}
 use Rattle.std.specs.List.{All}
 use Rattle.clap.specs.Words.{App, IsAmong, Kinds, fault_of, new_app, with_subcommand}
 use Rattle.clap.specs.Words.{Row, Text, subcommand_of}
 use Rattle.clap.specs.declared.error.kind.ErrorKind.{ErrorKind}
 use Rattle.clap.specs.declared.error.kind.ErrorKind.TheVariants as kind
+use Rattle.klsm_tool.specs.declared.command_line.Action.{Action}
+use Rattle.klsm_tool.specs.declared.command_line.Action.TheVariants.{Replay, Live, Knapsack}
 use Rattle.klsm_tool.specs.declared.settings.Pick.TheVariants.{First}
 use Rattle.klsm_tool.specs.declared.settings.Settings.{Settings}
-use Rattle.klsm_tool.specs.Options.{settings_at, with_options}
+use Rattle.klsm_tool.specs.Options.{AreInRange, IsSearchInRange, search_at, settings_at, with_options, with_search_options}
 
 -- the command `replay`
 abbrev pub replay_app : App
 replay_app = with_options (new_app (codes "replay"))
 
--- the command `klsm`, which wants a subcommand, and its one subcommand `replay`
+-- the command `live`
+abbrev pub live_app : App
+live_app = with_options (new_app (codes "live"))
+
+-- the command `knapsack`
+abbrev pub knapsack_app : App
+knapsack_app = with_search_options (new_app (codes "knapsack"))
+
+-- the command `klsm`, which wants a subcommand: `replay`, `live` or `knapsack`
 abbrev pub klsm_command : App
 klsm_command =
     let name = new_app (codes "klsm") in
@@ -23,7 +35,9 @@ klsm_command =
       subcommand_required = true;
       arg_required_else_help = true;
     } in
-    with_subcommand (record name { top = top }) replay_app.top
+    with_subcommand
+    (with_subcommand (with_subcommand (record name { top = top }) replay_app.top) live_app.top)
+    knapsack_app.top
 
 -- the words that ask for a replay
 abbrev pub replay_words : List (List ℕ)
@@ -33,13 +47,30 @@ replay_words = codes "replay" ∷ []
 unfoldable pub found_in : List (List ℕ) → Kinds
 found_in words = fault_of klsm_command words
 
--- what the options of the subcommand come to that was found
-abbrev pub settings_under : Option (Text × List Row) → Option Settings
-settings_under = option_and_then (λ found. settings_at found.1)
+-- what the command of this name does over scripts
+abbrev pub script_action : Text → Settings → Action
+script_action name settings =
+    if bytes_eq name (codes "live") then Live settings else Replay settings
 
--- the settings that a command's words ask for, where the word of `--pick` names a pick
-unfoldable pub settings_in : List (List ℕ) → Option Settings
-settings_in words = settings_under (subcommand_of klsm_command words)
+-- what the command of this name does by its options, where a word of `--pick` names a pick
+abbrev pub action_of : Text → List Row → Option Action
+action_of name rows =
+    if bytes_eq name (codes "knapsack") then Some (Knapsack (search_at rows))
+    else option_map (script_action name) (settings_at rows)
+
+-- what the subcommand comes to that was found
+abbrev pub action_under : Option (Text × List Row) → Option Action
+action_under = option_and_then (λ found. action_of found.0 found.1)
+
+-- what a command's words ask for
+unfoldable pub action_in : List (List ℕ) → Option Action
+action_in words = action_under (subcommand_of klsm_command words)
+
+-- the options let its settings through
+abbrev pub IsInRange : Action → Type 0
+IsInRange (Replay settings) = AreInRange settings
+IsInRange (Live settings) = AreInRange settings
+IsInRange (Knapsack search) = IsSearchInRange search
 
 -- where no option is given
 abbrev pub usual_settings : Settings

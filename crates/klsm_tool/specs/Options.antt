@@ -1,4 +1,4 @@
--- The options of the command `replay`, as the library clap reads them.
+-- The options of the commands, as the library clap reads them.
 use Rattle.std.specs.Prelude.{ℕ, ◌≤◌, List, [], ◌∷◌, Option, Some, None, codes, if◌then◌else◌}
 use Rattle.std.specs.Prelude.{max, min, option_map, option_and_then, unwrap_or}
 use Rattle.std.specs.Str.{bytes_eq}
@@ -10,6 +10,7 @@ use Rattle.clap.specs.declared.builder.value_parser.ValueParser.{ValueParser}
 use Rattle.clap.specs.declared.builder.value_parser.ValueParser.TheVariants as parser
 use Rattle.klsm_tool.specs.declared.settings.Pick.{Pick}
 use Rattle.klsm_tool.specs.declared.settings.Pick.TheVariants as pick
+use Rattle.klsm_tool.specs.declared.settings.Search.{Search}
 use Rattle.klsm_tool.specs.declared.settings.Settings.{Settings}
 
 -- an option that takes one value, with what it has where no word gives it one
@@ -30,6 +31,14 @@ with_options a =
     (Some (parser.Unsigned 0 18446744073709551615)) in
     with_rule (with_rule (with_rule (with_rule a threads) k)
     (option_rule (codes "pick") (codes "first") None)) seed
+
+-- `--threads` from 1 to 16, `--k` from 0 to 64, and `--idle` up to a million
+abbrev pub with_search_options : App → App
+with_search_options a =
+    let threads = option_rule (codes "threads") (codes "1") (Some (parser.Unsigned 1 16)) in
+    let k = option_rule (codes "k") (codes "64") (Some (parser.Unsigned 0 64)) in
+    let idle = option_rule (codes "idle") (codes "64") (Some (parser.Unsigned 0 1000000)) in
+    with_rule (with_rule (with_rule a threads) k) idle
 
 -- the number that a text spells, or 0 where it spells none that fits
 abbrev pub number_or_zero : Text → ℕ
@@ -60,6 +69,17 @@ settings_at rows = option_map (λ pick. record {
   pick = pick;
   seed = number_at rows (codes "seed") 0 18446744073709551615;
 }) (pick_at rows)
+
+-- what the options of a search come to
+abbrev pub search_at : List Row → Search
+search_at rows = record {
+  threads = number_at rows (codes "threads") 1 16;
+  k = number_at rows (codes "k") 0 64;
+  idle = number_at rows (codes "idle") 0 1000000;
+}
+
+abbrev pub IsSearchInRange : Search → Type 0
+IsSearchInRange search = (1 ≤ search.threads) × (search.threads ≤ 16) × (search.k ≤ 64)
 
 -- what the options let through
 abbrev pub AreInRange : Settings → Type 0

@@ -3,14 +3,19 @@ use Rattle.std.specs.Prelude.{ℕ, ⊤, ◌≡◌, ◌<◌, ◌⊎◌, List, len
 use Rattle.std.specs.List.{All}
 use Rattle.std.specs.Io.KnownBytes.{Appends}
 use Rattle.clap.specs.declared.error.kind.ErrorKind.{ErrorKind}
+use Rattle.klsm_tool.specs.declared.command_line.Action.{Action}
+use Rattle.klsm_tool.specs.declared.command_line.Action.TheVariants.{Replay, Live, Knapsack}
 use Rattle.klsm_tool.specs.declared.command_line.Fault.{Fault}
 use Rattle.klsm_tool.specs.declared.command_line.Fault.TheVariants.{Said, UnknownPick, NotText, NoMemory}
 use Rattle.klsm_tool.specs.declared.settings.End.{End}
 use Rattle.klsm_tool.specs.declared.settings.End.TheVariants as end
 use Rattle.klsm_tool.specs.declared.settings.Report.{Report}
+use Rattle.klsm_tool.specs.declared.settings.Search.{Search}
 use Rattle.klsm_tool.specs.declared.settings.Settings.{Settings}
-use Rattle.klsm_tool.specs.CommandLine.{HasStatus, IsCommand, settings_in, status_of_text, usual_settings}
+use Rattle.klsm_tool.specs.CommandLine.{HasStatus, IsCommand, action_in, status_of_text, usual_settings}
 use Rattle.klsm_tool.specs.Replay.{ReplaysAlone}
+use Rattle.klsm_tool.specs.Live.{Lives}
+use Rattle.klsm_tool.specs.Knapsack.{Solves}
 
 -- the status of a run
 abbrev pub status_of : End → ℕ
@@ -25,7 +30,7 @@ status_of end.WriteFault = 4
 -- takes, one of them is not UTF-8, or memory is wanted
 abbrev pub IsFaultIn : List (List ℕ) → Fault → Type 0
 IsFaultIn words (Said text status) = HasStatus words status
-IsFaultIn words UnknownPick = IsCommand words × (settings_in words ≡ None)
+IsFaultIn words UnknownPick = IsCommand words × (action_in words ≡ None)
 IsFaultIn words NotText = ¬ (All IsUtf8 words)
 IsFaultIn words NoMemory = ⊤
 
@@ -66,16 +71,33 @@ RunsReplay settings input before after result =
     (report : Report) × ReplaysAlone settings.threads settings.k input before after report
     × (result ≡ status_of report.end)
 
+-- the rows of the input are run by threads, and the status is that of the run's end
+abbrev pub RunsLive : Settings → Option (List ℕ) → Option (List ℕ) → Option (List ℕ) → ℕ → Type 0
+RunsLive settings input before after result =
+    (report : Report) × Lives settings.threads settings.k input before after report
+    × (result ≡ status_of report.end)
+
+-- the instance of the input is solved, and the status is that of the end
+abbrev pub RunsKnapsack : Search → Option (List ℕ) → Option (List ℕ) → Option (List ℕ) → ℕ → Type 0
+RunsKnapsack search input before after result =
+    (report : Report) × Solves search.threads search.k input before after report
+    × (result ≡ status_of report.end)
+
 -- a command is run by its settings, unless it names an unknown pick
-abbrev pub RunsBy : Option Settings → Option (List ℕ) → Option (List ℕ) → Option (List ℕ) → ℕ
+abbrev pub RunsBy : Option Action → Option (List ℕ) → Option (List ℕ) → Option (List ℕ) → ℕ
     → Type 0
-RunsBy (Some settings) input before after result = RunsReplay settings input before after result
+RunsBy (Some (Replay settings)) input before after result =
+    RunsReplay settings input before after result
+RunsBy (Some (Live settings)) input before after result =
+    RunsLive settings input before after result
+RunsBy (Some (Knapsack search)) input before after result =
+    RunsKnapsack search input before after result
 RunsBy None input before after result = Says before after (codes "refused: pick\n") 2 result
 
--- words that are a command are a replay of the input; others are answered
+-- words that are a command are run; others are answered
 abbrev pub Runs : List (List ℕ) → Option (List ℕ) → Option (List ℕ) → Option (List ℕ) → ℕ → Type 0
 Runs words input before after result =
-    (IsCommand words × RunsBy (settings_in words) input before after result)
+    (IsCommand words × RunsBy (action_in words) input before after result)
     ⊎ AnswersWords words before after result
 
 -- a replay, unless there was no memory to read the words

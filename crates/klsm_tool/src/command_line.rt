@@ -1,41 +1,51 @@
 //! The program on its words.
 ghost use Rattle.std.specs.Prelude.{◌≡◌, Some, IfErr, IfOk, IfSome, OnOk, IsUtf8, false, map};
 ghost use Rattle.std.specs.List.{All};
-ghost use Rattle.clap.specs.Words.{app_of, kind_of, subcommand_rows_of};
+ghost use Rattle.clap.specs.Words.{app_of, found_of, kind_of, rows_of, subcommand_rows_of};
 ghost use Rattle.clap.specs.declared.builder.command.Command.TheViews.{out-Command as fields_of};
-ghost use Rattle.klsm_tool.specs.CommandLine.{IsCommand, klsm_command, replay_app, replay_words};
-ghost use Rattle.klsm_tool.specs.CommandLine.{settings_in as settings_in_words, settings_under};
-ghost use Rattle.klsm_tool.specs.Options.{AreInRange};
-ghost use Rattle.klsm_tool.specs.Program.{Explains, IsFaultIn, RefusesBytes, Runs, RunsReplay};
+ghost use Rattle.klsm_tool.specs.CommandLine.{IsCommand, IsInRange, action_in as action_in_words};
+ghost use Rattle.klsm_tool.specs.CommandLine.{action_of, action_under, klsm_command, knapsack_app};
+ghost use Rattle.klsm_tool.specs.CommandLine.{live_app, replay_app, replay_words, script_action};
+ghost use Rattle.klsm_tool.specs.Options.{AreInRange, IsSearchInRange};
+ghost use Rattle.klsm_tool.specs.Program.{Explains, IsFaultIn, RefusesBytes, Runs, RunsKnapsack};
+ghost use Rattle.klsm_tool.specs.Program.{RunsLive, RunsReplay};
 ghost use Rattle.klsm_tool.specs.Program.{RunsReplayOrLacksMemory, RunsSome, Says};
 ghost use Rattle.klsm_tool.specs.Program.{status_of as status_of_end};
 
-use crate::options::{settings_of, with_options};
+use crate::help::{KNAPSACK_HELP, LIVE_HELP, REPLAY_HELP};
+use crate::knapsack::knapsack_over;
+use crate::live::{run_script, write_outcome};
+use crate::options::{search_of, settings_of, with_options, with_search_options};
 use crate::output::write_text;
 use crate::process_words::process_words;
+use crate::progress::{Progress, Silent};
 use crate::replay::replay_over;
-use crate::settings::{End, Settings};
+use crate::settings::{End, Search, Settings};
 use crate::status::Status;
 use crate::stop::NO_MEMORY;
 use clap::error::ErrorKind;
 use clap::{ArgMatches, Command, Error};
+use klsm_board::Open;
 use std::alloc::{AllocError, Global};
 use std::io::{Read, Write};
 use std::rt::Env;
 use std::str;
 use std::sync::Wait;
+use std::thread::Threads;
 
-/// Runs the program on the words that its process was given.
-pub fn run_program<P: Env + AllocGlobal + Wait, R: Read + Drop, W: Write>(
+/// Runs the program on the words that its process was given. Of a long run by threads it tells while
+/// it lasts.
+pub fn run_program<P: Env + AllocGlobal + Wait + Threads + Sync, R: Read + Drop, W: Write>(
     rt: &P,
     reader: R,
     writer: &mut W,
+    progress: &impl Progress,
 ) -> Status
     ensures { RunsSome (R.remaining reader) (W.contents writer.old) (W.contents writer.new)
         result.code }
 {
     match process_words(rt) {
-        Ok(words) => run_words(rt, words.as_slice(), reader, writer),
+        Ok(words) => run_told(rt, words.as_slice(), reader, writer, progress),
         Err(_) => say(writer, NO_MEMORY, EXHAUSTED),
     }
 }
@@ -44,7 +54,7 @@ pub fn run_program<P: Env + AllocGlobal + Wait, R: Read + Drop, W: Write>(
 /// 0 where all is done, 1 where a row is refused, 2 for a fault of the command line,
 /// 3 where room or memory is wanted, and 4 where reading or writing failed.
 pub fn run_words<R: Read + Drop, W: Write>(
-    rt: &(impl AllocGlobal + Wait),
+    rt: &(impl AllocGlobal + Wait + Threads + Sync),
     words: &[Vec<u8>],
     reader: R,
     writer: &mut W,
@@ -55,8 +65,27 @@ pub fn run_words<R: Read + Drop, W: Write>(
         → RunsReplayOrLacksMemory (R.remaining reader)
         (W.contents writer.old) (W.contents writer.new) result.code }
 {
+    run_told(rt, words, reader, writer, &Silent)
+}
+
+// The same, and tells of a long run.
+fn run_told<R: Read + Drop, W: Write>(
+    rt: &(impl AllocGlobal + Wait + Threads + Sync),
+    words: &[Vec<u8>],
+    reader: R,
+    writer: &mut W,
+    progress: &impl Progress,
+) -> Status
+    ensures runs { Runs (map (λ word. word.items) words.now) (R.remaining reader)
+        (W.contents writer.old) (W.contents writer.new) result.code }
+    ensures replays { map (λ word. word.items) words.now ≡ replay_words
+        → RunsReplayOrLacksMemory (R.remaining reader)
+        (W.contents writer.old) (W.contents writer.new) result.code }
+{
     match parse(rt.alloc(), words) {
-        Ok(settings) => run_replay(rt, reader, writer, &settings),
+        Ok(Action::Replay(settings)) => run_replay(rt, reader, writer, &settings),
+        Ok(Action::Live(settings)) => run_live(rt, reader, writer, &settings, progress),
+        Ok(Action::Knapsack(search)) => run_knapsack(rt, reader, writer, &search),
         Err(Fault::Said { text, status }) => say(writer, text.as_bytes(), status),
         Err(Fault::UnknownPick) => say(writer, UNKNOWN_PICK, USAGE),
         Err(Fault::NotText) => refuse_bytes(writer),
@@ -77,10 +106,51 @@ fn run_replay<R: Read + Drop, W: Write>(
     status_of(replay_over(rt, reader, writer, settings).end)
 }
 
+fn run_live<R: Read + Drop, W: Write>(
+    rt: &(impl AllocGlobal + Wait + Threads + Sync),
+    reader: R,
+    writer: &mut W,
+    settings: &Settings,
+    progress: &impl Progress,
+) -> Status
+    requires { AreInRange settings.now }
+    ensures { RunsLive settings.now (R.remaining reader) (W.contents writer.old)
+        (W.contents writer.new) result.code }
+{
+    let outcome = run_script(rt, reader, settings, &Open, progress);
+    progress.ended();
+    status_of(write_outcome(writer, outcome).end)
+}
+
+fn run_knapsack<R: Read + Drop, W: Write>(
+    rt: &(impl AllocGlobal + Wait + Threads + Sync),
+    reader: R,
+    writer: &mut W,
+    search: &Search,
+) -> Status
+    requires { IsSearchInRange search.now }
+    ensures { RunsKnapsack search.now (R.remaining reader) (W.contents writer.old)
+        (W.contents writer.new) result.code }
+{
+    let Search { threads, k, idle } = *search;
+    status_of(knapsack_over(rt, reader, writer, threads, k, idle, &Open).end)
+}
+
 fn refuse_bytes<W: Write>(writer: &mut W) -> Status
     ensures { RefusesBytes (W.contents writer.old) (W.contents writer.new) result.code }
 {
     say(writer, NOT_TEXT, USAGE)
+}
+
+/// What the words ask for.
+#[derive(Clone, Copy)]
+enum Action {
+    /// A script is answered row by row.
+    Replay(Settings),
+    /// The rows of a script are run by threads.
+    Live(Settings),
+    /// An instance of the knapsack problem is solved.
+    Knapsack(Search),
 }
 
 /// Why the words ask for no run.
@@ -96,30 +166,51 @@ enum Fault {
     NoMemory,
 }
 
-fn parse(alloc: Global, words: &[Vec<u8>]) -> Result<Settings, Fault>
+fn parse(alloc: Global, words: &[Vec<u8>]) -> Result<Action, Fault>
     ensures fault { IfErr result (IsFaultIn (map (λ word. word.items) words.now)) }
     ensures asked { OnOk result (IsCommand (map (λ word. word.items) words.now)) }
-    ensures settings { IfOk result (λ settings.
-        settings_in_words (map (λ word. word.items) words.now) ≡ Some settings) }
-    ensures range { IfOk result AreInRange }
+    ensures action { IfOk result (λ action.
+        action_in_words (map (λ word. word.items) words.now) ≡ Some action) }
+    ensures range { IfOk result IsInRange }
 {
     let texts = texts_of(alloc, words)?;
     let Ok(command) = command(alloc) else {
         return Err(Fault::NoMemory);
     };
     match command.try_get_matches_from(texts.as_slice()) {
-        Ok(matches) => settings_in(&matches).ok_or(Fault::UnknownPick),
+        Ok(matches) => action_in(&matches).ok_or(Fault::UnknownPick),
         Err(error) => Err(fault_of(alloc, &error)),
     }
 }
 
-// The settings by the options of the command that the words name.
-fn settings_in(matches: &ArgMatches) -> Option<Settings>
-    ensures settings { result ≡ settings_under (subcommand_rows_of matches.now) }
-    ensures range { IfSome result AreInRange }
+// What the command that the words name does, with its options.
+fn action_in(matches: &ArgMatches) -> Option<Action>
+    ensures action { result ≡ action_under (subcommand_rows_of matches.now) }
+    ensures range { IfSome result IsInRange }
 {
-    let (_, options) = matches.subcommand()?;
-    settings_of(options)
+    let (name, options) = matches.subcommand()?;
+    action_named(name, options)
+}
+
+fn action_named(name: &str, options: &ArgMatches) -> Option<Action>
+    ensures action { result ≡ action_of name.now (rows_of (found_of options.now)) }
+    ensures range { IfSome result IsInRange }
+{
+    match name {
+        "knapsack" => Some(Action::Knapsack(search_of(options))),
+        _ => Some(over_scripts(name, settings_of(options)?)),
+    }
+}
+
+fn over_scripts(name: &str, settings: Settings) -> Action
+    requires { AreInRange settings }
+    ensures action { result ≡ script_action name.now settings }
+    ensures range { IsInRange result }
+{
+    match name {
+        "live" => Action::Live(settings),
+        _ => Action::Replay(settings),
+    }
 }
 
 fn texts_of(alloc: Global, words: &[Vec<u8>]) -> Result<Vec<&str>, Fault>
@@ -167,12 +258,16 @@ fn unnamed_command<'a>(alloc: Global) -> Result<Command<'a>, AllocError>
     ensures { IfOk result (λ command. app_of command ≡ klsm_command) }
 {
     let replay = replay_command(alloc)?;
+    let live = live_command(alloc)?;
+    let knapsack = knapsack_command(alloc)?;
     Command::new(alloc, "klsm")
-        .about("A priority queue that answers scripts, with a proof of its answers")
+        .about("A priority queue for several threads, with a proof of what it answers")
         .no_binary_name(true)
         .subcommand_required(true)
         .arg_required_else_help(true)
-        .subcommand(replay)
+        .subcommand(replay)?
+        .subcommand(live)?
+        .subcommand(knapsack)
 }
 
 fn replay_command<'a>(alloc: Global) -> Result<Command<'a>, AllocError>
@@ -183,6 +278,26 @@ fn replay_command<'a>(alloc: Global) -> Result<Command<'a>, AllocError>
         .about("Answers a script of insertions and deletions, row by row")
         .after_help(REPLAY_HELP);
     with_options(alloc, command)
+}
+
+fn live_command<'a>(alloc: Global) -> Result<Command<'a>, AllocError>
+    ensures app { IfOk result (λ command. app_of command ≡ live_app) }
+    ensures local { IfOk result (λ command. (fields_of command).has_globals ≡ false) }
+{
+    let command = Command::new(alloc, "live")
+        .about("Runs the rows of a script by threads, and counts what is left")
+        .after_help(LIVE_HELP);
+    with_options(alloc, command)
+}
+
+fn knapsack_command<'a>(alloc: Global) -> Result<Command<'a>, AllocError>
+    ensures app { IfOk result (λ command. app_of command ≡ knapsack_app) }
+    ensures local { IfOk result (λ command. (fields_of command).has_globals ≡ false) }
+{
+    let command = Command::new(alloc, "knapsack")
+        .about("Finds a best selection of things for a knapsack")
+        .after_help(KNAPSACK_HELP);
+    with_search_options(alloc, command)
 }
 
 fn say<W: Write>(writer: &mut W, text: &[u8], status: u8) -> Status
@@ -217,44 +332,3 @@ const FAULT: u8 = 4;
 const NOT_TEXT: &[u8] = b"error: a word is not UTF-8\n\nFor more information, try '--help'.\n";
 
 const UNKNOWN_PICK: &[u8] = b"refused: pick\n";
-
-const REPLAY_HELP: &str = "\
-The script comes on standard input, one row a line. The answers go to standard output, each row's
-before the program waits for a further row.
-
-Rows:
-  THREAD,i,KEY,LOAD  Insert an item. The least key is the most urgent. KEY and LOAD are
-                     numbers from 0 to 18446744073709551615
-  THREAD,d,,         Delete an item, one of the least
-
-Threads are numbered from 0. Each keeps K items for itself; what is more goes to a part that all
-share, of which a deletion takes a candidate.
-
-Answers:
-  THREAD i KEY STAMP                      The item was inserted
-  THREAD d KEY STAMP load LOAD skip SKIP  This item was deleted; SKIP smaller ones live
-  THREAD d none                           There was no item to delete
-
-A STAMP is the inserting thread, a dot, and how many items that thread had inserted before.
-SKIP is at most THREADS times K.
-
-The last line, and the status of the program:
-  max skip SKIP bound BOUND  0  All rows are answered; the greatest SKIP, and what it may be
-  refused row ROW: WHAT      1  The row is refused; WHAT is rows, fields, thread, operation,
-                                key or load
-  full row ROW               3  The row's insertion finds no room
-  no memory                  3  A growth of memory was refused
-  read fault                 4  Reading failed
-  (nothing more)             4  Writing failed
-
-Words that are no command are answered with a text on them, status 2.
-
-Example:
-  $ printf '1,i,3,0\\n1,i,2,0\\n1,i,9,0\\n0,i,1,0\\n1,d,,\\n' |
-      klsm replay --threads 2 --k 1 --pick last
-  1 i 3 1.0
-  1 i 2 1.1
-  1 i 9 1.2
-  0 i 1 0.0
-  1 d 3 1.0 load 0 skip 2
-  max skip 2 bound 2";

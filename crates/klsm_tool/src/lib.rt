@@ -12,14 +12,18 @@
 //! // report.end is End::Done, and the text ends with "max skip 0 bound 64"
 //! ```
 //!
-//! A board of the caller's own, and its members, go to `replay_on`.
+//! A board of the caller's own, and its members, go to `replay_on`. `live_over` runs a script's rows in
+//! threads, and `knapsack_over` solves an instance.
 //!
 //! `script` reads a row into a record that is used again, `judge` says what the row asks for or
 //! what is wrong with it, `beside` lets the member of its thread answer and counts the skip among
 //! `live_items`, and `output` keeps the line, a `LineText`, which goes out with others before a
 //! further row is waited for: `watched` knows how far the whole rows go that were read. A `Stop` is
-//! why no further row is answered, and makes the last line. `command_line` has the words, and
-//! `options` what they may say: the kit's `clap` parses them, after a look whether they are text.
+//! why no further row is answered, and makes the last line. Where threads run the rows, `thread_rows`
+//! keeps them for their threads, and `live` has a `worker` for each; `progress` tells of a long run.
+//! `knapsack` reads an instance and writes its answer by `selection_text`. `command_line` has the
+//! words, and `options` what they may say: the kit's `clap` parses them, after a look whether they are
+//! text.
 //!
 //! - **The text is that of the definition.** What goes out is the first `written` bytes of the
 //!   answer text of the rows that were read, and all of it unless the writer failed: `Replays`, the
@@ -27,8 +31,11 @@
 //! - **The answers are those of the board's members**: the members' lists have these and no others.
 //!   A row is refused for the first reason that holds: the same clause. The board of `replay_over`
 //!   is its own, and finished: `ReplaysAlone`.
-//! - **Words are a replay or are answered with one text**, and each end has its status: clauses
-//!   `runs` and `replays` of `run_words`.
+//! - **The totals of rows that threads run are those of some schedule**, which answers each thread's
+//!   rows in their order: `Lives`, the clause of `live_over`.
+//! - **The selection that is written is a best one**: `Solves`, the clause of `knapsack_over`.
+//! - **Words are a run or are answered with one text**, and each end has its status: clauses `runs` and
+//!   `replays` of `run_words`.
 //! - **The process ends with that status.** Nothing outside this crate makes a `Status`, and
 //!   `Status::report` says that the process ends with its number.
 //! - **What no contract says**: that the process's words are those that the system gave, what
@@ -39,23 +46,34 @@
 mod answer;
 mod beside;
 mod command_line;
+mod help;
 mod judge;
+mod knapsack;
 mod line_text;
+mod live;
 mod live_items;
 mod options;
 mod output;
 mod picking;
 mod process_words;
+mod progress;
 mod replay;
 mod request;
 mod script;
+mod selection_text;
 mod settings;
 mod status;
 mod stop;
+mod thread_rows;
+mod totals;
 mod turns;
 mod watched;
+mod worker;
 
 pub use command_line::{run_program, run_words};
+pub use knapsack::knapsack_over;
+pub use live::live_over;
+pub use progress::{Progress, Silent, TerminalLine};
 pub use replay::{replay_on, replay_over};
 pub use settings::{End, Pick, Report, Settings};
 pub use status::Status;

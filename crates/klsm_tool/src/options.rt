@@ -1,16 +1,17 @@
-//! The options of the command `replay`.
+//! The options of the commands.
 ghost use Rattle.std.specs.Prelude.{◌≡◌, None, IfOk, IfSome, false};
 ghost use Rattle.clap.specs.Words.{app_of, found_of, rows_of, rule_of};
 ghost use Rattle.clap.specs.declared.builder.command.Command.TheViews.{out-Command as fields_of};
 ghost use Rattle.klsm_tool.specs.Options.{AreInRange, number_at, option_rule, pick_at, pick_of};
-ghost use Rattle.klsm_tool.specs.Options.{settings_at};
+ghost use Rattle.klsm_tool.specs.Options.{IsSearchInRange, search_at, settings_at};
 ghost use Rattle.klsm_tool.specs.Options.{with_options as with_options_of};
+ghost use Rattle.klsm_tool.specs.Options.{with_search_options as with_search_options_of};
 
-use crate::settings::{Pick, Settings};
+use crate::settings::{Pick, Search, Settings};
 use clap::{Arg, ArgMatches, Command, value_parser};
 use std::alloc::{AllocError, Global};
 
-/// The command with these options.
+/// A command over scripts, with its options.
 pub(crate) fn with_options<'a>(
     alloc: Global,
     command: Command<'a>,
@@ -27,6 +28,25 @@ pub(crate) fn with_options<'a>(
     let pick = option(alloc, PICK, "first", "PICK", PICK_HELP);
     let seed = option(alloc, SEED, "1", "N", SEED_HELP).value_parser(any);
     command.arg(threads)?.arg(k)?.arg(pick)?.arg(seed)
+}
+
+/// A command over instances, with its options.
+pub(crate) fn with_search_options<'a>(
+    alloc: Global,
+    command: Command<'a>,
+) -> Result<Command<'a>, AllocError>
+    ensures app { IfOk result (λ with.
+        app_of with ≡ with_search_options_of (app_of command.entry)) }
+    ensures local { (fields_of command.entry).has_globals ≡ false
+        → IfOk result (λ with. (fields_of with).has_globals ≡ false) }
+{
+    let one_to_16 = value_parser!(u64).range(1..=16);
+    let up_to_64 = value_parser!(u64).range(0..=64);
+    let up_to_a_million = value_parser!(u64).range(0..=1_000_000);
+    let threads = option(alloc, THREADS, "1", "N", WORKERS_HELP).value_parser(one_to_16);
+    let k = option(alloc, K, "64", "N", NODES_HELP).value_parser(up_to_64);
+    let idle = option(alloc, IDLE, "64", "N", IDLE_HELP).value_parser(up_to_a_million);
+    command.arg(threads)?.arg(k)?.arg(idle)
 }
 
 fn option<'a>(
@@ -58,6 +78,21 @@ pub(crate) fn settings_of(options: &ArgMatches) -> Option<Settings>
         pick,
         seed: number_in(options, SEED, 0, u64::MAX),
     })
+}
+
+/// The settings of a search that the options come to.
+pub(crate) fn search_of(options: &ArgMatches) -> Search
+    ensures search { result ≡ search_at (rows_of (found_of options.now)) }
+    ensures range { IsSearchInRange result }
+{
+    let threads = number_in(options, THREADS, 1, 16);
+    let k = number_in(options, K, 0, 64);
+    let idle = number_in(options, IDLE, 0, 1_000_000);
+    Search {
+        threads: threads as usize,
+        k: k as usize,
+        idle: idle as u32,
+    }
 }
 
 // The number of an option. The parser takes none outside the range.
@@ -96,10 +131,18 @@ const PICK: &str = "pick";
 
 const SEED: &str = "seed";
 
+const IDLE: &str = "idle";
+
 const THREADS_HELP: &str = "How many threads the rows may name, 1 to 16";
 
 const K_HELP: &str = "How many items a thread keeps for itself, 0 to 64";
 
 const SEED_HELP: &str = "What the random picks follow from";
+
+const WORKERS_HELP: &str = "How many workers search, 1 to 16, each in a thread of its own";
+
+const NODES_HELP: &str = "How many nodes a worker keeps for itself, 0 to 64";
+
+const IDLE_HELP: &str = "After how many answers 'nothing' in a row a worker ends, 0 to 1000000";
 
 const PICK_HELP: &str = "Which candidate a deletion takes: first, last or random";

@@ -27,7 +27,18 @@ impl Picker for ThreadPicker {
     }
 }
 
-/// The pickers of all threads, in their order. Each thread has a seed of its own.
+impl ThreadPicker {
+    /// The picker of the thread of this number. Each thread has a seed of its own.
+    pub(crate) fn of(settings: &Settings, thread: u64) -> ThreadPicker {
+        match settings.pick {
+            Pick::First => ThreadPicker::First,
+            Pick::Last => ThreadPicker::Last,
+            Pick::Random => ThreadPicker::Random(random_of(settings.seed.wrapping_add(thread))),
+        }
+    }
+}
+
+/// The pickers of all threads, in their order.
 pub(crate) fn pickers_of(
     alloc: Global,
     settings: &Settings,
@@ -36,16 +47,7 @@ pub(crate) fn pickers_of(
 {
     let mut pickers = Vec::with_capacity(alloc, settings.threads)?;
     for thread in 0..settings.threads {
-        pickers.push(match settings.pick {
-            Pick::First => ThreadPicker::First,
-            Pick::Last => ThreadPicker::Last,
-            Pick::Random => ThreadPicker::Random(random_of(seed_of(settings, thread as u64))),
-        })?;
+        pickers.push(ThreadPicker::of(settings, thread as u64))?;
     }
     Ok(pickers)
-}
-
-// The seed of a thread's random picks.
-fn seed_of(settings: &Settings, thread: u64) -> u64 {
-    settings.seed.wrapping_add(thread)
 }

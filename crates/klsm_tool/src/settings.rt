@@ -24,6 +24,17 @@ pub struct Settings {
     pub seed: u64,
 }
 
+/// How an instance is solved.
+#[derive(Clone, Copy, Debug, PartialEq, Eq)]
+pub(crate) struct Search {
+    /// How many workers there are, 1 to 16.
+    pub threads: usize,
+    /// How many nodes a worker keeps for itself, at most 64.
+    pub k: usize,
+    /// After how many answers "nothing" in a row a worker ends.
+    pub idle: u32,
+}
+
 /// Why a run ended.
 #[derive(Clone, Copy, Debug, PartialEq, Eq)]
 pub enum End {
@@ -31,7 +42,7 @@ pub enum End {
     Done,
     /// A row was refused.
     Refused,
-    /// There was no room for an insertion.
+    /// There was no room for an insertion, or for a node of a search.
     Full,
     /// A growth was refused.
     NoMemory,

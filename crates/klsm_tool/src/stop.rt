@@ -1,4 +1,7 @@
 //! Why no further row is answered, and the line that says so.
+ghost use Rattle.std.specs.Prelude.{◌≡◌, ◌≤◌, length};
+ghost use Rattle.klsm_tool.specs.AnswerText.{row_text};
+ghost use Rattle.klsm_tool.specs.LineText.{made};
 
 use crate::line_text::LineText;
 use crate::request::Refusal;
@@ -43,6 +46,21 @@ impl Stop {
 /// The line that says that memory is wanted.
 pub(crate) const NO_MEMORY: &[u8] = b"no memory\n";
 
+/// The line of a row that is refused, with the word for what is wrong with it.
+pub(crate) fn refused_row(row: u64, word: &[u8]) -> LineText
+    requires { length word.now ≤ 20 }
+    ensures start { result.start ≤ 160 }
+    ensures text { made result ≡ row_text row word.now }
+{
+    let mut text = LineText::new();
+    text.prepend(b"\n");
+    text.prepend(word);
+    text.prepend(b": ");
+    text.prepend_number(row);
+    text.prepend(b"refused row ");
+    text
+}
+
 /// The last line of a text.
 #[derive(Clone, Copy)]
 pub(crate) struct Closing {
@@ -61,6 +79,19 @@ impl Closing {
     ghost use Rattle.klsm_tool.specs.AnswerText.{closing_text};
     ghost use Rattle.klsm_tool.specs.LineText.{made};
 
+    /// That of a run which prints no skips.
+    pub(crate) fn at(stop: Stop, row: u64) -> Closing
+        ensures stop { result.stop ≡ stop }
+        ensures row { result.row ≡ row }
+    {
+        Closing {
+            stop,
+            row,
+            most: 0,
+            bound: 0,
+        }
+    }
+
     /// The line as it goes out.
     pub(crate) fn text(&self) -> LineText
         ensures start { result.start ≤ 160 }
@@ -76,13 +107,7 @@ impl Closing {
                 text.prepend_number(self.most as u64);
                 text.prepend(b"max skip ");
             }
-            Stop::Refused(why) => {
-                text.prepend(b"\n");
-                text.prepend(why.word());
-                text.prepend(b": ");
-                text.prepend_number(self.row);
-                text.prepend(b"refused row ");
-            }
+            Stop::Refused(why) => return refused_row(self.row, why.word()),
             Stop::Full => {
                 text.prepend(b"\n");
                 text.prepend_number(self.row);

@@ -2,9 +2,10 @@
 
 use super::process::{Input, Output, Refusal};
 use super::worked::{ANSWERS, SCRIPT};
-use super::{REPLAY, gives, run};
+use super::{REPLAY, Told, gives, leaves_any_first, run};
 use std::alloc::Global;
 use std::sync::Wait;
+use std::thread::Threads;
 
 #[test]
 fn a_failed_read_follows_the_answers_before_it(rt: HostRuntime) {
@@ -32,7 +33,7 @@ fn a_failed_read_follows_the_answers_before_it(rt: HostRuntime) {
 /// status, how many bytes the output took and how many writes it refused. `None` where the bytes do
 /// not begin with this text.
 fn cut_short(
-    rt: &impl Wait,
+    rt: &(impl Wait + Threads + Sync),
     alloc: Global,
     words: &[&[u8]],
     room: usize,
@@ -56,12 +57,12 @@ fn cut_short(
 #[test]
 fn a_failed_write_leaves_the_first_bytes(rt: HostRuntime) {
     assert_eq!(rt; ANSWERS.len(), 134);
-    for refusal in [Refusal::Fails, Refusal::TakesNothing] {
-        for room in 0..134usize {
-            let left = cut_short(&rt, rt.alloc(), REPLAY, room, 10, refusal, &ANSWERS[..room]);
-            assert!(rt; left == Some((4, room, 1)));
-        }
-    }
+    let told = Told {
+        words: REPLAY,
+        input: SCRIPT,
+        text: ANSWERS,
+    };
+    assert!(rt; leaves_any_first(&rt, rt.alloc(), told));
 }
 
 #[test]
@@ -82,7 +83,7 @@ fn short_writes_give_the_whole_text(rt: HostRuntime) {
 
 #[test]
 fn a_failed_write_of_another_text_is_status_4(rt: HostRuntime) {
-    for word in [b"--help".as_slice(), b"live", b"\xff"] {
+    for word in [b"--help".as_slice(), b"lives", b"\xff"] {
         for refusal in [Refusal::Fails, Refusal::TakesNothing] {
             let left = cut_short(&rt, rt.alloc(), &[b"klsm", word], 20, 7, refusal, b"");
             assert!(rt; left == Some((4, 20, 1)));

@@ -1,9 +1,12 @@
 //! More rows than a script may have.
 
+use super::gives;
+use super::process::Input;
 use super::replayed::run_over;
 use klsm_tool::{End, Pick, Settings};
 use std::alloc::Global;
 use std::sync::Wait;
+use std::thread::Threads;
 
 const ONE_THREAD: Settings = Settings {
     threads: 1,
@@ -43,4 +46,17 @@ fn a_million_rows(rt: HostRuntime) {
 fn one_row_more_than_a_million(rt: HostRuntime) {
     let last = b"refused row 1000001: rows\n";
     assert!(rt; end_so(&rt, 1_000_001, End::Refused, last) == Some(true));
+}
+
+/// Whether so many rows, run by threads, are answered by this line alone.
+fn are_refused(rt: &(impl AllocGlobal + Wait + Threads + Sync), rows: usize) -> Option<bool> {
+    let script = repeated(rt.alloc(), b"0,d,,\n", rows)?;
+    let input = Input::whole(script.as_slice());
+    let last = b"refused row 1000001: rows\n";
+    Some(gives(rt, rt.alloc(), &[b"klsm", b"live"], input, 1, last))
+}
+
+#[test]
+fn one_row_more_than_a_million_by_threads(rt: HostRuntime) {
+    assert!(rt; are_refused(&rt, 1_000_001) == Some(true));
 }

@@ -7,16 +7,19 @@ use std::io;
 use std::io::{Error, ErrorKind, Read, Write};
 use std::rt::Env;
 use std::sync::Wait;
+use std::thread::Threads;
 
 /// A process that was given these words, of which the first is the program's path.
 #[derive(Drop)]
 pub(super) struct Process<'a, R> {
-    /// Where threads may wait.
+    /// Where threads are made and may wait.
     pub rt: &'a R,
     pub words: &'a [&'a [u8]],
 }
 
 impl<R: Wait> Wait for Process<'_, R> {}
+
+impl<R: Threads> Threads for Process<'_, R> {}
 
 impl<R> Env for Process<'_, R> {
     fn arg(&self, i: usize, buf: &mut [u8]) -> Result<usize, FillError> {

@@ -3,13 +3,14 @@
 
 use super::REPLAY;
 use super::process::Process;
-use klsm_tool::run_program;
+use klsm_tool::{Silent, run_program};
 use std::alloc::Global;
 use std::cell::Cell;
 use std::io;
 use std::io::{Read, Write};
 use std::sync::Wait;
 use std::test::Fail;
+use std::thread::Threads;
 
 /// What was seen of a run.
 #[derive(Drop)]
@@ -105,7 +106,7 @@ impl Read for Pieces<'_> {
 }
 
 /// What is seen of a run over this script, and its status.
-fn run_over(rt: &impl Wait, alloc: Global, pieces: &[Piece]) -> (Seen, u8) {
+fn run_over(rt: &(impl Wait + Threads + Sync), alloc: Global, pieces: &[Piece]) -> (Seen, u8) {
     let seen = Seen::nothing();
     let reader = Pieces {
         pieces,
@@ -114,7 +115,12 @@ fn run_over(rt: &impl Wait, alloc: Global, pieces: &[Piece]) -> (Seen, u8) {
         seen: &seen,
     };
     let mut writer = Lines { seen: &seen };
-    let status = run_program(&(Process { rt, words: REPLAY }, alloc), reader, &mut writer);
+    let status = run_program(
+        &(Process { rt, words: REPLAY }, alloc),
+        reader,
+        &mut writer,
+        &Silent,
+    );
     (seen, status.code())
 }
 

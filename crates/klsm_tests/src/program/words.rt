@@ -5,18 +5,19 @@ use super::{REPLAY, gives, run};
 use std::alloc::Global;
 use std::sync::Wait;
 use std::test::Fail;
+use std::thread::Threads;
 
 const SCRIPT: &[u8] = b"0,d,,\n";
 
 const NOT_TEXT: &[u8] = b"error: a word is not UTF-8\n\nFor more information, try '--help'.\n";
 
-/// Words that are no replay, and the status of the program. The parser's texts for them are not
+/// Words that are no command, and the status of the program. The parser's texts for them are not
 /// fixed.
 const OTHERS: &[(&[&[u8]], u8)] = &[
     (&[], 2),
     (&[b"klsm"], 2),
     (&[b"klsm", b""], 2),
-    (&[b"klsm", b"live"], 2),
+    (&[b"klsm", b"lives"], 2),
     (&[b"klsm", b"replay", b""], 2),
     (&[b"klsm", b"replay", b"more"], 2),
     (&[b"klsm", b"replay", b"--threads"], 2),
@@ -28,15 +29,27 @@ const OTHERS: &[(&[&[u8]], u8)] = &[
     (&[b"klsm", b"replay", b"--pick"], 2),
     (&[b"klsm", b"replay", b"--idle", b"1"], 2),
     (&[b"klsm", b"--version"], 2),
-    (&[b"klsm", b"help", b"live"], 2),
+    (&[b"klsm", b"live", b"--threads", b"17"], 2),
+    (&[b"klsm", b"live", b"replay"], 2),
+    (&[b"klsm", b"knapsack", b"--threads", b"0"], 2),
+    (&[b"klsm", b"knapsack", b"--idle", b"1000001"], 2),
+    (&[b"klsm", b"knapsack", b"--pick", b"first"], 2),
+    (&[b"klsm", b"help", b"lives"], 2),
     (&[b"klsm", b"--help"], 0),
     (&[b"klsm", b"help"], 0),
     (&[b"klsm", b"replay", b"--help"], 0),
     (&[b"klsm", b"help", b"replay"], 0),
+    (&[b"klsm", b"live", b"--help"], 0),
+    (&[b"klsm", b"knapsack", b"--help"], 0),
 ];
 
 /// Whether the words are answered with a text and this status, and no script is read.
-fn answers_words(rt: &impl Wait, alloc: Global, words: &[&[u8]], status: u8) -> bool {
+fn answers_words(
+    rt: &(impl Wait + Threads + Sync),
+    alloc: Global,
+    words: &[&[u8]],
+    status: u8,
+) -> bool {
     let mut output = Output::ample(alloc);
     run(rt, alloc, words, Input::whole(SCRIPT), &mut output) == status
         && !output.taken.is_empty()
@@ -94,8 +107,9 @@ fn a_long_word_is_read_whole(rt: HostRuntime) -> Result<(), Fail> {
 
 #[test]
 fn an_unknown_pick_is_refused_where_the_parser_finds_no_fault(rt: HostRuntime) {
-    let table: [&[&[u8]]; 3] = [
+    let table: [&[&[u8]]; 4] = [
         &[b"klsm", b"replay", b"--pick", b"least"],
+        &[b"klsm", b"live", b"--pick", b"least"],
         &[b"klsm", b"replay", b"--pick=First", b"--k", b"3"],
         &[b"klsm", b"replay", b"--pick", b""],
     ];

@@ -8,8 +8,8 @@ use Rattle.clap.specs.declared.error.kind.ErrorKind.TheVariants as kind
 use Rattle.clap.proofs.OnLiterals.{clap_on_literals}
 use Rattle.klsm_tool.specs.declared.command_line.Fault.{Fault}
 use Rattle.klsm_tool.specs.declared.command_line.Fault.TheVariants.{Said, UnknownPick, NotText, NoMemory}
-use Rattle.klsm_tool.specs.declared.settings.Settings.{Settings}
-use Rattle.klsm_tool.specs.CommandLine.{IsCommand, found_in, klsm_command, settings_in, settings_under}
+use Rattle.klsm_tool.specs.declared.command_line.Action.{Action}
+use Rattle.klsm_tool.specs.CommandLine.{IsCommand, action_in, action_under, found_in, klsm_command}
 use Rattle.klsm_tool.specs.Program.{Explains, IsFaultIn}
 use Rattle.klsm_tool.proofs.command_line.parse.Goals as goal
 
@@ -36,22 +36,22 @@ matches_known : (a : App) → a ≡ klsm_command → is_simple a ≡ true
 unfolding clap_on_literals
 matches_known a is = subst (λ (b : App). is_simple b ≡ true) (sym is) refl
 
--- the settings in the words are those under the subcommand that was found
-settings_found : (a : App) (texts words : List (List ℕ)) (m : ArgMatches) → a ≡ klsm_command → texts ≡ words → HasMatchesOf a texts m → settings_in words ≡ settings_under (subcommand_rows_of m)
-unfolding settings_in
-settings_found a texts words m is same has = sym (ap settings_under ((has (matches_known a is)).1 ∙ ap₂ subcommand_of is same))
+-- what the words ask for is what the subcommand does that was found
+action_found : (a : App) (texts words : List (List ℕ)) (m : ArgMatches) → a ≡ klsm_command → texts ≡ words → HasMatchesOf a texts m → action_in words ≡ action_under (subcommand_rows_of m)
+unfolding action_in
+action_found a texts words m is same has = sym (ap action_under ((has (matches_known a is)).1 ∙ ap₂ subcommand_of is same))
 
 -- an unknown pick is what keeps a command from a run
-unknown_pick : (words : List (List ℕ)) (asked : Option Settings) (r : Result Settings Fault) → r ≡ ok_or asked UnknownPick → IsCommand words → settings_in words ≡ asked → IfErr r (IsFaultIn words)
-unknown_pick words None r is command found = subst (λ (x : Result Settings Fault). IfErr x (IsFaultIn words)) (sym is) (command, found)
-unknown_pick words (Some settings) r is command found = subst (λ (x : Result Settings Fault). IfErr x (IsFaultIn words)) (sym is) tt
+unknown_pick : (words : List (List ℕ)) (asked : Option Action) (r : Result Action Fault) → r ≡ ok_or asked UnknownPick → IsCommand words → action_in words ≡ asked → IfErr r (IsFaultIn words)
+unknown_pick words None r is command found = subst (λ (x : Result Action Fault). IfErr x (IsFaultIn words)) (sym is) (command, found)
+unknown_pick words (Some action) r is command found = subst (λ (x : Result Action Fault). IfErr x (IsFaultIn words)) (sym is) tt
 
-settings_asked : (words : List (List ℕ)) (asked : Option Settings) (r : Result Settings Fault) → r ≡ ok_or asked UnknownPick → settings_in words ≡ asked → IfOk r (λ settings. settings_in words ≡ Some settings)
-settings_asked words None r is found = subst (λ (x : Result Settings Fault). IfOk x (λ settings. settings_in words ≡ Some settings)) (sym is) tt
-settings_asked words (Some settings) r is found = subst (λ (x : Result Settings Fault). IfOk x (λ settings'. settings_in words ≡ Some settings')) (sym is) found
+action_asked : (words : List (List ℕ)) (asked : Option Action) (r : Result Action Fault) → r ≡ ok_or asked UnknownPick → action_in words ≡ asked → IfOk r (λ action. action_in words ≡ Some action)
+action_asked words None r is found = subst (λ (x : Result Action Fault). IfOk x (λ action. action_in words ≡ Some action)) (sym is) tt
+action_asked words (Some action) r is found = subst (λ (x : Result Action Fault). IfOk x (λ action'. action_in words ≡ Some action')) (sym is) found
 
-command_asked : (words : List (List ℕ)) (r : Result Settings Fault) → IsCommand words → OnOk r (IsCommand words)
-command_asked words (Ok settings) command = command
+command_asked : (words : List (List ℕ)) (r : Result Action Fault) → IsCommand words → OnOk r (IsCommand words)
+command_asked words (Ok action) command = command
 command_asked words (Err fault) command = tt
 
 pub returns-in-Ok-try_get_matches_from-clause-asked : goal.returns-in-Ok-try_get_matches_from-clause-asked
@@ -59,15 +59,15 @@ returns-in-Ok-try_get_matches_from-clause-asked c =
     let same = ap (map (λ text. text.now)) c.as_slice.ensures.value ∙ c.in_ok-texts.ensures.texts in
     command_asked _ c.ok_or.result (c.in_ok-texts.ensures.readable, sym (found_is _ _ _ c.in-Ok.ensures same) ∙ c.in-Ok-try_get_matches_from.ensures.kinds (command_simple _ c.in-Ok.ensures))
 
-pub returns-in-Ok-try_get_matches_from-clause-settings : goal.returns-in-Ok-try_get_matches_from-clause-settings
-returns-in-Ok-try_get_matches_from-clause-settings c =
+pub returns-in-Ok-try_get_matches_from-clause-action : goal.returns-in-Ok-try_get_matches_from-clause-action
+returns-in-Ok-try_get_matches_from-clause-action c =
     let same = ap (map (λ text. text.now)) c.as_slice.ensures.value ∙ c.in_ok-texts.ensures.texts in
-    settings_asked _ c.settings_in.result c.ok_or.result c.ok_or.ensures.value (settings_found _ _ _ c.in-Ok-try_get_matches_from.matches c.in-Ok.ensures same c.in-Ok-try_get_matches_from.ensures.matches ∙ sym c.settings_in.ensures.settings)
+    action_asked _ c.action_in.result c.ok_or.result c.ok_or.ensures.value (action_found _ _ _ c.in-Ok-try_get_matches_from.matches c.in-Ok.ensures same c.in-Ok-try_get_matches_from.ensures.matches ∙ sym c.action_in.ensures.action)
 
 pub returns-in-Ok-try_get_matches_from-clause-fault : goal.returns-in-Ok-try_get_matches_from-clause-fault
 returns-in-Ok-try_get_matches_from-clause-fault c =
     let same = ap (map (λ text. text.now)) c.as_slice.ensures.value ∙ c.in_ok-texts.ensures.texts in
-    unknown_pick _ c.settings_in.result c.ok_or.result c.ok_or.ensures.value (c.in_ok-texts.ensures.readable, sym (found_is _ _ _ c.in-Ok.ensures same) ∙ c.in-Ok-try_get_matches_from.ensures.kinds (command_simple _ c.in-Ok.ensures)) (settings_found _ _ _ c.in-Ok-try_get_matches_from.matches c.in-Ok.ensures same c.in-Ok-try_get_matches_from.ensures.matches ∙ sym c.settings_in.ensures.settings)
+    unknown_pick _ c.action_in.result c.ok_or.result c.ok_or.ensures.value (c.in_ok-texts.ensures.readable, sym (found_is _ _ _ c.in-Ok.ensures same) ∙ c.in-Ok-try_get_matches_from.ensures.kinds (command_simple _ c.in-Ok.ensures)) (action_found _ _ _ c.in-Ok-try_get_matches_from.matches c.in-Ok.ensures same c.in-Ok-try_get_matches_from.ensures.matches ∙ sym c.action_in.ensures.action)
 
 pub returns-clause-fault : goal.returns-clause-fault
 returns-clause-fault c =

@@ -4,10 +4,12 @@ use Rattle.std.specs.List.{All}
 use Rattle.clap.specs.Words.{IsAmong, Kinds}
 use Rattle.clap.specs.declared.error.kind.ErrorKind.{ErrorKind}
 use Rattle.clap.proofs.OnLiterals.{clap_on_literals}
-use Rattle.klsm_tool.specs.CommandLine.{HasStatus, found_in, replay_words, settings_in, usual_settings}
+use Rattle.klsm_tool.specs.CommandLine.{HasStatus, action_in, found_in, replay_words, usual_settings}
 use Rattle.klsm_tool.specs.Program.{RunsBy, RunsReplay, Says}
+use Rattle.klsm_tool.specs.declared.command_line.Action.{Action}
+use Rattle.klsm_tool.specs.declared.command_line.Action.TheVariants.{Replay, Live, Knapsack}
 use Rattle.klsm_tool.specs.declared.settings.Settings.{Settings}
-use Rattle.klsm_tool.proofs.command_line.run_words.Goals as goal
+use Rattle.klsm_tool.proofs.command_line.run_told.Goals as goal
 
 -- the words that ask for a replay are text, and the parser finds nothing in them
 replay_is_found : found_in replay_words ≡ []
@@ -31,28 +33,46 @@ returns-in-Err-Said-clause-replays g c are = absurd (replay_has_no_status _ c.in
 pub returns-in-Err-NotText-clause-replays : goal.returns-in-Err-NotText-clause-replays
 returns-in-Err-NotText-clause-replays g c are = absurd ((rw c.in-Err-NotText.field-0-is at c.in-Err-NotText.ensures.fault) (subst (All IsUtf8) (sym are) replay_is_text))
 
--- they ask for the usual settings
-replay_is_usual : (words : List (List ℕ)) → words ≡ replay_words → settings_in words ≡ Some usual_settings
-unfolding clap_on_literals settings_in
-replay_is_usual words are = subst (λ (ws : List (List ℕ)). settings_in ws ≡ Some usual_settings) (sym are) refl
+-- they ask for a replay with the usual settings
+replay_is_usual : (words : List (List ℕ)) → words ≡ replay_words → action_in words ≡ Some (Replay usual_settings)
+unfolding clap_on_literals action_in
+replay_is_usual words are = subst (λ (ws : List (List ℕ)). action_in ws ≡ Some (Replay usual_settings)) (sym are) refl
+
+-- an action is a replay with these settings, or none or another
+abbrev replay_of : Option Action → Option Settings
+replay_of None = None
+replay_of (Some (Replay settings)) = Some settings
+replay_of (Some (Live settings)) = None
+replay_of (Some (Knapsack search)) = None
 
 abbrev settings_count : Option Settings → ℕ
 settings_count None = 0
 settings_count (Some settings) = 1
 
-none_is_not_usual : None ≡ Some usual_settings → ⊥
-none_is_not_usual is = let same : 0 ≡ 1 = ap settings_count is in omega (arith, same)
+none_is_not_usual : (asked : Option Action) → replay_of asked ≡ None → asked ≡ Some (Replay usual_settings) → ⊥
+none_is_not_usual asked none is = let same : 0 ≡ 1 = ap settings_count (sym none ∙ ap replay_of is) in omega (arith, same)
 
 by_usual : (settings : Settings) (input before after : Option (List ℕ)) (n : ℕ) → settings ≡ usual_settings → RunsReplay settings input before after n → RunsReplay usual_settings input before after n
 by_usual settings input before after n is runs = subst (λ (s : Settings). RunsReplay s input before after n) is runs
 
-unknown : (asked : Option Settings) (input before after : Option (List ℕ)) (n : ℕ) → asked ≡ None → Says before after (codes "refused: pick\n") 2 n → RunsBy asked input before after n
-unknown asked input before after n is says = subst (λ (o : Option Settings). RunsBy o input before after n) (sym is) says
+unknown : (asked : Option Action) (input before after : Option (List ℕ)) (n : ℕ) → asked ≡ None → Says before after (codes "refused: pick\n") 2 n → RunsBy asked input before after n
+unknown asked input before after n is says = subst (λ (o : Option Action). RunsBy o input before after n) (sym is) says
 
-pub returns-in-Ok-clause-replays : goal.returns-in-Ok-clause-replays
-returns-in-Ok-clause-replays g c are =
-    let usual = ap (λ (o : Option Settings). unwrap_or o usual_settings) (sym c.in-Ok.ensures.settings ∙ replay_is_usual _ are) in
+pub returns-in-Ok-Replay-clause-replays : goal.returns-in-Ok-Replay-clause-replays
+returns-in-Ok-Replay-clause-replays g c are =
+    let asked = rw c.in-Ok-Replay.field-0-is at c.in-Ok-Replay.ensures.action in
+    let usual = ap (λ (o : Option Action). unwrap_or (replay_of o) usual_settings) (sym asked ∙ replay_is_usual _ are) in
     inl (by_usual _ _ _ _ c.run_replay.result.code usual c.run_replay.ensures)
+
+pub returns-in-Ok-Live-clause-replays : goal.returns-in-Ok-Live-clause-replays
+returns-in-Ok-Live-clause-replays g c are =
+    let asked = rw c.in-Ok-Live.field-0-is at c.in-Ok-Live.ensures.action in
+    absurd (none_is_not_usual (Some (Live c.in-Ok-Live.settings)) refl (sym asked ∙ replay_is_usual _ are))
+
+pub returns-in-Ok-Knapsack-clause-replays : goal.returns-in-Ok-Knapsack-clause-replays
+returns-in-Ok-Knapsack-clause-replays g c are =
+    let asked = rw c.in-Ok-Knapsack.field-0-is at c.in-Ok-Knapsack.ensures.action in
+    absurd (none_is_not_usual (Some (Knapsack c.in-Ok-Knapsack.search)) refl (sym asked ∙ replay_is_usual _ are))
 
 pub returns-in-Err-UnknownPick-clause-runs : goal.returns-in-Err-UnknownPick-clause-runs
 returns-in-Err-UnknownPick-clause-runs g c =
@@ -62,4 +82,4 @@ returns-in-Err-UnknownPick-clause-runs g c =
 pub returns-in-Err-UnknownPick-clause-replays : goal.returns-in-Err-UnknownPick-clause-replays
 returns-in-Err-UnknownPick-clause-replays g c are =
     let fault = rw c.in-Err-UnknownPick.field-0-is at c.in-Err-UnknownPick.ensures.fault in
-    absurd (none_is_not_usual (sym fault.1 ∙ replay_is_usual _ are))
+    absurd (none_is_not_usual None refl (sym fault.1 ∙ replay_is_usual _ are))

@@ -1,0 +1,147 @@
+-- The workers of a search together.
+use Rattle.std.proofs.Common.{◌≡◌, ℕ, zero, suc, ◌<◌, ◌≤◌, inl, List, [], ◌∷◌, ◌++◌, length, map, get_or, set, All, Option, Some, None, refl, sym, ap, ◌∙◌, subst, arith}
+use Rattle.std.specs.List.{flat_map}
+use Rattle.std.specs.Option.{option_or}
+use Rattle.std.proofs.lemmas.Option.{none-some}
+use Rattle.std.proofs.lemmas.List.Elements.{Contains-append_left}
+use mathlib.Core.Option.{some, some-injective, some-ne-none}
+use lib.ListN.{get_elem?}
+use Rattle.klsm_world.specs.declared.step.Entry.{Entry}
+use Rattle.klsm_world.specs.OwnSteps.{inserted, deleted}
+use Rattle.klsm_board.specs.declared.board.Member.{Member}
+use Rattle.klsm_board.proofs.ending.EndLemmas.{place_within}
+use Rattle.klsm_knapsack.specs.declared.common.Common.{Common}
+use Rattle.klsm_knapsack.specs.declared.common.Worker.{Worker}
+use Rattle.klsm_knapsack.specs.declared.errors.Refusal.{Refusal}
+use Rattle.klsm_knapsack.specs.Selections.{Problem}
+use Rattle.klsm_knapsack.specs.Watching.{found_by}
+use Rattle.klsm_knapsack.specs.Work.{Has, HasWorked}
+use Rattle.klsm_knapsack.specs.Ends.{first_refusal}
+use Rattle.klsm_knapsack.specs.Workers.{HasRun, HaveWorked, IsAtWork, IsCrew, IsNew, IsSameWorker, IsWorkerOf, work_of}
+use Rattle.klsm_knapsack.proofs.CoverageLemmas.{wider}
+
+-- what stands at an index, in two ways of saying so
+pub stands_at : {A : Type 0} (xs : List A) (i : ℕ) (d : A) → i < length xs → get_elem? xs i ≡ some (get_or xs i d)
+stands_at [] i d lt = absurd (omega (arith, lt))
+stands_at (x ∷ xs) zero d lt = refl
+stands_at (x ∷ xs) (suc i) d lt = stands_at xs i d (omega (arith, lt))
+
+pub is_at : {A : Type 0} (xs : List A) (i : ℕ) (d a : A) → get_elem? xs i ≡ some a → get_or xs i d ≡ a
+is_at [] i d a there = absurd (some-ne-none a (sym there))
+is_at (x ∷ xs) zero d a there = some-injective x a there
+is_at (x ∷ xs) (suc i) d a there = is_at xs i d a there
+
+module _ {LEVELS : ℕ} where
+  -- a worker that has not begun has done all that it began
+  pub new_at_work : (p : Problem) (w : Worker LEVELS) → IsNew w → IsAtWork p w
+  new_at_work p w new = record {
+    worked = subst (λ (es : List Entry). HasWorked p record { inserted = inserted es; deleted = deleted es; found = found_by w.watcher }) (sym new.steps) none;
+    answered = inl new.steps;
+  }
+    where
+      none : HasWorked p record { inserted = []; deleted = []; found = found_by w.watcher }
+      none = record { inserts_nodes = λ x there. absurd (omega (arith, there.1)); is_done = λ x there node. absurd (omega (arith, there.1)) }
+
+  -- the first refusal among one worker more
+  pub first_refused : (before : List (Worker LEVELS)) (w : Worker LEVELS) → first_refusal (map (λ (v : Worker LEVELS). v.refused) (before ++ w ∷ [])) ≡ option_or (first_refusal (map (λ (v : Worker LEVELS). v.refused) before)) w.refused
+  first_refused [] w = alone w.refused
+    where
+      alone : (r : Option Refusal) → first_refusal (r ∷ []) ≡ r
+      alone (Some why) = refl
+      alone None = refl
+  first_refused (v ∷ before) w = by_first v.refused (first_refused before w)
+    where
+      by_first : (r : Option Refusal) → first_refusal (map (λ (u : Worker LEVELS). u.refused) (before ++ w ∷ [])) ≡ option_or (first_refusal (map (λ (u : Worker LEVELS). u.refused) before)) w.refused
+          → first_refusal (r ∷ map (λ (u : Worker LEVELS). u.refused) (before ++ w ∷ [])) ≡ option_or (first_refusal (r ∷ map (λ (u : Worker LEVELS). u.refused) before)) w.refused
+      by_first (Some why) more = refl
+      by_first None more = more
+
+  -- where there is none, no worker was refused
+  pub none_refused : (crew : List (Worker LEVELS)) → first_refusal (map (λ (v : Worker LEVELS). v.refused) crew) ≡ None → All (λ (v : Worker LEVELS). v.refused ≡ None) crew
+  none_refused [] none = λ k d lt. absurd (omega (arith, lt))
+  none_refused (v ∷ crew) none = by_place (by_first v.refused refl none) (λ later. none_refused crew later)
+    where
+      by_first : (r : Option Refusal) → v.refused ≡ r → first_refusal (r ∷ map (λ (u : Worker LEVELS). u.refused) crew) ≡ None → (v.refused ≡ None) × (first_refusal (map (λ (u : Worker LEVELS). u.refused) crew) ≡ None)
+      by_first (Some why) is none = absurd (none-some why (sym none))
+      by_first None is none = (is, none)
+
+      by_place : (v.refused ≡ None) × (first_refusal (map (λ (u : Worker LEVELS). u.refused) crew) ≡ None)
+          → (first_refusal (map (λ (u : Worker LEVELS). u.refused) crew) ≡ None → All (λ (u : Worker LEVELS). u.refused ≡ None) crew)
+          → All (λ (u : Worker LEVELS). u.refused ≡ None) (v ∷ crew)
+      by_place (here, later) others zero d lt = here
+      by_place (here, later) others (suc k) d lt = others later k d (omega (arith, lt))
+
+  -- one worker more is sent home
+  pub sent_home : (before : List (Worker LEVELS)) (w : Worker LEVELS) → map (λ (v : Worker LEVELS). v.member) before ++ w.member ∷ [] ≡ map (λ (v : Worker LEVELS). v.member) (before ++ w ∷ [])
+  sent_home [] w = refl
+  sent_home (v ∷ before) w = ap (λ (ms : List (Member 64 LEVELS)). v.member ∷ ms) (sent_home before w)
+
+  -- and what its seat found is known too
+  pub found_too : (before : List (Worker LEVELS)) (w : Worker LEVELS) (m n : ℕ) → m ≤ n → found_by w.watcher ≤ n → All (λ (v : Worker LEVELS). found_by v.watcher ≤ m) before → All (λ (v : Worker LEVELS). found_by v.watcher ≤ n) (before ++ w ∷ [])
+  found_too [] w m n le here all = alone
+    where
+      alone : (k : ℕ) (d : Worker LEVELS) → k < length (w ∷ []) → found_by (get_or (w ∷ []) k d).watcher ≤ n
+      alone zero d lt = here
+      alone (suc k) d lt = absurd (omega (arith, lt))
+  found_too (v ∷ before) w m n le here all = by_place (found_too before w m n le here (λ k d lt. all (suc k) d (omega (arith, lt))))
+    where
+      by_place : All (λ (u : Worker LEVELS). found_by u.watcher ≤ n) (before ++ w ∷ []) → (k : ℕ) (d : Worker LEVELS) → k < length (v ∷ (before ++ w ∷ [])) → found_by (get_or (v ∷ (before ++ w ∷ [])) k d).watcher ≤ n
+      by_place others zero d lt = omega (arith, le, all 0 d (omega arith))
+      by_place others (suc k) d lt = others k d (omega (arith, lt))
+
+  -- where each worker ran and none was refused, they have worked
+  pub all_worked : (p : Problem) (old new : List (Worker LEVELS)) (d : Worker LEVELS) → 0 < length old → length new ≡ length old
+      → ((i : ℕ) (e : Worker LEVELS) → i < length old → HasRun p (get_or old i e) (get_or new i e)) → Has (work_of (get_or old 0 d)).inserted 0 0
+      → All (λ (w : Worker LEVELS). w.refused ≡ None) new → HaveWorked p new
+  all_worked p [] new d some_worker many runs root none = absurd (omega (arith, some_worker))
+  all_worked p (w ∷ old) [] d some_worker many runs root none = absurd (omega (arith, many))
+  all_worked p (w ∷ old) (v ∷ new) d some_worker many runs root none = record {
+    root =
+        let inserts = (runs 0 v (omega arith)).inserts (none 0 v (omega arith)) in
+        wider (work_of w).inserted (flat_map (λ (u : Worker LEVELS). (work_of u).inserted) (v ∷ new)) 0 0
+        (λ y there. Contains-append_left (work_of v).inserted (flat_map (λ (u : Worker LEVELS). (work_of u).inserted) new) y (inserts.kept y there)) root;
+    each = λ k e lt. (runs k e (omega (arith, lt, many))).worked (none k e lt);
+  }
+
+  module _ (common : Common LEVELS) where
+    same_of : (before after : Worker LEVELS) → IsWorkerOf common before → IsSameWorker before after → IsWorkerOf common after
+    same_of before after of same = record {
+      member = (same.member.2 ∙ of.member.0, same.member.1 ∙ of.member.1);
+      watcher = same.watcher ∙ of.watcher;
+    }
+
+    -- the first worker has begun
+    pub crew_begun : (crew : List (Worker LEVELS)) (d after : Worker LEVELS) → IsCrew common crew → IsSameWorker (get_or crew 0 d) after → IsCrew common (set crew 0 after)
+    crew_begun [] d after is same = absurd (omega (arith, is.some_worker))
+    crew_begun (w ∷ crew) d after is same = record { of = of; many = is.many; some_worker = is.some_worker; numbered = numbered }
+      where
+        of : (k : ℕ) (e : Worker LEVELS) → k < length (after ∷ crew) → IsWorkerOf common (get_or (after ∷ crew) k e)
+        of zero e lt = same_of w after (is.of 0 e lt) same
+        of (suc k) e lt = is.of (suc k) e lt
+
+        numbered : (i : ℕ) (v : Worker LEVELS) → get_elem? (after ∷ crew) i ≡ some v → v.member.number ≡ i
+        numbered zero v there = subst (λ (u : Worker LEVELS). u.member.number ≡ 0) (some-injective after v there) (same.member.0 ∙ is.numbered 0 w refl)
+        numbered (suc i) v there = is.numbered (suc i) v there
+
+    -- and all are ready to run
+    pub crew_ready : (p : Problem) (crew : List (Worker LEVELS)) (d after : Worker LEVELS) → IsCrew common crew → All IsNew crew → IsSameWorker (get_or crew 0 d) after → IsAtWork p after
+        → All (λ (w : Worker LEVELS). IsWorkerOf common w × IsAtWork p w) (set crew 0 after)
+    crew_ready p [] d after is new same begun = absurd (omega (arith, is.some_worker))
+    crew_ready p (w ∷ crew) d after is new same begun = ready
+      where
+        ready : (k : ℕ) (e : Worker LEVELS) → k < length (after ∷ crew) → IsWorkerOf common (get_or (after ∷ crew) k e) × IsAtWork p (get_or (after ∷ crew) k e)
+        ready zero e lt = (same_of w after (is.of 0 e lt) same, begun)
+        ready (suc k) e lt = (is.of (suc k) e lt, new_at_work p (get_or crew k e) (new (suc k) e lt))
+
+    -- a crew that ran is one still
+    pub crew_run : (p : Problem) (old new : List (Worker LEVELS)) → length new ≡ length old → ((i : ℕ) (e : Worker LEVELS) → i < length old → HasRun p (get_or old i e) (get_or new i e))
+        → IsCrew common old → IsCrew common new
+    crew_run p old new many runs is = record {
+      of = λ k e lt. same_of (get_or old k e) (get_or new k e) (is.of k e (omega (arith, lt, many))) (runs k e (omega (arith, lt, many))).same;
+      many = many ∙ is.many;
+      some_worker = omega (arith, many, is.some_worker);
+      numbered = λ i v there.
+          let lt : i < length old = omega (arith, place_within new i v there, many) in
+          let run = runs i v lt in
+          ap (λ (u : Worker LEVELS). u.member.number) (sym (is_at new i v v there)) ∙ (run.same.member.0 ∙ is.numbered i (get_or old i v) (stands_at old i v lt));
+    }

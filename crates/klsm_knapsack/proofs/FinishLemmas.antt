@@ -1,0 +1,164 @@
+-- The workers of a search at its start and at its end.
+use Rattle.std.proofs.Common.{◌≡◌, ℕ, zero, suc, ◌+◌, ◌<◌, ◌≤◌, ◌⊎◌, inl, inr, List, [], ◌∷◌, ◌++◌, length, map, take, get_or, All, Option, Some, None, refl, sym, ap, ◌∙◌, subst, arith}
+use Rattle.std.specs.List.{Contains, flat_map}
+use Rattle.std.proofs.lemmas.List.{length-map, take_at}
+use Rattle.std.proofs.lemmas.List.Elements.{recursion_from_All, All-map}
+use mathlib.Core.Option.{some, some-injective, some-ne-none}
+use lib.ListN.{get_elem?}
+use Rattle.klsm_run.specs.declared.item.Item.{Item}
+use Rattle.klsm_parts.specs.Events.{times}
+use Rattle.klsm_world.specs.OwnSteps.{inserted, deleted}
+use Rattle.klsm_world.specs.Account.{account}
+use Rattle.klsm_world.proofs.counts.EventCountLemmas.{times_contained, contained_if_counted}
+use Rattle.klsm_board.specs.declared.board.Member.{Member}
+use Rattle.klsm_board.specs.declared.sizes.Sizes.{Sizes}
+use Rattle.klsm_board.specs.Rule.{IsReached}
+use Rattle.klsm_board.specs.Boards.{own_steps}
+use Rattle.klsm_board.specs.Boards.{IsCrew as AreNumbered}
+use Rattle.klsm_board.specs.Boards.{IsOf as IsMemberOf}
+use Rattle.klsm_board.specs.Finishing.{AreAll, AreEachOnce, lists_of}
+use Rattle.klsm_board.proofs.ending.EndLemmas.{are_lists, each_of}
+use Rattle.klsm_knapsack.specs.declared.common.Common.{Common}
+use Rattle.klsm_knapsack.specs.declared.common.Worker.{Worker}
+use Rattle.klsm_knapsack.specs.declared.errors.Refusal.{Refusal}
+use Rattle.klsm_knapsack.specs.declared.errors.Refusal.TheVariants as refusal
+use Rattle.klsm_knapsack.specs.Selections.{Problem}
+use Rattle.klsm_knapsack.specs.Watching.{IsOf, found_by}
+use Rattle.klsm_knapsack.specs.Work.{Has, HasWorked, all_inserted, all_deleted}
+use Rattle.klsm_knapsack.specs.Ends.{End, HasEnded, IsLeastRefusal, first_refusal}
+use Rattle.klsm_knapsack.specs.Workers.{HasEndedSo, HaveWorked, IsCrew, IsNew, IsSearched, IsWorkerOf, work_of}
+use Rattle.klsm_knapsack.specs.Refusals.{RefusesSearch, error_of, sizes_of}
+use Rattle.klsm_knapsack.proofs.CrewLemmas.{stands_at}
+
+-- what a list is after its store was lent as a slice
+pub whole : {A : Type 0} (n : ℕ) (xs ys : List A) → n ≡ length xs → take n (xs ++ ys) ≡ xs
+whole n xs ys e = ap (λ k. take k (xs ++ ys)) e ∙ take_at xs ys (length xs) refl
+
+-- what stands in a list that was mapped
+map_at : {A B : Type 0} (f : A → B) (xs : List A) (i : ℕ) (a : A) → get_elem? xs i ≡ some a → get_elem? (map f xs) i ≡ some (f a)
+map_at f [] i a there = absurd (some-ne-none a (sym there))
+map_at f (x ∷ xs) zero a there = ap (λ z. some (f z)) (some-injective x a there)
+map_at f (x ∷ xs) (suc i) a there = map_at f xs i a there
+
+from_map : {A B : Type 0} (f : A → B) (xs : List A) (i : ℕ) (b : B) → get_elem? (map f xs) i ≡ some b → (a : A) × (get_elem? xs i ≡ some a) × (f a ≡ b)
+from_map f [] i b there = absurd (some-ne-none b (sym there))
+from_map f (x ∷ xs) zero b there = (x, refl, some-injective (f x) b there)
+from_map f (x ∷ xs) (suc i) b there = from_map f xs i b there
+
+flat_of_map : {A B C : Type 0} (f : A → B) (g : B → List C) (xs : List A) → flat_map g (map f xs) ≡ flat_map (λ x. g (f x)) xs
+flat_of_map f g [] = refl
+flat_of_map f g (x ∷ xs) = ap (λ ys. g (f x) ++ ys) (flat_of_map f g xs)
+
+-- the refusal of a worker is that of the search
+pub refuses : (levels threads k : ℕ) (why : Refusal) → (1 ≤ threads) × (threads ≤ 16) × (k ≤ 64) → IsLeastRefusal levels (sizes_of threads k) why → RefusesSearch levels threads k (error_of why)
+refuses levels threads k refusal.Full in_range least = least
+refuses levels threads k refusal.NoMemory in_range least = in_range
+
+module _ {LEVELS : ℕ} where
+  abbrev member_of : Worker LEVELS → Member 64 LEVELS
+  member_of w = w.member
+
+  module _ (common : Common LEVELS) (crew : List (Worker LEVELS)) (members : List (Member 64 LEVELS)) (are : map (λ (w : Worker LEVELS). w.member) crew ≡ members)
+      (of : All (λ (m : Member 64 LEVELS). IsMemberOf m common.board) members) (many : length members ≡ common.board.sizes.threads) (some_thread : 0 < common.board.sizes.threads) (numbered : AreNumbered members)
+      (seats : All (λ (w : Worker LEVELS). IsOf common.incumbent w.watcher × (found_by w.watcher ≡ 0) × (w.refused ≡ None)) crew) where
+    stands : (i : ℕ) (w : Worker LEVELS) → get_elem? crew i ≡ some w → get_elem? members i ≡ some w.member
+    stands i w there = ap (λ ms. get_elem? ms i) (sym are) ∙ map_at member_of crew i w there
+
+    long : length crew ≡ length members
+    long = sym (length-map crew member_of) ∙ ap length are
+
+    -- the workers that were recruited are a crew
+    pub recruited : IsCrew common crew
+    recruited = record {
+      of = λ i d lt.
+          let w = get_or crew i d in
+          let there = stands i w (stands_at crew i d lt) in
+          record { member = each_of (λ (m : Member 64 LEVELS). IsMemberOf m common.board) members of i w.member there; watcher = (seats i d lt).0 };
+      many = long ∙ many;
+      some_worker = omega (arith, long, many, some_thread);
+      numbered = λ i w there. (numbered i w.member (stands i w there)).0;
+    }
+
+    -- none of which has begun
+    pub are_new : All IsNew crew
+    are_new i d lt =
+        let w = get_or crew i d in
+        let there = stands i w (stands_at crew i d lt) in
+        record { steps = (numbered i w.member there).1; found = (seats i d lt).1; refused = (seats i d lt).2 }
+
+  module _ (common : Common LEVELS) (crew : List (Worker LEVELS)) (is : IsCrew common crew) where
+    -- the members are those of the board
+    pub members_of : All (λ (m : Member 64 LEVELS). IsMemberOf m common.board) (map (λ (w : Worker LEVELS). w.member) crew)
+    members_of = All-map (λ (m : Member 64 LEVELS). IsMemberOf m common.board) member_of crew (λ k d lt. (is.of k d lt).member)
+
+    abbrev end_of : Worker LEVELS → End
+    end_of w = record { steps = own_steps w.member; refused = w.refused }
+
+    worker_at : (t : ℕ) (w : Worker LEVELS) → get_elem? crew t ≡ some w → IsWorkerOf common w
+    worker_at t w there = each_of (IsWorkerOf common) crew is.of t w there
+
+    reached_by : (t : ℕ) (w : Worker LEVELS) → get_elem? crew t ≡ some w → ∥ IsReached common.board.sizes t (own_steps w.member) ∥₁
+    reached_by t w there =
+        subst (λ (m : Sizes). ∥ IsReached m t (own_steps w.member) ∥₁) (worker_at t w there).member.1
+        (subst (λ (n : ℕ). ∥ IsReached w.member.sizes n (own_steps w.member) ∥₁) (is.numbered t w there) w.member.rests.reached)
+
+    ended_by : (t : ℕ) (w : Worker LEVELS) → get_elem? crew t ≡ some w → HasEndedSo w → HasEnded LEVELS common.board.sizes.k t (own_steps w.member) w.refused
+    ended_by t w there ended =
+        subst (λ (m : Sizes). HasEnded LEVELS m.k t (own_steps w.member) w.refused) (worker_at t w there).member.1
+        (subst (λ (n : ℕ). HasEnded LEVELS w.member.sizes.k n (own_steps w.member) w.refused) (is.numbered t w there) ended)
+
+    refusals : (ws : List (Worker LEVELS)) → map (λ (end : End). end.refused) (map end_of ws) ≡ map (λ (w : Worker LEVELS). w.refused) ws
+    refusals [] = refl
+    refusals (w ∷ ws) = ap (λ (rs : List (Option Refusal)). w.refused ∷ rs) (refusals ws)
+
+    -- the first refusal is that of the least numbered worker that met one
+    pub least_refusal : (why : Refusal) → All HasEndedSo crew → first_refusal (map (λ (w : Worker LEVELS). w.refused) crew) ≡ Some why → IsLeastRefusal LEVELS common.board.sizes why
+    least_refusal why ended first = record {
+      ends = map end_of crew;
+      many = length-map crew end_of ∙ is.many;
+      reached = λ t end there.
+          let at = from_map end_of crew t end there in
+          subst (λ (e : End). ∥ IsReached common.board.sizes t e.steps ∥₁) at.2 (reached_by t at.0 at.1);
+      ended = λ t end there.
+          let at = from_map end_of crew t end there in
+          subst (λ (e : End). HasEnded LEVELS common.board.sizes.k t e.steps e.refused) at.2 (ended_by t at.0 at.1 (each_of HasEndedSo crew ended t at.0 at.1));
+      first = ap first_refusal (refusals crew) ∙ first;
+    }
+
+    -- by the account of the board, all nodes but those left are done with
+    pub searched : (p : Problem) (found number : ℕ) (members : List (Member 64 LEVELS)) (left : List Item) → members ≡ map (λ (w : Worker LEVELS). w.member) crew → HaveWorked p crew
+        → All (λ (w : Worker LEVELS). found_by w.watcher ≤ found) crew → found ≤ number
+        → AreAll members common.board.sizes.threads → AreEachOnce (lists_of common.board.sizes.threads members)
+        → left ≡ (account (lists_of common.board.sizes.threads members)).left → IsSearched p number left
+    searched p found number members left back worked below le all once left_is = record {
+      works = map work_of crew;
+      root = subst (λ (xs : List Item). Has xs 0 0) (sym (flat_of_map work_of (λ w. w.inserted) crew)) worked.root;
+      none_lost = none_lost;
+      have_worked = recursion_from_All (HasWorked p) (map work_of crew) (All-map (HasWorked p) work_of crew worked.each);
+      found = recursion_from_All (λ w. w.found ≤ number) (map work_of crew) (All-map (λ w. w.found ≤ number) work_of crew (λ k d lt. omega (arith, below k d lt, le)));
+    }
+      where
+        lists_are : map (λ (w : Worker LEVELS). own_steps w.member) crew ≡ lists_of common.board.sizes.threads members
+        lists_are = are_lists (map (λ (w : Worker LEVELS). own_steps w.member) crew) common.board.sizes.threads members (length-map crew (λ w. own_steps w.member) ∙ is.many) all
+            (λ i member there.
+            let at = from_map member_of crew i member (ap (λ ms. get_elem? ms i) (sym back) ∙ there) in
+            let number_is : member.number ≡ i = ap (λ (m : Member 64 LEVELS). m.number) (sym at.2) ∙ is.numbered i at.0 at.1 in
+            ap (λ j. get_elem? (map (λ (w : Worker LEVELS). own_steps w.member) crew) j) number_is
+            ∙ (map_at (λ (w : Worker LEVELS). own_steps w.member) crew i at.0 at.1 ∙ ap (λ (m : Member 64 LEVELS). some (own_steps m)) at.2))
+
+        inserted_are : all_inserted (map work_of crew) ≡ flat_map inserted (lists_of common.board.sizes.threads members)
+        inserted_are = flat_of_map work_of (λ w. w.inserted) crew ∙ (sym (flat_of_map (λ (w : Worker LEVELS). own_steps w.member) inserted crew) ∙ ap (λ ls. flat_map inserted ls) lists_are)
+
+        deleted_are : all_deleted (map work_of crew) ≡ flat_map deleted (lists_of common.board.sizes.threads members)
+        deleted_are = flat_of_map work_of (λ w. w.deleted) crew ∙ (sym (flat_of_map (λ (w : Worker LEVELS). own_steps w.member) deleted crew) ∙ ap (λ ls. flat_map deleted ls) lists_are)
+
+        by_count : (x : Item) (n : ℕ) → times x (all_deleted (map work_of crew)) ≡ n → 0 < n + times x left → Contains (all_deleted (map work_of crew)) x ⊎ Contains left x
+        by_count x zero none some_left = inr (contained_if_counted x left (omega (arith, some_left)))
+        by_count x (suc n) some_deleted more = inl (contained_if_counted x (all_deleted (map work_of crew)) (omega (arith, some_deleted)))
+
+        none_lost : (x : Item) → Contains (all_inserted (map work_of crew)) x → Contains (all_deleted (map work_of crew)) x ⊎ Contains left x
+        none_lost x there =
+            let counted : 0 < times x (flat_map inserted (lists_of common.board.sizes.threads members)) = subst (λ (xs : List Item). 0 < times x xs) inserted_are (times_contained x (all_inserted (map work_of crew)) there) in
+            let gone : times x (all_deleted (map work_of crew)) ≡ times x (flat_map deleted (lists_of common.board.sizes.threads members)) = ap (times x) deleted_are in
+            let rest : times x left ≡ times x (account (lists_of common.board.sizes.threads members)).left = ap (times x) left_is in
+            by_count x (times x (all_deleted (map work_of crew))) refl (omega (arith, counted, gone, rest, (once x).1))

@@ -1,0 +1,49 @@
+use Rattle.std.proofs.Common.{◌+◌, ◌^◌, ℕ, arith, ◌∙◌}
+use Rattle.klsm_knapsack.specs.Workers.{InsertsNodes}
+use Rattle.klsm_knapsack.proofs.CoverageLemmas.{wider}
+use Rattle.klsm_knapsack.proofs.WorkLemmas.{inserts_one, inserts_both, has_last}
+use Rattle.klsm_knapsack.proofs.common.Worker.split.Goals as goal
+
+pub returns-in_ok-insert-2-clause-extends : goal.returns-in_ok-insert-2-clause-extends
+returns-in_ok-insert-2-clause-extends g c =
+    let first = c.in_ok-insert.ensures.inserts in
+    let second = c.in_ok-insert-2.ensures.inserts in
+    record {
+      inserts = inserts_both _ _ _ _ (inserts_one _ _ _ first.0 first.1 first.4) (inserts_one _ _ _ second.0 second.1 second.4);
+      deletes = c.in_ok-insert-2.ensures.deletes ∙ c.in_ok-insert.ensures.deletes;
+      finds = omega (arith, c.in_ok-insert-2.ensures.finds, c.in_ok-insert.ensures.finds);
+    }
+
+pub returns-in_ok-insert-2-clause-split : goal.returns-in_ok-insert-2-clause-split
+returns-in_ok-insert-2-clause-split g c =
+    let l : ℕ = c.args.node.now.level in
+    let first = c.in_ok-insert.ensures.inserts in
+    let second = c.in_ok-insert-2.ensures.inserts in
+    let child = c.in-Some.ensures in
+    let leaving = c.leaving.ensures.child in
+    let later : InsertsNodes c.args.instance.now _ _ = inserts_one _ _ _ second.0 second.1 second.4 in
+    record {
+      one_more = c.requires.free;
+      leaves = wider _ _ (l + 1) c.args.node.now.picks later.kept (has_last _ _ first.0 (l + 1) c.args.node.now.picks first.4 (first.2 ∙ leaving.0) (first.3 ∙ leaving.1));
+      takes = λ fits. has_last _ _ second.0 (l + 1) (c.args.node.now.picks + 2 ^ l) second.4 (second.2 ∙ child.1) (second.3 ∙ child.2);
+    }
+
+pub returns-in_default-clause-extends : goal.returns-in_default-clause-extends
+returns-in_default-clause-extends g c =
+    let first = c.in_ok-insert.ensures.inserts in
+    record {
+      inserts = inserts_one _ _ _ first.0 first.1 first.4;
+      deletes = c.in_ok-insert.ensures.deletes;
+      finds = omega (arith, c.in_ok-insert.ensures.finds);
+    }
+
+pub returns-in_default-clause-split : goal.returns-in_default-clause-split
+returns-in_default-clause-split g c =
+    let l : ℕ = c.args.node.now.level in
+    let first = c.in_ok-insert.ensures.inserts in
+    let leaving = c.leaving.ensures.child in
+    record {
+      one_more = c.requires.free;
+      leaves = has_last _ _ first.0 (l + 1) c.args.node.now.picks first.4 (first.2 ∙ leaving.0) (first.3 ∙ leaving.1);
+      takes = λ fits. absurd (omega (arith, fits, c.in_default.ensures));
+    }

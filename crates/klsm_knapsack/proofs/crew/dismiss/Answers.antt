@@ -1,0 +1,22 @@
+use Rattle.std.proofs.Common.{◌∙◌, ◌++◌, ◌≤◌, [], ◌∷◌, rules, sym, ap, arith, List}
+use Rattle.std.specs.Option.{option_or}
+use Rattle.klsm_board.specs.declared.board.Member.{Member}
+use Rattle.klsm_knapsack.specs.declared.rule.View.{View}
+use Rattle.klsm_knapsack.specs.Watching.{found_by}
+use Rattle.klsm_knapsack.proofs.CrewLemmas.{first_refused, sent_home, found_too}
+use Rattle.klsm_knapsack.proofs.crew.dismiss.Goals as goal
+
+pub loop-worker-preserved : goal.loop-worker-preserved
+loop-worker-preserved g c =
+    let w = c.in-Some.worker in
+    let inv = c.loop-worker.invariant in
+    let found = ap (λ (v : View). v.found) c.join.ensures.both in
+    let before : found_by c.loop-worker.first ≤ found_by c.join.new.watcher = omega (arith, found) in
+    let here : found_by w.watcher ≤ found_by c.join.new.watcher = omega (arith, found) in
+    record {
+      first = search rules;
+      members = c.in-Ok.ensures.items ∙ (ap (λ (ms : List (Member 64 g.row.LEVELS)). ms ++ w.member ∷ []) inv.members ∙ sent_home c.loop-worker.yielded w);
+      room = omega (arith, c.in-Ok.ensures.capacity, inv.room);
+      found = found_too c.loop-worker.yielded w (found_by c.loop-worker.first) (found_by c.join.new.watcher) before here inv.found;
+      refused = c.or-refused.ensures ∙ (ap (λ r. option_or r w.refused) inv.refused ∙ sym (first_refused c.loop-worker.yielded w));
+    }

@@ -1,0 +1,10 @@
+use Rattle.std.proofs.Common.{arith}
+use Rattle.klsm_knapsack.proofs.RuleLemmas.{gathers}
+use Rattle.klsm_knapsack.proofs.incumbent.Incumbent.join.Goals as goal
+
+pub join_seat-requires : goal.join_seat-requires
+join_seat-requires c =
+    let i = c.args.self.now in
+    let seat = c.args.watcher.now.seat in
+    let other = c.args.other.seat in
+    (c.requires.one, c.requires.other, c.args.other.empty_handed, omega (arith, i.one_word), gathers i.table.shared.key seat.id seat.me.0 other.id other.me.0)

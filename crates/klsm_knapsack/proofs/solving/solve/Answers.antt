@@ -1,0 +1,88 @@
+use Rattle.std.proofs.Common.{◌≡◌, ◌<◌, ◌≤◌, ◌++◌, rules, All, length, drop, take, vec_capacity, lit<, sym, ap, subst, ◌∙◌, arith, List}
+use Rattle.klsm_board.specs.declared.board.Member.{Member}
+use Rattle.klsm_board.specs.declared.sizes.Sizes.{Sizes}
+use Rattle.klsm_board.specs.Boards.{IsOf as IsMemberOf}
+use Rattle.klsm_knapsack.specs.declared.common.Common.{Common}
+use Rattle.klsm_knapsack.specs.declared.common.Worker.{Worker}
+use Rattle.klsm_knapsack.specs.declared.errors.SolveError.{SolveError}
+use Rattle.klsm_knapsack.specs.Watching.{IsOf}
+use Rattle.klsm_knapsack.specs.Ends.{IsLeastRefusal}
+use Rattle.klsm_knapsack.specs.Refusals.{RefusesSearch}
+use Rattle.klsm_knapsack.specs.Workers.{IsCrew, IsNew, HaveWorked, IsSearched}
+use Rattle.klsm_knapsack.proofs.CrewLemmas.{none_refused}
+use Rattle.klsm_knapsack.proofs.FinishLemmas.{whole, refuses, recruited, are_new, members_of, least_refusal, searched}
+use Rattle.klsm_knapsack.proofs.solving.solve.Goals as goal
+
+pub search-requires-after_bounds : goal.search-requires-after_bounds
+search-requires-after_bounds g c κs within =
+    let board = c.in_ok-board.board in
+    let common : Common g.row.LEVELS = record { board = board; incumbent = c.in-Ok.incumbent } in
+    let workers : List (Worker g.row.LEVELS) = c.in-Ok-recruit.crew.items in
+    let made = c.in_ok-board.ensures in
+    let threads : board.sizes.threads ≡ c.args.threads = ap (λ (m : Sizes). m.threads) made.sizes in
+    let quota : board.sizes.quota ≡ 281474976710656 = ap (λ (m : Sizes). m.quota) made.sizes in
+    let many : length c.in_ok-board.members.items ≡ board.sizes.threads = made.count ∙ sym threads in
+    let some_thread : 0 < board.sizes.threads = omega (arith, threads, made.in_range.0) in
+    let crew : IsCrew common workers = recruited common workers c.in_ok-board.members.items c.in-Ok-recruit.ensures.members made.of many some_thread made.crew c.in-Ok-recruit.ensures.seats in
+    let new : All IsNew workers = are_new common workers c.in_ok-board.members.items c.in-Ok-recruit.ensures.members made.of many some_thread made.crew c.in-Ok-recruit.ensures.seats in
+    let lent : workers ≡ c.as_mut_slice.result.now = sym c.as_mut_slice.ensures.value in
+    (lit< tt, (lit< tt, (c.in-Ok.ensures.0, (subst (λ (ws : List (Worker g.row.LEVELS)). IsCrew common ws) lent crew, (subst (λ (ws : List (Worker g.row.LEVELS)). All IsNew ws) lent new, omega (arith, quota))))))
+
+pub dismiss-requires : goal.dismiss-requires
+dismiss-requires g c =
+    let common : Common g.row.LEVELS = record { board = c.in_ok-board.board; incumbent = c.in-Ok.incumbent } in
+    let after : List (Worker g.row.LEVELS) = c.search.new.crew in
+    let crew : IsCrew common after = c.search.ensures.crew in
+    let as_long : c.in-Ok-recruit.crew.len ≡ length after = search rules in
+    let is : take c.in-Ok-recruit.crew.len (after ++ drop (length after) c.in-Ok-recruit.crew.items) ≡ after = whole c.in-Ok-recruit.crew.len after (drop (length after) c.in-Ok-recruit.crew.items) as_long in
+    let threads : c.in_ok-board.board.sizes.threads ≡ c.args.threads = ap (λ (m : Sizes). m.threads) c.in_ok-board.ensures.sizes in
+    let room : length after ≤ vec_capacity c.in-Ok-with_capacity.back = omega (arith, crew.many, threads, c.in-Ok-with_capacity.ensures.exact) in
+    let seats : All (λ (w : Worker g.row.LEVELS). IsOf c.in-Ok.incumbent w.watcher) after = λ k d lt. (crew.of k d lt).watcher in (
+      lit< tt,
+      (
+        lit< tt,
+        (
+          c.in-Ok-recruit.ensures.first,
+          (
+            subst (λ (ws : List (Worker g.row.LEVELS)). All (λ (w : Worker g.row.LEVELS). IsOf c.in-Ok.incumbent w.watcher) ws) (sym is) seats,
+            (c.in-Ok-with_capacity.ensures.items, subst (λ (ws : List (Worker g.row.LEVELS)). length ws ≤ vec_capacity c.in-Ok-with_capacity.back) (sym is) room),
+          ),
+        ),
+      ),
+    )
+
+pub returns-in-Err-clause-refused : goal.returns-in-Err-clause-refused
+returns-in-Err-clause-refused g c =
+    let common : Common g.row.LEVELS = record { board = c.in_ok-board.board; incumbent = c.in-Ok.incumbent } in
+    let after : List (Worker g.row.LEVELS) = c.search.new.crew in
+    let as_long : c.in-Ok-recruit.crew.len ≡ length after = search rules in
+    let is : take c.in-Ok-recruit.crew.len (after ++ drop (length after) c.in-Ok-recruit.crew.items) ≡ after = whole c.in-Ok-recruit.crew.len after (drop (length after) c.in-Ok-recruit.crew.items) as_long in
+    let first = rw is at c.in-Err.ensures.refused in
+    let least : IsLeastRefusal g.row.LEVELS c.in_ok-board.board.sizes c.in-Err.why = least_refusal common after c.search.ensures.crew c.in-Err.why c.search.ensures.ended first in
+    subst (λ (why : SolveError). RefusesSearch g.row.LEVELS c.args.threads c.args.k why) (sym c.error.ensures)
+    (refuses g.row.LEVELS c.args.threads c.args.k c.in-Err.why c.in_ok-board.ensures.in_range
+    (subst (λ (m : Sizes). IsLeastRefusal g.row.LEVELS m c.in-Err.why) c.in_ok-board.ensures.sizes least))
+
+pub finish-requires : goal.finish-requires
+finish-requires g c =
+    let common : Common g.row.LEVELS = record { board = c.in_ok-board.board; incumbent = c.in-Ok.incumbent } in
+    let after : List (Worker g.row.LEVELS) = c.search.new.crew in
+    let as_long : c.in-Ok-recruit.crew.len ≡ length after = search rules in
+    let is : take c.in-Ok-recruit.crew.len (after ++ drop (length after) c.in-Ok-recruit.crew.items) ≡ after = whole c.in-Ok-recruit.crew.len after (drop (length after) c.in-Ok-recruit.crew.items) as_long in
+    let back = rw is at c.in_default-dismiss.ensures.members in
+    (lit< tt, (lit< tt, (lit< tt, subst (λ (ms : List (Member 64 g.row.LEVELS)). All (λ (m : Member 64 g.row.LEVELS). IsMemberOf m c.in_ok-board.board) ms) (sym back) (members_of common after c.search.ensures.crew))))
+
+pub returns-clause-best : goal.returns-clause-best
+returns-clause-best g c =
+    let p = c.args.instance.now in
+    let common : Common g.row.LEVELS = record { board = c.in_ok-board.board; incumbent = c.in-Ok.incumbent } in
+    let after : List (Worker g.row.LEVELS) = c.search.new.crew in
+    let as_long : c.in-Ok-recruit.crew.len ≡ length after = search rules in
+    let is : take c.in-Ok-recruit.crew.len (after ++ drop (length after) c.in-Ok-recruit.crew.items) ≡ after = whole c.in-Ok-recruit.crew.len after (drop (length after) c.in-Ok-recruit.crew.items) as_long in
+    let back = rw is at c.in_default-dismiss.ensures.members in
+    let found = rw is at c.in_default-dismiss.ensures.found in
+    let none = rw is at c.in_default-dismiss.ensures.none in
+    let worked : HaveWorked p after = c.search.ensures.worked (none_refused after none) in
+    let done : IsSearched p c.finish-number.result c.in-Ok-finish.account.left.items = searched common after c.search.ensures.crew p _ c.finish-number.result c.dismiss.new.back.items c.in-Ok-finish.account.left.items back worked found c.finish-number.ensures.found
+    c.in-Ok-finish.ensures.ok.0 c.in-Ok-finish.ensures.each_once c.in-Ok-finish.ensures.ok.4 in
+    c.conclude.ensures.best (rw c.as_slice.ensures.value done)

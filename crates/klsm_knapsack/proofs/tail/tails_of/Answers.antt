@@ -1,0 +1,29 @@
+use Rattle.std.proofs.Common.{arith, length, drop, ◌-◌, ◌+◌, [], ◌∷◌}
+use Rattle.std.proofs.lemmas.List.{length-drop, length-append}
+use Rattle.klsm_knapsack.specs.Limits.{IsThing}
+use Rattle.klsm_knapsack.specs.Prepared.{IsTail}
+use Rattle.klsm_knapsack.proofs.BoundLemmas.{all_drop}
+use Rattle.klsm_knapsack.proofs.TailLemmas.{tail_small, steepest_thing, tails_more, before}
+use Rattle.klsm_knapsack.proofs.tail.tails_of.Goals as goal
+
+pub with-tail-requires-clause-value : goal.with-tail-requires-clause-value
+with-tail-requires-clause-value c =
+    let xs = drop (length c.args.things.now - c.loop-n.n) c.args.things.now in
+    tail_small xs c.loop-n.tail (omega (arith, length-drop (length c.args.things.now - c.loop-n.n) c.args.things.now)) (all_drop IsThing _ _ c.requires.things) c.loop-n.invariant.tail
+
+pub with-tail-requires-clause-steepest : goal.with-tail-requires-clause-steepest
+with-tail-requires-clause-steepest c =
+    let xs = drop (length c.args.things.now - c.loop-n.n) c.args.things.now in
+    steepest_thing xs c.loop-n.tail.steepest (all_drop IsThing _ _ c.requires.things) c.loop-n.invariant.tail.steepest
+
+pub loop-n-preserved : goal.loop-n-preserved
+loop-n-preserved c =
+    let things = c.args.things.now in
+    let n = c.loop-n.n in
+    let tail : IsTail (drop (length things - (n + 1)) things) c.with-tail.result
+    = rw (before things n (record { value = 0; weight = 0 }) c.loop-n-test.true) (c.with-tail.ensures (drop (length things - n) things) c.loop-n.invariant.tail) in
+    record {
+      as_many = rw c.in_ok-push-2.ensures.items (omega (arith, length-append c.loop-n.tails.items (c.with-tail.result ∷ []), c.loop-n.invariant.as_many));
+      tail = tail;
+      are = rw c.in_ok-push-2.ensures.items (tails_more things c.loop-n.tails.items c.with-tail.result (n + 1) c.loop-n.invariant.as_many tail c.loop-n.invariant.are);
+    }

@@ -1,0 +1,55 @@
+-- How workers end.
+use Rattle.std.specs.Prelude.{ℕ, ◌≡◌, ◌⊎◌, List, [], ◌∷◌, ◌++◌, length, map, Option, Some, None}
+use mathlib.Core.Option.{some}
+use lib.ListN.{get_elem?}
+use Rattle.klsm_world.specs.declared.step.Event.{Event}
+use Rattle.klsm_world.specs.declared.step.Entry.{Entry}
+use Rattle.klsm_world.specs.declared.step.Entry.TheVariants.{Committed, Released}
+use Rattle.klsm_world.specs.OwnSteps.{own_part}
+use Rattle.klsm_board.specs.declared.sizes.Sizes.{Sizes}
+use Rattle.klsm_board.specs.declared.errors.InsertError.TheVariants as insert
+use Rattle.klsm_board.specs.Entries.{both_released}
+use Rattle.klsm_board.specs.Inserting.{RefusesInsertInTime}
+use Rattle.klsm_board.specs.Rule.{IsReached}
+use Rattle.klsm_knapsack.specs.declared.errors.Refusal.{Refusal}
+use Rattle.klsm_knapsack.specs.declared.errors.Refusal.TheVariants as refusal
+
+-- A list of own steps is empty, or ends with an event that was committed, and the parts given back.
+abbrev pub EndsAnswered : ℕ → List Entry → Type 0
+EndsAnswered t es = (es ≡ [])
+    ⊎ ((before : List Entry) × (event : Event)
+    × ((es ≡ before ++ Committed event ∷ Released (own_part t) ∷ [])
+    ⊎ (es ≡ before ++ Committed event ∷ both_released t)))
+
+-- it ends with an insertion that was given up: the shared part had no room, or a growth was refused
+abbrev pub EndsRefused : ℕ → ℕ → ℕ → List Entry → Refusal → Type 0
+EndsRefused levels k t es refusal.Full =
+    (before : List Entry) × RefusesInsertInTime ⊥ levels k t before es insert.Full
+EndsRefused levels k t es refusal.NoMemory =
+    (before : List Entry) × RefusesInsertInTime ⊥ levels k t before es insert.NoMemory
+
+-- how a worker ended: with this refusal, or with none
+abbrev pub HasEnded : ℕ → ℕ → ℕ → List Entry → Option Refusal → Type 0
+HasEnded levels k t es None = EndsAnswered t es
+HasEnded levels k t es (Some why) = EndsRefused levels k t es why
+
+-- the first refusal, where there is one
+abbrev pub first_refusal : List (Option Refusal) → Option Refusal
+first_refusal [] = None
+first_refusal (Some why ∷ refused) = Some why
+first_refusal (None ∷ refused) = first_refusal refused
+
+-- a worker's list of own steps, and its refusal
+pub record End : Type 0 where
+  pub steps : List Entry
+  pub refused : Option Refusal
+
+-- of the workers of one search, each of which ended so, the least numbered one that met a refusal met
+-- this one
+pub record IsLeastRefusal (levels : ℕ) (m : Sizes) (why : Refusal) : Type 0 where
+  pub ends : List End
+  pub many : length ends ≡ m.threads
+  pub reached : (t : ℕ) (end : End) → get_elem? ends t ≡ some end → ∥ IsReached m t end.steps ∥₁
+  pub ended : (t : ℕ) (end : End) → get_elem? ends t ≡ some end
+      → HasEnded levels m.k t end.steps end.refused
+  pub first : first_refusal (map (λ end. end.refused) ends) ≡ Some why

@@ -1,0 +1,96 @@
+-- Workers, and how the work of one of them grows.
+use Rattle.std.specs.Prelude.{ℕ, ◌≡◌, ◌≤◌, ◌<◌, ◌⊎◌, List, [], None, Some, All, length, slice_get}
+use Rattle.std.specs.List.{AllByRecursion, Contains, flat_map}
+use mathlib.Core.Option.{some}
+use lib.ListN.{get_elem?}
+use Rattle.klsm_run.specs.declared.item.Item.{Item}
+use Rattle.klsm_world.specs.OwnSteps.{inserted, deleted}
+use Rattle.klsm_board.specs.Boards.{IsSame, own_steps}
+use Rattle.klsm_board.specs.Boards.{IsOf as IsMemberOf}
+use Rattle.klsm_knapsack.specs.declared.common.Common.{Common}
+use Rattle.klsm_knapsack.specs.declared.common.Worker.{Worker}
+use Rattle.klsm_knapsack.specs.Selections.{Problem}
+use Rattle.klsm_knapsack.specs.Nodes.{NoneAbove, level_in, picks_in}
+use Rattle.klsm_knapsack.specs.Watching.{IsOf, found_by}
+use Rattle.klsm_knapsack.specs.Work.{Work, Has, HasWorked, IsNodeItem, all_inserted, all_deleted}
+use Rattle.klsm_knapsack.specs.Ends.{EndsAnswered, HasEnded}
+
+-- only nodes were inserted since
+pub record InsertsNodes (p : Problem) (before after : List Item) : Type 0 where
+  pub kept : (x : Item) → Contains before x → Contains after x
+  pub nodes : (x : Item) → Contains after x → Contains before x ⊎ IsNodeItem p x
+
+-- and nothing was deleted, nor a number found that is less
+pub record Extends (p : Problem) (before after : Work) : Type 0 where
+  pub inserts : InsertsNodes p before.inserted after.inserted
+  pub deletes : after.deleted ≡ before.deleted
+  pub finds : before.found ≤ after.found
+
+module _ {LEVELS : ℕ} where
+  -- what a worker's member inserted and deleted, and the greatest number that its seat found
+  abbrev pub work_of : Worker LEVELS → Work
+  work_of w = record {
+    inserted = inserted (own_steps w.member);
+    deleted = deleted (own_steps w.member);
+    found = found_by w.watcher;
+  }
+
+  -- the worker's member is one of the board, and its seat one at the incumbent
+  pub record IsWorkerOf (common : Common LEVELS) (w : Worker LEVELS) : Type 0 where
+    pub member : IsMemberOf w.member common.board
+    pub watcher : IsOf common.incumbent w.watcher
+
+  -- it is the same worker
+  pub record IsSameWorker (before after : Worker LEVELS) : Type 0 where
+    pub member : IsSame before.member after.member
+    pub watcher : after.watcher.seat.table_id ≡ before.watcher.seat.table_id
+
+  -- the worker is done with all nodes that it deleted, and its last call was answered
+  pub record IsAtWork (p : Problem) (w : Worker LEVELS) : Type 0 where
+    pub worked : HasWorked p (work_of w)
+    pub answered : EndsAnswered w.member.number (own_steps w.member)
+
+  -- the worker's last insertion was refused
+  abbrev pub HasEndedSo : Worker LEVELS → Type 0
+  HasEndedSo w = HasEnded LEVELS w.member.sizes.k w.member.number (own_steps w.member) w.refused
+
+  -- the worker ran until it was idle or refused
+  pub record HasRun (p : Problem) (before after : Worker LEVELS) : Type 0 where
+    pub same : IsSameWorker before after
+    pub ended : HasEndedSo after
+    pub worked : after.refused ≡ None → HasWorked p (work_of after)
+    pub inserts : after.refused ≡ None
+        → InsertsNodes p (work_of before).inserted (work_of after).inserted
+
+  -- the workers of a search, in the order of their numbers
+  pub record IsCrew (common : Common LEVELS) (crew : List (Worker LEVELS)) : Type 0 where
+    pub of : All (IsWorkerOf common) crew
+    pub many : length crew ≡ common.board.sizes.threads
+    pub some_worker : 0 < length crew
+    pub numbered : (i : ℕ) (w : Worker LEVELS) → get_elem? crew i ≡ some w → w.member.number ≡ i
+
+  -- a worker that has not begun
+  pub record IsNew (w : Worker LEVELS) : Type 0 where
+    pub steps : own_steps w.member ≡ []
+    pub found : found_by w.watcher ≡ 0
+    pub refused : w.refused ≡ None
+
+  -- no worker was refused, and together they are done with all nodes but those left, the root first
+  pub record HaveWorked (p : Problem) (crew : List (Worker LEVELS)) : Type 0 where
+    pub root : Has (flat_map (λ w. (work_of w).inserted) crew) 0 0
+    pub each : All (λ w. HasWorked p (work_of w)) crew
+
+-- the first n of the nodes left are finished: no completion is above the value
+abbrev pub AreFinished : Problem → List Item → ℕ → ℕ → Type 0
+AreFinished p left n value = (k : ℕ) (x : Item) → k < n → slice_get left k ≡ Some x
+    → IsNodeItem p x → NoneAbove p (level_in x.load) (picks_in x.load) value
+
+-- All nodes but those left are done with: workers inserted and deleted, the root first, and what
+-- they inserted and did not delete is left. No number that they found is above the last one.
+pub record IsSearched (p : Problem) (number : ℕ) (left : List Item) : Type 0 where
+  pub works : List Work
+  pub root : Has (all_inserted works) 0 0
+  pub none_lost : (x : Item) → Contains (all_inserted works) x
+      → Contains (all_deleted works) x ⊎ Contains left x
+  pub have_worked : AllByRecursion (HasWorked p) works
+  pub found : AllByRecursion (λ w. w.found ≤ number) works

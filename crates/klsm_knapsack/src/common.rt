@@ -1,0 +1,23 @@
+//! What the workers of a search share, and what each has for itself.
+use crate::errors::Refusal;
+use crate::incumbent::{Incumbent, Watcher};
+use klsm_board::{Board, Member};
+use klsm_parts::Random;
+use rand_pcg::Pcg32;
+
+/// What all workers share: the board that has the open nodes, and the incumbent.
+#[derive(Drop)]
+pub(crate) struct Common<const LEVELS: usize> {
+    pub board: Board<64, LEVELS>,
+    pub incumbent: Incumbent,
+}
+
+/// A worker: a member of the board, a seat at the incumbent, how its deletions choose, and why it
+/// ended early, if it did.
+#[derive(Drop)]
+pub(crate) struct Worker<const LEVELS: usize> {
+    pub member: Member<64, LEVELS>,
+    pub watcher: Watcher,
+    pub picker: Random<Pcg32>,
+    pub refused: Option<Refusal>,
+}

@@ -1,0 +1,138 @@
+//! All workers: how they are made, run, and sent home.
+ghost use Rattle.std.specs.Prelude.{ℕ, ◌≡◌, ◌≤◌, ◌<◌, [], None, Some, IfOk, IfErr, All, map, length, slice_index_or, vec_len, vec_capacity};
+ghost use Rattle.klsm_board.specs.declared.board.Member.{Member};
+ghost use Rattle.klsm_board.specs.Boards.{own_steps};
+ghost use Rattle.klsm_world.specs.OwnSteps.{inserted};
+ghost use Rattle.klsm_knapsack.specs.declared.common.Worker.{Worker};
+ghost use Rattle.klsm_knapsack.specs.Watching.{IsOf, found_by, problem_of};
+ghost use Rattle.klsm_knapsack.specs.Ends.{first_refusal};
+ghost use Rattle.klsm_knapsack.specs.Workers.{HasEndedSo, HasRun, HaveWorked, IsAtWork, IsCrew, IsNew, IsWorkerOf};
+
+use crate::common::{Common, Worker};
+use crate::errors::Refusal;
+use crate::incumbent::{Incumbent, Watcher};
+use crate::instance::Instance;
+use klsm_board::{Gate, Member};
+use klsm_parts::random_of;
+use std::alloc::{AllocError, Global};
+use std::sync::Wait;
+use std::thread;
+use std::thread::Threads;
+
+/// A worker for each member, with a seat of its own at the incumbent.
+pub(crate) fn recruit<const LEVELS: usize>(
+    alloc: Global,
+    incumbent: &Incumbent,
+    first: &mut Watcher,
+    members: Vec<Member<64, LEVELS>>,
+) -> Result<Vec<Worker<LEVELS>>, AllocError>
+    requires { IsOf incumbent.now first.old }
+    ensures first { IsOf incumbent.now first.new }
+    ensures members { IfOk result (λ crew.
+        map (λ w. w.member) crew.items ≡ members.entry.items) }
+    ensures seats { IfOk result (λ crew. All (λ w. IsOf incumbent.now w.watcher
+        × (found_by w.watcher ≡ 0) × (w.refused ≡ None)) crew.items) }
+{
+    let mut crew = Vec::new(alloc);
+    for member in members {
+        let picker = random_of(member.number() as u64);
+        let watcher = incumbent.split(first);
+        let worker = Worker {
+            member,
+            watcher,
+            picker,
+            refused: None,
+        };
+        if crew.push(worker).is_err() {
+            return Err(AllocError);
+        }
+    }
+    Ok(crew)
+}
+
+/// Lets the first worker insert the root, and then all workers run, each in a thread of its own.
+pub(crate) fn search<R: Threads + Wait + Sync, G: Gate, const LEVELS: usize>(
+    rt: &R,
+    common: &Common<LEVELS>,
+    instance: &Instance,
+    crew: &mut [Worker<LEVELS>],
+    idle: u32,
+    gate: &G,
+)
+    requires problem { problem_of common.now.incumbent ≡ instance.now }
+    requires crew { IsCrew common.now crew.old }
+    requires new { All IsNew crew.old }
+    requires room { 2 ≤ common.now.board.sizes.quota }
+    ensures crew { IsCrew common.now crew.new }
+    ensures ended { All HasEndedSo crew.new }
+    ensures worked { All (λ w. w.refused ≡ None) crew.new → HaveWorked instance.now crew.new }
+{
+    if crew[0].begin(rt, common, instance) {
+        run_all(rt, common, instance, crew, idle, gate);
+    }
+}
+
+// Runs each worker in a thread of its own, which are started by halves, and waits for all.
+fn run_all<R: Threads + Wait + Sync, G: Gate, const LEVELS: usize>(
+    rt: &R,
+    common: &Common<LEVELS>,
+    instance: &Instance,
+    crew: &mut [Worker<LEVELS>],
+    idle: u32,
+    gate: &G,
+)
+    requires problem { problem_of common.now.incumbent ≡ instance.now }
+    requires some { 0 < length crew.old }
+    requires ready { All (λ w. IsWorkerOf common.now w × IsAtWork instance.now w) crew.old }
+    ensures { (i : ℕ) (d : Worker LEVELS) → i < length crew.old
+        → HasRun instance.now (slice_index_or crew.old i d) (slice_index_or crew.new i d) }
+{
+    let threads = crew.len();
+    thread::for_each_mut(
+        rt,
+        crew,
+        threads,
+        &|_, worker: &mut Worker<LEVELS>|
+            requires { IsWorkerOf common.now worker.now
+                × (problem_of common.now.incumbent ≡ instance.now)
+                × IsAtWork instance.now worker.now }
+            ensures { HasRun instance.entry.now worker.entry.now worker.exit.now }
+        { worker.run(rt, common, instance, idle, gate) },
+    );
+}
+
+/// Sends the workers home: their members go to `back`, which has room for them, and what all seats
+/// found, the first one then knows. Where workers were refused, the answer is the refusal of the
+/// first of them.
+pub(crate) fn dismiss<const LEVELS: usize>(
+    incumbent: &Incumbent,
+    first: &mut Watcher,
+    crew: Vec<Worker<LEVELS>>,
+    back: &mut Vec<Member<64, LEVELS>>,
+) -> Result<(), Refusal>
+    requires first { IsOf incumbent.now first.old }
+    requires seats { All (λ w. IsOf incumbent.now w.watcher) crew.items }
+    requires empty { back.old.items ≡ [] }
+    requires room { length crew.items ≤ vec_capacity back.old }
+    ensures first { IsOf incumbent.now first.new }
+    ensures members { IfOk result (λ _. back.new.items ≡ map (λ w. w.member) crew.entry.items) }
+    ensures found { IfOk result (λ _.
+        All (λ w. found_by w.watcher ≤ found_by first.new) crew.entry.items) }
+    ensures none { IfOk result (λ _.
+        first_refusal (map (λ w. w.refused) crew.entry.items) ≡ None) }
+    ensures refused { IfErr result (λ why.
+        first_refusal (map (λ w. w.refused) crew.entry.items) ≡ Some why) }
+{
+    let mut refused = None;
+    for worker in crew {
+        refused = refused.or(worker.refused);
+        incumbent.join(first, worker.watcher);
+        let Ok(()) = back.push(worker.member) else {
+            unreachable!();
+        };
+    }
+    match refused {
+        Some(why) => Err(why),
+        None => Ok(()),
+    }
+}

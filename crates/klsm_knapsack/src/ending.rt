@@ -1,0 +1,28 @@
+//! After the workers: the nodes that are left are finished.
+ghost use Rattle.std.specs.Prelude.{ℕ, ◌≡◌, ◌+◌, List};
+ghost use Rattle.klsm_knapsack.specs.Answers.{IsAnswer, IsBestAnswer};
+ghost use Rattle.klsm_knapsack.specs.Numbers.{IsIncumbent};
+ghost use Rattle.klsm_knapsack.specs.Workers.{IsSearched};
+
+use crate::instance::Instance;
+use crate::search::Best;
+use klsm_run::Item;
+
+/// The better of the incumbent's last number and the best completions of the nodes left, which are
+/// searched depth first.
+pub(crate) fn conclude(instance: &Instance, number: u64, left: &[Item]) -> Best
+    requires { IsIncumbent instance.now number }
+    ensures answer { IsAnswer instance.now result }
+    ensures best { IsSearched instance.now number left.now → IsBestAnswer instance.now result }
+{
+    let mut best = Best {
+        value: number >> 32,
+        picks: number % (1 << 32),
+    };
+    for item in left {
+        if let Some(node) = instance.node_of(item.load) {
+            best = instance.finish(node, best);
+        }
+    }
+    best
+}

@@ -1,0 +1,68 @@
+//! Why calls are refused.
+
+use thiserror::Error;
+
+/// Why an instance is not read. Within one row the first four are tried in this order.
+#[derive(Clone, Copy, Debug, PartialEq, Eq, Error)]
+pub enum ReadError {
+    /// This row has not two fields, or the first row does not begin with `capacity`, or there is no
+    /// first row.
+    #[error("row {0} has not the right fields")]
+    BadRow(u64),
+    /// There is a 33rd thing.
+    #[error("there are more than 32 things")]
+    TooMany,
+    /// This row has a field that is no number.
+    #[error("row {0} has a field that is no number")]
+    BadNumber(u64),
+    /// This row has a number that is too small or too large.
+    #[error("row {0} has a number that is out of range")]
+    OutOfRange(u64),
+    /// The reader failed.
+    #[error("the reader failed")]
+    ReadFault,
+    /// A growth was refused.
+    #[error("out of memory")]
+    NoMemory,
+}
+
+/// Why a search ends without an answer. The causes are tried in this order.
+#[derive(Clone, Copy, Debug, PartialEq, Eq, Error)]
+pub enum SolveError {
+    /// Not 1 to 16 workers.
+    #[error("the number of workers is not 1 to 16")]
+    BadThreads,
+    /// More than 64 items in a member's own part.
+    #[error("an own part cannot hold k items")]
+    BadK,
+    /// The shared part of the board had no room for a node.
+    #[error("the board is full")]
+    Full,
+    /// A growth was refused.
+    #[error("out of memory")]
+    NoMemory,
+}
+
+/// Why a worker ended before it was idle.
+#[derive(Clone, Copy, PartialEq, Eq)]
+pub(crate) enum Refusal {
+    /// The shared part had no room.
+    Full,
+    /// A growth was refused.
+    NoMemory,
+}
+
+impl Refusal {
+    ghost use Rattle.std.specs.Prelude.{◌≡◌};
+    ghost use Rattle.klsm_knapsack.specs.Refusals.{error_of};
+
+    /// The error that a search answers for it.
+    pub(crate) fn error(self) -> SolveError
+        ensures { result ≡ error_of self }
+    {
+        match self {
+            Refusal::Full => SolveError::Full,
+            Refusal::NoMemory => SolveError::NoMemory,
+        }
+    }
+}

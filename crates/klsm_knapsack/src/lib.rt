@@ -1,0 +1,66 @@
+//! Branch and bound for the 0-1 knapsack problem, over the relaxed priority queue.
+//!
+//! A problem has up to 32 things, each of a value and a weight, and a capacity. A selection of
+//! things is a number: thing i is in it where bit i is set. The search goes over nodes, each of
+//! which fixes the choices of the first things. A node that can't be better than the best selection
+//! found so far, the incumbent, is closed; any other has a child that leaves the next thing and, where
+//! that fits, one that takes it. Open nodes lie on a board, so that several workers take them side by
+//! side, each in a thread of its own:
+//!
+//! ```text
+//! let instance = Instance::read(alloc, text)?;                  // capacity,10 and then value,weight
+//! let best = solve_in_turn(&instance);                          // depth first, in one thread
+//! let best = solve::<21>(&rt, alloc, &instance, 4, 16, 64, &Open)?;      // four workers, k = 16
+//! ```
+//!
+//! - **The answer is a best selection**, for every number of workers, every k, `idle` and gate, and
+//!   whatever the threads do: clause `best` of `solve`, and that of `solve_in_turn`.
+//! - **A refusal is that of the least numbered worker that met one**: clause `refused` of `solve`,
+//!   and the clauses `bad_threads` and `bad_k`. No growth stands between the joins and that answer.
+//! - **The bound is exact**, and no completion of a node is above it: clauses `exact` and `sound` of
+//!   `Instance::bound`. An instance keeps the sum and the steepest thing of each suffix, so that a
+//!   bound costs one division beside the sum of what is taken.
+//! - **The incumbent is never lowered.** It is one word of a table of its own, whose rule every step
+//!   keeps: the word is the greatest of the numbers that the seats raised it by, and never below one
+//!   that a seat found there: `Highest`, and clause `rule` of `Incumbent::finish`.
+//! - **A text is read by its rows**, and refused for the first reason that holds: `Instance::read`.
+//!
+//! Why no selection is missed: each worker is done with each node that it deleted, since it closed the
+//! node by a number that it found, or inserted its children; what some worker inserted, some worker
+//! deleted or the board has left, by the account of the board; and what is left the caller finishes.
+//! So by induction on the things that a node leaves free no completion of it is above the answer.
+//! `laws::nothing_is_missed` states this.
+//!
+//! `worker` has what one worker does, `crew` all of them, `ending` what follows, and `solving` the
+//! whole. No contract says how many nodes the workers close, or that a second one finds any.
+#![tactic(auto)]
+
+mod common;
+mod crew;
+mod ending;
+mod errors;
+mod incumbent;
+mod instance;
+mod judge;
+pub mod laws;
+mod node;
+mod number;
+mod reading;
+mod rows;
+mod rule;
+mod search;
+mod solving;
+mod tail;
+mod thing;
+mod watching;
+mod worker;
+
+pub use errors::{ReadError, SolveError};
+pub use incumbent::{Incumbent, Watcher};
+pub use instance::Instance;
+pub use node::Node;
+pub use number::number_in;
+pub use rule::{Highest, View};
+pub use search::{Best, solve_in_turn};
+pub use solving::solve;
+pub use thing::Thing;

@@ -1,0 +1,63 @@
+//! What a seat knows of the incumbent, the rule of its table, and what each step tells.
+use crate::instance::Instance;
+use atomic_table::{Join, Play, Split, TableRule};
+use std::collections::LinkedList;
+
+/// What a seat knows. No value of it is made.
+pub struct View {
+    /// The numbers by which it raised the word, the latest first.
+    pub raised: LinkedList<u64>,
+    /// The greatest number that it found there.
+    pub found: u64,
+}
+
+/// The word is the greatest of the numbers that the seats raised it by.
+pub struct Highest;
+
+impl TableRule<(), View, Instance> for Highest {
+    ghost use Rattle.klsm_knapsack.specs.Highest.{IsHighest, nothing_yet};
+
+    ghost holds = { IsHighest };
+
+    ghost first = { λ _. nothing_yet };
+}
+
+/// A load.
+pub(crate) struct Found;
+
+impl Play<(), View> for Found {
+    ghost use Rattle.klsm_knapsack.specs.Highest.{finds};
+
+    ghost then = { finds };
+}
+
+/// A fetch-max.
+pub(crate) struct Raised;
+
+impl Play<(), View> for Raised {
+    ghost use Rattle.klsm_knapsack.specs.Highest.{raises};
+
+    ghost then = { raises };
+}
+
+/// A new seat knows nothing yet.
+pub(crate) struct Another;
+
+impl Split<View> for Another {
+    ghost use Rattle.klsm_knapsack.specs.Highest.{nothing_yet};
+
+    ghost left = { λ v. v };
+
+    ghost right = { λ _. nothing_yet };
+}
+
+/// One seat knows what two knew.
+pub(crate) struct Together;
+
+impl Join<View> for Together {
+    ghost use Rattle.klsm_knapsack.specs.Highest.{nothing_yet, together};
+
+    ghost both = { together };
+
+    ghost spent = { nothing_yet };
+}

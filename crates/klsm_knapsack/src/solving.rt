@@ -1,0 +1,95 @@
+//! The whole search.
+ghost use Rattle.std.specs.Prelude.{All, ◌≡◌, ◌≤◌, ◌<◌, ◌⊎◌, ◌↔◌, IfOk, IfErr, IsErrAnd, length};
+ghost use Rattle.klsm_parts.specs.Limit.{IsLevelCount};
+ghost use Rattle.klsm_board.specs.Boards.{IsCrew, IsOf};
+ghost use Rattle.klsm_knapsack.specs.Answers.{IsBestAnswer};
+ghost use Rattle.klsm_knapsack.specs.Refusals.{RefusesSearch, sizes_of};
+
+use crate::common::Common;
+use crate::crew::{dismiss, recruit, search};
+use crate::ending::conclude;
+use crate::errors::SolveError;
+use crate::incumbent::Incumbent;
+use crate::instance::Instance;
+use crate::search::Best;
+use klsm_board::{Board, Gate, MakeError, Member};
+use std::alloc::Global;
+use std::sync::Wait;
+use std::thread::Threads;
+
+/// How many insertions each member may make: 2^48.
+const QUOTA: u64 = 281_474_976_710_656;
+
+/// A best selection, found by `threads` workers over a board with this k.
+///
+/// Each worker passes the gate and then takes nodes from the board, until it was answered "nothing"
+/// `idle` times in a row, or met a refusal. The nodes that are then left are searched depth first.
+/// Where several selections are best, any of them may be the answer. Where workers are refused, the
+/// answer is the refusal of the least numbered one of them.
+pub fn solve<const LEVELS: usize>(
+    rt: &(impl Threads + Wait + Sync),
+    alloc: Global,
+    instance: &Instance,
+    threads: usize,
+    k: usize,
+    idle: u32,
+    gate: &impl Gate,
+) -> Result<Best, SolveError>
+    requires levels { IsLevelCount LEVELS }
+    ensures best { IfOk result (λ best. IsBestAnswer instance.now best) }
+    ensures refused { IfErr result (λ why. RefusesSearch LEVELS threads k why) }
+    ensures bad_threads { IsErrAnd result (λ why. why ≡ SolveError.BadThreads)
+        ↔ ((threads ≡ 0) ⊎ (16 < threads)) }
+    ensures bad_k { IsErrAnd result (λ why. why ≡ SolveError.BadK)
+        ↔ ((1 ≤ threads) × (threads ≤ 16) × (64 < k)) }
+{
+    let (board, members) = board_for::<LEVELS>(alloc, threads, k)?;
+    let Ok((incumbent, mut first)) = Incumbent::new(alloc, instance) else {
+        return Err(SolveError::NoMemory);
+    };
+    // The members come back into this, so that no growth stands between a refusal and its answer.
+    let Ok(mut back) = Vec::with_capacity(alloc, threads) else {
+        return Err(SolveError::NoMemory);
+    };
+    let Ok(mut crew) = recruit(alloc, &incumbent, &mut first, members) else {
+        return Err(SolveError::NoMemory);
+    };
+    let common = Common { board, incumbent };
+    search(rt, &common, instance, crew.as_mut_slice(), idle, gate);
+    if let Err(why) = dismiss(&common.incumbent, &mut first, crew, &mut back) {
+        return Err(why.error());
+    }
+    let Common { board, incumbent } = common;
+    let number = incumbent.finish(first);
+    let Ok(account) = board.finish(alloc, back) else {
+        return Err(SolveError::NoMemory);
+    };
+    Ok(conclude(instance, number, account.left.as_slice()))
+}
+
+// The board of a search, and its members.
+fn board_for<const LEVELS: usize>(
+    alloc: Global,
+    threads: usize,
+    k: usize,
+) -> Result<(Board<64, LEVELS>, Vec<Member<64, LEVELS>>), SolveError>
+    requires levels { IsLevelCount LEVELS }
+    ensures sizes { IfOk result (λ made. made.0.sizes ≡ sizes_of threads k) }
+    ensures in_range { IfOk result (λ _. (1 ≤ threads) × (threads ≤ 16) × (k ≤ 64)) }
+    ensures of { IfOk result (λ made. All (λ member. IsOf member made.0) made.1.items) }
+    ensures count { IfOk result (λ made. length made.1.items ≡ threads) }
+    ensures crew { IfOk result (λ made. IsCrew made.1.items) }
+    ensures refused { IfErr result (λ why. RefusesSearch LEVELS threads k why) }
+    ensures bad_threads { IsErrAnd result (λ why. why ≡ SolveError.BadThreads)
+        ↔ ((threads ≡ 0) ⊎ (16 < threads)) }
+    ensures bad_k { IsErrAnd result (λ why. why ≡ SolveError.BadK)
+        ↔ ((1 ≤ threads) × (threads ≤ 16) × (64 < k)) }
+{
+    match Board::new(alloc, threads, k, QUOTA) {
+        Ok(made) => Ok(made),
+        Err(MakeError::BadThreads) => Err(SolveError::BadThreads),
+        Err(MakeError::BadK) => Err(SolveError::BadK),
+        Err(MakeError::BadQuota) => unreachable!(),
+        Err(MakeError::NoMemory) => Err(SolveError::NoMemory),
+    }
+}

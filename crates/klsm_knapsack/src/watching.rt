@@ -1,0 +1,113 @@
+//! The steps on the incumbent.
+ghost use Rattle.std.specs.Prelude.{ℕ, ◌≡◌, ◌≤◌, ◌<◌, ◌⊎◌, [], ◌∷◌, max, IfOk};
+ghost use Rattle.klsm_knapsack.specs.Selections.{Problem};
+ghost use Rattle.klsm_knapsack.specs.Numbers.{IsIncumbent};
+ghost use Rattle.klsm_knapsack.specs.Highest.{nothing_yet, together, LastSeen};
+ghost use Rattle.klsm_knapsack.specs.Watching.{found_by, raised_by, IsOf, problem_of};
+
+use crate::incumbent::{Incumbent, Watcher};
+use crate::instance::Instance;
+use crate::rule::{Another, Found, Raised, Together};
+use atomic_table::Table;
+use std::alloc::{AllocError, Global};
+
+impl Incumbent {
+    /// An incumbent of value 0 that takes nothing, and its first seat.
+    pub fn new(alloc: Global, instance: &Instance) -> Result<(Incumbent, Watcher), AllocError>
+        ensures { IfOk result (λ r. (problem_of r.0 ≡ instance.now) × IsOf r.0 r.1
+            × (r.1.seat.me.0 ≡ nothing_yet)) }
+    {
+        let (table, seat) = Table::of_words(alloc, &[0], instance)?;
+        Ok((Incumbent { table }, Watcher { seat }))
+    }
+
+    /// A seat for one thread more, which knows nothing yet.
+    pub fn split(&self, watcher: &mut Watcher) -> Watcher
+        requires { IsOf self.now watcher.old }
+        ensures same { watcher.new.seat.table_id ≡ watcher.old.seat.table_id }
+        ensures kept { watcher.new.seat.me.0 ≡ watcher.old.seat.me.0 }
+        ensures new { IsOf self.now result × (result.seat.me.0 ≡ nothing_yet) }
+    {
+        Watcher {
+            seat: self.table.shared.split_seat::<Another>(&mut watcher.seat),
+        }
+    }
+
+    /// What two seats knew is known to one.
+    pub fn join(&self, watcher: &mut Watcher, other: Watcher)
+        requires one { IsOf self.now watcher.old }
+        requires other { IsOf self.now other }
+        ensures same { watcher.new.seat.table_id ≡ watcher.old.seat.table_id }
+        ensures both { watcher.new.seat.me.0 ≡ together watcher.old.seat.me.0 other.seat.me.0 }
+    {
+        let Watcher { seat } = other;
+        self.table
+            .shared
+            .join_seat::<Together>(&mut watcher.seat, seat);
+    }
+
+    /// The number that the word has.
+    #[inline]
+    pub fn load(&self, watcher: &mut Watcher) -> u64
+        requires { IsOf self.now watcher.old }
+        ensures same { watcher.new.seat.table_id ≡ watcher.old.seat.table_id }
+        ensures found { (found_by watcher.new ≡ result) × (found_by watcher.old ≤ result) }
+        ensures raised { raised_by watcher.new ≡ raised_by watcher.old }
+    {
+        self.table.shared.load::<Found>(&mut watcher.seat, 0)
+    }
+
+    /// Raises the word to a number, where that is greater, and answers what the word then has.
+    ///
+    /// A load comes first, so that a thread which has nothing greater leaves the word's cache line
+    /// to all.
+    #[inline]
+    pub fn raise(&self, watcher: &mut Watcher, number: u64) -> u64
+        requires watcher { IsOf self.now watcher.old }
+        requires number { IsIncumbent (problem_of self.now) number }
+        ensures same { watcher.new.seat.table_id ≡ watcher.old.seat.table_id }
+        ensures found { (found_by watcher.new ≡ result) × (found_by watcher.old ≤ result)
+            × (number ≤ result) }
+        ensures raised { (raised_by watcher.new ≡ raised_by watcher.old)
+            ⊎ (raised_by watcher.new ≡ number ∷ raised_by watcher.old) }
+    {
+        let found = self.load(watcher);
+        if number <= found {
+            found
+        } else {
+            self.fetch_max(watcher, number)
+        }
+    }
+
+    // Raises the word by one step.
+    fn fetch_max(&self, watcher: &mut Watcher, number: u64) -> u64
+        requires watcher { IsOf self.now watcher.old }
+        requires number { IsIncumbent (problem_of self.now) number }
+        ensures same { watcher.new.seat.table_id ≡ watcher.old.seat.table_id }
+        ensures found { (found_by watcher.new ≡ result) × (found_by watcher.old ≤ result)
+            × (number ≤ result) }
+        ensures raised { raised_by watcher.new ≡ number ∷ raised_by watcher.old }
+    {
+        let before = self
+            .table
+            .shared
+            .fetch_max::<Raised>(&mut watcher.seat, 0, number);
+        before.max(number)
+    }
+
+    /// The number at the end: of a feasible selection, and no less than any that the seat found.
+    pub fn finish(self, watcher: Watcher) -> u64
+        requires { IsOf self watcher }
+        ensures rule { LastSeen (Unit {0}) (problem_of self) watcher.seat.id watcher.seat.me.0
+            result }
+        ensures incumbent { IsIncumbent (problem_of self) result }
+        ensures found { found_by watcher ≤ result }
+    {
+        let Incumbent { table } = self;
+        let Watcher { seat } = watcher;
+        let closed = table.close_with(seat);
+        let number = closed.word(0);
+        closed.free();
+        number
+    }
+}

@@ -1,0 +1,231 @@
+//! What a worker does.
+ghost use Rattle.std.specs.Prelude.{ℕ, ◌≡◌, ◌≤◌, ◌<◌, ◌+◌, ◌++◌, [], ◌∷◌, IfOk, IfErr, IsTrue, MatchBool, length, None};
+ghost use Rattle.klsm_run.specs.declared.item.Item.{Item};
+ghost use Rattle.klsm_world.specs.OwnSteps.{inserted, deleted};
+ghost use Rattle.klsm_board.specs.Boards.{own_steps};
+ghost use Rattle.klsm_knapsack.specs.Selections.{value_of, weight_of};
+ghost use Rattle.klsm_knapsack.specs.Limits.{IsInRange};
+ghost use Rattle.klsm_knapsack.specs.Nodes.{IsNodeOf, level_in, picks_in};
+ghost use Rattle.klsm_knapsack.specs.Watching.{problem_of};
+ghost use Rattle.klsm_knapsack.specs.Work.{Has, IsNodeItem, IsSplit, IsDone, HasWorked};
+ghost use Rattle.klsm_knapsack.specs.Ends.{EndsAnswered, EndsRefused};
+ghost use Rattle.klsm_knapsack.specs.Workers.{Extends, HasEndedSo, HasRun, InsertsNodes, IsAtWork, IsNew, IsSameWorker, IsWorkerOf, work_of};
+
+use crate::common::{Common, Worker};
+use crate::errors::Refusal;
+use crate::instance::Instance;
+use crate::node::{Node, packed};
+use klsm_board::{Gate, InsertError};
+use std::sync::Wait;
+
+impl<const LEVELS: usize> Worker<LEVELS> {
+    /// Inserts the root, as the first of all, and answers whether it was not refused.
+    pub(crate) fn begin(
+        &mut self,
+        rt: &impl Wait,
+        common: &Common<LEVELS>,
+        instance: &Instance,
+    ) -> bool
+        requires of { IsWorkerOf common.now self.old }
+        requires new { IsNew self.old }
+        requires room { 2 ≤ self.old.member.sizes.quota }
+        ensures same { IsSameWorker self.old self.new }
+        ensures ended { HasEndedSo self.new }
+        ensures begun { MatchBool result
+            (IsAtWork instance.now self.new × Has (work_of self.new).inserted 0 0)
+            (self.new.refused ≡ None → ⊥) }
+    {
+        match self.insert(rt, common, instance, &instance.root()) {
+            Ok(()) => true,
+            Err(why) => {
+                self.refused = Some(why);
+                false
+            }
+        }
+    }
+
+    /// Passes the gate, and works until it is idle or refused.
+    pub(crate) fn run(
+        &mut self,
+        rt: &impl Wait,
+        common: &Common<LEVELS>,
+        instance: &Instance,
+        idle: u32,
+        gate: &impl Gate,
+    )
+        requires of { IsWorkerOf common.now self.old }
+        requires problem { problem_of common.now.incumbent ≡ instance.now }
+        requires begins { IsAtWork instance.now self.old }
+        ensures { HasRun instance.now self.old self.new }
+    {
+        gate.pass(self.member.number() as usize);
+        self.refused = self.work(rt, common, instance, idle).err();
+    }
+
+    // Takes nodes until the board answers `idle` times in a row that it has none, or the member has
+    // no two insertions left.
+    fn work(
+        &mut self,
+        rt: &impl Wait,
+        common: &Common<LEVELS>,
+        instance: &Instance,
+        idle: u32,
+    ) -> Result<(), Refusal>
+        requires of { IsWorkerOf common.now self.old }
+        requires problem { problem_of common.now.incumbent ≡ instance.now }
+        requires begins { IsAtWork instance.now self.old }
+        ensures same { IsSameWorker self.old self.new }
+        ensures goes_on { IfOk result (λ _. IsAtWork instance.now self.new) }
+        ensures inserts { IfOk result (λ _. InsertsNodes instance.now
+            (work_of self.old).inserted (work_of self.new).inserted) }
+        ensures refused { IfErr result (λ why. EndsRefused LEVELS self.new.member.sizes.k
+            self.new.member.number (own_steps self.new.member) why) }
+    {
+        let mut nothings = 0;
+        for _ in rt.forever() {
+            if nothings == idle || !self.may_split(common) {
+                return Ok(());
+            }
+            if self.turn(rt, common, instance)? {
+                nothings = 0;
+            } else {
+                nothings += 1;
+            }
+        }
+        unreachable!()
+    }
+
+    // Whether the member may insert the children of one more node.
+    fn may_split(&self, common: &Common<LEVELS>) -> bool
+        requires { IsWorkerOf common.now self.now }
+        ensures { IsTrue result → length (inserted (own_steps self.now.member)) + 2
+            ≤ self.now.member.sizes.quota }
+    {
+        self.member.inserted_count() + 2 <= common.board.quota()
+    }
+
+    // Takes one node, where there is one.
+    fn turn(
+        &mut self,
+        rt: &impl Wait,
+        common: &Common<LEVELS>,
+        instance: &Instance,
+    ) -> Result<bool, Refusal>
+        requires of { IsWorkerOf common.now self.old }
+        requires room { length (inserted (own_steps self.old.member)) + 2
+            ≤ self.old.member.sizes.quota }
+        requires problem { problem_of common.now.incumbent ≡ instance.now }
+        requires begins { IsAtWork instance.now self.old }
+        ensures same { IsSameWorker self.old self.new }
+        ensures goes_on { IfOk result (λ _. IsAtWork instance.now self.new) }
+        ensures inserts { IfOk result (λ _. InsertsNodes instance.now
+            (work_of self.old).inserted (work_of self.new).inserted) }
+        ensures refused { IfErr result (λ why. EndsRefused LEVELS self.new.member.sizes.k
+            self.new.member.number (own_steps self.new.member) why) }
+    {
+        let Some(item) = self.member.delete_min(rt, &common.board, &mut self.picker) else {
+            return Ok(false);
+        };
+        self.examine(rt, common, instance, item.load)?;
+        Ok(true)
+    }
+
+    // Closes the node that a load stands for, or splits it. A load that stands for none is let go.
+    fn examine(
+        &mut self,
+        rt: &impl Wait,
+        common: &Common<LEVELS>,
+        instance: &Instance,
+        load: u64,
+    ) -> Result<(), Refusal>
+        requires of { IsWorkerOf common.now self.old }
+        requires room { length (inserted (own_steps self.old.member)) + 2
+            ≤ self.old.member.sizes.quota }
+        requires problem { problem_of common.now.incumbent ≡ instance.now }
+        requires answered { EndsAnswered self.old.member.number (own_steps self.old.member) }
+        ensures same { IsSameWorker self.old self.new }
+        ensures answered { IfOk result (λ _.
+            EndsAnswered self.new.member.number (own_steps self.new.member)) }
+        ensures extends { IfOk result (λ _.
+            Extends instance.now (work_of self.old) (work_of self.new)) }
+        ensures done { IfOk result (λ _. (x : Item) → x.load ≡ load → IsNodeItem instance.now x
+            → IsDone instance.now (work_of self.new) x) }
+        ensures refused { IfErr result (λ why. EndsRefused LEVELS self.new.member.sizes.k
+            self.new.member.number (own_steps self.new.member) why) }
+    {
+        let Some(node) = instance.node_of(load) else {
+            return Ok(());
+        };
+        let number = packed(node.taken.value, node.picks);
+        let found = common.incumbent.raise(&mut self.watcher, number);
+        if node.level == instance.len() || instance.bound_of(&node) <= found >> 32 {
+            return Ok(());
+        }
+        self.split(rt, common, instance, &node)
+    }
+
+    // Inserts the children of a node.
+    fn split(
+        &mut self,
+        rt: &impl Wait,
+        common: &Common<LEVELS>,
+        instance: &Instance,
+        node: &Node,
+    ) -> Result<(), Refusal>
+        requires of { IsWorkerOf common.now self.old }
+        requires room { length (inserted (own_steps self.old.member)) + 2
+            ≤ self.old.member.sizes.quota }
+        requires node { IsNodeOf instance.now node.now }
+        requires free { node.now.level < length instance.now.things }
+        ensures same { IsSameWorker self.old self.new }
+        ensures answered { IfOk result (λ _.
+            EndsAnswered self.new.member.number (own_steps self.new.member)) }
+        ensures extends { IfOk result (λ _.
+            Extends instance.now (work_of self.old) (work_of self.new)) }
+        ensures split { IfOk result (λ _. IsSplit instance.now (work_of self.new).inserted
+            node.now.level node.now.picks) }
+        ensures refused { IfErr result (λ why. EndsRefused LEVELS self.new.member.sizes.k
+            self.new.member.number (own_steps self.new.member) why) }
+    {
+        self.insert(rt, common, instance, &instance.leaving(node))?;
+        if let Some(child) = instance.taking(node) {
+            self.insert(rt, common, instance, &child)?;
+        }
+        Ok(())
+    }
+
+    /// Inserts a node.
+    pub(crate) fn insert(
+        &mut self,
+        rt: &impl Wait,
+        common: &Common<LEVELS>,
+        instance: &Instance,
+        node: &Node,
+    ) -> Result<(), Refusal>
+        requires of { IsWorkerOf common.now self.old }
+        requires room { length (inserted (own_steps self.old.member))
+            < self.old.member.sizes.quota }
+        requires node { IsNodeOf instance.now node.now }
+        ensures same { IsSameWorker self.old self.new }
+        ensures inserts { IfOk result (λ _. (x : Item) × IsNodeItem instance.now x
+            × (level_in x.load ≡ node.now.level) × (picks_in x.load ≡ node.now.picks)
+            × ((work_of self.new).inserted ≡ (work_of self.old).inserted ++ x ∷ [])) }
+        ensures deletes { IfOk result (λ _.
+            (work_of self.new).deleted ≡ (work_of self.old).deleted) }
+        ensures finds { (work_of self.new).found ≡ (work_of self.old).found }
+        ensures keeps { self.new.refused ≡ self.old.refused }
+        ensures answered { IfOk result (λ _.
+            EndsAnswered self.new.member.number (own_steps self.new.member)) }
+        ensures refused { IfErr result (λ why. EndsRefused LEVELS self.new.member.sizes.k
+            self.new.member.number (own_steps self.new.member) why) }
+    {
+        let key = instance.key_of(node);
+        let load = instance.load_of(node);
+        match self.member.insert(rt, &common.board, key, load) {
+            Ok(_) => Ok(()),
+            Err(InsertError::Spent) => unreachable!(),
+            Err(InsertError::Full) => Err(Refusal::Full),
+            Err(InsertError::NoMemory) => Err(Refusal::NoMemory),
+        }
+    }
+}

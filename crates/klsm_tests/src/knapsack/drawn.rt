@@ -1,0 +1,73 @@
+//! Drawn instances, whose best selection is found by a plain loop over all.
+
+use klsm_board::Open;
+use klsm_knapsack::{Instance, solve, solve_in_turn};
+use rand_core::{Rng, SeedableRng};
+use rand_pcg::Pcg32;
+use std::alloc::{AllocError, Global};
+use std::sync::Wait;
+use std::thread::Threads;
+
+// The rows of up to 12 things.
+fn drawn(alloc: Global, seed: u64) -> Result<String, AllocError> {
+    let mut mix = Pcg32::seed_from_u64(seed);
+    let capacity = mix.next_u64() % 60;
+    let mut text = format!(in alloc; "capacity,{capacity}\n")?;
+    for _ in 0..mix.next_u64() % 13 {
+        let value = 1 + mix.next_u64() % 100;
+        let weight = 1 + mix.next_u64() % 20;
+        let row = format!(in alloc; "{value},{weight}\n")?;
+        text.push_str(row.as_str())?;
+    }
+    Ok(text)
+}
+
+// The value of a selection, or none where it does not fit.
+fn value_of(instance: &Instance, picks: u64) -> Option<u64> {
+    let mut value: u64 = 0;
+    let mut weight: u64 = 0;
+    for i in 0..instance.len() {
+        if (picks >> i) % 2 == 1 {
+            value = value.saturating_add(instance.value(i));
+            weight = weight.saturating_add(instance.weight(i));
+        }
+    }
+    if weight <= instance.capacity() {
+        Some(value)
+    } else {
+        None
+    }
+}
+
+fn best_value(instance: &Instance) -> u64 {
+    let mut best = 0;
+    for picks in 0..1u64 << instance.len() {
+        if let Some(value) = value_of(instance, picks) {
+            best = best.max(value);
+        }
+    }
+    best
+}
+
+// Whether all searches of a drawn instance give a selection of the best value.
+fn agree(rt: &(impl Threads + Wait + Sync), alloc: Global, seed: u64) -> Option<bool> {
+    let text = drawn(alloc, seed).ok()?;
+    let instance = Instance::read(alloc, text.as_bytes()).ok()?;
+    let best = best_value(&instance);
+    let in_turn = solve_in_turn(&instance);
+    let mut all = in_turn.value == best && value_of(&instance, in_turn.picks) == Some(best);
+    for threads in [1, 2, 4] {
+        for k in [0, 1, 16] {
+            let found = solve::<21>(rt, alloc, &instance, threads, k, 4, &Open).ok()?;
+            all &= found.value == best && value_of(&instance, found.picks) == Some(best);
+        }
+    }
+    Some(all)
+}
+
+#[test]
+fn searches_agree_with_a_plain_loop(rt: HostRuntime) {
+    for seed in 0..200 {
+        assert_eq!(rt; agree(&rt, rt.alloc(), seed), Some(true));
+    }
+}

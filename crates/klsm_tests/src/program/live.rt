@@ -1,0 +1,136 @@
+//! Scripts whose rows are run by threads: the line of each run, what becomes of a script that is not
+//! run, and that threads run side by side.
+
+use super::process::Input;
+use super::worked::SCRIPT;
+use super::{Told, gives, leaves_any_first};
+use klsm_board::Gate;
+use klsm_tool::{End, Pick, Report, Settings, live_over};
+use std::sync::atomic::{AtomicBool, Ordering};
+
+const LIVE: &[&[u8]] = &[b"klsm", b"live"];
+
+const LIVE_OF_TWO: &[&[u8]] = &[b"klsm", b"live", b"--threads", b"2"];
+
+/// Words, a script, the status of the program and all that it writes.
+type Worked = (&'static [&'static [u8]], &'static [u8], u8, &'static [u8]);
+
+// What each thread does does not depend on the others here: one thread, insertions alone, or a script
+// that is not run.
+const WORKED: &[Worked] = &[
+    (LIVE, SCRIPT, 0, b"inserted 3 deleted 3 left 0\n"),
+    (LIVE, b"", 0, b"inserted 0 deleted 0 left 0\n"),
+    (
+        LIVE,
+        b"0,d,,\n0,i,1,0\n0,i,2,0",
+        0,
+        b"inserted 2 deleted 0 left 2\n",
+    ),
+    (
+        LIVE_OF_TWO,
+        b"0,i,1,0\n1,i,2,0\n",
+        0,
+        b"inserted 2 deleted 0 left 2\n",
+    ),
+    (
+        LIVE_OF_TWO,
+        b"1,i,1,0\n1,d,,\n1,d,,\n",
+        0,
+        b"inserted 1 deleted 1 left 0\n",
+    ),
+    (LIVE, b"0,x,1,2", 1, b"refused row 1: operation\n"),
+    (
+        LIVE,
+        b"0,i,5,0\n0,q,,\n0,d\n",
+        1,
+        b"refused row 2: operation\n",
+    ),
+    (LIVE, b"0,i,5,0\n1,i,5,0\n", 1, b"refused row 2: thread\n"),
+];
+
+#[test]
+fn scripts_are_run_by_threads(rt: HostRuntime) {
+    for (row, (words, script, status, text)) in WORKED.iter().enumerate() {
+        let input = Input::whole(script);
+        assert!(rt;
+            gives(&rt, rt.alloc(), words, input, *status, text),
+            "row {row}"
+        );
+    }
+}
+
+#[test]
+fn a_failed_read_is_the_whole_line(rt: HostRuntime) {
+    for left in [b"".as_slice(), b"0,i,5,50\n0", b"0,i,5,50\n"] {
+        let input = Input {
+            left,
+            at_a_time: 3,
+            fails: true,
+        };
+        assert!(rt; gives(&rt, rt.alloc(), LIVE, input, 4, b"read fault\n"));
+    }
+}
+
+#[test]
+fn a_failed_write_leaves_the_first_bytes_of_the_line(rt: HostRuntime) {
+    let told = Told {
+        words: LIVE,
+        input: SCRIPT,
+        text: b"inserted 3 deleted 3 left 0\n",
+    };
+    assert!(rt; leaves_any_first(&rt, rt.alloc(), told));
+}
+
+/// A gate for two workers, at which each waits for a while until both have come.
+#[derive(Drop)]
+struct Meeting {
+    came: [AtomicBool; 2],
+    met: [AtomicBool; 2],
+}
+
+impl Meeting {
+    fn new() -> Self {
+        Meeting {
+            came: [AtomicBool::new(false), AtomicBool::new(false)],
+            met: [AtomicBool::new(false), AtomicBool::new(false)],
+        }
+    }
+
+    /// Whether each worker has seen that the other came.
+    fn took_place(&self) -> bool {
+        self.met[0].load(Ordering::SeqCst) && self.met[1].load(Ordering::SeqCst)
+    }
+}
+
+impl Gate for Meeting {
+    fn pass(&self, worker: usize) {
+        let (here, there) = if worker == 0 { (0, 1) } else { (1, 0) };
+        self.came[here].store(true, Ordering::SeqCst);
+        for _ in 0..1_000_000_000 {
+            if self.came[there].load(Ordering::SeqCst) {
+                self.met[here].store(true, Ordering::SeqCst);
+                return;
+            }
+        }
+    }
+}
+
+#[test]
+fn two_threads_run_side_by_side(rt: HostRuntime) {
+    let settings = Settings {
+        threads: 2,
+        k: 64,
+        pick: Pick::First,
+        seed: 1,
+    };
+    let meeting = Meeting::new();
+    let mut text = Vec::new(rt.alloc());
+    let script: &[u8] = b"0,i,1,0\n1,i,2,0\n";
+    let report = live_over(&rt, script, &mut text, &settings, &meeting);
+    let want = Report {
+        end: End::Done,
+        written: text.len() as u64,
+    };
+    assert!(rt; text.as_slice() == b"inserted 2 deleted 0 left 2\n".as_slice() && report == want);
+    assert!(rt; meeting.took_place());
+}

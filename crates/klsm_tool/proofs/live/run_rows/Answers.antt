@@ -1,0 +1,63 @@
+use Rattle.std.proofs.Common.{◌≡◌, ◌<◌, ◌∙◌, ℕ, List, map, length, drop, slice_index_or, Option, Some, None, refl, sym, ap, subst, arith}
+use Rattle.std.proofs.lemmas.List.{length-map}
+use Rattle.klsm_tool.specs.declared.worker.Worker.{Worker}
+use Rattle.klsm_tool.specs.Keeping.{kept_for}
+use Rattle.klsm_tool.specs.ThreadRows.{asked_of}
+use Rattle.klsm_tool.specs.Live.{HasNoTotals}
+use Rattle.klsm_tool.specs.Working.{HasRunAt, IsReadyAt, gave_up_at, ready}
+use Rattle.klsm_tool.proofs.CrewLemmas.{written_back}
+use Rattle.klsm_tool.proofs.PlaceLemmas.{all_back, crew_ready, finished, one_gave_up}
+use Rattle.klsm_tool.proofs.live.run_rows.Goals as goal
+
+pub run_all-requires-clause-ready : goal.run_all-requires-clause-ready
+run_all-requires-clause-ready g c =
+    let same : c.as_mut_slice.result.now ≡ map ready c.in-Ok.members.items = c.as_mut_slice.ensures.value ∙ c.in-Ok-crew_of.ensures in
+    λ _ _ t d. subst (λ (z : List (Option Worker)). t < length z → IsReadyAt c.in-Ok.board t (slice_index_or z t d)) (sym same)
+    (crew_ready c.in-Ok.board c.in-Ok.members.items c.in-Ok.ensures.of c.in-Ok.ensures.crew t d)
+
+pub returns-in-Some : goal.returns-in-Some
+returns-in-Some g c = λ input all rows accepted kept.
+    let crew = c.run_all.new.crew in let threads = c.args.settings.now.threads in
+    let same = c.as_mut_slice.ensures.value ∙ c.in-Ok-crew_of.ensures in
+    let lent : length c.as_mut_slice.result.now ≡ threads = ap (λ (z : List (Option Worker)). length z) same ∙ (length-map c.in-Ok.members.items ready ∙ c.in-Ok.ensures.count) in
+    let many : length crew ≡ threads = c.run_all.auto.crew ∙ lent in
+    let len : c.in-Ok-crew_of.crew.len ≡ threads = c.in-Ok-crew_of.crew.ok.0 ∙ (ap (λ (z : List (Option Worker)). length z) c.in-Ok-crew_of.ensures ∙ (length-map c.in-Ok.members.items ready ∙ c.in-Ok.ensures.count)) in
+    let whole : c.as_slice.result.now ≡ crew = c.as_slice.ensures.value ∙ written_back crew (drop (length crew) c.in-Ok-crew_of.crew.items) c.in-Ok-crew_of.crew.len (many ∙ sym len) in
+    let ran = λ (t : ℕ) (d : Option Worker) (below : t < length crew). subst (λ asked. HasRunAt c.in-Ok.board t asked (slice_index_or crew t d)) (kept.each t (omega (arith, below, many))) (c.run_all.ensures t d (omega (arith, below, many, lent))) in
+    let first = c.in-Some.ensures.some in
+    let within : first.0 < length crew = subst (λ (z : List (Option Worker)). first.0 < length z) whole first.1 in
+    let here = first.2 None in
+    subst (λ n. HasNoTotals threads c.args.settings.now.k input n c.at-in-Some.result.stop) (sym c.at-in-Some.ensures.row)
+    (subst (HasNoTotals threads c.args.settings.now.k input c.in-Some.field-0.row) (sym c.at-in-Some.ensures.stop)
+    (one_gave_up threads c.args.settings.now.k input all rows accepted c.in-Ok.board c.in-Ok.ensures.sizes crew many ran c.in-Some.field-0 first.0 within
+    (subst (λ (z : List (Option Worker)). gave_up_at (slice_index_or z first.0 None) ≡ Some c.in-Some.field-0) whole here)
+    (λ u d before. subst (λ (z : List (Option Worker)). gave_up_at (slice_index_or z u d) ≡ None) whole (first.3 u d before))))
+
+pub finish-requires : goal.finish-requires
+finish-requires g c =
+    let crew = c.run_all.new.crew in let threads = c.args.settings.now.threads in
+    let same = c.as_mut_slice.ensures.value ∙ c.in-Ok-crew_of.ensures in
+    let lent : length c.as_mut_slice.result.now ≡ threads = ap (λ (z : List (Option Worker)). length z) same ∙ (length-map c.in-Ok.members.items ready ∙ c.in-Ok.ensures.count) in
+    let many : length crew ≡ threads = c.run_all.auto.crew ∙ lent in
+    let len : c.in-Ok-crew_of.crew.len ≡ threads = c.in-Ok-crew_of.crew.ok.0 ∙ (ap (λ (z : List (Option Worker)). length z) c.in-Ok-crew_of.ensures ∙ (length-map c.in-Ok.members.items ready ∙ c.in-Ok.ensures.count)) in
+    let back = written_back crew (drop (length crew) c.in-Ok-crew_of.crew.items) c.in-Ok-crew_of.crew.len (many ∙ sym len) in
+    let whole : c.as_slice.result.now ≡ crew = c.as_slice.ensures.value ∙ back in
+    let all = all_back c.in-Ok.board (kept_for (map (λ list. list.items) c.args.rows.now)) crew (many ∙ sym (ap (λ m. m.threads) c.in-Ok.ensures.sizes))
+    (λ t d below. c.run_all.ensures t d (omega (arith, below, many, lent)))
+    (λ t d below. subst (λ (z : List (Option Worker)). gave_up_at (slice_index_or z t d) ≡ None) whole (c.in_default-first_to_give_up.ensures.none refl t d (subst (λ (z : List (Option Worker)). t < length z) (sym whole) below))) in
+    record { crew = (all.0, back ∙ all.1, all.2) }
+
+pub returns : goal.returns
+returns g c = λ input all rows accepted kept.
+    let crew = c.run_all.new.crew in let threads = c.args.settings.now.threads in
+    let same = c.as_mut_slice.ensures.value ∙ c.in-Ok-crew_of.ensures in
+    let lent : length c.as_mut_slice.result.now ≡ threads = ap (λ (z : List (Option Worker)). length z) same ∙ (length-map c.in-Ok.members.items ready ∙ c.in-Ok.ensures.count) in
+    let many : length crew ≡ threads = c.run_all.auto.crew ∙ lent in
+    let len : c.in-Ok-crew_of.crew.len ≡ threads = c.in-Ok-crew_of.crew.ok.0 ∙ (ap (λ (z : List (Option Worker)). length z) c.in-Ok-crew_of.ensures ∙ (length-map c.in-Ok.members.items ready ∙ c.in-Ok.ensures.count)) in
+    let back = written_back crew (drop (length crew) c.in-Ok-crew_of.crew.items) c.in-Ok-crew_of.crew.len (many ∙ sym len) in
+    let whole : c.as_slice.result.now ≡ crew = c.as_slice.ensures.value ∙ back in
+    let threads_are = ap (λ m. m.threads) c.in-Ok.ensures.sizes in
+    let told = all_back c.in-Ok.board (λ t. asked_of threads t all) crew (many ∙ sym threads_are)
+    (λ t d below. subst (λ asked. HasRunAt c.in-Ok.board t asked (slice_index_or crew t d)) (kept.each t (omega (arith, below, many))) (c.run_all.ensures t d (omega (arith, below, many, lent))))
+    (λ t d below. subst (λ (z : List (Option Worker)). gave_up_at (slice_index_or z t d) ≡ None) whole (c.in_default-first_to_give_up.ensures.none refl t d (subst (λ (z : List (Option Worker)). t < length z) (sym whole) below))) in
+    finished threads c.args.settings.now.k input all c.in-Ok.board _ told.0 c.finish.result c.in-Ok.ensures.sizes rows accepted (back ∙ told.1) told.2 told.3 c.finish.ensures.totals c.finish.ensures.refused

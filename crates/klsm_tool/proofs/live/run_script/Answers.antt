@@ -1,0 +1,46 @@
+use Rattle.std.proofs.Common.{rules, ◌≡◌, ◌≢◌, ◌∙◌, List, [], map, length, drop, sym, ap, subst, Vec, Global}
+use Rattle.klsm_tool.specs.declared.stop.Stop.TheVariants as stop
+use Rattle.klsm_tool.specs.declared.thread_rows.ThreadRow.{ThreadRow}
+use Rattle.klsm_tool.specs.Keeping.{AreKept}
+use Rattle.klsm_tool.specs.Live.{HasNoTotals}
+use Rattle.klsm_tool.specs.Script.{row_limit}
+use Rattle.klsm_tool.specs.ThreadRows.{StopsReading}
+use Rattle.klsm_tool.proofs.CrewLemmas.{written_back}
+use Rattle.klsm_tool.proofs.KeepingLemmas.{few_kept, no_memory_at_first, not_run}
+use Rattle.klsm_tool.proofs.live.run_script.Goals as goal
+
+abbrev kept_lists : List (Vec ThreadRow Global) → List (List ThreadRow)
+kept_lists lists = map (λ (list : Vec ThreadRow Global). list.items) lists
+
+pub returns-in_default : goal.returns-in_default
+returns-in_default g c =
+    let threads = c.args.settings.now.threads in let k = c.args.settings.now.k in
+    subst (HasNoTotals threads k (g.R.Read.remaining c.args.reader) c.at.result.row) (sym c.at.ensures.stop) (no_memory_at_first threads k c.at.result.row (g.R.Read.remaining c.args.reader))
+
+pub returns-then-ne : goal.returns-then-ne
+returns-then-ne g c =
+    let threads = c.args.settings.now.threads in
+    let other : c.keep_rows-closing.result.stop ≢ stop.AtEnd = search rules in
+    let kept : AreKept threads [] (kept_lists c.as_mut_slice.result.now) = subst (λ (z : List (Vec ThreadRow Global)). AreKept threads [] (kept_lists z)) (sym c.as_mut_slice.ensures.value) c.in-Ok.ensures in
+    not_run threads c.args.settings.now.k c.keep_rows-closing.result.row _ _ _ (c.keep_rows-closing.ensures threads (g.R.Read.remaining c.args.reader) c.new-script.ensures kept) other
+
+pub run_rows-requires-clause-few : goal.run_rows-requires-clause-few
+run_rows-requires-clause-few g c =
+    let threads = c.args.settings.now.threads in let lists = c.keep_rows-closing.new.lists in
+    let at_end : c.keep_rows-closing.result.stop ≡ stop.AtEnd = search rules in
+    let kept : AreKept threads [] (kept_lists c.as_mut_slice.result.now) = subst (λ (z : List (Vec ThreadRow Global)). AreKept threads [] (kept_lists z)) (sym c.as_mut_slice.ensures.value) c.in-Ok.ensures in
+    let ended = c.keep_rows-closing.ensures threads (g.R.Read.remaining c.args.reader) c.new-script.ensures kept in
+    let many : length lists ≡ c.in-Ok.rows.len = c.keep_rows-closing.auto.lists ∙ (ap (λ (z : List (Vec ThreadRow Global)). length z) c.as_mut_slice.ensures.value ∙ sym c.in-Ok.rows.ok.0) in
+    let whole : c.as_slice.result.now ≡ lists = c.as_slice.ensures.value ∙ written_back lists (drop (length lists) c.in-Ok.rows.items) c.in-Ok.rows.len many in
+    λ _ _ t. few_kept threads row_limit ended.rows (kept_lists c.as_slice.result.now) (subst (λ (z : List (Vec ThreadRow Global)). AreKept threads ended.rows (kept_lists z)) (sym whole) (ended.kept at_end)) ended.few t
+
+pub returns : goal.returns
+returns g c =
+    let threads = c.args.settings.now.threads in let lists = c.keep_rows-closing.new.lists in let input = g.R.Read.remaining c.args.reader in
+    let at_end : c.keep_rows-closing.result.stop ≡ stop.AtEnd = search rules in
+    let kept : AreKept threads [] (kept_lists c.as_mut_slice.result.now) = subst (λ (z : List (Vec ThreadRow Global)). AreKept threads [] (kept_lists z)) (sym c.as_mut_slice.ensures.value) c.in-Ok.ensures in
+    let ended = c.keep_rows-closing.ensures threads input c.new-script.ensures kept in
+    let many : length lists ≡ c.in-Ok.rows.len = c.keep_rows-closing.auto.lists ∙ (ap (λ (z : List (Vec ThreadRow Global)). length z) c.as_mut_slice.ensures.value ∙ sym c.in-Ok.rows.ok.0) in
+    let whole : c.as_slice.result.now ≡ lists = c.as_slice.ensures.value ∙ written_back lists (drop (length lists) c.in-Ok.rows.items) c.in-Ok.rows.len many in
+    c.run_rows.ensures input ended.rows (subst (StopsReading threads input ended.rows) at_end ended.stops) ended.accepted
+    (subst (λ (z : List (Vec ThreadRow Global)). AreKept threads ended.rows (kept_lists z)) (sym whole) (ended.kept at_end))

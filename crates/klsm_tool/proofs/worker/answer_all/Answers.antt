@@ -1,0 +1,34 @@
+use Rattle.std.proofs.Common.{◌∙◌, false, get_or, subst, ap, arith}
+use Rattle.klsm_board.specs.Boards.{own_steps}
+use Rattle.klsm_tool.specs.declared.thread_rows.ThreadRow.{ThreadRow}
+use Rattle.klsm_tool.specs.Turns.{GivesUp, IsAnswer}
+use Rattle.klsm_tool.proofs.ShownLemmas.{inserted_within}
+use Rattle.klsm_tool.proofs.WorkLemmas.{row_answered, row_given_up, so_many}
+use Rattle.klsm_tool.proofs.worker.answer_all.Goals as goal
+
+abbrev empty : ThreadRow
+empty = record { number = 0; is_deletion = false; key = 0; load = 0 }
+
+pub answer-requires-clause-room : goal.answer-requires-clause-room
+answer-requires-clause-room g c =
+    let es = own_steps c.loop-row.member in
+    let many = so_many c.args.rows.now c.loop-row.row-index empty c.loop-row-test.true es c.loop-row.invariant.answers in
+    let quota = ap (λ m. m.quota) (c.loop-row.invariant.same.1 ∙ c.requires.of.1) in
+    omega (arith, many, inserted_within es, c.loop-row-test.true, c.requires.few, quota)
+
+pub returns-in-Err-clause-works : goal.returns-in-Err-clause-works
+returns-in-Err-clause-works g c =
+    let refused = c.in-Err.ensures.refused in let k = ap (λ m. m.k) (c.loop-row.invariant.same.1 ∙ c.requires.of.1) in
+    row_given_up c.args.rows.now c.loop-row.row-index empty c.loop-row-test.true c.args.board.now.sizes.k c.args.member.now.number (own_steps c.loop-row.member) (own_steps c.answer.new.member) c.in-Err.stop c.loop-row.invariant.answers refused.0
+    (subst (λ t. GivesUp 21 c.args.board.now.sizes.k t (own_steps c.answer.new.member) c.in-Err.stop) c.loop-row.invariant.same.0
+    (subst (λ n. GivesUp 21 n c.loop-row.member.number (own_steps c.answer.new.member) c.in-Err.stop) k refused.1))
+
+pub loop-row-preserved : goal.loop-row-preserved
+loop-row-preserved g c =
+    let told = c.in_default.ensures in let was = c.loop-row.invariant in
+    let row = get_or c.args.rows.now c.loop-row.row-index empty in
+    record {
+      same = (told.same.0 ∙ was.same.0, told.same.1 ∙ was.same.1, told.same.2 ∙ was.same.2);
+      answers = row_answered c.args.rows.now c.loop-row.row-index empty c.loop-row-test.true (own_steps c.loop-row.member) (own_steps c.answer.new.member) c.in_default.field-0 was.answers
+          (subst (λ o. IsAnswer o c.in_default.field-0) c.operation.ensures told.answer) told.shown;
+    }

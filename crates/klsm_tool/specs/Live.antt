@@ -1,0 +1,121 @@
+-- What `live_over` promises: the rows of a script run by threads.
+use Rattle.std.specs.Prelude.{ℕ, ◌≡◌, ◌+◌, ◌<◌, List, ◌∷◌, [], ◌++◌, length, codes, Option, Result, Ok, Err}
+use Rattle.std.specs.List.{concat}
+use Rattle.std.specs.Fmt.{decimal}
+use Rattle.klsm_world.specs.declared.step.Entry.{Entry}
+use Rattle.klsm_world.specs.Account.{account}
+use Rattle.klsm_board.specs.Rule.{IsReached}
+use Rattle.klsm_board.specs.Finishing.{AreListsAtEnd}
+use Rattle.klsm_tool.specs.declared.settings.End.{End}
+use Rattle.klsm_tool.specs.declared.settings.End.TheVariants as end
+use Rattle.klsm_tool.specs.declared.settings.Report.{Report}
+use Rattle.klsm_tool.specs.declared.stop.Stop.{Stop}
+use Rattle.klsm_tool.specs.declared.stop.Stop.TheVariants as stop
+use Rattle.klsm_tool.specs.declared.stop.Closing.{Closing}
+use Rattle.klsm_tool.specs.declared.totals.Totals.{Totals}
+use Rattle.klsm_tool.specs.Script.{Row}
+use Rattle.klsm_tool.specs.Rows.{AreFirstRows, AreAllRows}
+use Rattle.klsm_tool.specs.AnswerText.{closing_text}
+use Rattle.klsm_tool.specs.Shown.{shown_in}
+use Rattle.klsm_tool.specs.Crews.{steps_in}
+use Rattle.klsm_tool.specs.Turns.{GivesUp}
+use Rattle.klsm_tool.specs.Replay.{GoesOrFails, end_of, sizes_of}
+use Rattle.klsm_tool.specs.ThreadRows.{AreAccepted, AreAnswers, Asked, StopsReading, asked_of, insertion_rows}
+
+-- the line of a script that was run
+abbrev pub totals_text : Totals → List ℕ
+totals_text totals =
+    concat (codes "inserted " ∷ decimal totals.inserted ∷ codes " deleted " ∷ decimal totals.deleted
+    ∷ codes " left " ∷ decimal totals.left ∷ codes "\n" ∷ [])
+
+-- a thread's list answers what it was asked for up to a row of this number, at which it gave up
+pub record GaveUpAt (k t : ℕ) (asked : List Asked) (es : List Entry) (number : ℕ) (why : Stop)
+    : Type 0 where
+  pub earlier : List Asked
+  pub here : Asked
+  pub later : List Asked
+  pub all : asked ≡ earlier ++ here ∷ later
+  pub answers : AreAnswers earlier (shown_in es)
+  pub number_is : here.number ≡ number
+  pub gives_up : GivesUp 21 k t es why
+
+-- of the threads that gave up this is the one of the least number: those before it answer all that
+-- they were asked for
+pub record GivesUpFirst (threads k : ℕ) (rows : List Row) (lists : List (List Entry)) (number : ℕ)
+    (why : Stop) : Type 0 where
+  pub thread : ℕ
+  pub below : thread < threads
+  pub lesser : (t : ℕ) → t < thread
+      → AreAnswers (asked_of threads t rows) (shown_in (steps_in lists t))
+  pub gave_up : GaveUpAt k thread (asked_of threads thread rows) (steps_in lists thread) number why
+
+-- all rows were run: each thread's list answers its rows, one by one and in order, the lists are
+-- those of one world to which a schedule leads, and the totals are those of their account
+pub record RunsAll (threads k : ℕ) (input : Option (List ℕ)) (totals : Totals) : Type 0 where
+  pub rows : List Row
+  pub all : AreAllRows input rows
+  pub accepted : AreAccepted threads rows
+  pub lists : List (List Entry)
+  pub many : length lists ≡ threads
+  pub at_end : AreListsAtEnd (sizes_of threads k) lists
+  pub answers : (t : ℕ) → t < threads
+      → AreAnswers (asked_of threads t rows) (shown_in (steps_in lists t))
+  pub inserted_is : totals.inserted ≡ (account lists).inserted
+  pub deleted_is : totals.deleted ≡ (account lists).deleted
+  pub left_is : totals.left ≡ length (account lists).left
+  pub insertions : totals.inserted ≡ insertion_rows threads rows
+  pub sum : totals.inserted ≡ totals.deleted + totals.left
+
+-- a thread's insertion found no room: each list is that of a world to which a schedule leads
+pub record RunsUntilFull (threads k : ℕ) (input : Option (List ℕ)) (number : ℕ) : Type 0 where
+  pub rows : List Row
+  pub all : AreAllRows input rows
+  pub accepted : AreAccepted threads rows
+  pub lists : List (List Entry)
+  pub many : length lists ≡ threads
+  pub reached : (t : ℕ) → t < threads
+      → ∥ IsReached (sizes_of threads k) t (steps_in lists t) ∥₁
+  pub first : GivesUpFirst threads k rows lists number stop.Full
+
+-- the first row that is not accepted, or the one behind those that were read when reading failed
+pub record IsNotRun (threads : ℕ) (input : Option (List ℕ)) (number : ℕ) (why : Stop) : Type 0 where
+  pub rows : List Row
+  pub accepted : AreAccepted threads rows
+  pub stops : StopsReading threads input rows why
+  pub number_is : number ≡ length rows + 1
+
+-- memory was wanted: of the rows that were read none is refused
+pub record WantsMemory (threads : ℕ) (input : Option (List ℕ)) : Type 0 where
+  pub rows : List Row
+  pub first : AreFirstRows input rows
+  pub accepted : AreAccepted threads rows
+
+-- why there are no totals
+abbrev pub HasNoTotals : ℕ → ℕ → Option (List ℕ) → ℕ → Stop → Type 0
+HasNoTotals threads k input number stop.AtEnd = ⊥
+HasNoTotals threads k input number (stop.Refused why) =
+    IsNotRun threads input number (stop.Refused why)
+HasNoTotals threads k input number stop.Full = RunsUntilFull threads k input number
+HasNoTotals threads k input number stop.NoMemory = WantsMemory threads input
+HasNoTotals threads k input number stop.ReadFault = IsNotRun threads input number stop.ReadFault
+HasNoTotals threads k input number stop.WriteFault = ⊥
+
+-- how the run of a script ends
+abbrev pub RunsScript : ℕ → ℕ → Option (List ℕ) → Result Totals Closing → Type 0
+RunsScript threads k input (Ok totals) = RunsAll threads k input totals
+RunsScript threads k input (Err closing) = HasNoTotals threads k input closing.row closing.stop
+
+abbrev pub outcome_text : Result Totals Closing → List ℕ
+outcome_text (Ok totals) = totals_text totals
+outcome_text (Err closing) = closing_text closing.row closing.most closing.bound closing.stop
+
+abbrev pub outcome_end : Result Totals Closing → End
+outcome_end (Ok totals) = end.Done
+outcome_end (Err closing) = end_of closing.stop
+
+-- the line of the outcome goes out, or the writer fails before its end
+abbrev pub Lives : ℕ → ℕ → Option (List ℕ) → Option (List ℕ) → Option (List ℕ) → Report → Type 0
+Lives threads k input before after report =
+    (outcome : Result Totals Closing) × RunsScript threads k input outcome
+    × GoesOrFails before after (outcome_text outcome) 0 report.written (outcome_end outcome)
+    report.end

@@ -1,0 +1,63 @@
+-- What the workers of a script do, each with a member of a board.
+use Rattle.std.specs.Prelude.{ℕ, ◌≡◌, List, [], length, Option, Some, None}
+use Rattle.klsm_world.specs.declared.step.Entry.{Entry}
+use Rattle.klsm_world.specs.Account.{account}
+use Rattle.klsm_board.specs.declared.board.Board.{Board}
+use Rattle.klsm_board.specs.declared.board.Member.{Member}
+use Rattle.klsm_board.specs.Boards.{IsOf, own_steps}
+use Rattle.klsm_board.specs.declared.sizes.Sizes.{Sizes}
+use Rattle.klsm_board.specs.Finishing.{AreListsAtEnd}
+use Rattle.klsm_tool.specs.declared.totals.Totals.{Totals}
+use Rattle.klsm_tool.specs.declared.worker.GaveUp.{GaveUp}
+use Rattle.klsm_tool.specs.declared.worker.Worker.{Worker}
+use Rattle.klsm_tool.specs.Shown.{shown_in}
+use Rattle.klsm_tool.specs.ThreadRows.{AreAnswers, Asked}
+use Rattle.klsm_tool.specs.Live.{GaveUpAt}
+
+-- a list answers all that the thread was asked for, or up to where the thread gave up
+abbrev pub Works : ℕ → ℕ → List Asked → List Entry → Option GaveUp → Type 0
+Works k t asked es None = AreAnswers asked (shown_in es)
+Works k t asked es (Some gave_up) = GaveUpAt k t asked es gave_up.row gave_up.stop
+
+-- the worker that a member is before it begins, and where no row stopped it
+abbrev pub ready : Member 64 21 → Option Worker
+ready member = Some (record { member = member; gave_up = None })
+
+-- the member is thread t's of the board, and its list answers nothing
+pub record IsReady (board : Board 64 21) (t : ℕ) (member : Member 64 21) : Type 0 where
+  pub of : IsOf member board
+  pub number : member.number ≡ t
+  pub shows_none : shown_in (own_steps member) ≡ []
+
+-- it is, and has run what it was asked for
+pub record HasRun (board : Board 64 21) (t : ℕ) (asked : List Asked) (worker : Worker)
+    : Type 0 where
+  pub of : IsOf worker.member board
+  pub number : worker.member.number ≡ t
+  pub works : Works board.sizes.k t asked (own_steps worker.member) worker.gave_up
+
+-- at its place
+abbrev pub IsReadyAt : Board 64 21 → ℕ → Option Worker → Type 0
+IsReadyAt board t None = ⊥
+IsReadyAt board t (Some worker) = IsReady board t worker.member
+
+abbrev pub HasRunAt : Board 64 21 → ℕ → List Asked → Option Worker → Type 0
+HasRunAt board t asked None = ⊥
+HasRunAt board t asked (Some worker) = HasRun board t asked worker
+
+-- its list
+abbrev pub steps_at : Option Worker → List Entry
+steps_at None = []
+steps_at (Some worker) = own_steps worker.member
+
+-- where it gave up, if it did
+abbrev pub gave_up_at : Option Worker → Option GaveUp
+gave_up_at None = None
+gave_up_at (Some worker) = worker.gave_up
+
+-- the lists are those of one world to which a schedule leads, and these are their totals
+pub record AreAccounted (m : Sizes) (lists : List (List Entry)) (totals : Totals) : Type 0 where
+  pub at_end : AreListsAtEnd m lists
+  pub inserted_is : totals.inserted ≡ (account lists).inserted
+  pub deleted_is : totals.deleted ≡ (account lists).deleted
+  pub left_is : totals.left ≡ length (account lists).left

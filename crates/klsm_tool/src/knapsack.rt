@@ -1,0 +1,76 @@
+//! `klsm knapsack`: a best selection of the things of an instance.
+ghost use Rattle.std.specs.Prelude.{◌≡◌, ◌≤◌, Option, ℕ, List};
+ghost use Rattle.klsm_knapsack.specs.Answers.{IsBestAnswer};
+ghost use Rattle.klsm_knapsack.specs.Format.{IsProblemIn, RefusesInput};
+ghost use Rattle.klsm_tool.specs.Knapsack.{Solves, RefusesIn, WritesBest};
+
+use crate::output::write_last;
+use crate::selection_text::{refusal_text, selection_text};
+use crate::settings::{End, Report};
+use crate::stop::NO_MEMORY;
+use klsm_board::Gate;
+use klsm_knapsack::{Best, Instance, ReadError, SolveError, solve};
+use std::alloc::Global;
+use std::io::{Read, Write};
+use std::sync::Wait;
+use std::thread::Threads;
+
+/// The line that says that the board of a search had no room.
+const FULL: &[u8] = b"full\n";
+
+/// Reads an instance, solves it with workers in threads of their own, and writes a best selection.
+///
+/// Each worker passes the gate first, and ends after `idle` answers "nothing" in a row.
+pub fn knapsack_over<P: AllocGlobal + Wait + Threads + Sync, R: Read + Drop, W: Write>(
+    rt: &P,
+    reader: R,
+    writer: &mut W,
+    threads: usize,
+    k: usize,
+    idle: u32,
+    gate: &impl Gate,
+) -> Report
+    requires some_thread { 1 ≤ threads }
+    requires threads { threads ≤ 16 }
+    requires k { k ≤ 64 }
+    ensures { Solves threads k (R.remaining reader) (W.contents writer.old)
+        (W.contents writer.new) result }
+{
+    let instance = match Instance::read(rt.alloc(), reader) {
+        Ok(instance) => instance,
+        Err(why) => return refuse(writer, why),
+    };
+    match solve::<21>(rt, rt.alloc(), &instance, threads, k, idle, gate) {
+        Ok(best) => write_selection(rt.alloc(), writer, &instance, &best),
+        Err(SolveError::Full) => write_last(writer, FULL, 0, End::Full),
+        Err(_) => write_last(writer, NO_MEMORY, 0, End::NoMemory),
+    }
+}
+
+// Writes why no instance was read.
+fn refuse<W: Write>(writer: &mut W, why: ReadError) -> Report
+    ensures { RefusesIn (W.contents writer.old) (W.contents writer.new) why result }
+{
+    let end = match why {
+        ReadError::ReadFault => End::ReadFault,
+        ReadError::NoMemory => End::NoMemory,
+        _ => End::Refused,
+    };
+    write_last(writer, refusal_text(why).as_bytes(), 0, end)
+}
+
+// Writes a selection, or that there is no memory for its line.
+fn write_selection<W: Write>(
+    alloc: Global,
+    writer: &mut W,
+    instance: &Instance,
+    best: &Best,
+) -> Report
+    ensures { WritesBest (W.contents writer.old) (W.contents writer.new) instance.now best.now
+        result }
+{
+    match selection_text(alloc, instance, best) {
+        Ok(text) => write_last(writer, text.as_slice(), 0, End::Done),
+        Err(_) => write_last(writer, NO_MEMORY, 0, End::NoMemory),
+    }
+}

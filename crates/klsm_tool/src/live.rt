@@ -1,0 +1,265 @@
+//! `klsm live`: each thread's rows in a thread of its own.
+ghost use Rattle.std.specs.Prelude.{◌≡◌, ◌<◌, ◌≤◌, ℕ, List, length, map, slice_index_or};
+ghost use Rattle.std.specs.Prelude.{Option, Some, None, IfErr, IfOk, IfSome};
+ghost use Rattle.klsm_tool.specs.Script.{Row, row_limit};
+ghost use Rattle.klsm_tool.specs.Rows.{AreAllRows};
+ghost use Rattle.klsm_tool.specs.Replay.{GoesOrFails};
+ghost use Rattle.klsm_tool.specs.Crews.{AreMembers, lists_in};
+ghost use Rattle.klsm_tool.specs.ThreadRows.{AreAccepted};
+ghost use Rattle.klsm_tool.specs.Keeping.{AreKept, kept_for};
+ghost use Rattle.klsm_tool.specs.Working.{AreAccounted, HasRunAt, IsReadyAt, gave_up_at, ready};
+ghost use Rattle.klsm_tool.specs.Live.{Lives, RunsScript, outcome_end, outcome_text};
+ghost use Rattle.klsm_tool.specs.declared.worker.Worker.{Worker};
+ghost use Rattle.klsm_board.specs.declared.board.Member.{Member};
+
+use crate::output::write_last;
+use crate::picking::ThreadPicker;
+use crate::progress::{Progress, Silent};
+use crate::script::Script;
+use crate::settings::{End, Report, Settings};
+use crate::stop::{Closing, Stop};
+use crate::thread_rows::{ThreadRow, keep_rows, no_rows};
+use crate::totals::Totals;
+use crate::worker::{GaveUp, Worker};
+use klsm_board::{Board, Gate, Member};
+use std::alloc::{AllocError, Global};
+use std::io::{Read, Write};
+use std::sync::Wait;
+use std::thread;
+use std::thread::Threads;
+
+/// The most insertions of each member of a board that a script is run over.
+const QUOTA: u64 = 281_474_976_710_656;
+
+/// Reads a whole script, then runs each thread's rows in a thread of its own over one board, each
+/// thread's in their order, and writes the totals. Each of these threads passes the gate first.
+///
+/// A refused row is answered before any thread begins. A thread that finds no room or no memory
+/// stops at that row, and the others go on; then the line of the least numbered such thread is
+/// written in place of the totals. Where no thread can be made, the rows are run one thread after
+/// the other.
+pub fn live_over<P: AllocGlobal + Wait + Threads + Sync, R: Read + Drop, W: Write>(
+    rt: &P,
+    reader: R,
+    writer: &mut W,
+    settings: &Settings,
+    gate: &impl Gate,
+) -> Report
+    requires some_thread { 1 ≤ settings.now.threads }
+    requires threads { settings.now.threads ≤ 16 }
+    requires k { settings.now.k ≤ 64 }
+    ensures { Lives settings.now.threads settings.now.k (R.remaining reader)
+        (W.contents writer.old) (W.contents writer.new) result }
+{
+    write_outcome(writer, run_script(rt, reader, settings, gate, &Silent))
+}
+
+/// Writes the line of a run that ended so.
+pub(crate) fn write_outcome<W: Write>(writer: &mut W, outcome: Result<Totals, Closing>) -> Report
+    ensures { GoesOrFails (W.contents writer.old) (W.contents writer.new) (outcome_text outcome) 0
+        result.written (outcome_end outcome) result.end }
+{
+    match outcome {
+        Ok(totals) => write_last(writer, totals.text().as_bytes(), 0, End::Done),
+        Err(closing) => write_last(writer, closing.text().as_bytes(), 0, closing.stop.end()),
+    }
+}
+
+/// Reads a whole script and runs it.
+pub(crate) fn run_script<P: AllocGlobal + Wait + Threads + Sync, R: Read + Drop>(
+    rt: &P,
+    reader: R,
+    settings: &Settings,
+    gate: &impl Gate,
+    progress: &impl Progress,
+) -> Result<Totals, Closing>
+    requires some_thread { 1 ≤ settings.now.threads }
+    requires threads { settings.now.threads ≤ 16 }
+    requires k { settings.now.k ≤ 64 }
+    ensures { RunsScript settings.now.threads settings.now.k (R.remaining reader) result }
+{
+    let Ok(mut rows) = no_rows(rt.alloc(), settings.threads) else {
+        return Err(Closing::at(Stop::NoMemory, 1));
+    };
+    let mut script = Script::new(rt.alloc(), reader);
+    let closing = keep_rows(&mut script, rows.as_mut_slice(), progress);
+    if closing.stop != Stop::AtEnd {
+        return Err(closing);
+    }
+    run_rows(rt, rows.as_slice(), settings, gate, progress)
+}
+
+// Runs the rows of all threads over a new board.
+fn run_rows<P: AllocGlobal + Wait + Threads + Sync>(
+    rt: &P,
+    rows: &[Vec<ThreadRow>],
+    settings: &Settings,
+    gate: &impl Gate,
+    progress: &impl Progress,
+) -> Result<Totals, Closing>
+    requires some_thread { 1 ≤ settings.now.threads }
+    requires threads { settings.now.threads ≤ 16 }
+    requires k { settings.now.k ≤ 64 }
+    requires many { length rows.now ≡ settings.now.threads }
+    requires few { (t : ℕ) → length (kept_for (map (λ list. list.items) rows.now) t) ≤ row_limit }
+    ensures { (input : Option (List ℕ)) (all : List Row) → AreAllRows input all
+        → AreAccepted settings.now.threads all
+        → AreKept settings.now.threads all (map (λ list. list.items) rows.now)
+        → RunsScript settings.now.threads settings.now.k input result }
+{
+    let Ok((board, members)) = Board::new(rt.alloc(), settings.threads, settings.k, QUOTA) else {
+        return Err(Closing::at(Stop::NoMemory, 1));
+    };
+    let Ok(mut crew) = crew_of(rt.alloc(), members) else {
+        return Err(Closing::at(Stop::NoMemory, 1));
+    };
+    progress.begins_to_run();
+    run_all(
+        rt,
+        &board,
+        crew.as_mut_slice(),
+        rows,
+        settings,
+        gate,
+        progress,
+    );
+    if let Some(GaveUp { stop, row }) = first_to_give_up(crew.as_slice()) {
+        return Err(Closing::at(stop, row as u64));
+    }
+    finish(rt.alloc(), board, crew)
+}
+
+// Each worker in a thread of its own. It leaves its place while it runs, so that what it changes at
+// each row lies on its own stack, and not beside what the next one changes.
+fn run_all<P: Wait + Threads + Sync>(
+    rt: &P,
+    board: &Board<64, 21>,
+    crew: &mut [Option<Worker>],
+    rows: &[Vec<ThreadRow>],
+    settings: &Settings,
+    gate: &impl Gate,
+    progress: &impl Progress,
+)
+    requires some { 0 < length crew.old }
+    requires many { length rows.now ≡ length crew.old }
+    requires few { (t : ℕ) → length (kept_for (map (λ list. list.items) rows.now) t) ≤ row_limit }
+    requires quota { row_limit < board.now.sizes.quota }
+    requires ready { (t : ℕ) (d : Option Worker) → t < length crew.old
+        → IsReadyAt board.now t (slice_index_or crew.old t d) }
+    ensures { (t : ℕ) (d : Option Worker) → t < length crew.old
+        → HasRunAt board.now t (kept_for (map (λ list. list.items) rows.now) t)
+        (slice_index_or crew.new t d) }
+{
+    let threads = crew.len();
+    thread::for_each_mut(
+        rt,
+        crew,
+        threads,
+        &|index, place: &mut Option<Worker>|
+            requires { (index < length rows.now) × IsReadyAt board.now index place.old
+                × (length (kept_for (map (λ list. list.items) rows.now) index)
+                < board.now.sizes.quota) }
+            ensures { HasRunAt board.entry.now index
+                (kept_for (map (λ list. list.items) rows.entry.now) index) place.new }
+        { run_at(rt, board, place, rows, settings, gate, progress, index) },
+    );
+}
+
+// The worker at its place, which passes the gate and then runs its rows.
+fn run_at(
+    rt: &impl Wait,
+    board: &Board<64, 21>,
+    place: &mut Option<Worker>,
+    rows: &[Vec<ThreadRow>],
+    settings: &Settings,
+    gate: &impl Gate,
+    progress: &impl Progress,
+    index: usize,
+)
+    requires below { index < length rows.now }
+    requires ready { IsReadyAt board.now index place.old }
+    requires few { length (kept_for (map (λ list. list.items) rows.now) index)
+        < board.now.sizes.quota }
+    ensures { HasRunAt board.now index (kept_for (map (λ list. list.items) rows.now) index)
+        place.new }
+{
+    gate.pass(index);
+    let Some(worker) = place.take() else {
+        unreachable!();
+    };
+    let picker = ThreadPicker::of(settings, index as u64);
+    *place = Some(worker.run(rt, board, rows[index].as_slice(), picker, progress));
+}
+
+fn crew_of(alloc: Global, members: Vec<Member<64, 21>>) -> Result<Vec<Option<Worker>>, AllocError>
+    ensures { IfOk result (λ crew. crew.items ≡ map ready members.items) }
+{
+    let mut crew = Vec::with_capacity(alloc, members.len())?;
+    for member in members {
+        let gave_up = None;
+        crew.push(Some(Worker { member, gave_up }))?;
+    }
+    Ok(crew)
+}
+
+// Where the first worker gave up that did.
+fn first_to_give_up(crew: &[Option<Worker>]) -> Option<GaveUp>
+    ensures none { result ≡ None → (t : ℕ) (d : Option Worker) → t < length crew.now
+        → gave_up_at (slice_index_or crew.now t d) ≡ None }
+    ensures some { IfSome result (λ gave_up. (t : ℕ) × (t < length crew.now)
+        × ((d : Option Worker) → gave_up_at (slice_index_or crew.now t d) ≡ Some gave_up)
+        × ((u : ℕ) (d : Option Worker) → u < t → gave_up_at (slice_index_or crew.now u d) ≡ None)) }
+{
+    for place in crew {
+        let gave_up = gave_up_of(place);
+        if gave_up.is_some() {
+            return gave_up;
+        }
+    }
+    None
+}
+
+fn gave_up_of(place: &Option<Worker>) -> Option<GaveUp>
+    ensures { result ≡ gave_up_at place.now }
+{
+    match place {
+        Some(worker) => worker.gave_up,
+        None => None,
+    }
+}
+
+// Ends the board, once its members have run all their rows.
+fn finish(alloc: Global, board: Board<64, 21>, crew: Vec<Option<Worker>>) -> Result<Totals, Closing>
+    requires crew { (members : List (Member 64 21)) × (crew.items ≡ map ready members)
+        × AreMembers board members }
+    ensures totals { IfOk result (λ totals. (members : List (Member 64 21))
+        × (crew.items ≡ map ready members) × AreMembers board members
+        × AreAccounted board.sizes (lists_in members) totals) }
+    ensures refused { IfErr result (λ closing. closing.stop ≡ Stop.NoMemory) }
+{
+    let Ok(members) = members_of(alloc, crew) else {
+        return Err(Closing::at(Stop::NoMemory, 1));
+    };
+    match board.finish(alloc, members) {
+        Ok(account) => Ok(Totals {
+            inserted: account.inserted,
+            deleted: account.deleted,
+            left: account.left.len() as u64,
+        }),
+        // All members are back, so it is memory that is wanted.
+        Err(_) => Err(Closing::at(Stop::NoMemory, 1)),
+    }
+}
+
+fn members_of(alloc: Global, crew: Vec<Option<Worker>>) -> Result<Vec<Member<64, 21>>, AllocError>
+    requires { (members : List (Member 64 21)) × (crew.items ≡ map ready members) }
+    ensures { IfOk result (λ members. crew.items ≡ map ready members.items) }
+{
+    let mut members = Vec::with_capacity(alloc, crew.len())?;
+    for place in crew {
+        if let Some(worker) = place {
+            members.push(worker.member)?;
+        }
+    }
+    Ok(members)
+}

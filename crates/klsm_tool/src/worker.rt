@@ -1,0 +1,106 @@
+//! A worker of `klsm live`: a member of the board that runs the rows of its thread.
+ghost use Rattle.std.specs.Prelude.{◌≡◌, ◌<◌, ◌++◌, [], ◌∷◌, length, map, IfOk, IfErr};
+ghost use Rattle.klsm_world.specs.OwnSteps.{inserted};
+ghost use Rattle.klsm_board.specs.Boards.{IsOf, IsSame, own_steps};
+ghost use Rattle.klsm_tool.specs.Shown.{shown_in};
+ghost use Rattle.klsm_tool.specs.Turns.{GivesUp, IsAnswer};
+ghost use Rattle.klsm_tool.specs.Keeping.{asked_in};
+ghost use Rattle.klsm_tool.specs.Working.{HasRun, IsReady, Works};
+
+use crate::answer::Answer;
+use crate::picking::ThreadPicker;
+use crate::progress::{Pace, Progress};
+use crate::request::Operation;
+use crate::stop::Stop;
+use crate::thread_rows::ThreadRow;
+use crate::turns::{delete, insert};
+use klsm_board::{Board, Member};
+use std::sync::Wait;
+
+/// A member, and at which row it gave up, if it did.
+#[derive(Drop)]
+pub(crate) struct Worker {
+    pub member: Member<64, 21>,
+    pub gave_up: Option<GaveUp>,
+}
+
+/// Why a worker ran no further row, and the number of the row at which it stopped.
+#[derive(Clone, Copy)]
+pub(crate) struct GaveUp {
+    pub stop: Stop,
+    pub row: u32,
+}
+
+impl Worker {
+    /// Runs the rows of its thread in their order.
+    pub(crate) fn run(
+        self,
+        rt: &impl Wait,
+        board: &Board<64, 21>,
+        rows: &[ThreadRow],
+        mut picker: ThreadPicker,
+        progress: &impl Progress,
+    ) -> Worker
+        requires ready { IsReady board.now self.member.number self.member }
+        requires few { length rows.now < board.now.sizes.quota }
+        ensures { HasRun board.now self.member.number (map asked_in rows.now) result }
+    {
+        let Worker { mut member, .. } = self;
+        let gave_up = answer_all(rt, board, &mut member, &mut picker, rows, progress);
+        Worker { member, gave_up }
+    }
+}
+
+fn answer_all(
+    rt: &impl Wait,
+    board: &Board<64, 21>,
+    member: &mut Member<64, 21>,
+    picker: &mut ThreadPicker,
+    rows: &[ThreadRow],
+    progress: &impl Progress,
+) -> Option<GaveUp>
+    requires of { IsOf member.old board.now }
+    requires shows_none { shown_in (own_steps member.old) ≡ [] }
+    requires few { length rows.now < board.now.sizes.quota }
+    ensures same { IsSame member.old member.new }
+    ensures works { Works board.now.sizes.k member.old.number (map asked_in rows.now)
+        (own_steps member.new) result }
+{
+    let mut pace = Pace::new();
+    for row in rows {
+        if let Err(stop) = answer(rt, board, member, picker, row.operation()) {
+            return Some(GaveUp {
+                stop,
+                row: row.number,
+            });
+        }
+        pace.count(progress);
+    }
+    None
+}
+
+fn answer(
+    rt: &impl Wait,
+    board: &Board<64, 21>,
+    member: &mut Member<64, 21>,
+    picker: &mut ThreadPicker,
+    operation: Operation,
+) -> Result<Answer, Stop>
+    requires of { IsOf member.old board.now }
+    requires room { length (inserted (own_steps member.old)) < member.old.sizes.quota }
+    ensures same { IsSame member.old member.new }
+    ensures answer { IfOk result (IsAnswer operation) }
+    ensures shown { IfOk result (λ answer.
+        shown_in (own_steps member.new) ≡ shown_in (own_steps member.old) ++ answer ∷ []) }
+    ensures refused { IfErr result (λ why.
+        (shown_in (own_steps member.new) ≡ shown_in (own_steps member.old))
+        × GivesUp 21 member.old.sizes.k member.old.number (own_steps member.new) why) }
+{
+    match operation {
+        Operation::Insert { key, load } => match insert(rt, board, member, key, load) {
+            Ok(item) => Ok(Answer::Inserted(item)),
+            Err(stop) => Err(stop),
+        },
+        Operation::Delete => Ok(delete(rt, board, member, picker)),
+    }
+}
