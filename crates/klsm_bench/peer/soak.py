@@ -1,0 +1,46 @@
+"""Runs a million rows by sixteen threads with `klsm live`, for k of 0, 1 and 64, and checks the totals.
+
+    python3 soak.py ../../klsm/out/klsm
+
+The program has to stand built: `./klsm --help` at the root of the repository builds it. As many items have
+to be inserted as there are rows that insert, each of them is deleted or left, and no more are deleted than
+there are rows that delete.
+"""
+
+import random
+import re
+import subprocess
+import sys
+
+ROWS = 1_000_000
+THREADS = 16
+
+
+def script(seed):
+    """Rows of all threads, half of them insertions, and how many insert."""
+    draw = random.Random(seed)
+    rows = []
+    insertions = 0
+    for number in range(ROWS):
+        thread = draw.randrange(THREADS)
+        if draw.random() < 0.5:
+            rows.append(f"{thread},i,{draw.randrange(1 << 32)},{number}\n")
+            insertions += 1
+        else:
+            rows.append(f"{thread},d,,\n")
+    return "".join(rows).encode(), insertions
+
+
+def main(klsm):
+    for seed, k in enumerate((0, 1, 64)):
+        rows, insertions = script(seed)
+        command = [klsm, "live", "--threads", str(THREADS), "--k", str(k), "--pick", "random"]
+        line = subprocess.run(command, input=rows, capture_output=True, check=True).stdout.decode()
+        inserted, deleted, left = map(int, re.fullmatch(r"inserted (\d+) deleted (\d+) left (\d+)\n", line).groups())
+        assert inserted == insertions, line
+        assert inserted == deleted + left, line
+        assert deleted <= ROWS - insertions, line
+        print(f"k {k}: {line}", end="")
+
+
+main(*sys.argv[1:])
