@@ -31,26 +31,33 @@ impl Heap {
             inserted: 0,
         }
     }
-}
 
-impl Contender for Heap {
-    fn insert(&mut self, key: u64) -> Option<()> {
+    /// Puts an item in. `None` where there is no memory.
+    #[inline]
+    pub(crate) fn push(&mut self, key: u64, load: u64) -> Option<()> {
         let stamp = Stamp {
             owner: 0,
             number: self.inserted,
         };
         self.inserted = self.inserted.wrapping_add(1);
-        let item = Item {
-            key,
-            stamp,
-            load: 0,
-        };
-        self.heap.push(Reverse(item)).ok()
+        self.heap.push(Reverse(Item { key, stamp, load })).ok()
+    }
+
+    /// Takes the least item out, if there is one.
+    #[inline]
+    pub(crate) fn pop(&mut self) -> Option<Item> {
+        let Reverse(item) = self.heap.pop()?;
+        Some(item)
+    }
+}
+
+impl Contender for Heap {
+    fn insert(&mut self, key: u64) -> Option<()> {
+        self.push(key, 0)
     }
 
     fn delete(&mut self) -> Option<u64> {
-        let Reverse(item) = self.heap.pop()?;
-        Some(item.key)
+        Some(self.pop()?.key)
     }
 }
 

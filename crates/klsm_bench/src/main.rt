@@ -4,14 +4,18 @@
 //! a picker of random candidates, one after another in each of five rounds. It prints the medians, in tenths of nanoseconds
 //! an operation; so it does for insertions alone, and for own parts that are filled and emptied. With the word `threads` it
 //! does so for a heap behind a lock and a board, each used by one, two and four threads, and then for an own part with its
-//! lock and without. Without words it makes small runs, and prints what does not depend on time.
+//! lock and without. With the word `nodes` it searches instances of the knapsack problem, by one client over a heap, a heap
+//! behind a lock and a board, and by `solve`. Without words it makes small runs, and prints what does not depend on time.
 #![tactic(auto)]
 
 mod agreement;
 mod contenders;
 mod crew;
+mod instances;
+mod nodes;
 mod own;
 mod rounds;
+mod searcher;
 mod threads;
 mod times;
 mod trio;
@@ -31,8 +35,9 @@ fn main(rt: HostRuntime) -> io::Result<ExitCode> {
     match word.as_str() {
         "times" => times::print(&rt)?,
         "threads" => threads::print(&rt)?,
+        "nodes" => nodes::print(&rt)?,
         _ => {
-            println!(rt; "words: none, times, or threads")?;
+            println!(rt; "words: none, times, threads, or nodes")?;
             return Ok(ExitCode::FAILURE);
         }
     }
