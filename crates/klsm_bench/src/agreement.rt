@@ -2,17 +2,29 @@
 
 use crate::contenders::{Contender, Heap};
 use crate::crew::{OnBoard, board_of_one};
+use crate::instances::Kind;
+use crate::searches::search_all;
 use crate::trio::Trio;
 use crate::workloads::{Workload, fill};
+use klsm_knapsack::solve_in_turn;
+use klsm_parts::First;
 use rand_core::SeedableRng;
 use rand_pcg::Pcg32;
 use std::alloc::Global;
 use std::io;
 use std::sync::Wait;
+use std::thread::Threads;
+use std::time::Clock;
+
+// How many things the instances have on which searches are compared.
+const THINGS: usize = 14;
 
 /// Prints, for each workload and several k, whether the queue with the least candidate gives what the heap gives, and whether
-/// the other one gives as many. Then it prints whether a board of one member gives what the heap gives.
-pub(crate) fn print<R: Print + AllocGlobal + Wait>(rt: &R) -> io::Result<()> {
+/// the other one gives as many. Then it prints whether a board of one member gives what the heap gives, and whether all
+/// searches of an instance find what a search without a queue finds.
+pub(crate) fn print<R: Print + Clock + AllocGlobal + Threads + Wait + Sync>(
+    rt: &R,
+) -> io::Result<()> {
     for workload in Workload::all() {
         for k in [8, 64, 128] {
             let agreement = agree(rt.alloc(), workload, &mut Trio::new(rt.alloc(), k));
@@ -28,7 +40,42 @@ pub(crate) fn print<R: Print + AllocGlobal + Wait>(rt: &R) -> io::Result<()> {
             workload.name()
         )?;
     }
+    for kind in Kind::all() {
+        let Some(all_best) = searches_agree(rt, kind)? else {
+            return println!(rt; "{}: no memory", kind.name());
+        };
+        println!(rt;
+            "{} {THINGS} things: all searches find a best selection: {all_best}",
+            kind.name()
+        )?;
+    }
     Ok(())
+}
+
+// Whether the searches of an instance, by one thread and by two, find the value that a search depth first finds.
+fn searches_agree<R: Clock + AllocGlobal + Threads + Wait + Sync>(
+    rt: &R,
+    kind: Kind,
+) -> io::Result<Option<bool>> {
+    let Some(instance) = kind.instance(rt.alloc(), THINGS, false, 7) else {
+        return Ok(None);
+    };
+    let best = solve_in_turn(&instance).value;
+    let mut all_best = true;
+    for threads in [1, 2] {
+        let Some(searches) = search_all(rt, &instance, threads)? else {
+            return Ok(None);
+        };
+        for search in [
+            searches.heap,
+            searches.locked,
+            searches.board,
+            searches.solve,
+        ] {
+            all_best = all_best && search.value == best;
+        }
+    }
+    Ok(Some(all_best))
 }
 
 // Whether the keys of one are those of the heap in their order, and the other gives as many.
@@ -81,6 +128,7 @@ fn board_agrees<R: Wait>(rt: &R, alloc: Global, workload: Workload, k: usize) ->
         rt,
         board: &board,
         member,
+        picker: First,
     };
     let mut draws = Pcg32::seed_from_u64(42);
     let first = workload.keys(alloc, &mut draws, 0, 500).ok()?;
@@ -108,10 +156,10 @@ fn keys_of<C: Contender>(
     let mut sum = workload.run(contender, then)?;
     let mut count = 0u64;
     for _ in 0..=first.len() {
-        let Some(key) = contender.delete() else {
+        let Some(item) = contender.delete() else {
             break;
         };
-        sum = sum.wrapping_mul(31).wrapping_add(key);
+        sum = sum.wrapping_mul(31).wrapping_add(item.key);
         count = count.wrapping_add(1);
     }
     Some(Deleted { sum, count })

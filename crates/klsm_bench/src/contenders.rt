@@ -1,19 +1,18 @@
-//! What is measured: the queue for one thread, with either picker, and a binary heap of the same items.
+//! What is measured: the queue for one thread, with any picker, and a binary heap of the same items.
 
-use klsm_parts::{First, Queue, Random};
+use klsm_parts::{Picker, Queue};
 use klsm_run::{Item, Stamp};
-use rand_pcg::Pcg32;
 use std::alloc::Global;
 use std::cmp::Reverse;
 use std::collections::BinaryHeap;
 
-/// A priority queue of keys.
+/// A priority queue, as one thread uses it.
 pub(crate) trait Contender {
-    /// Puts a key in. `None` where there is no memory or no room.
-    fn insert(&mut self, key: u64) -> Option<()>;
+    /// Puts an item in. `None` where there is no memory or no room.
+    fn insert(&mut self, key: u64, load: u64) -> Option<()>;
 
-    /// Takes a key out, if there is one.
-    fn delete(&mut self) -> Option<u64>;
+    /// Takes an item out, if there is one.
+    fn delete(&mut self) -> Option<Item>;
 }
 
 /// A binary heap. A deletion gives the least item.
@@ -31,10 +30,11 @@ impl Heap {
             inserted: 0,
         }
     }
+}
 
-    /// Puts an item in. `None` where there is no memory.
+impl Contender for Heap {
     #[inline]
-    pub(crate) fn push(&mut self, key: u64, load: u64) -> Option<()> {
+    fn insert(&mut self, key: u64, load: u64) -> Option<()> {
         let stamp = Stamp {
             owner: 0,
             number: self.inserted,
@@ -43,55 +43,27 @@ impl Heap {
         self.heap.push(Reverse(Item { key, stamp, load })).ok()
     }
 
-    /// Takes the least item out, if there is one.
     #[inline]
-    pub(crate) fn pop(&mut self) -> Option<Item> {
+    fn delete(&mut self) -> Option<Item> {
         let Reverse(item) = self.heap.pop()?;
         Some(item)
     }
 }
 
-impl Contender for Heap {
-    fn insert(&mut self, key: u64) -> Option<()> {
-        self.push(key, 0)
-    }
-
-    fn delete(&mut self) -> Option<u64> {
-        Some(self.pop()?.key)
-    }
-}
-
-/// The queue with the picker of the least candidate. A deletion gives the least item.
+/// The queue for one thread, with a picker.
 #[derive(Drop)]
-pub(crate) struct WithFirst {
+pub(crate) struct WithPicker<P> {
     pub(crate) queue: Queue<128, 21>,
+    pub(crate) picker: P,
 }
 
-impl Contender for WithFirst {
-    fn insert(&mut self, key: u64) -> Option<()> {
-        self.queue.insert(key, 0).ok()?;
+impl<P: Picker> Contender for WithPicker<P> {
+    fn insert(&mut self, key: u64, load: u64) -> Option<()> {
+        self.queue.insert(key, load).ok()?;
         Some(())
     }
 
-    fn delete(&mut self) -> Option<u64> {
-        Some(self.queue.delete_min(&mut First)?.key)
-    }
-}
-
-/// The queue with a picker of random candidates.
-#[derive(Drop)]
-pub(crate) struct WithRandom {
-    pub(crate) queue: Queue<128, 21>,
-    pub(crate) picker: Random<Pcg32>,
-}
-
-impl Contender for WithRandom {
-    fn insert(&mut self, key: u64) -> Option<()> {
-        self.queue.insert(key, 0).ok()?;
-        Some(())
-    }
-
-    fn delete(&mut self) -> Option<u64> {
-        Some(self.queue.delete_min(&mut self.picker)?.key)
+    fn delete(&mut self) -> Option<Item> {
+        self.queue.delete_min(&mut self.picker)
     }
 }

@@ -16,6 +16,7 @@ mod nodes;
 mod own;
 mod rounds;
 mod searcher;
+mod searches;
 mod threads;
 mod times;
 mod trio;

@@ -1,11 +1,11 @@
 //! What the locks of a board cost a member that meets no other.
 ghost use Rattle.std.specs.Prelude.{◌<◌, ◌≤◌};
 
-use crate::contenders::{Contender, WithFirst};
+use crate::contenders::{Contender, WithPicker};
 use crate::crew::{OnBoard, board_of_one};
 use crate::rounds::{Calls, ROUNDS, per_operation, time_of};
 use crate::workloads::Workload;
-use klsm_parts::Queue;
+use klsm_parts::{First, Queue};
 use rand_core::SeedableRng;
 use rand_pcg::Pcg32;
 use std::io;
@@ -27,9 +27,11 @@ pub(crate) fn print<R: Print + Clock + AllocGlobal + Wait>(rt: &R, k: usize) -> 
         rt,
         board: &board,
         member,
+        picker: First,
     };
-    let mut queue = WithFirst {
+    let mut queue = WithPicker {
         queue: Queue::new(rt.alloc(), k),
+        picker: First,
     };
     let mut draws = Pcg32::seed_from_u64(42);
     let mut in_queue = Times::new();

@@ -1,85 +1,27 @@
-//! A client that searches an instance by branch and bound, over any pool of open nodes. It makes the
+//! A client that searches an instance by branch and bound, over any queue of open nodes. It makes the
 //! calls of a worker of `klsm_knapsack::solve`, and counts the nodes.
 ghost use Rattle.std.specs.Prelude.{◌<◌, length};
-ghost use Rattle.klsm_board.specs.Boards.{IsOf};
 ghost use Rattle.klsm_knapsack.specs.Nodes.{IsNodeOf};
 
-use crate::contenders::Heap;
-use crate::crew::InTurn;
-use klsm_board::{Board, Member};
+use crate::contenders::Contender;
 use klsm_knapsack::{Instance, Node};
-use klsm_parts::Random;
-use klsm_run::Item;
-use rand_pcg::Pcg32;
-use std::sync::Wait;
 use std::sync::atomic::{AtomicU64, Ordering};
-
-/// A pool of open nodes, as one thread uses it.
-pub(crate) trait Pool {
-    /// Puts a node in. `None` where there is no memory or no room.
-    fn put(&mut self, key: u64, load: u64) -> Option<()>;
-
-    /// Takes a node out, if there is one.
-    fn take(&mut self) -> Option<Item>;
-}
-
-impl Pool for Heap {
-    fn put(&mut self, key: u64, load: u64) -> Option<()> {
-        self.push(key, load)
-    }
-
-    fn take(&mut self) -> Option<Item> {
-        self.pop()
-    }
-}
-
-impl<R: Wait> Pool for InTurn<'_, R> {
-    fn put(&mut self, key: u64, load: u64) -> Option<()> {
-        self.heap.lock(self.rt).push(key, load)
-    }
-
-    fn take(&mut self) -> Option<Item> {
-        self.heap.lock(self.rt).pop()
-    }
-}
-
-/// A member of a board whose deletions choose at random, as those of `solve` do.
-#[derive(Drop)]
-pub(crate) struct AtRandom<'a, R> {
-    pub(crate) rt: &'a R,
-    pub(crate) board: &'a Board<64, 21>,
-    pub(crate) member: Member<64, 21>,
-    pub(crate) picker: Random<Pcg32>,
-    pub(crate) ghost of: { IsOf member board.now },
-}
-
-impl<R: Wait> Pool for AtRandom<'_, R> {
-    fn put(&mut self, key: u64, load: u64) -> Option<()> {
-        self.member.insert(self.rt, self.board, key, load).ok()?;
-        Some(())
-    }
-
-    fn take(&mut self) -> Option<Item> {
-        self.member
-            .delete_min(self.rt, self.board, &mut self.picker)
-    }
-}
 
 /// One thread of a search.
 #[derive(Drop)]
-pub(crate) struct Searcher<'a, P> {
-    pool: P,
+pub(crate) struct Searcher<'a, C> {
+    open: C,
     instance: &'a Instance,
     incumbent: &'a AtomicU64,
     nodes: u64,
     has_room: bool,
 }
 
-impl<'a, P: Pool> Searcher<'a, P> {
+impl<'a, C: Contender> Searcher<'a, C> {
     /// A thread that has examined no node yet.
-    pub(crate) fn new(pool: P, instance: &'a Instance, incumbent: &'a AtomicU64) -> Self {
+    pub(crate) fn new(open: C, instance: &'a Instance, incumbent: &'a AtomicU64) -> Self {
         Searcher {
-            pool,
+            open,
             instance,
             incumbent,
             nodes: 0,
@@ -95,7 +37,7 @@ impl<'a, P: Pool> Searcher<'a, P> {
     /// Puts the root in.
     pub(crate) fn begin(&mut self) {
         let instance = self.instance;
-        self.has_room = put(&mut self.pool, instance, &instance.root()).is_some();
+        self.has_room = put(&mut self.open, instance, &instance.root()).is_some();
     }
 
     /// Examines nodes until it was answered so many times in a row that there is none.
@@ -105,7 +47,7 @@ impl<'a, P: Pool> Searcher<'a, P> {
             if nothings == idle || !self.has_room {
                 return;
             }
-            let Some(item) = self.pool.take() else {
+            let Some(item) = self.open.delete() else {
                 nothings = nothings.wrapping_add(1);
                 continue;
             };
@@ -125,26 +67,26 @@ impl<'a, P: Pool> Searcher<'a, P> {
         if node.level == instance.len() || instance.bound_of(&node) <= found {
             return Some(());
         }
-        split(&mut self.pool, instance, &node)
+        split(&mut self.open, instance, &node)
     }
 }
 
 // Puts both children of a node in.
-fn split<P: Pool>(pool: &mut P, instance: &Instance, node: &Node) -> Option<()>
+fn split<C: Contender>(open: &mut C, instance: &Instance, node: &Node) -> Option<()>
     requires node { IsNodeOf instance.now node.now }
     requires free { node.now.level < length instance.now.things }
 {
-    put(pool, instance, &instance.leaving(node))?;
+    put(open, instance, &instance.leaving(node))?;
     if let Some(child) = instance.taking(node) {
-        put(pool, instance, &child)?;
+        put(open, instance, &child)?;
     }
     Some(())
 }
 
-fn put<P: Pool>(pool: &mut P, instance: &Instance, node: &Node) -> Option<()>
+fn put<C: Contender>(open: &mut C, instance: &Instance, node: &Node) -> Option<()>
     requires { IsNodeOf instance.now node.now }
 {
-    pool.put(instance.key_of(node), instance.load_of(node))
+    open.insert(instance.key_of(node), instance.load_of(node))
 }
 
 // Raises the incumbent's value, and answers what it then is.

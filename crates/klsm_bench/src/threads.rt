@@ -1,14 +1,12 @@
 //! The measurements of several threads.
-ghost use Rattle.std.specs.Prelude.{All};
-ghost use Rattle.klsm_board.specs.Boards.{IsOf};
 
 use crate::contenders::{Contender, Heap};
-use crate::crew::{InTurn, OnBoard, board_of};
+use crate::crew::{all_in_turn, all_on_board, board_of};
 use crate::own;
 use crate::rounds::{ROUNDS, per_operation};
 use crate::worker::{Worker, time_of_all};
 use crate::workloads::Workload;
-use klsm_board::{Board, Member};
+use klsm_parts::First;
 use std::alloc::{AllocError, Global};
 use std::io;
 use std::sync::{Mutex, Wait};
@@ -48,11 +46,12 @@ fn print_threads<R: Print + Clock + AllocGlobal + Threads + Wait + Sync>(
     threads: usize,
 ) -> io::Result<()> {
     let heap = Mutex::new(Heap::new(rt.alloc()));
-    let in_turn = all_in_turn(rt, rt.alloc(), &heap, threads)?;
+    let in_turn = workers_of(rt.alloc(), all_in_turn(rt, rt.alloc(), &heap, threads)?)?;
     let Some((board, members)) = board_of(rt.alloc(), threads, K) else {
         return println!(rt; "{} {items} {threads}: no memory", workload.name());
     };
-    let on_board = all_on_board(rt, rt.alloc(), &board, members)?;
+    let crew = all_on_board::<R, First>(rt, rt.alloc(), &board, members)?;
+    let on_board = workers_of(rt.alloc(), crew)?;
     let share = items / threads.max(1);
     let Some(times) = time_both(rt, workload, share, in_turn, on_board)? else {
         return println!(rt; "{} {items} {threads}: no room", workload.name());
@@ -66,35 +65,14 @@ fn print_threads<R: Print + Clock + AllocGlobal + Threads + Wait + Sync>(
     )
 }
 
-// So many threads that use a heap in turns.
-fn all_in_turn<'a, R: Wait>(
-    rt: &'a R,
+// A worker for each of these contenders.
+fn workers_of<C: Contender + Drop>(
     alloc: Global,
-    heap: &'a Mutex<Heap>,
-    threads: usize,
-) -> Result<Vec<Worker<InTurn<'a, R>>>, AllocError> {
+    crew: Vec<C>,
+) -> Result<Vec<Worker<C>>, AllocError> {
     let mut workers = Vec::new(alloc);
-    for number in 0..threads {
-        workers.push(Worker::new(alloc, number, InTurn { rt, heap }))?;
-    }
-    Ok(workers)
-}
-
-// A thread for each of these members.
-fn all_on_board<'a, R: Wait>(
-    rt: &'a R,
-    alloc: Global,
-    board: &'a Board<128, 21>,
-    mut members: Vec<Member<128, 21>>,
-) -> Result<Vec<Worker<OnBoard<'a, R>>>, AllocError>
-    requires { All (λ member. IsOf member board.now) members.items }
-{
-    let mut workers = Vec::new(alloc);
-    for number in 0..members.len() {
-        let Some(member) = members.pop() else {
-            return Ok(workers);
-        };
-        workers.push(Worker::new(alloc, number, OnBoard { rt, board, member }))?;
+    for contender in crew {
+        workers.push(Worker::new(alloc, workers.len(), contender))?;
     }
     Ok(workers)
 }

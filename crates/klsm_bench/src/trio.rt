@@ -1,16 +1,17 @@
 //! The three that are measured side by side.
 ghost use Rattle.std.specs.Prelude.{◌≤◌};
 
-use crate::contenders::{Contender, Heap, WithFirst, WithRandom};
-use klsm_parts::{Queue, random_of};
+use crate::contenders::{Contender, Heap, WithPicker};
+use klsm_parts::{First, Queue, Random, random_of};
+use rand_pcg::Pcg32;
 use std::alloc::Global;
 
 /// A heap, and two queues.
 #[derive(Drop)]
 pub(crate) struct Trio {
     pub(crate) heap: Heap,
-    pub(crate) first: WithFirst,
-    pub(crate) random: WithRandom,
+    pub(crate) first: WithPicker<First>,
+    pub(crate) random: WithPicker<Random<Pcg32>>,
 }
 
 impl Trio {
@@ -20,10 +21,11 @@ impl Trio {
     {
         Trio {
             heap: Heap::new(alloc),
-            first: WithFirst {
+            first: WithPicker {
                 queue: Queue::new(alloc, k),
+                picker: First,
             },
-            random: WithRandom {
+            random: WithPicker {
                 queue: Queue::new(alloc, k),
                 picker: random_of(1),
             },

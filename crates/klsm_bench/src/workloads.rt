@@ -63,7 +63,7 @@ impl Workload {
 /// Inserts keys.
 pub(crate) fn fill<C: Contender>(contender: &mut C, keys: &[u64]) -> Option<()> {
     for key in keys {
-        contender.insert(*key)?;
+        contender.insert(*key, 0)?;
     }
     Some(())
 }
@@ -79,8 +79,8 @@ pub(crate) fn drain<C: Contender>(contender: &mut C, count: usize) -> Option<()>
 fn insert_and_delete<C: Contender>(contender: &mut C, keys: &[u64]) -> Option<u64> {
     let mut sum = 0u64;
     for key in keys {
-        contender.insert(*key)?;
-        sum = sum.wrapping_mul(31).wrapping_add(contender.delete()?);
+        contender.insert(*key, 0)?;
+        sum = sum.wrapping_mul(31).wrapping_add(contender.delete()?.key);
     }
     Some(sum)
 }
@@ -88,9 +88,9 @@ fn insert_and_delete<C: Contender>(contender: &mut C, keys: &[u64]) -> Option<u6
 fn delete_and_insert<C: Contender>(contender: &mut C, increments: &[u64]) -> Option<u64> {
     let mut sum = 0u64;
     for increment in increments {
-        let key = contender.delete()?;
+        let key = contender.delete()?.key;
         sum = sum.wrapping_mul(31).wrapping_add(key);
-        contender.insert(key.wrapping_add(*increment))?;
+        contender.insert(key.wrapping_add(*increment), 0)?;
     }
     Some(sum)
 }
