@@ -47,7 +47,7 @@ run_all_marked k bs ps run few pivots =
     }
 
 -- an item that is not greater than g comes before one that is
-around : (g : Item) (x y : Item) → is_smaller g x ≡ false → is_smaller g y ≡ true → IsSmaller x y
+pub around : (g : Item) (x y : Item) → is_smaller g x ≡ false → is_smaller g y ≡ true → IsSmaller x y
 around g x y not_above above = elim (ranked x g) [
   | Below less greater ↦ smaller_trans x g y less (less_if_smaller g y above)
   | Same same ↦ subst (λ z. IsSmaller z y) (sym same) (less_if_smaller g y above)

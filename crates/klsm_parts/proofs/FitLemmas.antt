@@ -72,6 +72,10 @@ local_fits n capacity = part_fits _ (lsm_is_small _ (run_is_small n capacity)) w
 pub shared_lsm_fits : (n : ℕ) → IsLevelCount n → lsm n 48 < 9223372036854775808
 shared_lsm_fits n levels = omega (arith, levels.at_most)
 
+-- what is known of the least items: the place of the first, and an array of bytes for the ranking
+abbrev least_items : ℕ
+least_items = up 8 (up 8 (0 + 56) + up 8 (0 + array_vec 129 1))
+
 -- the shared part
-pub shared_fits : (n : ℕ) → IsLevelCount n → up 8 (up 1 (up 8 (up 8 (up 8 (0 + lsm n 48) + 8) + array_vec n 8) + 56) + 0) < 9223372036854775808
+pub shared_fits : (n : ℕ) → IsLevelCount n → up 8 (up 1 (up 8 (up 8 (up 8 (0 + lsm n 48) + 8) + array_vec n 8) + least_items) + 0) < 9223372036854775808
 shared_fits n levels = omega (arith, levels.at_most)

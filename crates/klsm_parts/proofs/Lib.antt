@@ -13,5 +13,6 @@ pub mod PairLemmas
 pub mod PivotLemmas
 pub mod PivotListLemmas
 pub mod QueueLemmas
+pub mod RankingLemmas
 pub mod SpyLemmas
 pub mod TakeLemmas

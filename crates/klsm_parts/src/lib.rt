@@ -53,6 +53,7 @@ mod mending;
 mod part;
 mod picker;
 mod queue;
+mod ranking;
 mod ranks;
 mod shared;
 mod spying;

@@ -4,9 +4,8 @@ ghost use Rattle.std.specs.Prelude.{◌≡◌, ℕ, ◌+◌, ◌-◌, ◌<◌, �
 ghost use Rattle.std.specs.List.{AllByRecursion};
 ghost use Rattle.arrayvec.specs.ArrayVec.{array_vec_len};
 ghost use Rattle.klsm_run.specs.ItemOrder.{is_smaller};
-ghost use Rattle.klsm_run.specs.Content.{ShareNone, sorted};
+ghost use Rattle.klsm_run.specs.Content.{ShareNone};
 ghost use Rattle.klsm_lsm.specs.Lsm.{content, IsLsm};
-ghost use Rattle.klsm_lsm.specs.Limit.{IsLevelCount};
 ghost use Rattle.klsm_lsm.specs.Adding.{add};
 ghost use Rattle.klsm_parts.specs.Pivots.{ArePivots, AreWithin, marked};
 ghost use Rattle.klsm_parts.specs.Mending.{united_pivots, cut_pivots, IsMendable, IsCutMendable};
@@ -35,7 +34,7 @@ pub(crate) fn mend_cut<R: Run, const LEVELS: usize>(
 {
     cut_pivot(pivots, block, is_only, partner);
     if lsm.len() > k {
-        mark_least(lsm, pivots);
+        let _block = mark_least(lsm, pivots);
     }
 }
 
@@ -163,44 +162,11 @@ fn unmark_greatest<R: Run, const LEVELS: usize>(
     pivots.as_mut_slice()[place.block] = place.index;
 }
 
-/// The marked item of a rank, and where it stands, found from the greatest one down. It costs
-/// `marked - rank` comparisons a block.
-pub(crate) fn place_from_above<R: Run, const LEVELS: usize>(
+/// The greatest marked item, and where it stands. It costs one comparison a block.
+pub(crate) fn greatest_marked<R: Run, const LEVELS: usize>(
     lsm: &Lsm<R, LEVELS>,
     pivots: &[usize],
-    marked: usize,
-    rank: usize,
 ) -> Place
-    requires levels { IsLevelCount LEVELS }
-    requires lawful { IsLsm lsm.now }
-    requires pivots { ArePivots marked lsm.now pivots.now }
-    requires rank { rank < marked }
-    requires marked { marked ≤ length (content lsm.now) }
-    ensures block { result.block < length lsm.now }
-    ensures index { slice_get (slice_index_or lsm.now result.block []) result.index
-        ≡ Some result.item }
-    ensures rank { slice_get (sorted (content lsm.now)) rank ≡ Some result.item }
-{
-    let _blocks = lsm.blocks();
-    let mut left: ArrayVec<usize, LEVELS> = copy_of(pivots);
-    unmark_to(lsm, &mut left, marked, rank + 1);
-    greatest_marked(lsm, left.as_slice())
-}
-
-// A copy of pivots.
-fn copy_of<const LEVELS: usize>(pivots: &[usize]) -> ArrayVec<usize, LEVELS>
-    requires { length pivots.now ≤ LEVELS }
-    ensures { result.items ≡ pivots.now }
-{
-    let mut copy = ArrayVec::new();
-    let Ok(()) = copy.try_extend_from_slice(pivots) else {
-        unreachable!();
-    };
-    copy
-}
-
-// The greatest marked item.
-fn greatest_marked<R: Run, const LEVELS: usize>(lsm: &Lsm<R, LEVELS>, pivots: &[usize]) -> Place
     requires lawful { IsLsm lsm.now }
     requires within { AreWithin lsm.now pivots.now }
     requires some { 0 < length (marked lsm.now pivots.now) }

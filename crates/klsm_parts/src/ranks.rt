@@ -58,11 +58,11 @@ pub(crate) fn pivots_of<R: Run, const LEVELS: usize>(
     pivots
 }
 
-/// Marks one item more, the least of those that are not marked. It costs one comparison a block.
+/// Marks one item more, the least of those that are not marked, and answers its block. It costs one comparison a block.
 pub(crate) fn mark_least<R: Run, const LEVELS: usize>(
     lsm: &Lsm<R, LEVELS>,
     pivots: &mut ArrayVec<usize, LEVELS>,
-)
+) -> usize
     requires lawful { IsLsm lsm.now }
     requires within { AreWithin lsm.now pivots.old.items }
     requires some { length (marked lsm.now pivots.old.items) < length (content lsm.now) }
@@ -72,10 +72,11 @@ pub(crate) fn mark_least<R: Run, const LEVELS: usize>(
     let _count = lsm.len();
     let block = least_unmarked(lsm, pivots.as_slice());
     pivots.as_mut_slice()[block] += 1;
+    block
 }
 
-// A pivot of 0 for each block.
-fn none_of<R: Run, const LEVELS: usize>(lsm: &Lsm<R, LEVELS>) -> ArrayVec<usize, LEVELS>
+/// A pivot of 0 for each block.
+pub(crate) fn none_of<R: Run, const LEVELS: usize>(lsm: &Lsm<R, LEVELS>) -> ArrayVec<usize, LEVELS>
     requires { IsLevelCount LEVELS }
     ensures { result.items ≡ replicate (length lsm.now) 0 }
 {
@@ -97,14 +98,34 @@ pub(crate) fn place_of<R: Run, const LEVELS: usize>(lsm: &Lsm<R, LEVELS>, rank: 
     ensures rank { slice_get (sorted (content lsm.now)) rank ≡ Some result.item }
 {
     let pivots = pivots_of(lsm, rank);
-    let block = least_unmarked(lsm, pivots.as_slice());
-    let index = pivots.as_slice()[block];
+    place_behind(lsm, pivots.as_slice(), rank)
+}
+
+/// The least item behind the pivots of the least `rank` ones, and where it stands. It costs one comparison a block.
+pub(crate) fn place_behind<R: Run, const LEVELS: usize>(
+    lsm: &Lsm<R, LEVELS>,
+    pivots: &[usize],
+    rank: usize,
+) -> Place
+    requires lawful { IsLsm lsm.now }
+    requires pivots { ArePivots rank lsm.now pivots.now }
+    requires rank { rank < length (content lsm.now) }
+    ensures block { result.block < length lsm.now }
+    ensures index { slice_get (slice_index_or lsm.now result.block []) result.index
+        ≡ Some result.item }
+    ensures rank { slice_get (sorted (content lsm.now)) rank ≡ Some result.item }
+{
+    let block = least_unmarked(lsm, pivots);
+    let index = pivots[block];
     let item = lsm.block(block).item_at(index);
     Place { block, index, item }
 }
 
-// The block whose items behind its pivot begin with the least of all such items.
-fn least_unmarked<R: Run, const LEVELS: usize>(lsm: &Lsm<R, LEVELS>, pivots: &[usize]) -> usize
+/// The block whose items behind its pivot begin with the least of all such items.
+pub(crate) fn least_unmarked<R: Run, const LEVELS: usize>(
+    lsm: &Lsm<R, LEVELS>,
+    pivots: &[usize],
+) -> usize
     requires within { AreWithin lsm.now pivots.now }
     requires some { length (marked lsm.now pivots.now) < length (content lsm.now) }
     ensures block { result < length lsm.now }

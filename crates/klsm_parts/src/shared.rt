@@ -10,8 +10,9 @@ ghost use Rattle.klsm_parts.specs.Pivots.{ArePivots, IsPivotAt, count_in_least};
 ghost use Rattle.klsm_parts.specs.Parts.{PartState, IsShared, items_in, least_in, candidates_of};
 
 use crate::appending::append_blocks;
-use crate::mending::{added_by, mend_added, mend_cut, place_from_above};
-use crate::ranks::{Place, item_of, least_place, pivots_of, place_of};
+use crate::mending::{added_by, mend_added, mend_cut};
+use crate::ranking::{LeastItems, Ranking, pivots_by};
+use crate::ranks::{Place, item_of, least_place, pivots_of, place_behind, place_of};
 use arrayvec::ArrayVec;
 use klsm_lsm::{Lsm, LsmError};
 use klsm_run::{HeapRun, Item, Run};
@@ -28,9 +29,7 @@ pub struct Shared<const LEVELS: usize, A: Allocator + Copy = Global> {
     k: usize,
     // How many of each block's first items are candidates.
     pivots: ArrayVec<usize, LEVELS>,
-    // The least item and where it stands, if there is one, so that a deletion of an own item does
-    // not search for it.
-    least: Option<Place>,
+    least: LeastItems,
     alloc: A,
 }
 
@@ -40,7 +39,7 @@ impl<const LEVELS: usize, A: Allocator + Copy> Model for Shared<LEVELS, A> {
     ghost view = { λ shared. record { k = shared.k; blocks = shared.lsm } };
 
     ghost invariant = { λ shared. IsShared LEVELS
-        (record { k = shared.k; blocks = shared.lsm }) shared.pivots.items shared.least };
+        (record { k = shared.k; blocks = shared.lsm }) shared.pivots.items shared.least.first };
 }
 
 impl<const LEVELS: usize, A: Allocator + Copy> Shared<LEVELS, A> {
@@ -55,7 +54,10 @@ impl<const LEVELS: usize, A: Allocator + Copy> Shared<LEVELS, A> {
             lsm: Lsm::new(),
             k,
             pivots: ArrayVec::new(),
-            least: None,
+            least: LeastItems {
+                first: None,
+                ranking: Ranking::new(),
+            },
             alloc,
         }
     }
@@ -92,7 +94,7 @@ impl<const LEVELS: usize, A: Allocator + Copy> Shared<LEVELS, A> {
     pub fn least(&self) -> Option<Item>
         ensures { result ≡ least_in self.now }
     {
-        item_of(self.least)
+        item_of(self.least.first)
     }
 
     /// The items, as an LSM.
@@ -140,34 +142,31 @@ impl<const LEVELS: usize, A: Allocator + Copy> Shared<LEVELS, A> {
         (self.k + 1).min(self.lsm.len())
     }
 
-    /// Candidate `index`, counted from the least. The first is at hand; another is counted from the
-    /// nearer end, and costs as many comparisons a block as are counted.
+    /// Candidate `index`, counted from the least. It costs `index + 1` comparisons a block.
     pub fn candidate(&self, index: usize) -> Item
         requires { index < length (candidates_of self.now) }
         ensures { slice_get (candidates_of self.now) index ≡ Some result }
     {
-        self.place_of_candidate(index).item
+        place_of(&self.lsm, index).item
     }
 
-    // A candidate, and where it stands.
-    pub(crate) fn place_of_candidate(&self, index: usize) -> Place
-        requires { index < length (candidates_of self.now) }
-        ensures block { result.block < length self.now.blocks }
-        ensures index { slice_get (slice_index_or self.now.blocks result.block []) result.index
+    // A candidate, and where it stands. The least one is at hand.
+    pub(crate) fn place_of_candidate(&mut self, index: usize) -> Place
+        requires { index < length (candidates_of self.old) }
+        ensures same { self.new ≡ self.old }
+        ensures block { result.block < length self.old.blocks }
+        ensures index { slice_get (slice_index_or self.old.blocks result.block []) result.index
             ≡ Some result.item }
-        ensures candidate { slice_get (candidates_of self.now) index ≡ Some result.item }
+        ensures candidate { slice_get (candidates_of self.old) index ≡ Some result.item }
     {
         if index == 0 {
-            let Some(least) = self.least else {
+            let Some(least) = self.least.first else {
                 unreachable!();
             };
             return least;
         }
-        let marked = self.candidates();
-        if index < marked / 2 {
-            return place_of(&self.lsm, index);
-        }
-        place_from_above(&self.lsm, self.pivots.as_slice(), marked, index)
+        let pivots = pivots_by(&self.lsm, &mut self.least.ranking, index);
+        place_behind(&self.lsm, pivots.as_slice(), index)
     }
 
     // Puts a copy of a run in. What can be refused comes first, and Full before a growth.
@@ -187,7 +186,8 @@ impl<const LEVELS: usize, A: Allocator + Copy> Shared<LEVELS, A> {
         match self.lsm.absorb_copy(self.alloc, run) {
             Ok(()) => {
                 mend_added(&self.lsm, &mut self.pivots, added, self.k);
-                self.least = least_place(&self.lsm);
+                self.least.ranking.clear();
+                self.least.first = least_place(&self.lsm);
                 Ok(())
             }
             Err(why) => Err(why),
@@ -214,7 +214,11 @@ impl<const LEVELS: usize, A: Allocator + Copy> Shared<LEVELS, A> {
             partner,
             self.k,
         );
-        self.least = least_place(&self.lsm);
+        let closes_up = is_only | partner.is_some();
+        self.least
+            .ranking
+            .remove(place.block, place.index, closes_up);
+        self.least.first = least_place(&self.lsm);
     }
 }
 

@@ -18,8 +18,8 @@ use std::alloc::Allocator;
 /// parts are empty.
 ///
 /// What it takes skips at most k items of the two parts. It takes no memory. It costs one
-/// comparison a block of the own part and, where a shared item goes, of the shared one; and as many
-/// a block there as candidates are counted, from the nearer end.
+/// comparison a block of the own part and, where a shared item goes, some few of the shared one; and
+/// as many more a block there as items have not been ranked since the last one came.
 pub fn take<const CAP: usize, const LEVELS: usize, A: Allocator + Copy, P: Picker>(
     own: &mut Local<CAP>,
     shared: &mut Shared<LEVELS, A>,
@@ -63,19 +63,20 @@ pub fn take<const CAP: usize, const LEVELS: usize, A: Allocator + Copy, P: Picke
 // The candidate to take. `None` where the least own item is to be taken, if there is one.
 fn choose<const LEVELS: usize, A: Allocator + Copy, P: Picker>(
     least_own: Option<Item>,
-    shared: &Shared<LEVELS, A>,
+    shared: &mut Shared<LEVELS, A>,
     picker: &mut P,
 ) -> Option<Place>
-    ensures unasked { picks least_own (least_in shared.now) ≡ false
+    ensures same { shared.new ≡ shared.old }
+    ensures unasked { picks least_own (least_in shared.old) ≡ false
         → (picker.new ≡ picker.old) × (result ≡ None) }
-    ensures asked { IsTrue (picks least_own (least_in shared.now))
-        → IsPicked P.may_pick picker.old picker.new (candidates_of shared.now)
+    ensures asked { IsTrue (picks least_own (least_in shared.old))
+        → IsPicked P.may_pick picker.old picker.new (candidates_of shared.old)
         (λ candidate. option_map (λ place. place.item) result
         ≡ unless_smaller candidate least_own) }
-    ensures place { IfSome result (λ place. (place.block < length shared.now.blocks)
-        × (slice_get (slice_index_or shared.now.blocks place.block []) place.index
+    ensures place { IfSome result (λ place. (place.block < length shared.old.blocks)
+        × (slice_get (slice_index_or shared.old.blocks place.block []) place.index
         ≡ Some place.item)
-        × Contains (candidates_of shared.now) place.item) }
+        × Contains (candidates_of shared.old) place.item) }
 {
     let least = shared.least()?;
     if is_smaller_own(least_own, least) {

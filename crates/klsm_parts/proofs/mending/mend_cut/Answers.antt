@@ -4,8 +4,8 @@ use Rattle.klsm_parts.specs.Pivots.{ArePivots}
 use Rattle.klsm_parts.proofs.PivotLemmas.{length_marked, pivots_all}
 use Rattle.klsm_parts.proofs.mending.mend_cut.Goals as goal
 
-pub mark_least-requires : goal.mark_least-requires
-mark_least-requires g c =
+pub mark_least-block-requires : goal.mark_least-block-requires
+mark_least-block-requires g c =
     let after = c.args.lsm.now in
     let marks = subst (ArePivots (min (c.args.k + 1) (length (content after) + 1) - 1) after) (sym c.cut_pivot.ensures) c.requires.mendable.marks in
     (search, (search, (c.requires.mendable.lawful, (marks.within, omega (arith, length_marked _ after c.cut_pivot.new.pivots.items marks, c.len.ensures.len, c.if-len-k.true)))))
@@ -27,7 +27,7 @@ returns-then-len-k-clause-pivots g c =
     let after = c.args.lsm.now in
     let marks = subst (ArePivots (min (c.args.k + 1) (length (content after) + 1) - 1) after) (sym c.cut_pivot.ensures) c.requires.mendable.marks in
     let count : min (c.args.k + 1) (length (content after) + 1) - 1 ≡ c.args.k = omega (arith, c.len.ensures.len, c.if-len-k.true) in
-    c.mark_least.ensures c.args.k (omega (arith, c.len.ensures.len, c.if-len-k.true)) (subst (λ n. ArePivots n after c.cut_pivot.new.pivots.items) count marks)
+    c.mark_least-block.ensures c.args.k (omega (arith, c.len.ensures.len, c.if-len-k.true)) (subst (λ n. ArePivots n after c.cut_pivot.new.pivots.items) count marks)
 
 pub returns-then-len-k-clause-lawful : goal.returns-then-len-k-clause-lawful
 returns-then-len-k-clause-lawful g c = c.len.ensures.lawful

@@ -38,7 +38,7 @@ pub as_slice-requires : goal.as_slice-requires
 as_slice-requires g c = search pivots_fit
 
 pub invariant_of-self-in-Err : goal.invariant_of-self-in-Err
-invariant_of-self-in-Err g c = subst (λ bs. IsShared g.row.LEVELS (record { k = c.self.inside.k; blocks = bs }) c.self.inside.pivots.items c.self.inside.least) (sym c.in-Err.ensures.unchanged) c.self.invariant
+invariant_of-self-in-Err g c = subst (λ bs. IsShared g.row.LEVELS (record { k = c.self.inside.k; blocks = bs }) c.self.inside.pivots.items c.self.inside.least.first) (sym c.in-Err.ensures.unchanged) c.self.invariant
 
 pub returns-in-Ok-clause-added : goal.returns-in-Ok-clause-added
 returns-in-Ok-clause-added g c =

@@ -1,7 +1,11 @@
 use Rattle.std.proofs.Common.{◌≡◌, ◌≤◌, ◌+◌, ◌++◌, length, subst, vec_len, vec_capacity, IsOk, OnOk}
 use Rattle.klsm_lsm.specs.Lsm.{content}
 use Rattle.klsm_parts.specs.Parts.{PartState}
+use Rattle.klsm_parts.proofs.FitLemmas.{lsm_fits}
 use Rattle.klsm_parts.proofs.shared.Shared.append_to.Goals as goal
+
+pub append_blocks-requires : goal.append_blocks-requires
+append_blocks-requires g c = search lsm_fits
 
 pub returns-clause-items : goal.returns-clause-items
 returns-clause-items g c = subst (λ (s : PartState). OnOk c.append_blocks.result (c.append_blocks.new.all.items ≡ c.args.all.now.items ++ content s.blocks)) c.self.view_is c.append_blocks.ensures.items

@@ -1,4 +1,4 @@
-use Rattle.std.proofs.Common.{List, ◌≡◌, ◌+◌, ◌<◌, length, min, Some, ap, subst, sym, ◌∙◌, arith, [], get_or}
+use Rattle.std.proofs.Common.{List, ◌≡◌, ◌+◌, ◌<◌, length, Some, ap, subst, sym, ◌∙◌, arith, [], get_or}
 use Rattle.std.specs.List.{slice_get}
 use Rattle.std.proofs.lemmas.List.{length-take}
 use Rattle.klsm_run.specs.Content.{sorted}
@@ -11,63 +11,41 @@ use Rattle.klsm_parts.specs.Least.{least}
 use Rattle.klsm_parts.specs.LeastPlaces.{IsLeastPlace}
 use Rattle.klsm_parts.specs.Parts.{PartState, candidates_of}
 use Rattle.klsm_parts.specs.Pivots.{ArePivots}
-use Rattle.klsm_parts.proofs.PivotLemmas.{pivots_min}
 use Rattle.klsm_parts.proofs.TakeLemmas.{least_is_candidate}
 use Rattle.klsm_parts.proofs.FitLemmas.{lsm_fits, pivots_fit}
 use Rattle.klsm_parts.proofs.shared.Shared.place_of_candidate.Goals as goal
 
-pub place_of-requires : goal.place_of-requires
-place_of-requires g c =
+pub pivots_by-pivots-requires : goal.pivots_by-pivots-requires
+pivots_by-pivots-requires g c =
     let lsm = c.self.inside.lsm in
     let among = subst (λ (p : PartState). c.args.index < length (least (p.k + 1) (content p.blocks))) (sym c.self.view_is) c.requires in
     let rank : c.args.index < length (content lsm) = omega (arith, among, length-take (c.self.inside.k + 1) (sorted (content lsm)), length_sorted (content lsm)) in
-    (search lsm_fits, (c.self.invariant.levels_in_range, (c.self.invariant.lawful, rank)))
+    (search lsm_fits, (search pivots_fit, (c.self.invariant.levels_in_range, (c.self.invariant.lawful, rank))))
 
-pub place_from_above-requires : goal.place_from_above-requires
-place_from_above-requires g c =
+pub place_behind-requires : goal.place_behind-requires
+place_behind-requires g c =
     let lsm = c.self.inside.lsm in
-    let k = c.self.inside.k in
     let among = subst (λ (p : PartState). c.args.index < length (least (p.k + 1) (content p.blocks))) (sym c.self.view_is) c.requires in
-    let all = subst (λ (p : PartState). c.candidates-marked.result ≡ length (candidates_of p)) (sym c.self.view_is) c.candidates-marked.ensures in
-    let count : min (k + 1) (length (content lsm)) ≡ c.candidates-marked.result = omega (arith, all, length-take (k + 1) (sorted (content lsm)), length_sorted (content lsm)) in
-    let pivots = subst (λ n. ArePivots n lsm c.self.inside.pivots.items) count (pivots_min (k + 1) lsm c.self.inside.pivots.items c.self.invariant.pivots_exact) in
-    (search lsm_fits, (c.self.invariant.levels_in_range, (c.self.invariant.lawful, (subst (ArePivots c.candidates-marked.result lsm) (sym c.as_slice.ensures.value) pivots, (omega (arith, among, all), omega (arith, count))))))
-
-pub returns-then-index-marked-clause-candidate : goal.returns-then-index-marked-clause-candidate
-returns-then-index-marked-clause-candidate g c =
-    let among : c.args.index < c.args.self.now.k + 1 = omega (arith, c.requires, length-take (c.args.self.now.k + 1) (sorted (content c.args.self.now.blocks))) in
-    slice_get-take (c.args.self.now.k + 1) (sorted (content c.args.self.now.blocks)) c.args.index among
-    ∙ subst (λ (p : PartState). slice_get (sorted (content p.blocks)) c.args.index ≡ Some c.place_of.result.item) c.self.view_is c.place_of.ensures.rank
+    let rank : c.args.index < length (content lsm) = omega (arith, among, length-take (c.self.inside.k + 1) (sorted (content lsm)), length_sorted (content lsm)) in
+    (search lsm_fits, (c.self.invariant.lawful, (subst (ArePivots c.args.index lsm) (sym c.as_slice.ensures.value) c.pivots_by-pivots.ensures, rank)))
 
 pub returns-clause-candidate : goal.returns-clause-candidate
 returns-clause-candidate g c =
     let among : c.args.index < c.args.self.now.k + 1 = omega (arith, c.requires, length-take (c.args.self.now.k + 1) (sorted (content c.args.self.now.blocks))) in
     slice_get-take (c.args.self.now.k + 1) (sorted (content c.args.self.now.blocks)) c.args.index among
-    ∙ subst (λ (p : PartState). slice_get (sorted (content p.blocks)) c.args.index ≡ Some c.place_from_above.result.item) c.self.view_is c.place_from_above.ensures.rank
-
-pub returns-then-index-marked-clause-block : goal.returns-then-index-marked-clause-block
-returns-then-index-marked-clause-block g c = subst (λ (p : PartState). c.place_of.result.block < length p.blocks) c.self.view_is c.place_of.ensures.block
-
-pub returns-then-index-marked-clause-index : goal.returns-then-index-marked-clause-index
-returns-then-index-marked-clause-index g c = subst (λ (p : PartState). slice_get (get_or p.blocks c.place_of.result.block []) c.place_of.result.index ≡ Some c.place_of.result.item) c.self.view_is c.place_of.ensures.index
-
-pub as_slice-requires : goal.as_slice-requires
-as_slice-requires g c = search pivots_fit
+    ∙ subst (λ (p : PartState). slice_get (sorted (content p.blocks)) c.args.index ≡ Some c.place_behind.result.item) c.self.view_is c.place_behind.ensures.rank
 
 pub returns-clause-block : goal.returns-clause-block
-returns-clause-block g c = subst (λ (p : PartState). c.place_from_above.result.block < length p.blocks) c.self.view_is c.place_from_above.ensures.block
+returns-clause-block g c = subst (λ (p : PartState). c.place_behind.result.block < length p.blocks) c.self.view_is c.place_behind.ensures.block
 
 pub returns-clause-index : goal.returns-clause-index
-returns-clause-index g c = subst (λ (p : PartState). slice_get (get_or p.blocks c.place_from_above.result.block []) c.place_from_above.result.index ≡ Some c.place_from_above.result.item) c.self.view_is c.place_from_above.ensures.index
+returns-clause-index g c = subst (λ (p : PartState). slice_get (get_or p.blocks c.place_behind.result.block []) c.place_behind.result.index ≡ Some c.place_behind.result.item) c.self.view_is c.place_behind.ensures.index
 
 pub returns-then-index-eq0-clause-candidate : goal.returns-then-index-eq0-clause-candidate
 returns-then-index-eq0-clause-candidate g c =
     let held = content c.self.inside.lsm in
     let found = subst (IsLeastPlace c.self.inside.lsm) c.in-Some.is c.self.invariant.least_found in
     rw c.if-index-eq0.true (subst (λ (p : PartState). slice_get (candidates_of p) 0 ≡ Some c.in-Some.least.item) c.self.view_is (least_is_candidate c.self.inside.k held c.in-Some.least.item (sym found.item)))
-
-pub candidates-marked-requires : goal.candidates-marked-requires
-candidates-marked-requires g c = search
 
 pub returns-then-index-eq0-clause-block : goal.returns-then-index-eq0-clause-block
 returns-then-index-eq0-clause-block g c =

@@ -1,0 +1,41 @@
+use Rattle.std.proofs.Common.{◌≡◌, ◌<◌, [], length, get_or, Some, refl, sym, ◌∙◌, arith, rules}
+use Rattle.std.specs.List.{slice_get}
+use Rattle.std.proofs.lemmas.Option.{get_or_from_slice_get, slice_get_within}
+use Rattle.klsm_parts.proofs.FoundLemmas.{one_each}
+use Rattle.klsm_parts.proofs.RankingLemmas.{exact_if_apart, marked_by_sum, some_unmarked}
+use Rattle.klsm_parts.proofs.ranking.are_pivots.Goals as goal
+
+pub greatest_marked-requires : goal.greatest_marked-requires
+greatest_marked-requires g c =
+    let held = c.if-not-are_within.ensures refl in
+    (search, (c.requires.lawful, (held.0, omega (arith, c.requires.some, marked_by_sum c.args.count c.args.lsm.now c.args.pivots.now held.0 held.1))))
+
+pub least_unmarked-block-requires : goal.least_unmarked-block-requires
+least_unmarked-block-requires g c =
+    let held = c.if-not-are_within.ensures refl in
+    (search, (held.0, omega (arith, c.requires.more, marked_by_sum c.args.count c.args.lsm.now c.args.pivots.now held.0 held.1)))
+
+pub bounds-pivots-block : goal.bounds-pivots-block
+bounds-pivots-block g c =
+    omega (arith, one_each c.args.lsm.now c.args.pivots.now (c.if-not-are_within.ensures refl).0, c.least_unmarked-block.ensures.block)
+
+pub offset_bounds-pivots-block : goal.offset_bounds-pivots-block
+offset_bounds-pivots-block g c =
+    let here : c.least_unmarked-block.result < length c.args.pivots.now =
+    omega (arith, one_each c.args.lsm.now c.args.pivots.now (c.if-not-are_within.ensures refl).0, c.least_unmarked-block.ensures.block) in
+    search rules
+
+pub item_at-least-requires : goal.item_at-least-requires
+item_at-least-requires g c =
+    let held = c.if-not-are_within.ensures refl in
+    let block = get_or_from_slice_get c.args.lsm.now c.least_unmarked-block.result _ [] c.block.ensures.block in
+    let next = some_unmarked c.args.lsm.now c.args.pivots.now (omega (arith, c.requires.more, marked_by_sum c.args.count c.args.lsm.now c.args.pivots.now held.0 held.1)) in
+    let within = slice_get_within (get_or c.args.lsm.now c.least_unmarked-block.result []) (get_or c.args.pivots.now c.least_unmarked-block.result 0) next.0 (c.least_unmarked-block.ensures.least ∙ next.1) in
+    rw (← block) within
+
+pub returns : goal.returns
+returns g c less =
+    let held = c.if-not-are_within.ensures refl in
+    let block = get_or_from_slice_get c.args.lsm.now c.least_unmarked-block.result _ [] c.block.ensures.block in
+    let here : slice_get (get_or c.args.lsm.now c.least_unmarked-block.result []) (get_or c.args.pivots.now c.least_unmarked-block.result 0) ≡ Some c.item_at-least.result = rw block c.item_at-least.ensures in
+    exact_if_apart c.args.count c.args.lsm.now c.args.pivots.now c.greatest_marked.result.item c.item_at-least.result held.0 held.1 c.greatest_marked.ensures.greatest (sym c.least_unmarked-block.ensures.least ∙ here) (sym c.is_before.ensures ∙ less)
