@@ -31,6 +31,11 @@ is_at [] i d a there = absurd (some-ne-none a (sym there))
 is_at (x ∷ xs) zero d a there = some-injective x a there
 is_at (x ∷ xs) (suc i) d a there = is_at xs i d a there
 
+-- what holds of a worker holds of each of a list of it alone
+pub each_alone : {A : Type 0} (P : A → Type 0) (x : A) → P x → All P (x ∷ [])
+each_alone P x here zero d lt = here
+each_alone P x here (suc k) d lt = absurd (omega (arith, lt))
+
 module _ {LEVELS : ℕ} where
   -- a worker that has not begun has done all that it began
   pub new_at_work : (p : Problem) (w : Worker LEVELS) → IsNew w → IsAtWork p w

@@ -1,5 +1,5 @@
 -- The workers of a search at its start and at its end.
-use Rattle.std.proofs.Common.{◌≡◌, ℕ, zero, suc, ◌+◌, ◌<◌, ◌≤◌, ◌⊎◌, inl, inr, List, [], ◌∷◌, ◌++◌, length, map, take, get_or, All, Option, Some, None, refl, sym, ap, ◌∙◌, subst, arith}
+use Rattle.std.proofs.Common.{◌≡◌, ℕ, zero, suc, ◌+◌, ◌<◌, ◌≤◌, ◌⊎◌, ◌↔◌, inl, inr, List, [], ◌∷◌, ◌++◌, length, map, take, get_or, All, Option, Some, None, refl, sym, ap, ◌∙◌, subst, arith}
 use Rattle.std.specs.List.{Contains, flat_map}
 use Rattle.std.proofs.lemmas.List.{length-map, take_at}
 use Rattle.std.proofs.lemmas.List.Elements.{recursion_from_All, All-map}
@@ -22,6 +22,7 @@ use Rattle.klsm_knapsack.specs.declared.common.Common.{Common}
 use Rattle.klsm_knapsack.specs.declared.common.Worker.{Worker}
 use Rattle.klsm_knapsack.specs.declared.errors.Refusal.{Refusal}
 use Rattle.klsm_knapsack.specs.declared.errors.Refusal.TheVariants as refusal
+use Rattle.klsm_knapsack.specs.declared.errors.SolveError.TheVariants.{BadThreads, BadK, NoMemory}
 use Rattle.klsm_knapsack.specs.Selections.{Problem}
 use Rattle.klsm_knapsack.specs.Watching.{IsOf, found_by}
 use Rattle.klsm_knapsack.specs.Work.{Has, HasWorked, all_inserted, all_deleted}
@@ -53,6 +54,22 @@ flat_of_map f g (x ∷ xs) = ap (λ ys. g (f x) ++ ys) (flat_of_map f g xs)
 pub refuses : (levels threads k : ℕ) (why : Refusal) → (1 ≤ threads) × (threads ≤ 16) × (k ≤ 64) → IsLeastRefusal levels (sizes_of threads k) why → RefusesSearch levels threads k (error_of why)
 refuses levels threads k refusal.Full in_range least = least
 refuses levels threads k refusal.NoMemory in_range least = in_range
+
+-- a search of sizes in range is not refused for them
+pub good_threads : {A : Type 0} (threads k : ℕ) → (A → ⊥) → (1 ≤ threads) × (threads ≤ 16) × (k ≤ 64) → A ↔ ((threads ≡ 0) ⊎ (16 < threads))
+good_threads {A} threads k none in_range = (λ a. absurd (none a), outside) where
+  outside : (threads ≡ 0) ⊎ (16 < threads) → A
+  outside (inl few) = absurd (omega (arith, few, in_range.0))
+  outside (inr many) = absurd (omega (arith, many, in_range.1))
+
+pub good_k : {A : Type 0} (threads k : ℕ) → (A → ⊥) → (1 ≤ threads) × (threads ≤ 16) × (k ≤ 64) → A ↔ ((1 ≤ threads) × (threads ≤ 16) × (64 < k))
+good_k threads k none in_range = (λ a. absurd (none a), λ big. absurd (omega (arith, big.2, in_range.2)))
+
+pub memory_is_not_threads : NoMemory ≡ BadThreads → ⊥
+memory_is_not_threads is = cc
+
+pub memory_is_not_k : NoMemory ≡ BadK → ⊥
+memory_is_not_k is = cc
 
 module _ {LEVELS : ℕ} where
   abbrev member_of : Worker LEVELS → Member 64 LEVELS

@@ -10,7 +10,8 @@ use Rattle.klsm_knapsack.specs.Ends.{IsLeastRefusal}
 use Rattle.klsm_knapsack.specs.Refusals.{RefusesSearch}
 use Rattle.klsm_knapsack.specs.Workers.{IsCrew, IsNew, HaveWorked, IsSearched}
 use Rattle.klsm_knapsack.proofs.CrewLemmas.{none_refused}
-use Rattle.klsm_knapsack.proofs.FinishLemmas.{whole, refuses, recruited, are_new, members_of, least_refusal, searched}
+use Rattle.klsm_parts.proofs.FitLemmas.{shared_fits}
+use Rattle.klsm_knapsack.proofs.FinishLemmas.{good_threads, good_k, memory_is_not_threads, memory_is_not_k, whole, refuses, recruited, are_new, members_of, least_refusal, searched}
 use Rattle.klsm_knapsack.proofs.solving.solve.Goals as goal
 
 pub search-requires-after_bounds : goal.search-requires-after_bounds
@@ -86,3 +87,105 @@ returns-clause-best g c =
     let done : IsSearched p c.finish-number.result c.in-Ok-finish.account.left.items = searched common after c.search.ensures.crew p _ c.finish-number.result c.dismiss.new.back.items c.in-Ok-finish.account.left.items back worked found c.finish-number.ensures.found
     c.in-Ok-finish.ensures.ok.0 c.in-Ok-finish.ensures.each_once c.in-Ok-finish.ensures.ok.4 in
     c.conclude.ensures.best (rw c.as_slice.ensures.value done)
+
+pub drop-members-requires-room-T-Destruct : goal.drop-members-requires-room-T-Destruct
+drop-members-requires-room-T-Destruct g c κs = lit< tt
+
+pub drop-members-requires-in_default-with_capacity-room-T-Destruct : goal.drop-members-requires-in_default-with_capacity-room-T-Destruct
+drop-members-requires-in_default-with_capacity-room-T-Destruct g c κs = lit< tt
+
+pub drop-back-requires-room-T-Destruct : goal.drop-back-requires-room-T-Destruct
+drop-back-requires-room-T-Destruct g c κs = lit< tt
+
+pub drop-back-requires-in-Err-room-T-Destruct : goal.drop-back-requires-in-Err-room-T-Destruct
+drop-back-requires-in-Err-room-T-Destruct g c κs = lit< tt
+
+pub drop-requires-in_default-finish-room-T-Destruct : goal.drop-requires-in_default-finish-room-T-Destruct
+drop-requires-in_default-finish-room-T-Destruct g c κs = lit< tt
+
+pub drop-board-requires-room-P-TableRule : goal.drop-board-requires-room-P-TableRule
+drop-board-requires-room-P-TableRule g c κs = lit< tt
+
+pub drop-board-requires-room-P-TableRule-2 : goal.drop-board-requires-room-P-TableRule-2
+drop-board-requires-room-P-TableRule-2 g c κs = shared_fits _ c.requires.levels
+
+pub drop-board-requires-room-S-Destruct : goal.drop-board-requires-room-S-Destruct
+drop-board-requires-room-S-Destruct g c κs = shared_fits _ c.requires.levels
+
+pub drop-board-requires-in_default-with_capacity-room-P-TableRule : goal.drop-board-requires-in_default-with_capacity-room-P-TableRule
+drop-board-requires-in_default-with_capacity-room-P-TableRule g c κs = lit< tt
+
+pub drop-board-requires-in_default-with_capacity-room-P-TableRule-2 : goal.drop-board-requires-in_default-with_capacity-room-P-TableRule-2
+drop-board-requires-in_default-with_capacity-room-P-TableRule-2 g c κs = shared_fits _ c.requires.levels
+
+pub drop-board-requires-in_default-with_capacity-room-S-Destruct : goal.drop-board-requires-in_default-with_capacity-room-S-Destruct
+drop-board-requires-in_default-with_capacity-room-S-Destruct g c κs = shared_fits _ c.requires.levels
+
+pub drop-board-requires-in_default-recruit-room-P-TableRule : goal.drop-board-requires-in_default-recruit-room-P-TableRule
+drop-board-requires-in_default-recruit-room-P-TableRule g c κs = lit< tt
+
+pub drop-board-requires-in_default-recruit-room-P-TableRule-2 : goal.drop-board-requires-in_default-recruit-room-P-TableRule-2
+drop-board-requires-in_default-recruit-room-P-TableRule-2 g c κs = shared_fits _ c.requires.levels
+
+pub drop-board-requires-in_default-recruit-room-S-Destruct : goal.drop-board-requires-in_default-recruit-room-S-Destruct
+drop-board-requires-in_default-recruit-room-S-Destruct g c κs = shared_fits _ c.requires.levels
+
+pub drop-common-requires-room-P-TableRule : goal.drop-common-requires-room-P-TableRule
+drop-common-requires-room-P-TableRule g c κs = lit< tt
+
+pub drop-common-requires-room-P-TableRule-2 : goal.drop-common-requires-room-P-TableRule-2
+drop-common-requires-room-P-TableRule-2 g c κs = shared_fits _ c.requires.levels
+
+pub drop-common-requires-room-S-Destruct : goal.drop-common-requires-room-S-Destruct
+drop-common-requires-room-S-Destruct g c κs = shared_fits _ c.requires.levels
+
+pub drop-requires-room-P-TableRule : goal.drop-requires-room-P-TableRule
+drop-requires-room-P-TableRule g c κs = lit< tt
+
+pub drop-requires-room-P-TableRule-2 : goal.drop-requires-room-P-TableRule-2
+drop-requires-room-P-TableRule-2 g c κs = shared_fits _ c.requires.levels
+
+pub drop-requires-room-S-Destruct : goal.drop-requires-room-S-Destruct
+drop-requires-room-S-Destruct g c κs = shared_fits _ c.requires.levels
+
+pub returns-in_default-clause-refused : goal.returns-in_default-clause-refused
+returns-in_default-clause-refused g c = c.in_ok-board.ensures.in_range
+
+pub returns-in_default-clause-bad_threads : goal.returns-in_default-clause-bad_threads
+returns-in_default-clause-bad_threads g c = good_threads _ _ memory_is_not_threads c.in_ok-board.ensures.in_range
+
+pub returns-in_default-clause-bad_k : goal.returns-in_default-clause-bad_k
+returns-in_default-clause-bad_k g c = good_k _ _ memory_is_not_k c.in_ok-board.ensures.in_range
+
+pub returns-in_default-with_capacity-clause-refused : goal.returns-in_default-with_capacity-clause-refused
+returns-in_default-with_capacity-clause-refused g c = c.in_ok-board.ensures.in_range
+
+pub returns-in_default-with_capacity-clause-bad_threads : goal.returns-in_default-with_capacity-clause-bad_threads
+returns-in_default-with_capacity-clause-bad_threads g c = good_threads _ _ memory_is_not_threads c.in_ok-board.ensures.in_range
+
+pub returns-in_default-with_capacity-clause-bad_k : goal.returns-in_default-with_capacity-clause-bad_k
+returns-in_default-with_capacity-clause-bad_k g c = good_k _ _ memory_is_not_k c.in_ok-board.ensures.in_range
+
+pub returns-in_default-recruit-clause-refused : goal.returns-in_default-recruit-clause-refused
+returns-in_default-recruit-clause-refused g c = c.in_ok-board.ensures.in_range
+
+pub returns-in_default-recruit-clause-bad_threads : goal.returns-in_default-recruit-clause-bad_threads
+returns-in_default-recruit-clause-bad_threads g c = good_threads _ _ memory_is_not_threads c.in_ok-board.ensures.in_range
+
+pub returns-in_default-recruit-clause-bad_k : goal.returns-in_default-recruit-clause-bad_k
+returns-in_default-recruit-clause-bad_k g c = good_k _ _ memory_is_not_k c.in_ok-board.ensures.in_range
+
+pub returns-in_default-finish-clause-refused : goal.returns-in_default-finish-clause-refused
+returns-in_default-finish-clause-refused g c = c.in_ok-board.ensures.in_range
+
+pub returns-in_default-finish-clause-bad_threads : goal.returns-in_default-finish-clause-bad_threads
+returns-in_default-finish-clause-bad_threads g c = good_threads _ _ memory_is_not_threads c.in_ok-board.ensures.in_range
+
+pub returns-in_default-finish-clause-bad_k : goal.returns-in_default-finish-clause-bad_k
+returns-in_default-finish-clause-bad_k g c = good_k _ _ memory_is_not_k c.in_ok-board.ensures.in_range
+
+pub returns-clause-bad_threads : goal.returns-clause-bad_threads
+returns-clause-bad_threads g c = good_threads _ _ (λ none. none) c.in_ok-board.ensures.in_range
+
+pub returns-clause-bad_k : goal.returns-clause-bad_k
+returns-clause-bad_k g c = good_k _ _ (λ none. none) c.in_ok-board.ensures.in_range
