@@ -1,4 +1,4 @@
-use Rattle.std.proofs.Common.{[], length, sym, subst, ◌∙◌, append-nil}
+use Rattle.std.proofs.Common.{[], length, sym, ap, subst, ◌∙◌, append-nil, arith}
 use Rattle.std.proofs.lemmas.List.{nil_from_length}
 use Rattle.klsm_parts.proofs.FitLemmas.{local_fits, shared_fits}
 use Rattle.klsm_board.specs.Slots.{slot_content, IsSlotOf}
@@ -29,7 +29,7 @@ loop-member-preserved g c =
     let whole = c.args.members.items in let left = c.loop-member.members.items in let next = c.pop-in-loop-member.new.self.items in let member = c.in-Some-pop.member in
     let seat = c.loop-member.seat in let told = c.join_seat.ensures in (
       told.0 ∙ c.loop-member.invariant.0,
-      subst (λ me. AreJoined whole next me.0) (sym told.2) (join_last whole left next member seat.me.0 member.seat.me.0 c.loop-member.invariant.1 c.in-Some-pop.ensures.items member.rests.alone),
+      subst (AreJoined whole next) (sym (ap (λ z. z.0) told.2)) (join_last whole left next member seat.me.0 member.seat.me.0 c.loop-member.invariant.1 c.in-Some-pop.ensures.items member.rests.alone),
     )
 
 pub returns-clause-knows : goal.returns-clause-knows
@@ -43,3 +43,9 @@ join_seat-requires-room-P-TableRule g c κs = local_fits _ c.in-Some-pop.member.
 
 pub join_seat-requires-room-P-TableRule-2 : goal.join_seat-requires-room-P-TableRule-2
 join_seat-requires-room-P-TableRule-2 g c κs = shared_fits _ c.in-Some-pop.member.levels
+
+pub returns-clause-table : goal.returns-clause-table
+returns-clause-table g c = c.loop-member.invariant.0
+
+pub unreachable-requires : goal.unreachable-requires
+unreachable-requires g c = omega (arith, c.requires.some, c.args.members.ok.0, c.in_default.ensures.cases.0)

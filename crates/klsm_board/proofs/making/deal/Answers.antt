@@ -1,4 +1,4 @@
-use Rattle.std.proofs.Common.{rules, arith, ◌≡◌, ◌<◌, ◌+◌, ◌-◌, List, [], ◌∷◌, ◌++◌, length, slice_index_or, sym, ap, ◌∙◌, length-append}
+use Rattle.std.proofs.Common.{arith, ◌≡◌, ◌<◌, ◌+◌, ◌-◌, List, [], ◌∷◌, ◌++◌, length, slice_index_or, sym, ap, ◌∙◌, length-append}
 use lib.ListN.{get_elem?}
 use Rattle.klsm_parts.proofs.FitLemmas.{local_fits, shared_fits}
 use Rattle.klsm_board.specs.declared.board.Member.{Member}
@@ -10,14 +10,14 @@ pub next_member-requires : goal.next_member-requires
 next_member-requires g c =
     let inv = c.loop-number.invariant in let n = c.loop-number.number in let left = c.args.board.now.sizes.threads - n in
     let test : n < c.args.board.now.sizes.threads = c.loop-number-test.true in
-    (search rules, (local_fits _ c.args.board.now.capacity, (shared_fits _ c.args.board.now.levels, (search rules, (test, (inv.of_table, (left - 1, so_many_fresh n left ((left - 1) + 1) c.loop-number.seat.me (omega (arith, test)) inv.left)))))))
+    (search, (local_fits _ c.args.board.now.capacity, (shared_fits _ c.args.board.now.levels, (search, (test, (inv.of_table, (left - 1, so_many_fresh n left ((left - 1) + 1) c.loop-number.seat.me (omega (arith, test)) inv.left)))))))
 
 pub loop-number-preserved : goal.loop-number-preserved
 loop-number-preserved g c =
     let inv = c.loop-number.invariant in let n = c.loop-number.number in let left = c.args.board.now.sizes.threads - n in
     let test : n < c.args.board.now.sizes.threads = c.loop-number-test.true in
     let next = c.next_member.result in let told = c.next_member.ensures in
-    let items : c.push.new.self.items ≡ c.loop-number.members.items ++ next ∷ [] = search rules in
+    let items : c.push.new.self.items ≡ c.loop-number.members.items ++ next ∷ [] = c.in_ok-push.ensures.items in
     record {
       of_table = told.table ∙ inv.of_table;
       left = so_many_fresh (n + 1) (left - 1) (c.args.board.now.sizes.threads - (n + 1)) c.next_member.new.seat.me (omega (arith, test))

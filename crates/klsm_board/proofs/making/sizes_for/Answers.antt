@@ -36,3 +36,6 @@ returns-clause-bad_k g = search rules
 
 pub returns-clause-bad_quota : goal.returns-clause-bad_quota
 returns-clause-bad_quota g = search rules
+
+pub returns-clause-in_range : goal.returns-clause-in_range
+returns-clause-in_range g = search rules

@@ -1,4 +1,4 @@
-use Rattle.std.proofs.Common.{rules, arith, ◌≡◌, ℕ, ◌+◌, List, [], ◌∷◌, replicate, length, refl, sym, ap, ◌∙◌, subst}
+use Rattle.std.proofs.Common.{arith, ◌≡◌, ℕ, ◌+◌, List, [], ◌∷◌, replicate, length, refl, sym, ap, ◌∙◌, subst}
 use lib.ListN.{length-replicate}
 use Rattle.atomic_table.specs.Table.{opening}
 use Rattle.klsm_parts.specs.Parts.{PartState}
@@ -17,8 +17,8 @@ new-requires g c =
     let m : Sizes = c.args.sizes in
     let own : Slot PartState PartState = Own (record { k = m.k; blocks = [] }) in
     let slots : List (Slot PartState PartState) = Common (record { k = m.k; blocks = [] }) ∷ replicate m.threads own in
-    let words_are : c.as_slice.result.now ≡ replicate (place (m.threads + 1)) 0 = search rules in
-    let slots_are : c.in_ok-slots.slots.items ≡ slots = search rules in
+    let words_are : c.as_slice.result.now ≡ replicate (place (m.threads + 1)) 0 = c.as_slice.ensures.value ∙ c.in_ok-words.ensures.items_if_clones_equal (λ y same. same) in
+    let slots_are : c.in_ok-slots.slots.items ≡ slots = c.in_ok-slots.ensures in
     let n = length-replicate m.threads own in
     subst (λ (z : List ℕ × List (Slot PartState PartState)). Ruled slot_content IsSlotOf m (opening z.0 z.1 (everyone m))) (λ i. (sym words_are i, sym slots_are i))
     (opens slot_content IsSlotOf m slots (omega (arith, n)) (λ i y e. first_slots m i y e))
@@ -46,8 +46,8 @@ invariant_of-result g c =
     let m : Sizes = c.args.sizes in
     let own : Slot PartState PartState = Own (record { k = m.k; blocks = [] }) in
     let told = c.in-Ok.ensures.ok in
-    let words_are : c.as_slice.result.now ≡ replicate (place (m.threads + 1)) 0 = search rules in
-    let slots_are : c.in_ok-slots.slots.items ≡ Common (record { k = m.k; blocks = [] }) ∷ replicate m.threads own = search rules in
+    let words_are : c.as_slice.result.now ≡ replicate (place (m.threads + 1)) 0 = c.as_slice.ensures.value ∙ c.in_ok-words.ensures.items_if_clones_equal (λ y same. same) in
+    let slots_are : c.in_ok-slots.slots.items ≡ Common (record { k = m.k; blocks = [] }) ∷ replicate m.threads own = c.in_ok-slots.ensures in
     let words : length c.as_slice.result.now ≡ place (m.threads + 1) = ap length words_are ∙ length-replicate (place (m.threads + 1)) 0 in
     let slots : length c.in_ok-slots.slots.items ≡ m.threads + 1 = omega (arith, ap length slots_are, length-replicate m.threads own) in
     record { key = told.5; sized = (told.0 ∙ words, told.1 ∙ slots, c.requires.sizes.threads); in_range = c.requires.sizes; capacity = c.requires.capacity; levels = c.requires.levels }
