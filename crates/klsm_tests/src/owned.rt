@@ -4,8 +4,9 @@ ghost use Rattle.std.specs.Prelude.{◌≡◌, ◌<◌, ◌≤◌, length, IfSom
 ghost use Rattle.std.specs.List.{AllByRecursion};
 
 use klsm_lsm::Lsm;
+use klsm_parts::Queue;
 use klsm_run::{FixedRun, HeapRun, Item, Run, Stamp};
-use std::alloc::Allocator;
+use std::alloc::{Allocator, Global};
 
 /// An owner's item of a key, inserted after `number` others.
 pub(crate) fn item(owner: u32, number: u64, key: u64) -> Item
@@ -47,6 +48,17 @@ pub(crate) fn heap_run_of<A: Allocator + Copy>(
         return None;
     };
     Some(run)
+}
+
+/// A queue at this k with the items of these keys, inserted in turn.
+pub(crate) fn queue_of(alloc: Global, k: usize, keys: &[u64]) -> Option<Queue<64, 21>>
+    requires { k ≤ 64 }
+{
+    let mut queue = Queue::new(alloc, k);
+    for key in keys {
+        queue.insert(*key, 0).ok()?;
+    }
+    Some(queue)
 }
 
 /// Whether keys can be those of a run.

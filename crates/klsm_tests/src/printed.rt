@@ -1,8 +1,8 @@
 //! What runs, LSMs, parts and worlds print, and the texts of refusals.
 
-use super::owned::{heap_run_of, run_of};
+use super::owned::{heap_run_of, queue_of, run_of};
 use klsm_lsm::{LsmError, Refused};
-use klsm_parts::{Local, Queue, Shared};
+use klsm_parts::{Local, Shared};
 use klsm_run::RunError;
 use klsm_world::{StepError, World, WorldError};
 use std::alloc::Global;
@@ -42,11 +42,7 @@ fn runs(rt: HostRuntime) {
 
 // Whether the own LSM of a queue prints so that has these keys, inserted in turn.
 fn lsm_prints(alloc: Global, keys: &[u64], want: &str) -> Option<bool> {
-    let mut queue: Queue<64, 21> = Queue::new(alloc, 64);
-    for key in keys {
-        queue.insert(*key, 0).ok()?;
-    }
-    prints(alloc, queue.own().lsm(), want)
+    prints(alloc, queue_of(alloc, 64, keys)?.own().lsm(), want)
 }
 
 // Whether an empty run that was refused prints so, and its text is this.
@@ -94,10 +90,7 @@ fn parts_print(alloc: Global, k: usize, own: &str, shared: &str) -> Option<bool>
 
 // Whether a queue at k = 1 prints so that has key 1 in its shared part and key 2 in its own.
 fn queue_prints(alloc: Global, want: &str) -> Option<bool> {
-    let mut queue: Queue<64, 21> = Queue::new(alloc, 1);
-    queue.insert(1, 0).ok()?;
-    queue.insert(2, 0).ok()?;
-    prints(alloc, &queue, want)
+    prints(alloc, &queue_of(alloc, 1, &[1, 2])?, want)
 }
 
 #[test]

@@ -42,16 +42,23 @@ fn merged(heap: &Rationed<Global>, growths: u64) -> Option<(usize, usize)> {
     shape_of(&run.merge(&other).ok()?, &[1, 2, 3])
 }
 
+// Whether copies of these keys are refused without a growth, and have this level with one, and this
+// capacity or room for 9.
+fn are_copied(heap: &Rationed<Global>, keys: &[u64], capacity: usize, level: usize) -> bool
+    requires { length keys.now ≤ 9 }
+{
+    copied(heap, keys, 0).is_none()
+        && copied(heap, keys, 1) == Some((capacity, level))
+        && copied_for_nine(heap, keys, 0).is_none()
+        && copied_for_nine(heap, keys, 1) == Some((16, level))
+}
+
 #[test]
 fn copies_and_merges(rt: HostRuntime) {
     let heap = Rationed::new(rt.alloc());
     let keys = [1, 2, 3, 4, 5];
     for (count, capacity, level) in [(1, 1, 0), (2, 2, 1), (3, 4, 2), (4, 4, 2), (5, 8, 3)] {
-        let keys = &keys[..count];
-        assert!(rt; copied(&heap, keys, 0).is_none());
-        assert!(rt; copied(&heap, keys, 1) == Some((capacity, level)));
-        assert!(rt; copied_for_nine(&heap, keys, 0).is_none());
-        assert!(rt; copied_for_nine(&heap, keys, 1) == Some((16, level)));
+        assert!(rt; are_copied(&heap, &keys[..count], capacity, level));
     }
     assert!(rt; merged(&heap, 0).is_none());
     assert!(rt; merged(&heap, 1) == Some((4, 2)));

@@ -8,7 +8,7 @@ use klsm_board::{
     Account, Board, Busy, FinishError, FinishRefused, Held, HoldError, HoldRefused, InsertError,
     MakeError, Member, TryInsertError,
 };
-use klsm_parts::Picker;
+use klsm_parts::{First, Picker};
 use klsm_run::{Item, Stamp};
 use std::alloc::Global;
 use std::mem;
@@ -78,15 +78,15 @@ impl<const LEVELS: usize> Crew<LEVELS> {
         Some(member.try_delete_min(&self.board, picker))
     }
 
-    /// How a member's deletion ends that may wait.
-    pub(super) fn delete_min<P: Picker>(
-        &mut self,
-        rt: &impl Wait,
-        member: usize,
-        picker: &mut P,
-    ) -> Option<Option<Item>> {
+    /// The item that a member deletes, where it finds one and waits for nobody.
+    pub(super) fn deleted<P: Picker>(&mut self, member: usize, picker: &mut P) -> Option<Item> {
+        self.try_delete_min(member, picker)?.ok()?
+    }
+
+    /// How a member's deletion of the first candidate ends that may wait.
+    pub(super) fn delete_min(&mut self, rt: &impl Wait, member: usize) -> Option<Option<Item>> {
         let member = self.members.get_mut(member)?;
-        Some(member.delete_min(rt, &self.board, picker))
+        Some(member.delete_min(rt, &self.board, &mut First))
     }
 
     /// How many insertions and deletions a member has made.

@@ -18,12 +18,18 @@ fn sight(crew: &mut Crew<21>, lock: usize) -> Option<Sight> {
     Some(seen)
 }
 
-// What can be seen of a board of two members, and how many insertions and deletions each has made.
-fn sights(crew: &mut Crew<21>) -> Option<([Sight; 3], [(u64, u64); 2])> {
-    Some((
-        [sight(crew, 0)?, sight(crew, 1)?, sight(crew, 2)?],
-        [crew.counts(0)?, crew.counts(1)?],
-    ))
+// What can be seen of the parts of a board of two members.
+fn sights(crew: &mut Crew<21>) -> Option<[Sight; 3]> {
+    let mut sights = [(0, None); 3];
+    for (lock, seen) in sights.iter_mut().enumerate() {
+        *seen = sight(crew, lock)?;
+    }
+    Some(sights)
+}
+
+// How many insertions and deletions each of the two has made.
+fn all_counts(crew: &Crew<21>) -> Option<[(u64, u64); 2]> {
+    Some([crew.counts(0)?, crew.counts(1)?])
 }
 
 // A board of two members. Where a growth is refused, it is made again.
@@ -36,12 +42,12 @@ fn board_of_two(alloc: Global, k: usize) -> Option<Crew<21>> {
 
 // A member inserts a key. Where a growth is refused, nothing changes, and it inserts it again.
 fn insert(crew: &mut Crew<21>, owner: u32, key: u64) -> Option<bool> {
-    let before = sights(crew)?;
+    let before = (sights(crew)?, all_counts(crew)?);
     let member = owner as usize;
     let number = crew.counts(member)?.0;
     let mut answer = crew.try_insert(member, key, number.saturating_add(1))?;
     if answer == Err(TryInsertError::NoMemory) {
-        if sights(crew)? != before {
+        if (sights(crew)?, all_counts(crew)?) != before {
             return Some(false);
         }
         answer = crew.try_insert(member, key, number.saturating_add(1))?;
@@ -82,7 +88,7 @@ fn is_next(found: &mut [bool], item: Item) -> Option<bool> {
 fn delete_all(crew: &mut Crew<21>) -> Option<bool> {
     let mut found = [false; 40];
     for _ in 0..40 {
-        let item = crew.try_delete_min(0, &mut First)?.ok()??;
+        let item = crew.deleted(0, &mut First)?;
         if !is_next(&mut found, item)? {
             return Some(false);
         }

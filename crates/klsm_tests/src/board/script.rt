@@ -94,7 +94,7 @@ fn delete<const LEVELS: usize>(
 ) -> Option<Result<Option<Item>, Busy>> {
     let index = member as usize;
     match how {
-        How::Wait if crew.held.is_none() => Some(Ok(crew.delete_min(rt, index, &mut First)?)),
+        How::Wait if crew.held.is_none() => Some(Ok(crew.delete_min(rt, index)?)),
         _ => crew.try_delete_min(index, &mut First),
     }
 }

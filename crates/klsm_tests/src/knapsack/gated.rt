@@ -50,9 +50,9 @@ fn two_workers_run_side_by_side(rt: HostRuntime) {
         Some(instance) => solve::<21>(&rt, rt.alloc(), &instance, 2, 1, 8, &flags).ok(),
         None => None,
     };
-    assert_eq!(rt; answer, Some(BEST));
-    assert_eq!(rt; flags.first_saw.load(Ordering::SeqCst), 1);
-    assert_eq!(rt; flags.second_saw.load(Ordering::SeqCst), 1);
+    assert!(rt; answer == Some(BEST));
+    assert!(rt; flags.first_saw.load(Ordering::SeqCst) == 1);
+    assert!(rt; flags.second_saw.load(Ordering::SeqCst) == 1);
 }
 
 // Holds worker 3 until three others have passed.
@@ -84,5 +84,5 @@ fn a_worker_that_comes_late_changes_no_answer(rt: HostRuntime) {
         Some(instance) => solve::<21>(&rt, rt.alloc(), &instance, 4, 16, 1, &late).ok(),
         None => None,
     };
-    assert_eq!(rt; answer, Some(BEST));
+    assert!(rt; answer == Some(BEST));
 }

@@ -39,7 +39,7 @@ fn bounds_of_three_nodes(rt: HostRuntime) {
             Some(instance) => bound(instance, level, picks),
             None => None,
         };
-        assert_eq!(rt; found, Some(gives));
+        assert!(rt; found == Some(gives));
     }
 }
 
@@ -60,34 +60,28 @@ fn solved<const LEVELS: usize>(
 #[test]
 fn one_answer_for_all_workers(rt: HostRuntime) {
     let in_turn = worked(rt.alloc()).map(|instance| solve_in_turn(&instance));
-    assert_eq!(rt; in_turn, Some(BEST));
+    assert!(rt; in_turn == Some(BEST));
     for threads in [1, 2, 4] {
         for k in [0, 1, 16] {
-            assert_eq!(rt;
-                solved::<21>(&rt, rt.alloc(), threads, k, 8),
-                Some(Ok(BEST))
-            );
+            assert!(rt; solved::<21>(&rt, rt.alloc(), threads, k, 8) == Some(Ok(BEST)));
         }
     }
-    assert_eq!(rt; solved::<21>(&rt, rt.alloc(), 4, 16, 0), Some(Ok(BEST)));
+    assert!(rt; solved::<21>(&rt, rt.alloc(), 4, 16, 0) == Some(Ok(BEST)));
 }
 
 #[test]
 fn small_boards_are_full(rt: HostRuntime) {
     let full = Some(Err(SolveError::Full));
-    assert_eq!(rt; solved::<1>(&rt, rt.alloc(), 1, 0, 1), full);
-    assert_eq!(rt; solved::<2>(&rt, rt.alloc(), 1, 0, 1), full);
-    assert_eq!(rt; solved::<3>(&rt, rt.alloc(), 1, 0, 1), full);
-    assert_eq!(rt; solved::<4>(&rt, rt.alloc(), 1, 0, 1), Some(Ok(BEST)));
+    assert!(rt; solved::<1>(&rt, rt.alloc(), 1, 0, 1) == full);
+    assert!(rt; solved::<2>(&rt, rt.alloc(), 1, 0, 1) == full);
+    assert!(rt; solved::<3>(&rt, rt.alloc(), 1, 0, 1) == full);
+    assert!(rt; solved::<4>(&rt, rt.alloc(), 1, 0, 1) == Some(Ok(BEST)));
 }
 
 #[test]
 fn threads_are_judged_before_k(rt: HostRuntime) {
     let bad_threads = Some(Err(SolveError::BadThreads));
-    assert_eq!(rt; solved::<21>(&rt, rt.alloc(), 0, 0, 1), bad_threads);
-    assert_eq!(rt; solved::<21>(&rt, rt.alloc(), 17, 65, 1), bad_threads);
-    assert_eq!(rt;
-        solved::<21>(&rt, rt.alloc(), 1, 65, 1),
-        Some(Err(SolveError::BadK))
-    );
+    assert!(rt; solved::<21>(&rt, rt.alloc(), 0, 0, 1) == bad_threads);
+    assert!(rt; solved::<21>(&rt, rt.alloc(), 17, 65, 1) == bad_threads);
+    assert!(rt; solved::<21>(&rt, rt.alloc(), 1, 65, 1) == Some(Err(SolveError::BadK)));
 }

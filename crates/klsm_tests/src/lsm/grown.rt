@@ -20,11 +20,8 @@ pub(super) struct Grown<R: Run, const LEVELS: usize> {
     ghost owned: { All (λ x. x.stamp.owner < owners) (content lsm) },
 }
 
-/// One over runs on the heap whose growths are rationed.
-pub(super) type RationedGrown<'a, const LEVELS: usize> = Grown<
-    HeapRun<&'a Rationed<Global>>,
-    LEVELS,
->;
+/// One of four levels, over runs on the heap whose growths are rationed.
+pub(super) type RationedGrown<'a> = Grown<HeapRun<&'a Rationed<Global>>, 4>;
 
 /// How items are put in.
 #[derive(Clone, Copy)]
@@ -78,7 +75,7 @@ impl<R: Run, const LEVELS: usize> Grown<R, LEVELS> {
     }
 }
 
-impl<'a, const LEVELS: usize> Grown<HeapRun<&'a Rationed<Global>>, LEVELS> {
+impl<'a> RationedGrown<'a> {
     /// Absorbs the run of these keys with so many growths granted. `None` where it is refused and
     /// not handed back as it was.
     pub fn absorb_keys(
@@ -131,9 +128,7 @@ impl<'a, const LEVELS: usize> Grown<HeapRun<&'a Rationed<Global>>, LEVELS> {
     }
 
     /// Has the items of these runs in place of its own, with all growths granted.
-    pub fn refill(&mut self, heap: &'a Rationed<Global>, how: How, runs: &[&[u64]]) -> Option<()>
-        requires { IsLevelCount LEVELS }
-    {
+    pub fn refill(&mut self, heap: &'a Rationed<Global>, how: How, runs: &[&[u64]]) -> Option<()> {
         self.clear();
         for keys in runs {
             self.add(heap, how, keys, u64::MAX)?.ok()?;

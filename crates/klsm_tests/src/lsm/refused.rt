@@ -1,7 +1,5 @@
 //! Refusals: an LSM that is full, and a growth that is refused. Nothing changes, and a run comes
 //! back.
-ghost use Rattle.klsm_lsm.specs.Limit.{IsLevelCount};
-
 use super::super::owned::has_blocks;
 use super::grown::{Grown, How, RationedGrown};
 use klsm_lsm::LsmError;
@@ -90,14 +88,12 @@ const ROWS: &[Row] = &[
 ];
 
 // Whether a row's run is added so, or refused and nothing changes.
-fn adds<'a, const LEVELS: usize>(
+fn adds<'a>(
     heap: &'a Rationed<Global>,
-    grown: &mut RationedGrown<'a, LEVELS>,
+    grown: &mut RationedGrown<'a>,
     how: How,
     row: &Row,
-) -> Option<bool>
-    requires { IsLevelCount LEVELS }
-{
+) -> Option<bool> {
     grown.refill(heap, how, row.runs)?;
     let answer = grown.add(heap, how, row.keys, row.growths)?;
     let want = match how {
@@ -109,11 +105,10 @@ fn adds<'a, const LEVELS: usize>(
 }
 
 // The first row that goes otherwise.
-fn first_wrong(heap: &Rationed<Global>) -> Option<usize> {
-    let mut grown: RationedGrown<4> = Grown::new();
+fn first_wrong<'a>(heap: &'a Rationed<Global>, grown: &mut RationedGrown<'a>) -> Option<usize> {
     for (index, row) in ROWS.iter().enumerate() {
         for how in [How::Run, How::Copy] {
-            if adds(heap, &mut grown, how, row) != Some(true) {
+            if adds(heap, grown, how, row) != Some(true) {
                 return Some(index);
             }
         }
@@ -124,5 +119,6 @@ fn first_wrong(heap: &Rationed<Global>) -> Option<usize> {
 #[test]
 fn full_or_without_memory(rt: HostRuntime) {
     let heap = Rationed::new(rt.alloc());
-    assert!(rt; first_wrong(&heap).is_none());
+    let mut grown: RationedGrown = Grown::new();
+    assert!(rt; first_wrong(&heap, &mut grown).is_none());
 }

@@ -1,7 +1,5 @@
 //! Worked examples: each call with the blocks that it leaves. Own parts have those of insertions
 //! into fixed runs and of spies.
-ghost use Rattle.klsm_lsm.specs.Limit.{IsLevelCount};
-
 use super::super::owned::{has_blocks, has_keys};
 use super::grown::{Grown, How, RationedGrown};
 use klsm_lsm::{Cascade, Lsm};
@@ -21,13 +19,11 @@ const ADDED: &[(&[&[u64]], &[&[u64]])] = &[
 ];
 
 // Whether an LSM of each row has these blocks.
-fn are_added<'a, const LEVELS: usize>(
+fn are_added<'a>(
     heap: &'a Rationed<Global>,
-    grown: &mut RationedGrown<'a, LEVELS>,
+    grown: &mut RationedGrown<'a>,
     how: How,
-) -> Option<bool>
-    requires { IsLevelCount LEVELS }
-{
+) -> Option<bool> {
     for (runs, blocks) in ADDED {
         grown.refill(heap, how, runs)?;
         if !has_blocks(&grown.lsm, blocks) {
@@ -47,12 +43,7 @@ const REMOVED: &[(&[&[u64]], usize, usize, u64, &[&[u64]])] = &[
 ];
 
 // Whether each row's item leaves so.
-fn are_removed<'a, const LEVELS: usize>(
-    heap: &'a Rationed<Global>,
-    grown: &mut RationedGrown<'a, LEVELS>,
-) -> Option<bool>
-    requires { IsLevelCount LEVELS }
-{
+fn are_removed<'a>(heap: &'a Rationed<Global>, grown: &mut RationedGrown<'a>) -> Option<bool> {
     for (runs, block, index, key, left) in REMOVED {
         grown.refill(heap, How::Run, runs)?;
         let item = grown.remove(*block, *index)?;
@@ -97,12 +88,7 @@ fn has_partners<R: Run, const LEVELS: usize>(
 }
 
 // Whether the LSM of two blocks, and that of none, tell their cascades and partners.
-fn are_foretold<'a, const LEVELS: usize>(
-    heap: &'a Rationed<Global>,
-    grown: &mut RationedGrown<'a, LEVELS>,
-) -> Option<bool>
-    requires { IsLevelCount LEVELS }
-{
+fn are_foretold<'a>(heap: &'a Rationed<Global>, grown: &mut RationedGrown<'a>) -> Option<bool> {
     grown.refill(heap, How::Run, &[&[1, 2, 3], &[4, 5]])?;
     let two = has_cascades(&grown.lsm, &[(2, 0), (0, 2), (0, 1), (0, 0)])
         && has_partners(&grown.lsm, &[Some(1), None]);
@@ -132,12 +118,7 @@ fn shows<R: Run, const LEVELS: usize>(
 }
 
 // Whether the LSM of each row does.
-fn are_shown<'a, const LEVELS: usize>(
-    heap: &'a Rationed<Global>,
-    grown: &mut RationedGrown<'a, LEVELS>,
-) -> Option<bool>
-    requires { IsLevelCount LEVELS }
-{
+fn are_shown<'a>(heap: &'a Rationed<Global>, grown: &mut RationedGrown<'a>) -> Option<bool> {
     for (runs, len, least, block) in LEAST {
         grown.refill(heap, How::Run, runs)?;
         if !shows(&grown.lsm, *len, *least, *block) {
@@ -180,26 +161,26 @@ fn loses_blocks<R: Run, const LEVELS: usize>(lsm: &mut Lsm<R, LEVELS>) -> bool {
 }
 
 // Whether all rows are right.
-fn are_right(heap: &Rationed<Global>) -> Option<bool> {
-    let mut grown: RationedGrown<4> = Grown::new();
+fn are_right<'a>(heap: &'a Rationed<Global>, grown: &mut RationedGrown<'a>) -> Option<bool> {
     Some(
-        are_added(heap, &mut grown, How::Run)?
-            && are_added(heap, &mut grown, How::Copy)?
-            && are_removed(heap, &mut grown)?
-            && are_foretold(heap, &mut grown)?
-            && are_shown(heap, &mut grown)?,
+        are_added(heap, grown, How::Run)?
+            && are_added(heap, grown, How::Copy)?
+            && are_removed(heap, grown)?
+            && are_foretold(heap, grown)?
+            && are_shown(heap, grown)?,
     )
 }
 
 #[test]
 fn blocks_of_each_call(rt: HostRuntime) {
     let heap = Rationed::new(rt.alloc());
-    assert!(rt; are_right(&heap) == Some(true));
+    let mut grown: RationedGrown = Grown::new();
+    assert!(rt; are_right(&heap, &mut grown) == Some(true));
 }
 
 // The same of an LSM of three blocks that loses them.
 fn are_lost(heap: &Rationed<Global>) -> Option<bool> {
-    let mut grown: RationedGrown<4> = Grown::new();
+    let mut grown: RationedGrown = Grown::new();
     grown.refill(heap, How::Run, &[&[1, 2, 3], &[4, 5], &[6]])?;
     let mut lsm = grown.lsm;
     Some(loses_blocks(&mut lsm))
@@ -214,7 +195,8 @@ fn largest_blocks(rt: HostRuntime) {
 // The lesser of what one run can hold and of one block of the greatest level.
 #[test]
 fn limits(rt: HostRuntime) {
-    assert!(rt; Lsm::<FixedRun<64>, 8>::new().limit() == 64);
-    assert!(rt; Lsm::<FixedRun<64>, 3>::new().limit() == 4);
-    assert!(rt; Lsm::<HeapRun, 21>::new().limit() == 1048576);
+    let small = Lsm::<FixedRun<64>, 3>::new().limit();
+    let fixed = Lsm::<FixedRun<64>, 8>::new().limit();
+    let on_heap = Lsm::<HeapRun, 21>::new().limit();
+    assert!(rt; (small, fixed, on_heap) == (4, 64, 1048576));
 }

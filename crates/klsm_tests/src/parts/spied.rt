@@ -1,15 +1,12 @@
 //! What a spy moves, and what it leaves.
 
-use crate::owned::has_blocks;
-use klsm_parts::{First, Local, Queue, spy};
+use crate::owned::{has_blocks, queue_of};
+use klsm_parts::{First, Local, spy};
 use std::alloc::Global;
 
 /// The own part of a queue at k = 8 after insertions of these keys and so many deletions.
 pub(super) fn own_part(alloc: Global, keys: &[u64], deletions: usize) -> Option<Local<64>> {
-    let mut queue: Queue<64, 21> = Queue::new(alloc, 8);
-    for key in keys {
-        queue.insert(*key, 0).ok()?;
-    }
+    let mut queue = queue_of(alloc, 8, keys)?;
     for _ in 0..deletions {
         let _item = queue.delete_min(&mut First)?;
     }

@@ -7,24 +7,37 @@ use std::alloc::Global;
 use std::sync::Wait;
 use std::thread::Threads;
 
+// Scripts that are not read to their end, and what is written of them.
+const CUT: &[(&[u8], &[u8])] = &[
+    (b"0,i,5,50\n0", b"0 i 5 0.0\nread fault\n"),
+    (
+        b"0,i,5,50\n0,d,,\n0,i",
+        b"0 i 5 0.0\n0 d 5 0.0 load 50 skip 0\nread fault\n",
+    ),
+    (b"", b"read fault\n"),
+];
+
+// Whether a reader that gives these bytes, so many at a time, and then fails leaves this text.
+fn is_told(
+    rt: &(impl Wait + Threads + Sync),
+    alloc: Global,
+    left: &[u8],
+    at_a_time: usize,
+    text: &[u8],
+) -> bool {
+    let input = Input {
+        left,
+        at_a_time,
+        fails: true,
+    };
+    gives(rt, alloc, REPLAY, input, 4, text)
+}
+
 #[test]
 fn a_failed_read_follows_the_answers_before_it(rt: HostRuntime) {
-    let table: [(&[u8], &[u8]); 3] = [
-        (b"0,i,5,50\n0", b"0 i 5 0.0\nread fault\n"),
-        (
-            b"0,i,5,50\n0,d,,\n0,i",
-            b"0 i 5 0.0\n0 d 5 0.0 load 50 skip 0\nread fault\n",
-        ),
-        (b"", b"read fault\n"),
-    ];
-    for (left, text) in table {
+    for (left, text) in CUT {
         for at_a_time in [1, 3, 4096] {
-            let input = Input {
-                left,
-                at_a_time,
-                fails: true,
-            };
-            assert!(rt; gives(&rt, rt.alloc(), REPLAY, input, 4, text));
+            assert!(rt; is_told(&rt, rt.alloc(), left, at_a_time, text));
         }
     }
 }
@@ -56,7 +69,7 @@ fn cut_short(
 
 #[test]
 fn a_failed_write_leaves_the_first_bytes(rt: HostRuntime) {
-    assert_eq!(rt; ANSWERS.len(), 134);
+    assert!(rt; ANSWERS.len() == 134);
     let told = Told {
         words: REPLAY,
         input: SCRIPT,
@@ -81,12 +94,17 @@ fn short_writes_give_the_whole_text(rt: HostRuntime) {
     }
 }
 
+// Whether the text for this word is cut after 20 bytes, by a refusal of either kind.
+fn is_cut(rt: &(impl Wait + Threads + Sync), alloc: Global, word: &[u8]) -> bool {
+    let words = [b"klsm".as_slice(), word];
+    let cut = Some((4, 20, 1));
+    cut_short(rt, alloc, &words, 20, 7, Refusal::Fails, b"") == cut
+        && cut_short(rt, alloc, &words, 20, 7, Refusal::TakesNothing, b"") == cut
+}
+
 #[test]
 fn a_failed_write_of_another_text_is_status_4(rt: HostRuntime) {
     for word in [b"--help".as_slice(), b"lives", b"\xff"] {
-        for refusal in [Refusal::Fails, Refusal::TakesNothing] {
-            let left = cut_short(&rt, rt.alloc(), &[b"klsm", word], 20, 7, refusal, b"");
-            assert!(rt; left == Some((4, 20, 1)));
-        }
+        assert!(rt; is_cut(&rt, rt.alloc(), word));
     }
 }

@@ -19,7 +19,7 @@ const ONE_THREAD: Settings = Settings {
 const MOST: usize = 1_000_000;
 
 /// This line so often.
-fn repeated(alloc: Global, line: &[u8], count: usize) -> Option<Vec<u8>> {
+pub(super) fn repeated(alloc: Global, line: &[u8], count: usize) -> Option<Vec<u8>> {
     let mut lines = Vec::new(alloc);
     for _ in 0..count {
         lines.extend_from_slice(line).ok()?;

@@ -134,17 +134,19 @@ impl Plain {
         Some(want.as_str() == line && self.live.len() <= others)
     }
 
+    /// The line of a deletion.
+    fn line_of(&self, thread: u32, item: Item, skip: usize) -> Option<String> {
+        let Item { key, stamp, load } = item;
+        let Stamp { owner, number } = stamp;
+        format!(in self.alloc; "{thread} d {key} {owner}.{number} load {load} skip {skip}").ok()
+    }
+
     /// How many live items are smaller than the one whose deletion this line tells, where it is one
     /// of those that may be deleted and the line tells this number.
     fn told_skip(&self, thread: u32, line: &str) -> Option<Option<usize>> {
         let most = self.bound().saturating_add(1);
         for (skip, item) in self.live.iter().enumerate().take(most) {
-            let Item { key, stamp, load } = *item;
-            let Stamp { owner, number } = stamp;
-            let want = format!(in self.alloc;
-                "{thread} d {key} {owner}.{number} load {load} skip {skip}"
-            ).ok()?;
-            if want.as_str() == line {
+            if self.line_of(thread, *item, skip)?.as_str() == line {
                 return Some(Some(skip));
             }
         }
@@ -159,6 +161,13 @@ impl Plain {
         self.most = self.most.max(skip);
     }
 
+    /// Whether the last line tells the greatest skip.
+    fn has_last(&self, line: &str) -> Option<bool> {
+        let (most, bound) = (self.most, self.bound());
+        let want = format!(in self.alloc; "max skip {most} bound {bound}").ok()?;
+        Some(want.as_str() == line)
+    }
+
     /// Whether the lines are the answers to the rows, and the last one tells the greatest skip.
     fn has_text(&mut self, rows: &[Row], text: &str) -> Option<bool> {
         let mut lines = text.lines();
@@ -168,9 +177,7 @@ impl Plain {
                 return Some(false);
             }
         }
-        let (most, bound) = (self.most, self.bound());
-        let want = format!(in self.alloc; "max skip {most} bound {bound}").ok()?;
-        Some(lines.next() == Some(want.as_str()) && lines.next().is_none())
+        Some(self.has_last(lines.next()?)? && lines.next().is_none())
     }
 }
 

@@ -2,6 +2,7 @@
 //! where many rows are there.
 
 use super::REPLAY;
+use super::limits::repeated;
 use super::process::Process;
 use klsm_tool::{Silent, run_program};
 use std::alloc::Global;
@@ -9,7 +10,6 @@ use std::cell::Cell;
 use std::io;
 use std::io::{Read, Write};
 use std::sync::Wait;
-use std::test::Fail;
 use std::thread::Threads;
 
 /// What was seen of a run.
@@ -178,25 +178,37 @@ const SCRIPTS: &[(&[Piece], usize, u8)] = &[
     ),
 ];
 
-#[test]
-fn no_answer_is_kept_back_while_a_row_is_waited_for(rt: HostRuntime) {
-    for (index, (pieces, lines, wanted)) in SCRIPTS.iter().enumerate() {
-        let (seen, status) = run_over(&rt, rt.alloc(), pieces);
-        assert_eq!(rt; seen.faults.get(), 0, "script {index}");
-        assert!(rt; seen.lines.get() == *lines, "script {index}");
-        assert_eq!(rt; status, *wanted, "script {index}");
-    }
+/// Whether no answer is kept back in a run over this script, which has so many lines and this
+/// status.
+fn keeps_nothing_back(
+    rt: &(impl Wait + Threads + Sync),
+    alloc: Global,
+    pieces: &[Piece],
+    lines: usize,
+    wanted: u8,
+) -> bool {
+    let (seen, status) = run_over(rt, alloc, pieces);
+    seen.faults.get() == 0 && seen.lines.get() == lines && status == wanted
 }
 
 #[test]
-fn many_answers_go_out_at_once(rt: HostRuntime) -> Result<(), Fail> {
-    let mut script = Vec::new(rt.alloc());
-    for _ in 0..1000 {
-        script.extend_from_slice(b"0,d,,\n")?;
+fn no_answer_is_kept_back_while_a_row_is_waited_for(rt: HostRuntime) {
+    for (index, (pieces, lines, wanted)) in SCRIPTS.iter().enumerate() {
+        assert!(rt;
+            keeps_nothing_back(&rt, rt.alloc(), pieces, *lines, *wanted),
+            "script {index}"
+        );
     }
-    let (seen, status) = run_over(&rt, rt.alloc(), &[(script.as_slice(), 1000)]);
-    assert_eq!(rt; status, 0);
-    assert_eq!(rt; seen.lines.get(), 1001);
-    assert!(rt; seen.writes.get() < 10);
-    Ok(())
+}
+
+/// Whether the answers to a thousand rows that are there go out in few writes.
+fn go_out_at_once(rt: &(impl Wait + Threads + Sync), alloc: Global) -> Option<bool> {
+    let script = repeated(alloc, b"0,d,,\n", 1000)?;
+    let (seen, status) = run_over(rt, alloc, &[(script.as_slice(), 1000)]);
+    Some(status == 0 && seen.lines.get() == 1001 && seen.writes.get() < 10)
+}
+
+#[test]
+fn many_answers_go_out_at_once(rt: HostRuntime) {
+    assert!(rt; go_out_at_once(&rt, rt.alloc()) == Some(true));
 }

@@ -105,36 +105,35 @@ fn a_long_word_is_read_whole(rt: HostRuntime) -> Result<(), Fail> {
     Ok(())
 }
 
+/// Words with an unknown pick and no fault of the parser's.
+const UNKNOWN_PICKS: &[&[&[u8]]] = &[
+    &[b"klsm", b"replay", b"--pick", b"least"],
+    &[b"klsm", b"live", b"--pick", b"least"],
+    &[b"klsm", b"replay", b"--pick=First", b"--k", b"3"],
+    &[b"klsm", b"replay", b"--pick", b""],
+];
+
+/// Words with both.
+const UNKNOWN_PICK_AND_FAULT: &[&[u8]] = &[b"klsm", b"replay", b"--pick", b"least", b"--k", b"65"];
+
+/// Whether the words are refused for their pick.
+fn refuses_pick(rt: &(impl Wait + Threads + Sync), alloc: Global, words: &[&[u8]]) -> bool {
+    gives(
+        rt,
+        alloc,
+        words,
+        Input::whole(SCRIPT),
+        2,
+        b"refused: pick\n",
+    )
+}
+
 #[test]
 fn an_unknown_pick_is_refused_where_the_parser_finds_no_fault(rt: HostRuntime) {
-    let table: [&[&[u8]]; 4] = [
-        &[b"klsm", b"replay", b"--pick", b"least"],
-        &[b"klsm", b"live", b"--pick", b"least"],
-        &[b"klsm", b"replay", b"--pick=First", b"--k", b"3"],
-        &[b"klsm", b"replay", b"--pick", b""],
-    ];
-    for words in table {
-        let input = Input::whole(SCRIPT);
-        assert!(rt; gives(&rt, rt.alloc(), words, input, 2, b"refused: pick\n"));
+    for words in UNKNOWN_PICKS {
+        assert!(rt; refuses_pick(&rt, rt.alloc(), words));
     }
-    let both = [
-        b"klsm".as_slice(),
-        b"replay",
-        b"--pick",
-        b"least",
-        b"--k",
-        b"65",
-    ];
-    assert!(rt;
-        !gives(
-            &rt,
-            rt.alloc(),
-            &both,
-            Input::whole(SCRIPT),
-            2,
-            b"refused: pick\n"
-        )
-    );
+    assert!(rt; !refuses_pick(&rt, rt.alloc(), UNKNOWN_PICK_AND_FAULT));
 }
 
 /// Options of a replay, a script, and what is written of it.
