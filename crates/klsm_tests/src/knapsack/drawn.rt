@@ -68,6 +68,6 @@ fn agree(rt: &(impl Threads + Wait + Sync), alloc: Global, seed: u64) -> Option<
 #[test]
 fn searches_agree_with_a_plain_loop(rt: HostRuntime) {
     for seed in 0..200 {
-        assert!(rt; agree(&rt, rt.alloc(), seed) == Some(true), "seed {seed}");
+        assert_eq!(rt; agree(&rt, rt.alloc(), seed), Some(true));
     }
 }

@@ -7,37 +7,24 @@ use std::alloc::Global;
 use std::sync::Wait;
 use std::thread::Threads;
 
-// Scripts that are not read to their end, and what is written of them.
-const CUT: &[(&[u8], &[u8])] = &[
-    (b"0,i,5,50\n0", b"0 i 5 0.0\nread fault\n"),
-    (
-        b"0,i,5,50\n0,d,,\n0,i",
-        b"0 i 5 0.0\n0 d 5 0.0 load 50 skip 0\nread fault\n",
-    ),
-    (b"", b"read fault\n"),
-];
-
-// Whether a reader that gives these bytes, so many at a time, and then fails leaves this text.
-fn is_told(
-    rt: &(impl Wait + Threads + Sync),
-    alloc: Global,
-    left: &[u8],
-    at_a_time: usize,
-    text: &[u8],
-) -> bool {
-    let input = Input {
-        left,
-        at_a_time,
-        fails: true,
-    };
-    gives(rt, alloc, REPLAY, input, 4, text)
-}
-
 #[test]
 fn a_failed_read_follows_the_answers_before_it(rt: HostRuntime) {
-    for (left, text) in CUT {
+    let table: [(&[u8], &[u8]); 3] = [
+        (b"0,i,5,50\n0", b"0 i 5 0.0\nread fault\n"),
+        (
+            b"0,i,5,50\n0,d,,\n0,i",
+            b"0 i 5 0.0\n0 d 5 0.0 load 50 skip 0\nread fault\n",
+        ),
+        (b"", b"read fault\n"),
+    ];
+    for (left, text) in table {
         for at_a_time in [1, 3, 4096] {
-            assert!(rt; is_told(&rt, rt.alloc(), left, at_a_time, text));
+            let input = Input {
+                left,
+                at_a_time,
+                fails: true,
+            };
+            assert!(rt; gives(&rt, rt.alloc(), REPLAY, input, 4, text));
         }
     }
 }

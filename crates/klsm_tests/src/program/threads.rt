@@ -194,36 +194,27 @@ const ONE_THREAD: Settings = Settings {
 /// How many items a script has: one more than the thread keeps.
 const ITEMS: u64 = 65;
 
-/// Insertions, the greatest key first, and a deletion for each.
-fn insertions_and_deletions(alloc: Global) -> Option<String> {
+/// Insertions, the greatest key first, and a deletion for each, with their answers.
+fn insertions_and_deletions(alloc: Global) -> Option<(String, String)> {
     let mut script = String::new(alloc);
-    for (number, key) in (0..ITEMS).rev().enumerate() {
-        writeln!(script, "0,i,{key},{number}").ok()?;
-    }
-    for _ in 0..ITEMS {
-        writeln!(script, "0,d,,").ok()?;
-    }
-    Some(script)
-}
-
-/// Their answers.
-fn answers_in_order(alloc: Global) -> Option<String> {
     let mut text = String::new(alloc);
     for (number, key) in (0..ITEMS).rev().enumerate() {
+        writeln!(script, "0,i,{key},{number}").ok()?;
         writeln!(text, "0 i {key} 0.{number}").ok()?;
     }
     for (key, number) in (0..ITEMS).rev().enumerate() {
+        writeln!(script, "0,d,,").ok()?;
         writeln!(text, "0 d {key} 0.{number} load {number} skip 0").ok()?;
     }
     writeln!(text, "max skip 0 bound 64").ok()?;
-    Some(text)
+    Some((script, text))
 }
 
 /// Whether they are deleted in order.
 fn go_in_order(rt: &(impl AllocGlobal + Wait)) -> Option<bool> {
-    let script = insertions_and_deletions(rt.alloc())?;
+    let (script, text) = insertions_and_deletions(rt.alloc())?;
     let run = run_over(rt, script.as_bytes(), &ONE_THREAD, Vec::new(rt.alloc()))?;
-    Some(run.is(answers_in_order(rt.alloc())?.as_bytes(), End::Done))
+    Some(run.is(text.as_bytes(), End::Done))
 }
 
 #[test]
