@@ -43,12 +43,10 @@ impl Ranking {
         self.blocks.clear();
     }
 
-    /// Item `index` of a block leaves. `closes_up` says whether the block behind it then has its place, since both became one or
-    /// the block is gone.
-    pub(crate) fn remove(&mut self, block: usize, index: usize, closes_up: bool) {
-        if let Some(rank) = self.rank_of(block, index) {
-            let _place = self.blocks.pop_at(rank);
-        }
+    /// The item of a rank leaves, which is one of a block. `closes_up` says whether the block behind it then has its place, since
+    /// both became one or the block is gone.
+    pub(crate) fn remove(&mut self, rank: usize, block: usize, closes_up: bool) {
+        let _block = self.blocks.pop_at(rank);
         if closes_up {
             for place in self.blocks.as_mut_slice() {
                 if usize::from(*place) > block {
@@ -56,20 +54,6 @@ impl Ranking {
                 }
             }
         }
-    }
-
-    // Which of the least items is item `index` of a block.
-    fn rank_of(&self, block: usize, index: usize) -> Option<usize> {
-        let mut before = 0usize;
-        for (rank, place) in self.blocks.as_slice().iter().enumerate() {
-            if usize::from(*place) == block {
-                if before == index {
-                    return Some(rank);
-                }
-                before = before.wrapping_add(1);
-            }
-        }
-        None
     }
 
     // The next item is one of this block.

@@ -194,8 +194,8 @@ impl<const LEVELS: usize, A: Allocator + Copy> Shared<LEVELS, A> {
         }
     }
 
-    // Takes a candidate out of its place.
-    pub(crate) fn remove(&mut self, place: Place)
+    // Takes a candidate out of its place. `rank` is how many candidates are smaller, which only the ranking asks.
+    pub(crate) fn remove(&mut self, place: Place, rank: usize)
         requires block { place.block < length self.old.blocks }
         requires index { slice_get (slice_index_or self.old.blocks place.block []) place.index
             ≡ Some place.item }
@@ -215,9 +215,7 @@ impl<const LEVELS: usize, A: Allocator + Copy> Shared<LEVELS, A> {
             self.k,
         );
         let closes_up = is_only | partner.is_some();
-        self.least
-            .ranking
-            .remove(place.block, place.index, closes_up);
+        self.least.ranking.remove(rank, place.block, closes_up);
         self.least.first = least_place(&self.lsm);
     }
 }

@@ -52,31 +52,31 @@ pub fn take<const CAP: usize, const LEVELS: usize, A: Allocator + Copy, P: Picke
     // Each part is searched once.
     let least_own = least_place(own.lsm());
     match choose(item_of(least_own), shared, picker) {
-        Some(place) => {
-            shared.remove(place);
+        Some((place, rank)) => {
+            shared.remove(place, rank);
             Some(place.item)
         }
         None => Some(own.remove(least_own?)),
     }
 }
 
-// The candidate to take. `None` where the least own item is to be taken, if there is one.
+// The candidate to take, and how many candidates are smaller. `None` where the least own item is to be taken, if there is one.
 fn choose<const LEVELS: usize, A: Allocator + Copy, P: Picker>(
     least_own: Option<Item>,
     shared: &mut Shared<LEVELS, A>,
     picker: &mut P,
-) -> Option<Place>
+) -> Option<(Place, usize)>
     ensures same { shared.new ≡ shared.old }
     ensures unasked { picks least_own (least_in shared.old) ≡ false
         → (picker.new ≡ picker.old) × (result ≡ None) }
     ensures asked { IsTrue (picks least_own (least_in shared.old))
         → IsPicked P.may_pick picker.old picker.new (candidates_of shared.old)
-        (λ candidate. option_map (λ place. place.item) result
+        (λ candidate. option_map (λ chosen. chosen.0.item) result
         ≡ unless_smaller candidate least_own) }
-    ensures place { IfSome result (λ place. (place.block < length shared.old.blocks)
-        × (slice_get (slice_index_or shared.old.blocks place.block []) place.index
-        ≡ Some place.item)
-        × Contains (candidates_of shared.old) place.item) }
+    ensures place { IfSome result (λ chosen. (chosen.0.block < length shared.old.blocks)
+        × (slice_get (slice_index_or shared.old.blocks chosen.0.block []) chosen.0.index
+        ≡ Some chosen.0.item)
+        × Contains (candidates_of shared.old) chosen.0.item) }
 {
     let least = shared.least()?;
     if is_smaller_own(least_own, least) {
@@ -87,7 +87,7 @@ fn choose<const LEVELS: usize, A: Allocator + Copy, P: Picker>(
     if is_smaller_own(least_own, candidate.item) {
         return None;
     }
-    Some(candidate)
+    Some((candidate, index))
 }
 
 // Whether the least own item, if there is one, is smaller than another item.
