@@ -1,14 +1,23 @@
 -- What the rows of an instance give, one row after another.
-use Rattle.std.proofs.Common.{◌≡◌, ℕ, ◌+◌, ◌<◌, ◌≤◌, ◌⊎◌, inl, inr, ◌==◌, Bool, true, false, not, if◌then◌else◌, List, [], ◌∷◌, ◌++◌, length, length-append, Option, Result, Ok, Err, IfOk, MatchResult, refl, sym, ap, ◌∙◌, subst, arith}
+use Rattle.std.proofs.Common.{◌≡◌, ℕ, ◌+◌, ◌<◌, ◌≤◌, ◌⊎◌, inl, inr, ◌==◌, Bool, true, false, not, if◌then◌else◌, List, [], ◌∷◌, ◌++◌, length, length-append, Option, Some, Bor, Result, Ok, Err, IfOk, MatchResult, refl, sym, ap, ◌∙◌, subst, arith}
 use Rattle.std.specs.List.{AllByRecursion}
 use Rattle.std.proofs.lemmas.Bool.{false≢true, ne_eqb}
+use Rattle.csv.specs.Records.{field_at}
 use Rattle.klsm_knapsack.specs.declared.thing.Thing.{Thing}
 use Rattle.klsm_knapsack.specs.declared.errors.ReadError.{ReadError}
 use Rattle.klsm_knapsack.specs.declared.errors.ReadError.TheVariants as read_error
 use Rattle.klsm_knapsack.specs.Selections.{Problem}
 use Rattle.klsm_knapsack.specs.Limits.{IsThing, IsInRange}
-use Rattle.klsm_knapsack.specs.Rows.{Row, AreFirstRows}
+use Rattle.klsm_rows.specs.Rows.{Row, AreFirstRows}
 use Rattle.klsm_knapsack.specs.Format.{capacity_of, thing_of, Give, AreGood, Refuses, RefusesInput}
+
+-- the two fields that were looked at are the row
+pub two : (row : Row) (a b : Bor (List ℕ)) → length row ≡ 2 → Some a.now ≡ field_at row 0 → Some b.now ≡ field_at row 1 → row ≡ a.now ∷ b.now ∷ []
+unfolding field_at
+two [] a b all is0 is1 = absurd (omega arith)
+two (p ∷ []) a b all is0 is1 = absurd (omega arith)
+two (p ∷ q ∷ []) a b all is0 is1 = cc
+two (p ∷ q ∷ r ∷ rest) a b all is0 is1 = absurd (omega arith)
 
 -- a choice by a test that was negated
 pub not_so : {X : Type 0} (b : Bool) (x y : X) → true ≡ not b → y ≡ (if b then x else y)

@@ -9,9 +9,7 @@ pub mod RuleLemmas  -- each step on the incumbent keeps its rule
 pub mod CoverageLemmas  -- no feasible selection is missed
 pub mod WorkLemmas  -- the work of one worker grows
 pub mod EndLemmas  -- the nodes left are finished
-pub mod NumberLemmas
 pub mod AnswerLemmas  -- what a call leaves at the end of a list
 pub mod CrewLemmas  -- the workers of a search together
 pub mod FinishLemmas  -- the workers at the start and at the end of a search
-pub mod RowLemmas  -- the rows that were read, and their fields
 pub mod FormatLemmas  -- what the rows of an instance give

@@ -6,8 +6,8 @@ use Rattle.klsm_knapsack.specs.declared.thing.Thing.{Thing}
 use Rattle.klsm_knapsack.specs.declared.errors.ReadError.{ReadError}
 use Rattle.klsm_knapsack.specs.declared.errors.ReadError.TheVariants as read_error
 use Rattle.klsm_knapsack.specs.Selections.{Problem}
-use Rattle.klsm_knapsack.specs.Number.{number_of}
-use Rattle.klsm_knapsack.specs.Rows.{Row, AreFirstRows, AreAllRows}
+use Rattle.klsm_rows.specs.Number.{number_of}
+use Rattle.klsm_rows.specs.Rows.{Row, AreFirstRows, AreAllRows}
 
 -- the number is at most this
 abbrev pub is_at_most : ℕ → ℕ → Bool

@@ -9,8 +9,6 @@ pub mod Watching  -- what a thread knows of it
 pub mod Work  -- nodes as items, what workers do with them, and that nothing is missed
 pub mod Ends  -- how workers end
 pub mod Workers  -- workers, and how the work of one of them grows
-pub mod Number  -- the numbers of a text
-pub mod Rows  -- the rows of a text
 pub mod Format  -- what the rows of an instance say, and what is wrong with a row
 pub mod Refusals  -- why a search ends without an answer
 pub mod Prepared  -- how an instance is kept; no public contract cites it

@@ -2,13 +2,13 @@
 ghost use Rattle.std.specs.Prelude.{◌≡◌, ◌+◌, ◌<◌, ◌≤◌, IfOk};
 ghost use Rattle.csv.specs.Records.{fields_of};
 ghost use Rattle.klsm_knapsack.specs.Limits.{IsThing};
-ghost use Rattle.klsm_knapsack.specs.Number.{number_of};
+ghost use Rattle.klsm_rows.specs.Number.{number_of};
 ghost use Rattle.klsm_knapsack.specs.Format.{capacity_in as capacity_in_field, capacity_of as capacity_of_row, thing_in as thing_in_fields, thing_of as thing_of_row};
 
 use crate::errors::ReadError;
-use crate::number::number_in;
 use crate::thing::Thing;
 use csv::ByteRecord;
+use klsm_rows::number_in;
 
 /// How many fields a row has.
 const FIELDS: usize = 2;

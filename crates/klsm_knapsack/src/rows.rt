@@ -5,13 +5,14 @@ ghost use Rattle.csv.specs.Records.{fields_of};
 ghost use Rattle.klsm_knapsack.specs.declared.errors.ReadError.TheVariants as read_error;
 ghost use Rattle.klsm_knapsack.specs.Selections.{Problem};
 ghost use Rattle.klsm_knapsack.specs.Limits.{IsThing};
-ghost use Rattle.klsm_knapsack.specs.Rows.{Row, AreAllRows, AreFirstRows, HasRead};
+ghost use Rattle.klsm_rows.specs.Rows.{Row, AreAllRows, AreFirstRows, HasRead};
 ghost use Rattle.klsm_knapsack.specs.Format.{Give, RefusesInput, capacity_of as capacity_of_row};
 
 use crate::errors::ReadError;
 use crate::judge::{capacity_of, thing_of};
 use crate::thing::Thing;
-use csv::{ByteRecord, ErrorKind, Reader, ReaderBuilder};
+use csv::{ByteRecord, Reader};
+use klsm_rows::{RowFault, read_row, rows_of};
 use std::alloc::Global;
 use std::io::Read;
 
@@ -27,10 +28,7 @@ impl<R: Read + Drop> Rows<R> {
         ensures { HasRead R.remaining (R.remaining reader) [] result.reader }
     {
         Rows {
-            reader: ReaderBuilder::new()
-                .has_headers(false)
-                .flexible(true)
-                .from_reader(alloc, reader),
+            reader: rows_of(alloc, reader),
             row: ByteRecord::new(alloc),
         }
     }
@@ -86,12 +84,10 @@ impl<R: Read + Drop> Rows<R> {
             (λ why. AreFirstRows input rows × (has_failed self.new.reader ≡ true)
             × ((why ≡ read_error.ReadFault) ⊎ (why ≡ read_error.NoMemory))) }
     {
-        match self.reader.read_byte_record(&mut self.row) {
+        match read_row(&mut self.reader, &mut self.row) {
             Ok(found) => Ok(found),
-            Err(error) => match error.kind() {
-                ErrorKind::OutOfMemory => Err(ReadError::NoMemory),
-                _ => Err(ReadError::ReadFault),
-            },
+            Err(RowFault::NoMemory) => Err(ReadError::NoMemory),
+            Err(RowFault::ReadFault) => Err(ReadError::ReadFault),
         }
     }
 }

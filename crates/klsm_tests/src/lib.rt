@@ -21,6 +21,8 @@ mod knapsack;
 #[cfg(test)]
 mod lsm;
 #[cfg(test)]
+mod meeting;
+#[cfg(test)]
 mod owned;
 #[cfg(test)]
 mod parts;

@@ -14,8 +14,7 @@ use Rattle.klsm_tool.specs.declared.settings.Report.{Report}
 use Rattle.klsm_tool.specs.declared.stop.Closing.{Closing}
 use Rattle.klsm_tool.specs.declared.stop.Stop.{Stop}
 use Rattle.klsm_tool.specs.declared.stop.Stop.TheVariants as stop
-use Rattle.klsm_tool.specs.Script.{Row}
-use Rattle.klsm_tool.specs.Rows.{AreFirstRows, AreAllRows}
+use Rattle.klsm_rows.specs.Rows.{Row, AreFirstRows, AreAllRows}
 use Rattle.klsm_tool.specs.AnswerText.{closing_text, greatest_skip, lines_text}
 use Rattle.klsm_tool.specs.Output.{Closes, pending}
 use Rattle.klsm_tool.specs.Progress.{HasStopped, IsCutOff, IsTold, IsToldUntil}

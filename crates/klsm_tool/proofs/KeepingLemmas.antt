@@ -14,13 +14,14 @@ use Rattle.klsm_tool.specs.declared.stop.Stop.{Stop}
 use Rattle.klsm_tool.specs.declared.stop.Stop.TheVariants as stop
 use Rattle.klsm_tool.specs.declared.thread_rows.ThreadRow.{ThreadRow}
 use Rattle.klsm_tool.specs.declared.watched.Watched.{Watched}
-use Rattle.klsm_tool.specs.Script.{Row, request_of, request_after, row_limit}
-use Rattle.klsm_tool.specs.Progress.{HasRead, ReadStops}
+use Rattle.klsm_rows.specs.Rows.{Row}
+use Rattle.klsm_tool.specs.Script.{request_of, request_after, row_limit}
+use Rattle.klsm_tool.specs.Progress.{HasRead, ReadStops, left_within}
 use Rattle.klsm_tool.specs.Keeping.{AreKept, HasEnded, KeepsOn, KeepsOne, asked_in, kept_for}
 use Rattle.klsm_tool.specs.ThreadRows.{AreAccepted, Asked, StopsReading, asked_of, asks}
 use Rattle.klsm_tool.specs.Live.{HasNoTotals}
 use Rattle.klsm_tool.proofs.ClosingLemmas.{no_rows}
-use Rattle.klsm_tool.proofs.RowLemmas.{first_rows}
+use Rattle.klsm_rows.proofs.RowLemmas.{first_rows}
 use Rattle.klsm_tool.proofs.ReplayLemmas.{judged}
 
 -- lists without rows keep none
@@ -67,7 +68,7 @@ row_kept rem threads many number input rows a b row request lists lists' (Ok don
     let asks : request_of threads row ≡ Ok request = ap (λ n. request_of n row) (sym kept.many ∙ so_many) ∙ asks_for in
     (row, read, ((request, judged threads rows row below ∙ asks), accepted), kept_next threads number rows row request lists lists' number_is asks kept one)
 row_kept rem threads many number input rows a b row request lists lists' (Err why) so_many was accepted below number_is kept read asks_for one memory = (
-  subst (StopsReading threads input rows) (sym memory) (first_rows rem input rows a was),
+  subst (StopsReading threads input rows) (sym memory) (first_rows (left_within rem) input rows a was),
   λ end. absurd (let bad : stop.NoMemory ≡ stop.AtEnd = sym memory ∙ end in cc),
 )
 
@@ -76,7 +77,7 @@ pub row_refused : {R : Type 0} (rem : R → Option (List ℕ)) (threads : ℕ) (
     → KeepsOn rem threads input rows lists b (Err (stop.Refused why))
 row_refused rem threads input rows b row why many before lists so_many kept below read asks_for =
     let asks : request_of threads row ≡ Err why = ap (λ n. request_of n row) (sym kept.many ∙ so_many) ∙ asks_for in
-    ((row, first_rows rem input (row ∷ rows) b read, judged threads rows row below ∙ asks), λ end. absurd (let bad : stop.Refused why ≡ stop.AtEnd = end in cc))
+    ((row, first_rows (left_within rem) input (row ∷ rows) b read, judged threads rows row below ∙ asks), λ end. absurd (let bad : stop.Refused why ≡ stop.AtEnd = end in cc))
 
 -- no row is read
 pub stops_reading : (failed : Bool) (threads : ℕ) (input : Option (List ℕ)) (rows : List Row) (why : Stop) → ReadStops failed input rows why → StopsReading threads input rows why
@@ -96,7 +97,7 @@ pub beyond : {R : Type 0} (rem : R → Option (List ℕ)) (threads : ℕ) (input
 beyond rem threads input rows b row all read =
     let at_limit : eqb (length rows) row_limit ≡ true = grind (arith, nat_tests) in
     let refuses : request_after threads rows row ≡ Err refusal.Rows = rw at_limit refl in
-    (row, first_rows rem input (row ∷ rows) b read, refuses)
+    (row, first_rows (left_within rem) input (row ∷ rows) b read, refuses)
 
 -- as many rows are asked for as there are at most
 pub asked_few : (threads t : ℕ) (rows : List Row) → length (asked_of threads t rows) ≤ length rows

@@ -21,8 +21,7 @@ use Rattle.klsm_tool.specs.declared.worker.Worker.{Worker}
 use Rattle.klsm_tool.specs.Crews.{AreMembers, lists_in, steps_in}
 use Rattle.klsm_tool.specs.Live.{GaveUpAt, GivesUpFirst, HasNoTotals, RunsAll, RunsScript, RunsUntilFull}
 use Rattle.klsm_tool.specs.Replay.{sizes_of}
-use Rattle.klsm_tool.specs.Rows.{AreAllRows}
-use Rattle.klsm_tool.specs.Script.{Row}
+use Rattle.klsm_rows.specs.Rows.{AreAllRows, Row}
 use Rattle.klsm_tool.specs.Shown.{shown_in}
 use Rattle.klsm_tool.specs.ThreadRows.{AreAccepted, AreAnswers, Asked, asked_of}
 use Rattle.klsm_tool.specs.Working.{AreAccounted, HasRun, HasRunAt, IsReady, IsReadyAt, Works, gave_up_at, ready, steps_at}

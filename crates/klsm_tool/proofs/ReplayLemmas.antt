@@ -23,15 +23,16 @@ use Rattle.klsm_tool.specs.declared.request.Refusal.TheVariants as refusal
 use Rattle.klsm_tool.specs.declared.stop.Stop.{Stop}
 use Rattle.klsm_tool.specs.declared.stop.Stop.TheVariants as stop
 use Rattle.klsm_tool.specs.declared.watched.Watched.{Watched}
-use Rattle.klsm_tool.specs.Script.{Row, request_of, request_after, row_limit}
+use Rattle.klsm_rows.specs.Rows.{Row}
+use Rattle.klsm_tool.specs.Script.{request_of, request_after, row_limit}
 use Rattle.klsm_tool.specs.AnswerText.{greatest_skip, live, live_after, skip_of}
 use Rattle.klsm_tool.specs.Answering.{Answers}
 use Rattle.klsm_tool.specs.Crews.{AreFew, Goes, steps_in}
 use Rattle.klsm_tool.specs.Shown.{AreShown, answers_of, shown_in}
 use Rattle.klsm_tool.specs.Turns.{GivesUp}
 use Rattle.klsm_tool.specs.Replay.{Stopped}
-use Rattle.klsm_tool.specs.Progress.{HasRead, ReadStops, Stands, StopsBefore}
-use Rattle.klsm_tool.proofs.RowLemmas.{first_rows}
+use Rattle.klsm_tool.specs.Progress.{HasRead, ReadStops, Stands, StopsBefore, left_within}
+use Rattle.klsm_rows.proofs.RowLemmas.{first_rows}
 
 -- where no row could be read, no further row is answered
 pub read_stops : (failed : Bool) (threads k : ℕ) (lists : List (List Entry)) (input : Option (List ℕ)) (rows : List Row) (why : Stop) → ReadStops failed input rows why → Stopped threads k lists input rows why × (why ≢ stop.WriteFault)
@@ -109,7 +110,7 @@ next_stands rem threads lists lists' input rows lines a b items items' most most
 pub refused : {R : Type 0} (rem : R → Option (List ℕ)) (threads k : ℕ) (lists : List (List Entry)) (input : Option (List ℕ)) (rows : List Row) (lines : List Line) (a b : Reader (Watched R)) (items : List Item) (most : ℕ) (row : Row) (why : Refusal)
     → Stands rem threads lists input rows lines a items most → length rows < row_limit → HasRead rem input (row ∷ rows) b → request_of threads row ≡ Err why → StopsBefore threads k lists input rows lines most (stop.Refused why)
 refused rem threads k lists input rows lines a b items most row why now below read asks = record {
-  stopped = (row, first_rows rem input (row ∷ rows) b read, judged threads rows row below ∙ asks);
+  stopped = (row, first_rows (left_within rem) input (row ∷ rows) b read, judged threads rows row below ∙ asks);
   shown = now.shown;
   most_is = now.most_is;
   other = λ e. cc;
@@ -129,8 +130,8 @@ given_up rem threads k lists lists' input rows lines a b items most most' row re
     by_cause : (why : Stop) → GivesUp 21 k request.thread (steps_in lists' request.thread) why → Stopped threads k lists' input rows why
     by_cause stop.AtEnd h = absurd h
     by_cause (stop.Refused refusal) h = absurd h
-    by_cause stop.Full h = (row, request, first_rows rem input (row ∷ rows) b read, judged threads rows row below ∙ asks, h)
-    by_cause stop.NoMemory h = first_rows rem input rows a now.read
+    by_cause stop.Full h = (row, request, first_rows (left_within rem) input (row ∷ rows) b read, judged threads rows row below ∙ asks, h)
+    by_cause stop.NoMemory h = first_rows (left_within rem) input rows a now.read
     by_cause stop.ReadFault h = absurd h
     by_cause stop.WriteFault h = absurd h
 
@@ -157,4 +158,4 @@ pub too_many : {R : Type 0} (rem : R → Option (List ℕ)) (threads k : ℕ) (l
 too_many rem threads k lists input rows b row all read =
     let beyond : eqb (length rows) row_limit ≡ true = grind (arith, nat_tests) in
     let asks : request_after threads rows row ≡ Err refusal.Rows = rw beyond refl in
-    ((row, first_rows rem input (row ∷ rows) b read, asks), λ e. cc)
+    ((row, first_rows (left_within rem) input (row ∷ rows) b read, asks), λ e. cc)

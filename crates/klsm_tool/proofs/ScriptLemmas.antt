@@ -1,15 +1,7 @@
 -- What the fields of a record are, from a look at each.
-use Rattle.std.proofs.Common.{◌≡◌, ℕ, ◌<◌, List, [], ◌∷◌, length, Option, Some, None, Bor, sym, ap, ◌∙◌, arith, zero, suc}
-use Rattle.std.specs.Option.{option_map}
+use Rattle.std.proofs.Common.{◌≡◌, ℕ, List, [], ◌∷◌, length, Some, Bor, arith}
 use Rattle.csv.specs.Records.{field_at}
-use Rattle.klsm_tool.specs.Script.{Row}
-
--- a field below the number of fields is there
-pub present : (row : Row) (i : ℕ) (found : Option (Bor (List ℕ))) → i < length row → option_map (λ s. s.now) found ≡ field_at row i → found ≡ None → ⊥
-unfolding field_at
-present [] i found within is none = omega arith
-present (f ∷ fs) zero found within is none = let bad : option_map (λ (s : Bor (List ℕ)). s.now) None ≡ Some f = ap (option_map (λ (s : Bor (List ℕ)). s.now)) (sym none) ∙ is in cc
-present (f ∷ fs) (suc i) found within is none = present fs i found (omega (arith, within)) is none
+use Rattle.klsm_rows.specs.Rows.{Row}
 
 -- the four fields that were looked at are the row
 pub four : (row : Row) (a b c d : Bor (List ℕ)) → length row ≡ 4 → Some a.now ≡ field_at row 0 → Some b.now ≡ field_at row 1 → Some c.now ≡ field_at row 2 → Some d.now ≡ field_at row 3 → row ≡ a.now ∷ b.now ∷ c.now ∷ d.now ∷ []

@@ -12,14 +12,14 @@ use Rattle.klsm_tool.specs.declared.output.Output.{Output}
 use Rattle.klsm_tool.specs.declared.stop.Stop.{Stop}
 use Rattle.klsm_tool.specs.declared.stop.Stop.TheVariants as stop
 use Rattle.klsm_tool.specs.declared.watched.Watched.{Watched}
-use Rattle.klsm_tool.specs.Script.{Row}
+use Rattle.klsm_rows.specs.Rows.{Row}
 use Rattle.klsm_tool.specs.AnswerText.{answer_text, lines_text, live, skip_of}
 use Rattle.klsm_tool.specs.Shown.{AreShown}
 use Rattle.klsm_tool.specs.Output.{Adds, Flushes, Puts, pending}
-use Rattle.klsm_tool.specs.Progress.{HasRead, HasStopped, IsCutOff, IsTold, IsToldUntil, Stands, StopsBefore}
+use Rattle.klsm_tool.specs.Progress.{HasRead, HasStopped, IsCutOff, IsTold, IsToldUntil, Stands, StopsBefore, left_within}
 use Rattle.klsm_tool.specs.Replay.{Answered, AreShownUntil, IsCut}
 use Rattle.klsm_tool.proofs.OutputLemmas.{appends_more, appends_none, cut_after}
-use Rattle.klsm_tool.proofs.RowLemmas.{first_rows}
+use Rattle.klsm_rows.proofs.RowLemmas.{first_rows}
 
 -- as many rows as lines
 answered_lengths : (threads : ℕ) (rows : List Row) (lines : List Line) → Answered threads rows lines → length rows ≡ length lines
@@ -67,7 +67,7 @@ stops_cut rem threads k lists input before now rows lines reader number most out
   lines = lines;
   answered = answered;
   shown = shown;
-  stopped = first_rows rem input rows reader read;
+  stopped = first_rows (left_within rem) input rows reader read;
   told = cut;
   number_is = λ other. absurd (other refl);
   most_is = λ e. cc;
@@ -122,7 +122,7 @@ line_put rem threads k lists lists' input before now after rows lines a b items 
   lines = lines;
   answered = was.answered;
   shown = inr (printed.line, is.shown);
-  stopped = first_rows rem input rows a was.read;
+  stopped = first_rows (left_within rem) input rows a was.read;
   told = told_same before now after lines output output' told puts.0 puts.1 puts.2;
   number_is = λ _. omega (arith, answered_lengths threads rows lines was.answered);
   most_is = λ e. cc;

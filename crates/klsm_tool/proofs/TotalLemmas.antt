@@ -22,7 +22,8 @@ use Rattle.klsm_tool.specs.declared.request.Operation.TheVariants.{Insert, Delet
 use Rattle.klsm_tool.specs.declared.request.Refusal.{Refusal}
 use Rattle.klsm_tool.specs.declared.request.Refusal.TheVariants as refusal
 use Rattle.klsm_tool.specs.declared.request.Request.{Request}
-use Rattle.klsm_tool.specs.Script.{Row, asked, asked_below, request_after, request_of, row_limit}
+use Rattle.klsm_rows.specs.Rows.{Row}
+use Rattle.klsm_tool.specs.Script.{asked, asked_below, request_after, request_of, row_limit}
 use Rattle.klsm_tool.specs.Crews.{steps_in}
 use Rattle.klsm_tool.specs.Shown.{shown, shown_in}
 use Rattle.klsm_tool.specs.Turns.{IsAnswer}

@@ -9,7 +9,8 @@ use Rattle.klsm_tool.specs.declared.stop.Stop.{Stop}
 use Rattle.klsm_tool.specs.declared.stop.Stop.TheVariants as stop
 use Rattle.klsm_tool.specs.declared.thread_rows.ThreadRow.{ThreadRow}
 use Rattle.klsm_tool.specs.declared.watched.Watched.{Watched}
-use Rattle.klsm_tool.specs.Script.{Row, row_limit}
+use Rattle.klsm_rows.specs.Rows.{Row}
+use Rattle.klsm_tool.specs.Script.{row_limit}
 use Rattle.klsm_tool.specs.Progress.{HasRead}
 use Rattle.klsm_tool.specs.ThreadRows.{AreAccepted, Asked, StopsReading, asked_of, asks}
 

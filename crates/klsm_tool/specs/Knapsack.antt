@@ -1,5 +1,5 @@
 -- What `knapsack_over` promises.
-use Rattle.std.specs.Prelude.{ℕ, zero, suc, Bool, ◌≡◌, ◌+◌, ◌/◌, ◌%◌, ◌==◌, ◌⊎◌, if◌then◌else◌, true, false}
+use Rattle.std.specs.Prelude.{ℕ, zero, suc, Bool, ◌+◌, ◌/◌, ◌%◌, ◌==◌, ◌⊎◌, true, false}
 use Rattle.std.specs.Prelude.{List, [], ◌∷◌, ◌++◌, length, codes, Option}
 use Rattle.std.specs.List.{concat}
 use Rattle.std.specs.Fmt.{decimal}

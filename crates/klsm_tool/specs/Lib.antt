@@ -1,7 +1,5 @@
 -- The definitions, in the order in which they are best read.
-pub mod Number  -- the numbers of a script
 pub mod Script  -- what a row asks for, and what is wrong with it
-pub mod Rows  -- the rows of an input
 pub mod AnswerText  -- the answer text
 pub mod Shown  -- what a member's list shows in the text
 pub mod Crews  -- the members that answer rows

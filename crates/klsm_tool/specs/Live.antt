@@ -13,8 +13,7 @@ use Rattle.klsm_tool.specs.declared.stop.Stop.{Stop}
 use Rattle.klsm_tool.specs.declared.stop.Stop.TheVariants as stop
 use Rattle.klsm_tool.specs.declared.stop.Closing.{Closing}
 use Rattle.klsm_tool.specs.declared.totals.Totals.{Totals}
-use Rattle.klsm_tool.specs.Script.{Row}
-use Rattle.klsm_tool.specs.Rows.{AreFirstRows, AreAllRows}
+use Rattle.klsm_rows.specs.Rows.{Row, AreFirstRows, AreAllRows}
 use Rattle.klsm_tool.specs.AnswerText.{closing_text}
 use Rattle.klsm_tool.specs.Shown.{shown_in}
 use Rattle.klsm_tool.specs.Crews.{steps_in}

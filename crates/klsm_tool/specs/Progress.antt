@@ -1,12 +1,8 @@
 -- How far a replay has come. Rows and lines are listed the latest first.
-use Rattle.std.specs.Prelude.{ℕ, ⊤, Bool, true, ◌≡◌, ◌≢◌, ◌+◌, ◌<◌, List, ◌++◌, length, take}
-use Rattle.std.specs.Prelude.{reverse, Option, Some, None}
+use Rattle.std.specs.Prelude.{ℕ, Bool, true, ◌≡◌, ◌≢◌, ◌+◌, ◌<◌, List, ◌++◌, length, take}
+use Rattle.std.specs.Prelude.{Option}
 use Rattle.std.specs.Io.KnownBytes.{Appends}
 use Rattle.csv.specs.declared.reader.Reader.{Reader}
-use Rattle.csv.specs.declared.reader.Trim.TheVariants as trim
-use Rattle.csv.specs.declared.parser.State.TheVariants as state
-use Rattle.csv.specs.Reading.{Reached, Ready, default_config, is_flexible, reader_config}
-use Rattle.csv.specs.Reading.{reader_state, reader_trim, source_of, strip_bom}
 use Rattle.klsm_run.specs.declared.item.Item.{Item}
 use Rattle.klsm_world.specs.declared.step.Entry.{Entry}
 use Rattle.klsm_run.specs.Content.{sorted}
@@ -15,8 +11,7 @@ use Rattle.klsm_tool.specs.declared.output.Output.{Output}
 use Rattle.klsm_tool.specs.declared.stop.Stop.{Stop}
 use Rattle.klsm_tool.specs.declared.stop.Stop.TheVariants as stop
 use Rattle.klsm_tool.specs.declared.watched.Watched.{Watched}
-use Rattle.klsm_tool.specs.Script.{Row}
-use Rattle.klsm_tool.specs.Rows.{AreFirstRows, AreAllRows}
+use Rattle.klsm_rows.specs.Rows.{Row, AreFirstRows, AreAllRows, HasRead as HasReadRows}
 use Rattle.klsm_tool.specs.AnswerText.{live, lines_text, greatest_skip}
 use Rattle.klsm_tool.specs.Replay.{Answered, AreShownUntil, Stopped}
 use Rattle.klsm_tool.specs.Shown.{AreShown}
@@ -26,23 +21,10 @@ use Rattle.klsm_tool.specs.Output.{pending}
 abbrev pub left_within : {R : Type 0} → (R → Option (List ℕ)) → Watched R → Option (List ℕ)
 left_within rem watched = rem watched.inner
 
--- what is known of the bytes that a reader of rows has left
-abbrev pub HasLeft : {R : Type 0} → (R → Option (List ℕ)) → Option (List ℕ) → List Row
+-- the rows are the first of the input, and the reader of them stands behind them
+abbrev pub HasRead : {R : Type 0} → (R → Option (List ℕ)) → Option (List ℕ) → List Row
     → Reader (Watched R) → Type 0
-HasLeft rem None rows reader = ⊤
-HasLeft rem (Some text) rows reader =
-    (rest : List ℕ) × (source_of (left_within rem) reader ≡ Some rest)
-    × Reached default_config state.StartRecord (strip_bom text) (reverse rows) (reader_state reader)
-    rest
-
--- the rows are the first of the input, and the reader stands behind them
-pub record HasRead {R : Type 0} (rem : R → Option (List ℕ)) (input : Option (List ℕ))
-    (rows : List Row) (reader : Reader (Watched R)) : Type 0 where
-  pub config : reader_config reader ≡ default_config
-  pub trim : reader_trim reader ≡ trim.None
-  pub flexible : is_flexible reader ≡ true
-  pub ready : Ready reader
-  pub left : HasLeft rem input rows reader
+HasRead rem input rows reader = HasReadRows (left_within rem) input rows reader
 
 -- why no row could be read: the input is at its end, or the reader has failed
 abbrev pub ReadStops : Bool → Option (List ℕ) → List Row → Stop → Type 0

@@ -13,8 +13,8 @@ use Rattle.klsm_tool.specs.declared.settings.End.TheVariants as end
 use Rattle.klsm_tool.specs.declared.settings.Report.{Report}
 use Rattle.klsm_tool.specs.declared.stop.Stop.{Stop}
 use Rattle.klsm_tool.specs.declared.stop.Stop.TheVariants as stop
-use Rattle.klsm_tool.specs.Script.{Row, request_after}
-use Rattle.klsm_tool.specs.Rows.{AreFirstRows, AreAllRows}
+use Rattle.klsm_rows.specs.Rows.{Row, AreFirstRows, AreAllRows}
+use Rattle.klsm_tool.specs.Script.{request_after}
 use Rattle.klsm_tool.specs.AnswerText.{text_of}
 use Rattle.klsm_tool.specs.Shown.{AreShown}
 use Rattle.klsm_tool.specs.Crews.{steps_in}

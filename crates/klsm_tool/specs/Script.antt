@@ -7,11 +7,8 @@ use Rattle.klsm_tool.specs.declared.request.Operation.{Operation}
 use Rattle.klsm_tool.specs.declared.request.Operation.TheVariants.{Insert, Delete}
 use Rattle.klsm_tool.specs.declared.request.Refusal.{Refusal}
 use Rattle.klsm_tool.specs.declared.request.Refusal.TheVariants as refusal
-use Rattle.klsm_tool.specs.Number.{number_of}
-
--- a row is a record's fields
-abbrev pub Row : Type 0
-Row = List (List ℕ)
+use Rattle.klsm_rows.specs.Number.{number_of}
+use Rattle.klsm_rows.specs.Rows.{Row}
 
 -- an insertion's key and load
 abbrev pub insertion_of : Option ℕ → Option ℕ → Result Operation Refusal

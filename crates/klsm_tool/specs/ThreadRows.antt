@@ -9,8 +9,8 @@ use Rattle.klsm_tool.specs.declared.request.Refusal.{Refusal}
 use Rattle.klsm_tool.specs.declared.request.Request.{Request}
 use Rattle.klsm_tool.specs.declared.stop.Stop.{Stop}
 use Rattle.klsm_tool.specs.declared.stop.Stop.TheVariants as stop
-use Rattle.klsm_tool.specs.Script.{Row, request_after, request_of}
-use Rattle.klsm_tool.specs.Rows.{AreFirstRows, AreAllRows}
+use Rattle.klsm_rows.specs.Rows.{Row, AreFirstRows, AreAllRows}
+use Rattle.klsm_tool.specs.Script.{request_after, request_of}
 use Rattle.klsm_tool.specs.Turns.{IsAnswer}
 
 -- what a thread is asked for, by the row of this number

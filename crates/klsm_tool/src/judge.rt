@@ -1,13 +1,13 @@
 //! Judging the rows of a script.
 ghost use Rattle.std.specs.Prelude.{◌≡◌, ◌<◌, ◌≤◌, ◌^◌, IfOk};
 ghost use Rattle.csv.specs.Records.{fields_of};
-ghost use Rattle.klsm_tool.specs.Number.{number_of};
+ghost use Rattle.klsm_rows.specs.Number.{number_of};
 ghost use Rattle.klsm_tool.specs.Script.{insertion_of, deletion_of, operation_of, asked_below};
 ghost use Rattle.klsm_tool.specs.Script.{request_of as request_of_row};
 
 use crate::request::{Operation, Refusal, Request};
 use csv::ByteRecord;
-use std::str;
+use klsm_rows::number_in;
 
 /// How many fields a row has.
 const FIELDS: usize = 4;
@@ -49,7 +49,7 @@ fn request(
         (operation_of operation.now key.now load.now) }
     ensures below { IfOk result (λ request. request.thread < threads) }
 {
-    let thread = match number(thread) {
+    let thread = match number_in(thread) {
         Some(thread) if thread < threads as u64 => thread as u32,
         _ => return Err(Refusal::Thread),
     };
@@ -72,10 +72,10 @@ fn judge_operation(word: &[u8], key: &[u8], load: &[u8]) -> Result<Operation, Re
 fn judge_insertion(key: &[u8], load: &[u8]) -> Result<Operation, Refusal>
     ensures { result ≡ insertion_of (number_of key.now) (number_of load.now) }
 {
-    let Some(key) = number(key) else {
+    let Some(key) = number_in(key) else {
         return Err(Refusal::Key);
     };
-    let Some(load) = number(load) else {
+    let Some(load) = number_in(load) else {
         return Err(Refusal::Load);
     };
     Ok(Operation::Insert { key, load })
@@ -91,17 +91,4 @@ fn judge_deletion(key: &[u8], load: &[u8]) -> Result<Operation, Refusal>
         return Err(Refusal::Load);
     }
     Ok(Operation::Delete)
-}
-
-// The number that `field` spells, with one or more of the digits 0 to 9 and nothing else, where it
-// fits.
-fn number(field: &[u8]) -> Option<u64>
-    ensures { result ≡ number_of field.now }
-{
-    // `parse` would take a plus sign.
-    if field.first() == Some(&b'+') {
-        return None;
-    }
-    let text = str::from_utf8(field).ok()?;
-    text.parse().ok()
 }

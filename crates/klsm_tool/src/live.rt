@@ -1,8 +1,8 @@
 //! `klsm live`: each thread's rows in a thread of its own.
 ghost use Rattle.std.specs.Prelude.{◌≡◌, ◌<◌, ◌≤◌, ℕ, List, length, map, slice_index_or};
 ghost use Rattle.std.specs.Prelude.{Option, Some, None, IfErr, IfOk, IfSome};
-ghost use Rattle.klsm_tool.specs.Script.{Row, row_limit};
-ghost use Rattle.klsm_tool.specs.Rows.{AreAllRows};
+ghost use Rattle.klsm_rows.specs.Rows.{Row, AreAllRows};
+ghost use Rattle.klsm_tool.specs.Script.{row_limit};
 ghost use Rattle.klsm_tool.specs.Replay.{GoesOrFails};
 ghost use Rattle.klsm_tool.specs.Crews.{AreMembers, lists_in};
 ghost use Rattle.klsm_tool.specs.ThreadRows.{AreAccepted};

@@ -2,12 +2,13 @@
 ghost use Rattle.std.specs.Prelude.{ℕ, List, [], ◌∷◌, Option, MatchResult};
 ghost use Rattle.csv.specs.Reading.{has_failed};
 ghost use Rattle.csv.specs.Records.{fields_of};
-ghost use Rattle.klsm_tool.specs.Script.{Row};
+ghost use Rattle.klsm_rows.specs.Rows.{Row};
 ghost use Rattle.klsm_tool.specs.Progress.{HasRead, ReadStops};
 
 use crate::stop::Stop;
 use crate::watched::Watched;
-use csv::{ByteRecord, ErrorKind, Reader, ReaderBuilder};
+use csv::{ByteRecord, Reader};
+use klsm_rows::{RowFault, read_row, rows_of};
 use std::alloc::Global;
 use std::io::Read;
 
@@ -22,12 +23,8 @@ impl<R: Read + Drop> Script<R> {
     pub(crate) fn new(alloc: Global, reader: R) -> Self
         ensures { HasRead R.remaining (R.remaining reader) [] result.rows }
     {
-        let watched = Watched::new(reader);
         Script {
-            rows: ReaderBuilder::new()
-                .has_headers(false)
-                .flexible(true)
-                .from_reader(alloc, watched),
+            rows: rows_of(alloc, Watched::new(reader)),
             row: ByteRecord::new(alloc),
         }
     }
@@ -46,13 +43,11 @@ impl<R: Read + Drop> Script<R> {
             (λ _. HasRead R.remaining input (fields_of self.new.row ∷ rows) self.new.rows)
             (ReadStops (has_failed self.new.rows) input rows) }
     {
-        match self.rows.read_byte_record(&mut self.row) {
+        match read_row(&mut self.rows, &mut self.row) {
             Ok(true) => Ok(()),
             Ok(false) => Err(Stop::AtEnd),
-            Err(error) => match error.kind() {
-                ErrorKind::OutOfMemory => Err(Stop::NoMemory),
-                _ => Err(Stop::ReadFault),
-            },
+            Err(RowFault::NoMemory) => Err(Stop::NoMemory),
+            Err(RowFault::ReadFault) => Err(Stop::ReadFault),
         }
     }
 }

@@ -1,6 +1,7 @@
 //! The rows of a script, kept for the threads that are to run them.
 ghost use Rattle.std.specs.Prelude.{◌≡◌, ◌<◌, ◌≤◌, ◌+◌, ℕ, List, [], length, map, Option, IfOk, IfErr};
-ghost use Rattle.klsm_tool.specs.Script.{Row, row_limit};
+ghost use Rattle.klsm_rows.specs.Rows.{Row};
+ghost use Rattle.klsm_tool.specs.Script.{row_limit};
 ghost use Rattle.klsm_tool.specs.Progress.{HasRead};
 ghost use Rattle.klsm_tool.specs.Keeping.{AreKept, HasEnded, KeepsOn, KeepsOne};
 ghost use Rattle.klsm_tool.specs.ThreadRows.{AreAccepted};

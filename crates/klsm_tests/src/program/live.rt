@@ -4,9 +4,8 @@
 use super::process::Input;
 use super::worked::SCRIPT;
 use super::{Told, gives, leaves_any_first};
-use klsm_board::Gate;
+use crate::meeting::Meeting;
 use klsm_tool::{End, Pick, Report, Settings, live_over};
-use std::sync::atomic::{AtomicBool, Ordering};
 
 const LIVE: &[&[u8]] = &[b"klsm", b"live"];
 
@@ -79,40 +78,6 @@ fn a_failed_write_leaves_the_first_bytes_of_the_line(rt: HostRuntime) {
         text: b"inserted 3 deleted 3 left 0\n",
     };
     assert!(rt; leaves_any_first(&rt, rt.alloc(), told));
-}
-
-/// A gate for two workers, at which each waits for a while until both have come.
-#[derive(Drop)]
-struct Meeting {
-    came: [AtomicBool; 2],
-    met: [AtomicBool; 2],
-}
-
-impl Meeting {
-    fn new() -> Self {
-        Meeting {
-            came: [AtomicBool::new(false), AtomicBool::new(false)],
-            met: [AtomicBool::new(false), AtomicBool::new(false)],
-        }
-    }
-
-    /// Whether each worker has seen that the other came.
-    fn took_place(&self) -> bool {
-        self.met[0].load(Ordering::SeqCst) && self.met[1].load(Ordering::SeqCst)
-    }
-}
-
-impl Gate for Meeting {
-    fn pass(&self, worker: usize) {
-        let (here, there) = if worker == 0 { (0, 1) } else { (1, 0) };
-        self.came[here].store(true, Ordering::SeqCst);
-        for _ in 0..1_000_000_000 {
-            if self.came[there].load(Ordering::SeqCst) {
-                self.met[here].store(true, Ordering::SeqCst);
-                return;
-            }
-        }
-    }
 }
 
 #[test]

@@ -1,13 +1,13 @@
 use Rattle.std.proofs.Common.{◌≡◌, ◌∙◌, ℕ, Result, Err, codes, arith, sym, subst}
 use Rattle.std.specs.Str.{bytes_eq}
 use Rattle.csv.specs.Records.{fields_of}
-use Rattle.klsm_knapsack.specs.Rows.{Row}
+use Rattle.klsm_rows.specs.Rows.{Row}
 use Rattle.klsm_knapsack.specs.declared.errors.ReadError.{ReadError}
 use Rattle.klsm_knapsack.specs.declared.errors.ReadError.TheVariants as read_error
-use Rattle.klsm_knapsack.specs.Number.{number_of}
+use Rattle.klsm_rows.specs.Number.{number_of}
 use Rattle.klsm_knapsack.specs.Format.{capacity_in, capacity_of}
-use Rattle.klsm_knapsack.proofs.FormatLemmas.{not_so, so}
-use Rattle.klsm_knapsack.proofs.RowLemmas.{present, two}
+use Rattle.klsm_knapsack.proofs.FormatLemmas.{not_so, so, two}
+use Rattle.klsm_rows.proofs.RowLemmas.{present}
 use Rattle.klsm_knapsack.proofs.judge.capacity_of.Goals as goal
 
 pub returns-in_default-clause-capacity : goal.returns-in_default-clause-capacity

@@ -1,13 +1,13 @@
 use Rattle.std.proofs.Common.{◌≡◌, ◌∙◌, ◌+◌, Result, Err, arith, sym, subst}
 use Rattle.csv.specs.Records.{fields_of}
-use Rattle.klsm_knapsack.specs.Rows.{Row}
+use Rattle.klsm_rows.specs.Rows.{Row}
 use Rattle.klsm_knapsack.specs.declared.thing.Thing.{Thing}
 use Rattle.klsm_knapsack.specs.declared.errors.ReadError.{ReadError}
 use Rattle.klsm_knapsack.specs.declared.errors.ReadError.TheVariants as read_error
-use Rattle.klsm_knapsack.specs.Number.{number_of}
+use Rattle.klsm_rows.specs.Number.{number_of}
 use Rattle.klsm_knapsack.specs.Format.{thing_in, thing_of}
-use Rattle.klsm_knapsack.proofs.FormatLemmas.{not_equal}
-use Rattle.klsm_knapsack.proofs.RowLemmas.{present, two}
+use Rattle.klsm_knapsack.proofs.FormatLemmas.{not_equal, two}
+use Rattle.klsm_rows.proofs.RowLemmas.{present}
 use Rattle.klsm_knapsack.proofs.judge.thing_of.Goals as goal
 
 pub returns-in_default-clause-thing : goal.returns-in_default-clause-thing

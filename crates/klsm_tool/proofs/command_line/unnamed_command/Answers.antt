@@ -1,4 +1,4 @@
-use Rattle.std.proofs.Common.{rules, ◌≡◌, List, Result, Ok, Err, true, false, ap, ap₂, ◌∙◌, codes}
+use Rattle.std.proofs.Common.{rules, ◌≡◌, Result, Ok, Err, true, false, ap, ap₂, ◌∙◌, codes}
 use Rattle.std.specs.Prelude.{IfOk}
 use Rattle.std.specs.declared.alloc.AllocError.{AllocError}
 use Rattle.clap.specs.Words.{AddsSubcommand, App, app_of, new_app, with_subcommand}

@@ -1,7 +1,9 @@
 use Rattle.std.proofs.Common.{◌≡◌, length, arith, sym, subst}
 use Rattle.csv.specs.Records.{fields_of}
-use Rattle.klsm_tool.specs.Script.{Row, request_of}
-use Rattle.klsm_tool.proofs.ScriptLemmas.{present, four}
+use Rattle.klsm_rows.specs.Rows.{Row}
+use Rattle.klsm_tool.specs.Script.{request_of}
+use Rattle.klsm_rows.proofs.RowLemmas.{present}
+use Rattle.klsm_tool.proofs.ScriptLemmas.{four}
 use Rattle.klsm_tool.proofs.judge.request_of.Goals as goal
 
 pub returns-in_default : goal.returns-in_default

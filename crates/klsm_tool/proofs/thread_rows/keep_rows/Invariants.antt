@@ -1,5 +1,5 @@
 use Rattle.std.proofs.Common.{◌≡◌, ℕ, List, [], length, map, Option}
-use Rattle.klsm_tool.specs.Script.{Row}
+use Rattle.klsm_rows.specs.Rows.{Row}
 use Rattle.klsm_tool.specs.Progress.{HasRead}
 use Rattle.klsm_tool.specs.Keeping.{AreKept}
 use Rattle.klsm_tool.specs.ThreadRows.{AreAccepted}

@@ -4,7 +4,7 @@ use Rattle.klsm_knapsack.specs.declared.thing.Thing.{Thing}
 use Rattle.klsm_knapsack.specs.Selections.{Problem}
 use Rattle.klsm_knapsack.specs.Limits.{IsThing, IsInRange}
 use Rattle.klsm_knapsack.specs.Format.{Give, IsProblemIn}
-use Rattle.klsm_knapsack.proofs.RowLemmas.{first_rows}
+use Rattle.klsm_rows.proofs.RowLemmas.{first_rows}
 use Rattle.klsm_knapsack.proofs.FormatLemmas.{good, in_range_more}
 use Rattle.klsm_knapsack.proofs.instance.Instance.read.Goals as goal
 use Rattle.klsm_knapsack.proofs.instance.Instance.read.Goals.{in-Ok-new, in-Err-new}

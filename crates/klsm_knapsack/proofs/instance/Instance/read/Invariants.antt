@@ -1,6 +1,6 @@
 use Rattle.std.proofs.Common.{◌≡◌, ◌+◌, length, List}
 use Rattle.klsm_knapsack.specs.Limits.{IsInRange}
-use Rattle.klsm_knapsack.specs.Rows.{Row, HasRead}
+use Rattle.klsm_rows.specs.Rows.{Row, HasRead}
 use Rattle.klsm_knapsack.specs.Format.{Give}
 use Rattle.klsm_knapsack.proofs.instance.Instance.read.Given as goal
 

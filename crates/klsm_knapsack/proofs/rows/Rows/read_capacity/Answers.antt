@@ -1,7 +1,7 @@
 use Rattle.std.proofs.Common.{[], ◌∷◌}
 use Rattle.csv.specs.Records.{fields_of}
-use Rattle.klsm_knapsack.specs.Rows.{Row, HasRead}
-use Rattle.klsm_knapsack.proofs.RowLemmas.{first_rows}
+use Rattle.klsm_rows.specs.Rows.{Row, HasRead}
+use Rattle.klsm_rows.proofs.RowLemmas.{first_rows}
 use Rattle.klsm_knapsack.proofs.FormatLemmas.{first_row}
 use Rattle.klsm_knapsack.proofs.rows.Rows.read_capacity.Goals as goal
 

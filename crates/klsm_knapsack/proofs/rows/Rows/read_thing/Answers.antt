@@ -1,8 +1,8 @@
 use Rattle.std.proofs.Common.{◌≡◌, ℕ, ◌∷◌, length, Ok, Err, sym, ◌∙◌, subst, arith}
 use Rattle.csv.specs.Records.{fields_of}
-use Rattle.klsm_knapsack.specs.Rows.{Row, HasRead}
+use Rattle.klsm_rows.specs.Rows.{Row, HasRead}
 use Rattle.klsm_knapsack.specs.Format.{thing_of}
-use Rattle.klsm_knapsack.proofs.RowLemmas.{first_rows}
+use Rattle.klsm_rows.proofs.RowLemmas.{first_rows}
 use Rattle.klsm_knapsack.proofs.FormatLemmas.{give_more, good, refused_row, refuses_next}
 use Rattle.klsm_knapsack.proofs.rows.Rows.read_thing.Goals as goal
 

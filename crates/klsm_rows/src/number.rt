@@ -1,6 +1,6 @@
 //! Numbers in a text.
 ghost use Rattle.std.specs.Prelude.{◌≡◌};
-ghost use Rattle.klsm_knapsack.specs.Number.{number_of};
+ghost use Rattle.klsm_rows.specs.Number.{number_of};
 
 use std::str;
 

@@ -1,7 +1,7 @@
 use Rattle.std.proofs.Common.{ℕ, List, get_or, ◌≢◌, refl, sym, ◌∙◌, subst}
 use Rattle.std.specs.Str.Parse.{ParsesUnsigned}
-use Rattle.klsm_knapsack.proofs.NumberLemmas.{no_plus, no_text_no_number, not_text, text_is, parsed}
-use Rattle.klsm_knapsack.proofs.number.number_in.Goals as goal
+use Rattle.klsm_rows.proofs.NumberLemmas.{no_plus, no_text_no_number, not_text, text_is, parsed}
+use Rattle.klsm_rows.proofs.number.number_in.Goals as goal
 
 pub returns-in_err-text : goal.returns-in_err-text
 returns-in_err-text c = c.from_residual.ensures ∙ sym (no_text_no_number c.args.field.now (not_text _ _ c.args.field.now c.from_utf8.result (sym c.ok.ensures.value ∙ c.in_err-text.was) c.from_utf8.ensures.cases))

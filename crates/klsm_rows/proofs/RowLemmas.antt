@@ -7,7 +7,7 @@ use Rattle.csv.specs.declared.parser.State.TheVariants as state
 use Rattle.csv.specs.Reading.{ReadRecord, Reached, default_config, is_flexible, reader_config, reader_state, source_of, strip_bom, took_first}
 use Rattle.csv.specs.Records.{field_at}
 use Rattle.csv.proofs.ReadFacts.{rows-more}
-use Rattle.klsm_knapsack.specs.Rows.{Row, AreAllRows, AreFirstRows, HasLeft, HasRead}
+use Rattle.klsm_rows.specs.Rows.{Row, AreAllRows, AreFirstRows, HasLeft, HasRead}
 
 -- a reader of all the bytes has read no row
 pub left_first : {R : Type 0} (rem : R → Option (List ℕ)) (input : Option (List ℕ)) (reader : Reader R) → source_of rem reader ≡ option_map strip_bom input → reader_state reader ≡ state.StartRecord → HasLeft rem input [] reader
@@ -52,11 +52,3 @@ unfolding field_at
 present [] i found within is none = omega arith
 present (f ∷ fs) zero found within is none = let bad : option_map (λ (s : Bor (List ℕ)). s.now) None ≡ Some f = ap (option_map (λ (s : Bor (List ℕ)). s.now)) (sym none) ∙ is in cc
 present (f ∷ fs) (suc i) found within is none = present fs i found (omega (arith, within)) is none
-
--- the two fields that were looked at are the row
-pub two : (row : Row) (a b : Bor (List ℕ)) → length row ≡ 2 → Some a.now ≡ field_at row 0 → Some b.now ≡ field_at row 1 → row ≡ a.now ∷ b.now ∷ []
-unfolding field_at
-two [] a b all is0 is1 = absurd (omega arith)
-two (p ∷ []) a b all is0 is1 = absurd (omega arith)
-two (p ∷ q ∷ []) a b all is0 is1 = cc
-two (p ∷ q ∷ r ∷ rest) a b all is0 is1 = absurd (omega arith)

@@ -1,6 +1,6 @@
 use Rattle.std.proofs.Common.{◌∙◌, inr}
-use Rattle.klsm_tool.proofs.RowLemmas.{left_first}
-use Rattle.klsm_tool.proofs.script.Script.new.Goals as goal
+use Rattle.klsm_rows.proofs.RowLemmas.{left_first}
+use Rattle.klsm_rows.proofs.rows.rows_of.Goals as goal
 
 pub returns : goal.returns
 returns g c =
@@ -12,5 +12,5 @@ returns g c =
       trim = rw (set, no_headers) at f.trim ∙ c.new.ensures.trim;
       flexible = rw set at f.flexible;
       ready = inr (inr (rw (set, no_headers) at f.has_headers, f.headers));
-      left = left_first g.R.Read.remaining (g.R.Read.remaining c.args.reader) c.from_reader.result (rw c.new-watched.ensures at f.source) f.state;
+      left = left_first g.R.Read.remaining (g.R.Read.remaining c.args.reader) c.from_reader.result f.source f.state;
     }
