@@ -7,17 +7,21 @@ ghost use Rattle.klsm_rows.specs.Rows.{Row, AreAllRows, AreFirstRows, HasRead};
 use csv::{ByteRecord, ErrorKind, Reader, ReaderBuilder};
 use std::alloc::Global;
 use std::io::Read;
+use thiserror::Error;
 
-/// Why a row is not read.
-#[derive(Clone, Copy, Debug, PartialEq, Eq)]
+/// Why a row could not be read.
+#[derive(Clone, Copy, Debug, PartialEq, Eq, Error)]
 pub enum RowFault {
     /// A growth was refused.
+    #[error("out of memory")]
     NoMemory,
     /// The reader failed.
+    #[error("the reader failed")]
     ReadFault,
 }
 
-/// The rows of what a reader gives. None was read.
+/// The rows of what `reader` gives, of which none was read yet. No row is a header, and each may have
+/// any number of fields.
 pub fn rows_of<R: Read + Drop>(alloc: Global, reader: R) -> Reader<R>
     ensures { HasRead R.remaining (R.remaining reader) [] result }
 {
