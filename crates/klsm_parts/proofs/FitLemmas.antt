@@ -72,6 +72,10 @@ local_fits n capacity = part_fits _ (lsm_is_small _ (run_is_small n capacity)) w
 pub shared_lsm_fits : (n : ℕ) → IsLevelCount n → lsm n 48 < 9223372036854775808
 shared_lsm_fits n levels = omega (arith, levels.at_most)
 
+-- the pivots of any number of levels
+pub any_pivots_fit : (n : ℕ) → IsLevelCount n → array_vec n 8 < 9223372036854775808
+any_pivots_fit n levels = omega (arith, levels.at_most)
+
 -- what is known of the least items: the place of the first, and an array of bytes for the ranking
 abbrev least_items : ℕ
 least_items = up 8 (up 8 (0 + 56) + up 8 (0 + array_vec 129 1))

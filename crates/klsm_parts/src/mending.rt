@@ -15,7 +15,8 @@ use arrayvec::ArrayVec;
 use klsm_lsm::{Cascade, Lsm};
 use klsm_run::{Item, Run};
 
-/// Mends the pivots after a marked item was cut out of a block. It costs one comparison a block.
+/// Mends the pivots after a marked item was cut out of a block, and answers the block of the item that is marked in its place,
+/// if there is one. It costs one comparison a block.
 ///
 /// `is_only` tells whether the block had no other item, and `partner` the block that became one
 /// with it, if one did.
@@ -26,7 +27,7 @@ pub(crate) fn mend_cut<R: Run, const LEVELS: usize>(
     is_only: bool,
     partner: Option<usize>,
     k: usize,
-)
+) -> Option<usize>
     requires mendable { IsCutMendable k lsm.now block is_only partner pivots.old.items }
     requires k { k ≤ 128 }
     ensures lawful { IsLsm lsm.now }
@@ -34,7 +35,10 @@ pub(crate) fn mend_cut<R: Run, const LEVELS: usize>(
 {
     cut_pivot(pivots, block, is_only, partner);
     if lsm.len() > k {
-        let _block = mark_least(lsm, pivots);
+        let block = mark_least(lsm, pivots);
+        Some(block)
+    } else {
+        None
     }
 }
 

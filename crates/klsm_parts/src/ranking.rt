@@ -1,16 +1,17 @@
 //! How a candidate of any rank is found without a count from the least one: by a guess at the order of the least items, which
 //! is looked at before it is used.
-ghost use Rattle.std.specs.Prelude.{◌≡◌, ◌<◌, ◌≤◌, [], length, IsTrue};
+ghost use Rattle.std.specs.Prelude.{◌≡◌, ◌<◌, ◌≤◌, [], length, slice_get, slice_index_or, Some, IsTrue, IfSome};
 ghost use Rattle.std.specs.List.{sum};
+ghost use Rattle.klsm_run.specs.Content.{sorted};
 ghost use Rattle.klsm_lsm.specs.Lsm.{content, IsLsm};
 ghost use Rattle.klsm_lsm.specs.Limit.{IsLevelCount};
 ghost use Rattle.klsm_parts.specs.Pivots.{ArePivots, AreWithin};
 
 use crate::mending::greatest_marked;
-use crate::ranks::{Place, least_unmarked, mark_least, none_of};
+use crate::ranks::{Place, least_unmarked, mark_least, none_of, place_behind};
 use arrayvec::ArrayVec;
-use klsm_lsm::Lsm;
-use klsm_run::Run;
+use klsm_lsm::{Cascade, Lsm};
+use klsm_run::{Item, Run};
 
 /// What is known of the least items, so that a deletion need not search for them.
 #[derive(Drop)]
@@ -21,12 +22,12 @@ pub(crate) struct LeastItems {
 }
 
 /// The blocks of the least items, in the order of these items, as far as they were counted. It is kept up where an item
-/// leaves, and given up where items come.
+/// leaves and where a run comes.
 ///
 /// It is a guess: what it says is compared with the items before it is used, so nothing rests on it but time.
 #[derive(Drop)]
 pub(crate) struct Ranking {
-    // At most one for each of the k+1 candidates.
+    // With room for the k+1 candidates.
     blocks: ArrayVec<u8, 129>,
 }
 
@@ -56,6 +57,45 @@ impl Ranking {
         }
     }
 
+    /// The ranking after a run is put in, which becomes one with the blocks of a cascade. It costs one comparison for each item
+    /// that is known.
+    pub(crate) fn with<B: Run, R: Run, const LEVELS: usize>(
+        &self,
+        lsm: &Lsm<B, LEVELS>,
+        run: &R,
+        cascade: Cascade,
+    ) -> Ranking
+        requires { IsLevelCount LEVELS }
+    {
+        let mut ranking = Ranking::new();
+        let mut pivots = none_of(lsm);
+        let mut put_in = 0usize;
+        for block in self.blocks.as_slice() {
+            let block = usize::from(*block);
+            let Some(item) = next_of(lsm, &mut pivots, block) else {
+                break;
+            };
+            for index in put_in..run.len() {
+                if !run.item_at(index).is_before(&item) {
+                    break;
+                }
+                ranking.push(cascade.first);
+                put_in = index + 1;
+            }
+            ranking.push(place_after(block, cascade));
+        }
+        ranking
+    }
+
+    /// The next candidate is an item of this block, where the `k` before it are known.
+    pub(crate) fn push_last(&mut self, block: Option<usize>, k: usize) {
+        if let Some(block) = block
+            && self.blocks.len() == k
+        {
+            self.push(block);
+        }
+    }
+
     // The next item is one of this block.
     fn push(&mut self, block: usize) {
         if let Ok(block) = u8::try_from(block) {
@@ -63,48 +103,111 @@ impl Ranking {
         }
     }
 
-    // How many of each block's first items are among the least `count`.
-    fn pivots<R: Run, const LEVELS: usize>(
-        &self,
-        lsm: &Lsm<R, LEVELS>,
-        count: usize,
-    ) -> ArrayVec<usize, LEVELS>
-        requires { IsLevelCount LEVELS }
-    {
-        let mut pivots = none_of(lsm);
-        for block in self.blocks.as_slice().iter().take(count) {
-            if let Some(pivot) = pivots.as_mut_slice().get_mut(usize::from(*block)) {
-                *pivot = pivot.wrapping_add(1);
+    // Counts how many of each block's first items are among the least `count`, from pivots of 0. It counts from the least item
+    // on, or back from the last of the candidates, of which `marked` says how many each block has.
+    fn count(&self, pivots: &mut [usize], marked: &[usize], candidates: usize, count: usize) {
+        let blocks = self.blocks.as_slice();
+        let Some(below) = blocks.get(..count) else {
+            return;
+        };
+        match blocks.get(count..candidates) {
+            Some(above) if above.len() < count => {
+                for (pivot, all) in pivots.iter_mut().zip(marked) {
+                    *pivot = *all;
+                }
+                count_each(pivots, above, usize::MAX);
             }
+            _ => count_each(pivots, below, 1),
         }
-        pivots
     }
 }
 
-/// How many of each block's first items are among the least `count`. It costs three comparisons a block, and one a block more
-/// for each item that the ranking does not know.
-pub(crate) fn pivots_by<R: Run, const LEVELS: usize>(
-    lsm: &Lsm<R, LEVELS>,
-    ranking: &mut Ranking,
-    count: usize,
-) -> ArrayVec<usize, LEVELS>
-    requires levels { IsLevelCount LEVELS }
-    requires lawful { IsLsm lsm.now }
-    requires count { count < length (content lsm.now) }
-    ensures { ArePivots count lsm.now result.items }
-{
-    let known = ranking.blocks.len().min(count);
-    if known > 0 {
-        let mut pivots = ranking.pivots(lsm, known);
-        if are_pivots(lsm, pivots.as_slice(), known) {
-            mark_to(lsm, ranking, &mut pivots, known, count);
-            return pivots;
+// Adds so much to a block's pivot each time that the block is named, modulo 2^64.
+#[inline]
+fn count_each(pivots: &mut [usize], blocks: &[u8], more: usize) {
+    for block in blocks {
+        if let Some(pivot) = pivots.get_mut(usize::from(*block)) {
+            *pivot = pivot.wrapping_add(more);
         }
     }
-    ranking.clear();
+}
+
+// The first item of a block behind its pivot, which then counts it.
+fn next_of<R: Run, const LEVELS: usize>(
+    lsm: &Lsm<R, LEVELS>,
+    pivots: &mut ArrayVec<usize, LEVELS>,
+    block: usize,
+) -> Option<Item> {
+    let pivot = pivots.as_mut_slice().get_mut(block)?;
+    if block >= lsm.blocks() || *pivot >= lsm.block(block).len() {
+        return None;
+    }
+    let item = lsm.block(block).item_at(*pivot);
+    *pivot = pivot.wrapping_add(1);
+    Some(item)
+}
+
+// The place of a block once those of a cascade are one.
+fn place_after(block: usize, cascade: Cascade) -> usize {
+    if block < cascade.first {
+        return block;
+    }
+    block
+        .wrapping_sub(cascade.count)
+        .wrapping_add(1)
+        .max(cascade.first)
+}
+
+/// The item of a rank, and where it stands. It costs three comparisons a block, and one a block more for each item that the
+/// ranking does not know. `marked` says how many of each block's first items are candidates, for time alone.
+pub(crate) fn place_by<R: Run, const LEVELS: usize>(
+    lsm: &Lsm<R, LEVELS>,
+    ranking: &mut Ranking,
+    marked: &[usize],
+    candidates: usize,
+    rank: usize,
+) -> Place
+    requires levels { IsLevelCount LEVELS }
+    requires lawful { IsLsm lsm.now }
+    requires rank { rank < length (content lsm.now) }
+    ensures block { result.block < length lsm.now }
+    ensures index { slice_get (slice_index_or lsm.now result.block []) result.index
+        ≡ Some result.item }
+    ensures rank { slice_get (sorted (content lsm.now)) rank ≡ Some result.item }
+{
+    let known = ranking.blocks.len().min(rank);
     let mut pivots = none_of(lsm);
-    mark_to(lsm, ranking, &mut pivots, 0, count);
-    pivots
+    ranking.count(pivots.as_mut_slice(), marked, candidates, known);
+    match place_where_least(lsm, pivots.as_slice(), known) {
+        Some(place) if known == rank => place,
+        Some(_next) => place_behind_more(lsm, ranking, &mut pivots, known, rank),
+        None => {
+            ranking.clear();
+            let mut none = none_of(lsm);
+            place_behind_more(lsm, ranking, &mut none, 0, rank)
+        }
+    }
+}
+
+// The item of a rank, where pivots mark fewer of the least items. The ranking is told of those between.
+fn place_behind_more<R: Run, const LEVELS: usize>(
+    lsm: &Lsm<R, LEVELS>,
+    ranking: &mut Ranking,
+    pivots: &mut ArrayVec<usize, LEVELS>,
+    marked: usize,
+    rank: usize,
+) -> Place
+    requires lawful { IsLsm lsm.now }
+    requires marks { ArePivots marked lsm.now pivots.old.items }
+    requires more { marked ≤ rank }
+    requires rank { rank < length (content lsm.now) }
+    ensures block { result.block < length lsm.now }
+    ensures index { slice_get (slice_index_or lsm.now result.block []) result.index
+        ≡ Some result.item }
+    ensures rank { slice_get (sorted (content lsm.now)) rank ≡ Some result.item }
+{
+    mark_to(lsm, ranking, pivots, marked, rank);
+    place_behind(lsm, pivots.as_slice(), rank)
 }
 
 // Marks more of the least items, and tells the ranking of them.
@@ -127,24 +230,33 @@ fn mark_to<R: Run, const LEVELS: usize>(
     }
 }
 
-// Whether as many first items of each block as these pivots say are the least `count`.
-fn are_pivots<R: Run, const LEVELS: usize>(
+// The least item behind these pivots, and where it stands, if they mark the least `count` items.
+fn place_where_least<R: Run, const LEVELS: usize>(
     lsm: &Lsm<R, LEVELS>,
     pivots: &[usize],
     count: usize,
-) -> bool
+) -> Option<Place>
     requires lawful { IsLsm lsm.now }
-    requires some { 0 < count }
     requires more { count < length (content lsm.now) }
-    ensures { IsTrue result → ArePivots count lsm.now pivots.now }
+    ensures { IfSome result (λ place. ArePivots count lsm.now pivots.now
+        × (place.block < length lsm.now)
+        × (slice_get (slice_index_or lsm.now place.block []) place.index ≡ Some place.item)
+        × (slice_get (sorted (content lsm.now)) count ≡ Some place.item)) }
 {
+    if count == 0 {
+        return None;
+    }
     if !are_within(lsm, pivots, count) {
-        return false;
+        return None;
     }
     let greatest = greatest_marked(lsm, pivots).item;
     let block = least_unmarked(lsm, pivots);
-    let least = lsm.block(block).item_at(pivots[block]);
-    greatest.is_before(&least)
+    let index = pivots[block];
+    let item = lsm.block(block).item_at(index);
+    if !greatest.is_before(&item) {
+        return None;
+    }
+    Some(Place { block, index, item })
 }
 
 // Whether there is a pivot for each block, not greater than its number of items, and together they are `count`.

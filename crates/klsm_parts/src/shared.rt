@@ -11,8 +11,8 @@ ghost use Rattle.klsm_parts.specs.Parts.{PartState, IsShared, items_in, least_in
 
 use crate::appending::append_blocks;
 use crate::mending::{added_by, mend_added, mend_cut};
-use crate::ranking::{LeastItems, Ranking, pivots_by};
-use crate::ranks::{Place, item_of, least_place, pivots_of, place_behind, place_of};
+use crate::ranking::{LeastItems, Ranking, place_by};
+use crate::ranks::{Place, item_of, least_place, pivots_of, place_of};
 use arrayvec::ArrayVec;
 use klsm_lsm::{Lsm, LsmError};
 use klsm_run::{HeapRun, Item, Run};
@@ -165,8 +165,14 @@ impl<const LEVELS: usize, A: Allocator + Copy> Shared<LEVELS, A> {
             };
             return least;
         }
-        let pivots = pivots_by(&self.lsm, &mut self.least.ranking, index);
-        place_behind(&self.lsm, pivots.as_slice(), index)
+        let candidates = self.candidates();
+        place_by(
+            &self.lsm,
+            &mut self.least.ranking,
+            self.pivots.as_slice(),
+            candidates,
+            index,
+        )
     }
 
     // Puts a copy of a run in. What can be refused comes first, and Full before a growth.
@@ -183,10 +189,11 @@ impl<const LEVELS: usize, A: Allocator + Copy> Shared<LEVELS, A> {
         // A look at both lengths tells that their sum fits.
         let _lengths = (run.len(), self.lsm.len());
         let added = added_by(&self.lsm, self.pivots.as_slice(), run, self.k);
+        let ranking = self.least.ranking.with(&self.lsm, run, added.cascade);
         match self.lsm.absorb_copy(self.alloc, run) {
             Ok(()) => {
                 mend_added(&self.lsm, &mut self.pivots, added, self.k);
-                self.least.ranking.clear();
+                self.least.ranking = ranking;
                 self.least.first = least_place(&self.lsm);
                 Ok(())
             }
@@ -206,7 +213,7 @@ impl<const LEVELS: usize, A: Allocator + Copy> Shared<LEVELS, A> {
         let partner = self.lsm.partner(place.block);
         let is_only = self.lsm.block(place.block).len() == 1;
         let _item = self.lsm.remove(place.block, place.index);
-        mend_cut(
+        let next = mend_cut(
             &self.lsm,
             &mut self.pivots,
             place.block,
@@ -215,7 +222,9 @@ impl<const LEVELS: usize, A: Allocator + Copy> Shared<LEVELS, A> {
             self.k,
         );
         let closes_up = is_only | partner.is_some();
-        self.least.ranking.remove(rank, place.block, closes_up);
+        let ranking = &mut self.least.ranking;
+        ranking.remove(rank, place.block, closes_up);
+        ranking.push_last(next, self.k);
         self.least.first = least_place(&self.lsm);
     }
 }

@@ -10,36 +10,28 @@ use Rattle.klsm_lsm.specs.Lsm.{content}
 use Rattle.klsm_parts.specs.Least.{least}
 use Rattle.klsm_parts.specs.LeastPlaces.{IsLeastPlace}
 use Rattle.klsm_parts.specs.Parts.{PartState, candidates_of}
-use Rattle.klsm_parts.specs.Pivots.{ArePivots}
 use Rattle.klsm_parts.proofs.TakeLemmas.{least_is_candidate}
-use Rattle.klsm_parts.proofs.FitLemmas.{lsm_fits, pivots_fit}
+use Rattle.klsm_parts.proofs.FitLemmas.{lsm_fits}
 use Rattle.klsm_parts.proofs.shared.Shared.place_of_candidate.Goals as goal
 
-pub pivots_by-pivots-requires : goal.pivots_by-pivots-requires
-pivots_by-pivots-requires g c =
+pub place_by-requires : goal.place_by-requires
+place_by-requires g c =
     let lsm = c.self.inside.lsm in
     let among = subst (λ (p : PartState). c.args.index < length (least (p.k + 1) (content p.blocks))) (sym c.self.view_is) c.requires in
     let rank : c.args.index < length (content lsm) = omega (arith, among, length-take (c.self.inside.k + 1) (sorted (content lsm)), length_sorted (content lsm)) in
-    (search lsm_fits, (search pivots_fit, (c.self.invariant.levels_in_range, (c.self.invariant.lawful, rank))))
-
-pub place_behind-requires : goal.place_behind-requires
-place_behind-requires g c =
-    let lsm = c.self.inside.lsm in
-    let among = subst (λ (p : PartState). c.args.index < length (least (p.k + 1) (content p.blocks))) (sym c.self.view_is) c.requires in
-    let rank : c.args.index < length (content lsm) = omega (arith, among, length-take (c.self.inside.k + 1) (sorted (content lsm)), length_sorted (content lsm)) in
-    (search lsm_fits, (c.self.invariant.lawful, (subst (ArePivots c.args.index lsm) (sym c.as_slice.ensures.value) c.pivots_by-pivots.ensures, rank)))
+    (search lsm_fits, (c.self.invariant.levels_in_range, (c.self.invariant.lawful, rank)))
 
 pub returns-clause-candidate : goal.returns-clause-candidate
 returns-clause-candidate g c =
     let among : c.args.index < c.args.self.now.k + 1 = omega (arith, c.requires, length-take (c.args.self.now.k + 1) (sorted (content c.args.self.now.blocks))) in
     slice_get-take (c.args.self.now.k + 1) (sorted (content c.args.self.now.blocks)) c.args.index among
-    ∙ subst (λ (p : PartState). slice_get (sorted (content p.blocks)) c.args.index ≡ Some c.place_behind.result.item) c.self.view_is c.place_behind.ensures.rank
+    ∙ subst (λ (p : PartState). slice_get (sorted (content p.blocks)) c.args.index ≡ Some c.place_by.result.item) c.self.view_is c.place_by.ensures.rank
 
 pub returns-clause-block : goal.returns-clause-block
-returns-clause-block g c = subst (λ (p : PartState). c.place_behind.result.block < length p.blocks) c.self.view_is c.place_behind.ensures.block
+returns-clause-block g c = subst (λ (p : PartState). c.place_by.result.block < length p.blocks) c.self.view_is c.place_by.ensures.block
 
 pub returns-clause-index : goal.returns-clause-index
-returns-clause-index g c = subst (λ (p : PartState). slice_get (get_or p.blocks c.place_behind.result.block []) c.place_behind.result.index ≡ Some c.place_behind.result.item) c.self.view_is c.place_behind.ensures.index
+returns-clause-index g c = subst (λ (p : PartState). slice_get (get_or p.blocks c.place_by.result.block []) c.place_by.result.index ≡ Some c.place_by.result.item) c.self.view_is c.place_by.ensures.index
 
 pub returns-then-index-eq0-clause-candidate : goal.returns-then-index-eq0-clause-candidate
 returns-then-index-eq0-clause-candidate g c =

@@ -16,8 +16,8 @@ remove-item-requires g c =
     let index = subst (λ (p : PartState). slice_get (get_or p.blocks c.args.place.block []) c.args.place.index ≡ Some c.args.place.item) (sym c.self.view_is) c.requires.index in
     (search lsm_fits, (block, slice_get_within (get_or c.self.inside.lsm c.args.place.block []) c.args.place.index c.args.place.item index))
 
-pub mend_cut-requires : goal.mend_cut-requires
-mend_cut-requires g c =
+pub mend_cut-next-requires : goal.mend_cut-next-requires
+mend_cut-next-requires g c =
     let bs = c.self.inside.lsm in
     let at = c.args.place.block in
     let here = subst (λ (p : PartState). at < length p.blocks) (sym c.self.view_is) c.requires.block in
