@@ -23,6 +23,8 @@ mod lsm;
 #[cfg(test)]
 mod meeting;
 #[cfg(test)]
+mod numbered;
+#[cfg(test)]
 mod owned;
 #[cfg(test)]
 mod parts;

@@ -8,8 +8,8 @@ use klsm_world::{StepError, World, WorldError};
 use std::alloc::Global;
 use std::fmt::{Debug, Display};
 
-// Whether a value prints so.
-fn prints<T: Debug>(alloc: Global, value: &T, want: &str) -> Option<bool> {
+/// Whether a value prints so.
+pub(crate) fn prints<T: Debug>(alloc: Global, value: &T, want: &str) -> Option<bool> {
     let text = format!(in alloc; "{value:?}").ok()?;
     Some(text.as_str() == want)
 }

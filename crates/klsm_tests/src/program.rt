@@ -7,7 +7,6 @@ mod live;
 mod process;
 mod refused;
 mod replayed;
-mod reports;
 mod scripts;
 mod skips;
 mod threads;
@@ -16,7 +15,7 @@ mod words;
 mod worked;
 
 use klsm_tool::{Silent, run_program};
-use process::{Input, Output, Process, Refusal};
+use process::{Input, Output, Process};
 use std::alloc::Global;
 use std::sync::Wait;
 use std::thread::Threads;
@@ -48,42 +47,19 @@ fn gives(
     run(rt, alloc, words, input, &mut output) == status && output.taken.as_slice() == text
 }
 
-/// Words, an input, and all that the program writes.
-#[derive(Clone, Copy)]
-struct Told {
-    words: &'static [&'static [u8]],
-    input: &'static [u8],
-    text: &'static [u8],
-}
+/// Words, an input, the status of the program and all that it writes.
+type Told = (&'static [&'static [u8]], &'static [u8], u8, &'static [u8]);
 
-/// Whether an output that refuses after so many bytes of the text has just these, and the program
-/// then tries no further write and ends with status 4.
-fn leaves_first(
+/// The first row that goes otherwise.
+fn first_otherwise(
     rt: &(impl Wait + Threads + Sync),
     alloc: Global,
-    told: Told,
-    room: usize,
-    refusal: Refusal,
-) -> bool {
-    let mut output = Output {
-        room,
-        at_a_time: 5,
-        refusal,
-        ..Output::ample(alloc)
-    };
-    let status = run(rt, alloc, told.words, Input::whole(told.input), &mut output);
-    let first = told.text.get(..room).unwrap_or(told.text);
-    status == 4 && output.refused == 1 && output.taken.as_slice() == first
-}
-
-/// The same for each number of bytes below that of the text, and for both kinds of refusal.
-fn leaves_any_first(rt: &(impl Wait + Threads + Sync), alloc: Global, told: Told) -> bool {
-    for room in 0..told.text.len() {
-        if !leaves_first(rt, alloc, told, room, Refusal::Fails)
-            || !leaves_first(rt, alloc, told, room, Refusal::TakesNothing)
-        {
-            return false;
+    rows: &[Told],
+) -> Option<usize> {
+    for (row, (words, input, status, text)) in rows.iter().enumerate() {
+        if !gives(rt, alloc, words, Input::whole(input), *status, text) {
+            return Some(row);
         }
     }
-    true
+    None
 }

@@ -2,7 +2,7 @@
 ghost use Rattle.klsm_parts.specs.Limit.{IsLevelCount};
 
 use super::crew::Crew;
-use super::script::{How, Name, Step, first_otherwise, item};
+use super::script::{Name, Step, first_otherwise, item};
 use klsm_board::{Account, FinishError, TryInsertError};
 use std::alloc::Global;
 use std::sync::Wait;
@@ -22,7 +22,7 @@ fn after<const LEVELS: usize>(
     requires { IsLevelCount LEVELS }
 {
     let mut crew = Crew::new(alloc, threads, k, quota).ok()?;
-    match first_otherwise(rt, &mut crew, How::Wait, steps) {
+    match first_otherwise(rt, &mut crew, true, steps) {
         Some(_) => None,
         None => Some(crew),
     }
@@ -70,12 +70,23 @@ const TWO_MEMBERS: &[Step] = &[
     Step::Deletes(1, Some((2, 1, 1))),
 ];
 
-fn two_members_come_back(rt: &impl Wait, alloc: Global) -> Option<bool> {
-    let mut crew = after::<21>(rt, alloc, 2, 1, MANY, TWO_MEMBERS)?;
+// The board of two members, which come back in the other order, after it was not finished without
+// some of them: the least number that is missing is told.
+fn all_but_some(alloc: Global, crew: Crew<21>) -> Option<Crew<21>> {
+    let mut crew = crew;
     crew.leave()?;
     let mut crew = refused(alloc, crew, FinishError::Missing(1), &[0])?;
-    crew.leave()?;
     crew.relieve();
+    let mut crew = refused(alloc, crew, FinishError::Missing(0), &[1])?;
+    crew.relieve();
+    crew.leave()?;
+    let mut crew = refused(alloc, crew, FinishError::Missing(0), &[])?;
+    crew.relieve();
+    Some(crew)
+}
+
+fn two_members_come_back(rt: &impl Wait, alloc: Global) -> Option<bool> {
+    let crew = all_but_some(alloc, after(rt, alloc, 2, 1, MANY, TWO_MEMBERS)?)?;
     let account = account_of(alloc, crew, &[1, 0])?;
     Some(tells(&account, 3, 1, &[(4, 0, 0), (6, 1, 0)]))
 }
@@ -85,39 +96,12 @@ fn a_board_whose_members_come_back_in_another_order(rt: HostRuntime) {
     assert!(rt; two_members_come_back(&rt, rt.alloc()) == Some(true));
 }
 
-fn all_but_some(rt: &impl Wait, alloc: Global) -> Option<bool> {
-    let mut crew = after::<21>(rt, alloc, 2, 1, MANY, &[Step::Inserts((4, 0, 0))])?;
-    crew.leave()?;
-    let mut crew = refused(alloc, crew, FinishError::Missing(1), &[0])?;
-    crew.relieve();
-    let mut crew = refused(alloc, crew, FinishError::Missing(0), &[1])?;
-    crew.leave()?;
-    let mut crew = refused(alloc, crew, FinishError::Missing(0), &[])?;
-    crew.relieve();
-    let account = account_of(alloc, crew, &[0, 1])?;
-    Some(tells(&account, 1, 0, &[(4, 0, 0)]))
-}
-
-#[test]
-fn the_least_number_that_is_missing(rt: HostRuntime) {
-    assert!(rt; all_but_some(&rt, rt.alloc()) == Some(true));
-}
-
 const NONE_INSERTED: &[Step] = &[
     Step::IsRefused(0, 1, TryInsertError::Spent),
     Step::Deletes(0, None),
 ];
 
-fn none_inserted(rt: &impl Wait, alloc: Global) -> Option<bool> {
-    let crew = after::<21>(rt, alloc, 1, 1, 0, NONE_INSERTED)?;
-    Some(tells(&account_of(alloc, crew, &[0])?, 0, 0, &[]))
-}
-
-#[test]
-fn a_board_without_insertions(rt: HostRuntime) {
-    assert!(rt; none_inserted(&rt, rt.alloc()) == Some(true));
-}
-
+// A refused insertion is not counted.
 const FULL_ONCE: &[Step] = &[
     Step::Inserts((1, 0, 0)),
     Step::Inserts((2, 0, 1)),
@@ -129,14 +113,29 @@ const FULL_ONCE: &[Step] = &[
     Step::Inserts((5, 0, 4)),
 ];
 
-// The shared part of two levels takes two items.
-fn full_once(rt: &impl Wait, alloc: Global) -> Option<bool> {
-    let crew = after::<2>(rt, alloc, 1, 2, MANY, FULL_ONCE)?;
+// The account of a board of one member.
+fn account_after<const LEVELS: usize>(
+    rt: &impl Wait,
+    alloc: Global,
+    k: usize,
+    quota: u64,
+    steps: &[Step],
+) -> Option<Account>
+    requires { IsLevelCount LEVELS }
+{
+    account_of(alloc, after::<LEVELS>(rt, alloc, 1, k, quota, steps)?, &[0])
+}
+
+// Whether a board that takes no insertion has its account, and one whose shared part of two levels
+// takes two items.
+fn have_accounts(rt: &impl Wait, alloc: Global) -> Option<bool> {
+    let none = account_after::<21>(rt, alloc, 1, 0, NONE_INSERTED)?;
+    let full = account_after::<2>(rt, alloc, 2, MANY, FULL_ONCE)?;
     let left = [(3, 0, 2), (4, 0, 3), (5, 0, 4)];
-    Some(tells(&account_of(alloc, crew, &[0])?, 5, 2, &left))
+    Some(tells(&none, 0, 0, &[]) && tells(&full, 5, 2, &left))
 }
 
 #[test]
-fn a_refused_insertion_is_not_counted(rt: HostRuntime) {
-    assert!(rt; full_once(&rt, rt.alloc()) == Some(true));
+fn boards_without_insertions_and_with_refused_ones(rt: HostRuntime) {
+    assert!(rt; have_accounts(&rt, rt.alloc()) == Some(true));
 }

@@ -42,15 +42,6 @@ pub(super) enum Step {
     Counts(u32, u64, u64),
 }
 
-/// Which calls insert and delete.
-#[derive(Clone, Copy, Debug, PartialEq, Eq)]
-pub(super) enum How {
-    /// Those that wait for nobody.
-    Try,
-    /// Those that may wait, except while a part is held.
-    Wait,
-}
-
 /// What a board is made for, and the steps on it.
 pub(super) struct Script {
     pub threads: usize,
@@ -69,50 +60,51 @@ fn as_tried(answer: Result<Stamp, InsertError>) -> Result<Stamp, TryInsertError>
     }
 }
 
-// How a member's insertion of a key ends.
+// How a member's insertion of a key ends, by the call that may wait, except while a part is held, or
+// by the one that waits for nobody.
 fn insert<const LEVELS: usize>(
     rt: &impl Wait,
     crew: &mut Crew<LEVELS>,
-    how: How,
+    waits: bool,
     member: u32,
     key: u64,
 ) -> Option<Result<Stamp, TryInsertError>> {
     let index = member as usize;
     let load = crew.counts(index)?.0.saturating_add(1);
-    match how {
-        How::Wait if crew.held.is_none() => Some(as_tried(crew.insert(rt, index, key, load)?)),
-        _ => crew.try_insert(index, key, load),
+    if waits && crew.held.is_none() {
+        return Some(as_tried(crew.insert(rt, index, key, load)?));
     }
+    crew.try_insert(index, key, load)
 }
 
-// How a member's deletion ends.
+// How a member's deletion ends, by either call likewise.
 fn delete<const LEVELS: usize>(
     rt: &impl Wait,
     crew: &mut Crew<LEVELS>,
-    how: How,
+    waits: bool,
     member: u32,
 ) -> Option<Result<Option<Item>, Busy>> {
     let index = member as usize;
-    match how {
-        How::Wait if crew.held.is_none() => Some(Ok(crew.delete_min(rt, index)?)),
-        _ => crew.try_delete_min(index, &mut First),
+    if waits && crew.held.is_none() {
+        return Some(Ok(crew.delete_min(rt, index)?));
     }
+    crew.try_delete_min(index, &mut First)
 }
 
 // Whether a step goes as it has to.
 fn goes<const LEVELS: usize>(
     rt: &impl Wait,
     crew: &mut Crew<LEVELS>,
-    how: How,
+    waits: bool,
     step: Step,
 ) -> Option<bool> {
     Some(match step {
         Step::Inserts((key, owner, number)) => {
-            insert(rt, crew, how, owner, key)? == Ok(Stamp { owner, number })
+            insert(rt, crew, waits, owner, key)? == Ok(Stamp { owner, number })
         }
-        Step::IsRefused(member, key, why) => insert(rt, crew, how, member, key)? == Err(why),
-        Step::Deletes(member, name) => delete(rt, crew, how, member)? == Ok(name.map(item)),
-        Step::Misses(member, busy) => delete(rt, crew, how, member)? == Err(busy),
+        Step::IsRefused(member, key, why) => insert(rt, crew, waits, member, key)? == Err(why),
+        Step::Deletes(member, name) => delete(rt, crew, waits, member)? == Ok(name.map(item)),
+        Step::Misses(member, busy) => delete(rt, crew, waits, member)? == Err(busy),
         Step::Holds(member, lock, len, least) => {
             crew.try_hold(lock)? == Ok(()) && crew.holds(member, lock, len, least.map(item))
         }
@@ -131,11 +123,11 @@ fn goes<const LEVELS: usize>(
 pub(super) fn first_otherwise<const LEVELS: usize>(
     rt: &impl Wait,
     crew: &mut Crew<LEVELS>,
-    how: How,
+    waits: bool,
     steps: &[Step],
 ) -> Option<usize> {
     for (index, step) in steps.iter().enumerate() {
-        if goes(rt, crew, how, *step) != Some(true) {
+        if goes(rt, crew, waits, *step) != Some(true) {
             return Some(index);
         }
     }
@@ -147,27 +139,27 @@ fn first_on_new<const LEVELS: usize>(
     rt: &impl Wait,
     alloc: Global,
     script: &Script,
-    how: How,
+    waits: bool,
 ) -> Option<usize>
     requires { IsLevelCount LEVELS }
 {
     match Crew::<LEVELS>::new(alloc, script.threads, script.k, script.quota) {
-        Ok(mut crew) => first_otherwise(rt, &mut crew, how, script.steps),
+        Ok(mut crew) => first_otherwise(rt, &mut crew, waits, script.steps),
         Err(_) => Some(script.steps.len()),
     }
 }
 
-/// The first step of a script that goes otherwise, by the calls of either kind.
+/// The first step of a script that goes otherwise, and whether by the calls that may wait.
 pub(super) fn wrong_step<const LEVELS: usize>(
     rt: &impl Wait,
     alloc: Global,
     script: &Script,
-) -> Option<(How, usize)>
+) -> Option<(bool, usize)>
     requires { IsLevelCount LEVELS }
 {
-    for how in [How::Try, How::Wait] {
-        if let Some(index) = first_on_new::<LEVELS>(rt, alloc, script, how) {
-            return Some((how, index));
+    for waits in [false, true] {
+        if let Some(index) = first_on_new::<LEVELS>(rt, alloc, script, waits) {
+            return Some((waits, index));
         }
     }
     None

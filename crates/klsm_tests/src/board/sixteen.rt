@@ -45,10 +45,7 @@ fn is_made(alloc: Global, threads: usize, k: usize, quota: u64, cause: Option<Ma
 #[test]
 fn causes_in_their_order(rt: HostRuntime) {
     for (threads, k, quota, cause) in CAUSES {
-        assert!(rt;
-            is_made(rt.alloc(), *threads, *k, *quota, *cause),
-            "{threads} members, k = {k}, quota {quota}"
-        );
+        assert!(rt; is_made(rt.alloc(), *threads, *k, *quota, *cause));
     }
 }
 
@@ -115,6 +112,6 @@ fn find_all_once(alloc: Global, k: usize) -> Option<bool> {
 #[test]
 fn sixteen_members_find_all_items_once(rt: HostRuntime) {
     for k in [0, 1, 3, 64] {
-        assert!(rt; find_all_once(rt.alloc(), k) == Some(true), "k = {k}");
+        assert!(rt; find_all_once(rt.alloc(), k) == Some(true));
     }
 }

@@ -6,53 +6,167 @@ use klsm_board::{Busy, HoldError, TryInsertError};
 // The most insertions of a member.
 const MANY: u64 = 281_474_976_710_656;
 
-const NEW: Script = Script {
-    threads: 1,
-    k: 64,
-    quota: MANY,
-    steps: &[Step::Deletes(0, None), Step::Counts(0, 0, 0)],
-};
+const SCRIPTS: &[Script] = &[
+    // A new board has nothing.
+    Script {
+        threads: 1,
+        k: 64,
+        quota: MANY,
+        steps: &[Step::Deletes(0, None), Step::Counts(0, 0, 0)],
+    },
+    // Equal keys go in turn, with their loads.
+    Script {
+        threads: 1,
+        k: 64,
+        quota: MANY,
+        steps: &[
+            Step::Inserts((7, 0, 0)),
+            Step::Inserts((7, 0, 1)),
+            Step::Inserts((7, 0, 2)),
+            Step::Deletes(0, Some((7, 0, 0))),
+            Step::Deletes(0, Some((7, 0, 1))),
+            Step::Deletes(0, Some((7, 0, 2))),
+        ],
+    },
+    // The least and the greatest key.
+    Script {
+        threads: 1,
+        k: 64,
+        quota: MANY,
+        steps: &[
+            Step::Inserts((u64::MAX, 0, 0)),
+            Step::Inserts((0, 0, 1)),
+            Step::Deletes(0, Some((0, 0, 1))),
+            Step::Deletes(0, Some((u64::MAX, 0, 0))),
+            Step::Deletes(0, None),
+        ],
+    },
+    // A spent quota.
+    Script {
+        threads: 1,
+        k: 4,
+        quota: 2,
+        steps: &[
+            Step::Inserts((1, 0, 0)),
+            Step::Inserts((2, 0, 1)),
+            Step::IsRefused(0, 3, TryInsertError::Spent),
+            Step::Counts(0, 2, 0),
+            Step::Deletes(0, Some((1, 0, 0))),
+            Step::IsRefused(0, 3, TryInsertError::Spent),
+        ],
+    },
+    // No quota at all.
+    Script {
+        threads: 1,
+        k: 1,
+        quota: 0,
+        steps: &[
+            Step::IsRefused(0, 1, TryInsertError::Spent),
+            Step::Deletes(0, None),
+            Step::Counts(0, 0, 0),
+        ],
+    },
+    // A part that is held is passed over: member 1 holds its own, with one item in it.
+    Script {
+        threads: 2,
+        k: 4,
+        quota: MANY,
+        steps: &[
+            Step::Inserts((5, 1, 0)),
+            Step::Holds(1, 2, 1, Some((5, 1, 0))),
+            Step::Inserts((7, 0, 0)),
+            Step::Deletes(0, Some((7, 0, 0))),
+            Step::Deletes(0, None),
+            Step::PutsBack,
+            Step::Deletes(0, Some((5, 1, 0))),
+            Step::Counts(0, 1, 2),
+            Step::Counts(1, 1, 0),
+        ],
+    },
+    // A held part refuses those who need it: member 1 holds the shared part, and then member 0's
+    // own.
+    Script {
+        threads: 2,
+        k: 1,
+        quota: MANY,
+        steps: &[
+            Step::Holds(1, 0, 0, None),
+            Step::Misses(0, Busy { lock: 0, by: 1 }),
+            Step::Inserts((1, 0, 0)),
+            Step::IsRefused(0, 2, TryInsertError::Busy(Busy { lock: 0, by: 1 })),
+            Step::Counts(0, 1, 0),
+            Step::CannotHold(0, HoldError::Busy(Busy { lock: 0, by: 1 })),
+            Step::CannotHold(3, HoldError::NoSuchLock),
+            Step::PutsBack,
+            Step::Inserts((2, 0, 1)),
+            Step::Holds(1, 1, 1, Some((2, 0, 1))),
+            Step::IsRefused(0, 3, TryInsertError::Busy(Busy { lock: 1, by: 1 })),
+            Step::Misses(0, Busy { lock: 1, by: 1 }),
+            Step::PutsBack,
+            Step::Deletes(0, Some((1, 0, 0))),
+        ],
+    },
+    // Member 2 of three holds each of the parts in turn, where members 0 and 1 have one item each
+    // and no room for another. First the shared part.
+    Script {
+        threads: 3,
+        k: 1,
+        quota: MANY,
+        steps: &[
+            Step::Inserts((6, 0, 0)),
+            Step::Inserts((4, 1, 0)),
+            Step::Holds(2, 0, 0, None),
+            Step::Misses(0, Busy { lock: 0, by: 2 }),
+            Step::IsRefused(0, 8, TryInsertError::Busy(Busy { lock: 0, by: 2 })),
+        ],
+    },
+    // Member 0's own part.
+    Script {
+        threads: 3,
+        k: 1,
+        quota: MANY,
+        steps: &[
+            Step::Inserts((6, 0, 0)),
+            Step::Inserts((4, 1, 0)),
+            Step::Holds(2, 1, 1, Some((6, 0, 0))),
+            Step::Misses(0, Busy { lock: 1, by: 2 }),
+            Step::IsRefused(0, 8, TryInsertError::Busy(Busy { lock: 1, by: 2 })),
+        ],
+    },
+    // Member 1's.
+    Script {
+        threads: 3,
+        k: 1,
+        quota: MANY,
+        steps: &[
+            Step::Inserts((6, 0, 0)),
+            Step::Inserts((4, 1, 0)),
+            Step::Holds(2, 2, 1, Some((4, 1, 0))),
+            Step::Deletes(0, Some((6, 0, 0))),
+            Step::Deletes(0, None),
+        ],
+    },
+    // Its own.
+    Script {
+        threads: 3,
+        k: 1,
+        quota: MANY,
+        steps: &[
+            Step::Inserts((6, 0, 0)),
+            Step::Inserts((4, 1, 0)),
+            Step::Holds(2, 3, 0, None),
+            Step::Deletes(0, Some((6, 0, 0))),
+            Step::Deletes(0, Some((4, 1, 0))),
+            Step::Deletes(0, None),
+        ],
+    },
+];
 
 #[test]
-fn a_new_board_has_nothing(rt: HostRuntime) {
-    assert_eq!(rt; wrong_step::<21>(&rt, rt.alloc(), &NEW), None);
-}
-
-const EQUAL_KEYS: Script = Script {
-    threads: 1,
-    k: 64,
-    quota: MANY,
-    steps: &[
-        Step::Inserts((7, 0, 0)),
-        Step::Inserts((7, 0, 1)),
-        Step::Inserts((7, 0, 2)),
-        Step::Deletes(0, Some((7, 0, 0))),
-        Step::Deletes(0, Some((7, 0, 1))),
-        Step::Deletes(0, Some((7, 0, 2))),
-    ],
-};
-
-#[test]
-fn equal_keys_go_in_turn_with_their_loads(rt: HostRuntime) {
-    assert_eq!(rt; wrong_step::<21>(&rt, rt.alloc(), &EQUAL_KEYS), None);
-}
-
-const EXTREME_KEYS: Script = Script {
-    threads: 1,
-    k: 64,
-    quota: MANY,
-    steps: &[
-        Step::Inserts((u64::MAX, 0, 0)),
-        Step::Inserts((0, 0, 1)),
-        Step::Deletes(0, Some((0, 0, 1))),
-        Step::Deletes(0, Some((u64::MAX, 0, 0))),
-        Step::Deletes(0, None),
-    ],
-};
-
-#[test]
-fn the_least_and_the_greatest_key(rt: HostRuntime) {
-    assert_eq!(rt; wrong_step::<21>(&rt, rt.alloc(), &EXTREME_KEYS), None);
+fn scripts_of_one_to_three_members(rt: HostRuntime) {
+    for script in SCRIPTS {
+        assert!(rt; wrong_step::<21>(&rt, rt.alloc(), script).is_none());
+    }
 }
 
 // The shared part of four levels takes 8 items, and with k = 0 there is no own one. An insertion
@@ -76,11 +190,6 @@ const FULL: Script = Script {
         Step::Inserts((9, 0, 8)),
     ],
 };
-
-#[test]
-fn a_full_shared_part(rt: HostRuntime) {
-    assert_eq!(rt; wrong_step::<4>(&rt, rt.alloc(), &FULL), None);
-}
 
 // The shared part of two levels takes 2 items, which are what a flush would move.
 const FULL_FOR_TWO: Script = Script {
@@ -106,160 +215,7 @@ const FULL_FOR_TWO: Script = Script {
 };
 
 #[test]
-fn a_shared_part_with_room_for_one_of_two(rt: HostRuntime) {
-    assert_eq!(rt; wrong_step::<2>(&rt, rt.alloc(), &FULL_FOR_TWO), None);
-}
-
-const SPENT: Script = Script {
-    threads: 1,
-    k: 4,
-    quota: 2,
-    steps: &[
-        Step::Inserts((1, 0, 0)),
-        Step::Inserts((2, 0, 1)),
-        Step::IsRefused(0, 3, TryInsertError::Spent),
-        Step::Counts(0, 2, 0),
-        Step::Deletes(0, Some((1, 0, 0))),
-        Step::IsRefused(0, 3, TryInsertError::Spent),
-    ],
-};
-
-#[test]
-fn a_spent_quota(rt: HostRuntime) {
-    assert_eq!(rt; wrong_step::<21>(&rt, rt.alloc(), &SPENT), None);
-}
-
-const NO_QUOTA: Script = Script {
-    threads: 1,
-    k: 1,
-    quota: 0,
-    steps: &[
-        Step::IsRefused(0, 1, TryInsertError::Spent),
-        Step::Deletes(0, None),
-        Step::Counts(0, 0, 0),
-    ],
-};
-
-#[test]
-fn no_quota_at_all(rt: HostRuntime) {
-    assert_eq!(rt; wrong_step::<21>(&rt, rt.alloc(), &NO_QUOTA), None);
-}
-
-// Member 1 holds its own part, with one item in it.
-const VICTIM_HELD: Script = Script {
-    threads: 2,
-    k: 4,
-    quota: MANY,
-    steps: &[
-        Step::Inserts((5, 1, 0)),
-        Step::Holds(1, 2, 1, Some((5, 1, 0))),
-        Step::Inserts((7, 0, 0)),
-        Step::Deletes(0, Some((7, 0, 0))),
-        Step::Deletes(0, None),
-        Step::PutsBack,
-        Step::Deletes(0, Some((5, 1, 0))),
-        Step::Counts(0, 1, 2),
-        Step::Counts(1, 1, 0),
-    ],
-};
-
-#[test]
-fn a_part_that_is_held_is_passed_over(rt: HostRuntime) {
-    assert_eq!(rt; wrong_step::<21>(&rt, rt.alloc(), &VICTIM_HELD), None);
-}
-
-// Member 1 holds the shared part, and then member 0's own.
-const PARTS_HELD: Script = Script {
-    threads: 2,
-    k: 1,
-    quota: MANY,
-    steps: &[
-        Step::Holds(1, 0, 0, None),
-        Step::Misses(0, Busy { lock: 0, by: 1 }),
-        Step::Inserts((1, 0, 0)),
-        Step::IsRefused(0, 2, TryInsertError::Busy(Busy { lock: 0, by: 1 })),
-        Step::Counts(0, 1, 0),
-        Step::CannotHold(0, HoldError::Busy(Busy { lock: 0, by: 1 })),
-        Step::CannotHold(3, HoldError::NoSuchLock),
-        Step::PutsBack,
-        Step::Inserts((2, 0, 1)),
-        Step::Holds(1, 1, 1, Some((2, 0, 1))),
-        Step::IsRefused(0, 3, TryInsertError::Busy(Busy { lock: 1, by: 1 })),
-        Step::Misses(0, Busy { lock: 1, by: 1 }),
-        Step::PutsBack,
-        Step::Deletes(0, Some((1, 0, 0))),
-    ],
-};
-
-#[test]
-fn a_held_part_refuses_those_who_need_it(rt: HostRuntime) {
-    assert_eq!(rt; wrong_step::<21>(&rt, rt.alloc(), &PARTS_HELD), None);
-}
-
-// Member 2 of three holds one of the parts, where members 0 and 1 have one item each and no room
-// for another.
-
-const SHARED_HELD: Script = Script {
-    threads: 3,
-    k: 1,
-    quota: MANY,
-    steps: &[
-        Step::Inserts((6, 0, 0)),
-        Step::Inserts((4, 1, 0)),
-        Step::Holds(2, 0, 0, None),
-        Step::Misses(0, Busy { lock: 0, by: 2 }),
-        Step::IsRefused(0, 8, TryInsertError::Busy(Busy { lock: 0, by: 2 })),
-    ],
-};
-
-const OWN_HELD: Script = Script {
-    threads: 3,
-    k: 1,
-    quota: MANY,
-    steps: &[
-        Step::Inserts((6, 0, 0)),
-        Step::Inserts((4, 1, 0)),
-        Step::Holds(2, 1, 1, Some((6, 0, 0))),
-        Step::Misses(0, Busy { lock: 1, by: 2 }),
-        Step::IsRefused(0, 8, TryInsertError::Busy(Busy { lock: 1, by: 2 })),
-    ],
-};
-
-const FIRST_VICTIM_HELD: Script = Script {
-    threads: 3,
-    k: 1,
-    quota: MANY,
-    steps: &[
-        Step::Inserts((6, 0, 0)),
-        Step::Inserts((4, 1, 0)),
-        Step::Holds(2, 2, 1, Some((4, 1, 0))),
-        Step::Deletes(0, Some((6, 0, 0))),
-        Step::Deletes(0, None),
-    ],
-};
-
-const SECOND_VICTIM_HELD: Script = Script {
-    threads: 3,
-    k: 1,
-    quota: MANY,
-    steps: &[
-        Step::Inserts((6, 0, 0)),
-        Step::Inserts((4, 1, 0)),
-        Step::Holds(2, 3, 0, None),
-        Step::Deletes(0, Some((6, 0, 0))),
-        Step::Deletes(0, Some((4, 1, 0))),
-        Step::Deletes(0, None),
-    ],
-};
-
-#[test]
-fn each_part_held_in_turn(rt: HostRuntime) {
-    for script in [
-        &SHARED_HELD,
-        &OWN_HELD,
-        &FIRST_VICTIM_HELD,
-        &SECOND_VICTIM_HELD,
-    ] {
-        assert_eq!(rt; wrong_step::<21>(&rt, rt.alloc(), script), None);
-    }
+fn full_shared_parts(rt: HostRuntime) {
+    assert!(rt; wrong_step::<4>(&rt, rt.alloc(), &FULL).is_none());
+    assert!(rt; wrong_step::<2>(&rt, rt.alloc(), &FULL_FOR_TWO).is_none());
 }

@@ -1,25 +1,25 @@
 //! Drawn instances, whose best selection is found by a plain loop over all.
 
+use crate::numbered::add_words;
 use klsm_board::Open;
 use klsm_knapsack::{Instance, solve, solve_in_turn};
 use rand_core::{Rng, SeedableRng};
 use rand_pcg::Pcg32;
-use std::alloc::{AllocError, Global};
+use std::alloc::Global;
 use std::sync::Wait;
 use std::thread::Threads;
 
 // The rows of up to 12 things.
-fn drawn(alloc: Global, seed: u64) -> Result<String, AllocError> {
+fn drawn(alloc: Global, seed: u64) -> Option<Vec<u8>> {
     let mut mix = Pcg32::seed_from_u64(seed);
-    let capacity = mix.next_u64() % 60;
-    let mut text = format!(in alloc; "capacity,{capacity}\n")?;
+    let mut text = Vec::new(alloc);
+    add_words(&mut text, &[("capacity,", mix.next_u64() % 60)], "\n")?;
     for _ in 0..mix.next_u64() % 13 {
         let value = 1 + mix.next_u64() % 100;
         let weight = 1 + mix.next_u64() % 20;
-        let row = format!(in alloc; "{value},{weight}\n")?;
-        text.push_str(row.as_str())?;
+        add_words(&mut text, &[("", value), (",", weight)], "\n")?;
     }
-    Ok(text)
+    Some(text)
 }
 
 // The value of a selection, or none where it does not fit.
@@ -51,8 +51,8 @@ fn best_value(instance: &Instance) -> u64 {
 
 // Whether all searches of a drawn instance give a selection of the best value.
 fn agree(rt: &(impl Threads + Wait + Sync), alloc: Global, seed: u64) -> Option<bool> {
-    let text = drawn(alloc, seed).ok()?;
-    let instance = Instance::read(alloc, text.as_bytes()).ok()?;
+    let text = drawn(alloc, seed)?;
+    let instance = Instance::read(alloc, text.as_slice()).ok()?;
     let best = best_value(&instance);
     let in_turn = solve_in_turn(&instance);
     let mut all = in_turn.value == best && value_of(&instance, in_turn.picks) == Some(best);
@@ -68,6 +68,6 @@ fn agree(rt: &(impl Threads + Wait + Sync), alloc: Global, seed: u64) -> Option<
 #[test]
 fn searches_agree_with_a_plain_loop(rt: HostRuntime) {
     for seed in 0..200 {
-        assert_eq!(rt; agree(&rt, rt.alloc(), seed), Some(true));
+        assert!(rt; agree(&rt, rt.alloc(), seed) == Some(true));
     }
 }

@@ -57,6 +57,6 @@ fn same_at(alloc: Global, k: usize) -> Option<bool>
 #[test]
 fn the_same_at_each_k(rt: HostRuntime) {
     for k in [0, 1, 2, 5, 16, 64] {
-        assert!(rt; same_at(rt.alloc(), k) == Some(true), "k = {k}");
+        assert!(rt; same_at(rt.alloc(), k) == Some(true));
     }
 }

@@ -1,97 +1,131 @@
-//! A reader or a writer that fails in mid-stream.
+//! A reader or a writer that fails in mid-stream, in each command.
 
-use super::process::{Input, Output, Refusal};
+use super::knapsack::{INSTANCE, KNAPSACK, LINE};
+use super::live::{LIVE, TOTALS};
+use super::process::{Input, Output};
 use super::worked::{ANSWERS, SCRIPT};
-use super::{REPLAY, Told, gives, leaves_any_first, run};
+use super::{REPLAY, gives, run};
 use std::alloc::Global;
 use std::sync::Wait;
 use std::thread::Threads;
 
-#[test]
-fn a_failed_read_follows_the_answers_before_it(rt: HostRuntime) {
-    let table: [(&[u8], &[u8]); 3] = [
-        (b"0,i,5,50\n0", b"0 i 5 0.0\nread fault\n"),
-        (
-            b"0,i,5,50\n0,d,,\n0,i",
-            b"0 i 5 0.0\n0 d 5 0.0 load 50 skip 0\nread fault\n",
-        ),
-        (b"", b"read fault\n"),
-    ];
-    for (left, text) in table {
-        for at_a_time in [1, 3, 4096] {
-            let input = Input {
-                left,
-                at_a_time,
-                fails: true,
-            };
-            assert!(rt; gives(&rt, rt.alloc(), REPLAY, input, 4, text));
+/// Words, the bytes of an input that then fails, and all that the program writes: a replay's answers
+/// before it, and the one line of another command.
+const UNREAD: &[(&[&[u8]], &[u8], &[u8])] = &[
+    (REPLAY, b"", b"read fault\n"),
+    (REPLAY, b"\n\n", b"read fault\n"),
+    (REPLAY, b"0,i,5,50\n", b"0 i 5 0.0\nread fault\n"),
+    (REPLAY, b"0,i,5,50\n0", b"0 i 5 0.0\nread fault\n"),
+    (
+        REPLAY,
+        b"0,i,5,50\n0,d,,\n0,i",
+        b"0 i 5 0.0\n0 d 5 0.0 load 50 skip 0\nread fault\n",
+    ),
+    (LIVE, b"", b"read fault\n"),
+    (LIVE, b"0,i,5,50\n", b"read fault\n"),
+    (LIVE, b"0,i,5,50\n0", b"read fault\n"),
+    (KNAPSACK, b"", b"read fault\n"),
+    (KNAPSACK, b"capacity,10\n", b"read fault\n"),
+    (KNAPSACK, b"capacity,10\n60,5\n5", b"read fault\n"),
+];
+
+/// Whether the inputs that give so many bytes at a time are told so.
+fn are_told(rt: &(impl Wait + Threads + Sync), alloc: Global, at_a_time: usize) -> bool {
+    for (words, left, text) in UNREAD {
+        let input = Input {
+            left,
+            at_a_time,
+            fails: true,
+        };
+        if !gives(rt, alloc, words, input, 4, text) {
+            return false;
         }
+    }
+    true
+}
+
+#[test]
+fn a_failed_read_follows_what_is_answered_before_it(rt: HostRuntime) {
+    for at_a_time in [1, 3, 4096] {
+        assert!(rt; are_told(&rt, rt.alloc(), at_a_time));
     }
 }
 
-/// How the program of these words ends over the script and an output with so much room: its
-/// status, how many bytes the output took and how many writes it refused. `None` where the bytes do
-/// not begin with this text.
-fn cut_short(
+/// Words, an input, and the text that the program writes, or one that every text begins with.
+type Written = (&'static [&'static [u8]], &'static [u8], &'static [u8]);
+
+/// Whether an output that refuses after so many bytes has just so many, the first of them those of
+/// the text, and the program then tries no further write and ends with status 4.
+fn leaves_first(
     rt: &(impl Wait + Threads + Sync),
     alloc: Global,
-    words: &[&[u8]],
+    (words, input, text): Written,
     room: usize,
-    at_a_time: usize,
-    refusal: Refusal,
-    text: &[u8],
-) -> Option<(u8, usize, u32)> {
+    fails: bool,
+) -> bool {
     let mut output = Output {
         room,
-        at_a_time,
-        refusal,
+        at_a_time: 5,
+        fails,
         ..Output::ample(alloc)
     };
-    let status = run(rt, alloc, words, Input::whole(SCRIPT), &mut output);
-    if !output.taken.as_slice().starts_with(text) {
-        return None;
+    let status = run(rt, alloc, words, Input::whole(input), &mut output);
+    let taken = output.taken.as_slice();
+    let first = text.get(..room).unwrap_or(text);
+    status == 4 && output.refused == 1 && taken.len() == room && taken.starts_with(first)
+}
+
+/// The same for each number of bytes below that of the text, and for both kinds of refusal.
+fn leaves_any_first(rt: &(impl Wait + Threads + Sync), alloc: Global, written: Written) -> bool {
+    for room in 0..written.2.len() {
+        if !leaves_first(rt, alloc, written, room, true)
+            || !leaves_first(rt, alloc, written, room, false)
+        {
+            return false;
+        }
     }
-    Some((status, output.taken.len(), output.refused))
+    true
 }
 
 #[test]
 fn a_failed_write_leaves_the_first_bytes(rt: HostRuntime) {
     assert!(rt; ANSWERS.len() == 134);
-    let told = Told {
-        words: REPLAY,
-        input: SCRIPT,
-        text: ANSWERS,
+    assert!(rt; leaves_any_first(&rt, rt.alloc(), (REPLAY, SCRIPT, ANSWERS)));
+    assert!(rt; leaves_any_first(&rt, rt.alloc(), (LIVE, SCRIPT, TOTALS)));
+    assert!(rt; leaves_any_first(&rt, rt.alloc(), (KNAPSACK, INSTANCE, LINE)));
+}
+
+/// Words that are answered with another text, which is longer than 20 bytes.
+const OTHERS: &[&[&[u8]]] = &[
+    &[b"klsm", b"--help"],
+    &[b"klsm", b"lives"],
+    &[b"klsm", b"\xff"],
+];
+
+#[test]
+fn a_failed_write_of_another_text_is_status_4(rt: HostRuntime) {
+    for words in OTHERS {
+        for fails in [true, false] {
+            assert!(rt; leaves_first(&rt, rt.alloc(), (words, SCRIPT, b""), 20, fails));
+        }
+    }
+}
+
+/// Whether an output that takes so many bytes at a time, and no more than the answers have, takes
+/// them all.
+fn takes_all(rt: &(impl Wait + Threads + Sync), alloc: Global, at_a_time: usize) -> bool {
+    let mut output = Output {
+        room: 134,
+        at_a_time,
+        ..Output::ample(alloc)
     };
-    assert!(rt; leaves_any_first(&rt, rt.alloc(), told));
+    let status = run(rt, alloc, REPLAY, Input::whole(SCRIPT), &mut output);
+    status == 0 && output.refused == 0 && output.taken.as_slice() == ANSWERS
 }
 
 #[test]
 fn short_writes_give_the_whole_text(rt: HostRuntime) {
     for at_a_time in [1, 7] {
-        let left = cut_short(
-            &rt,
-            rt.alloc(),
-            REPLAY,
-            1000,
-            at_a_time,
-            Refusal::Fails,
-            ANSWERS,
-        );
-        assert!(rt; left == Some((0, 134, 0)));
-    }
-}
-
-// Whether the text for this word is cut after 20 bytes, by a refusal of either kind.
-fn is_cut(rt: &(impl Wait + Threads + Sync), alloc: Global, word: &[u8]) -> bool {
-    let words = [b"klsm".as_slice(), word];
-    let cut = Some((4, 20, 1));
-    cut_short(rt, alloc, &words, 20, 7, Refusal::Fails, b"") == cut
-        && cut_short(rt, alloc, &words, 20, 7, Refusal::TakesNothing, b"") == cut
-}
-
-#[test]
-fn a_failed_write_of_another_text_is_status_4(rt: HostRuntime) {
-    for word in [b"--help".as_slice(), b"lives", b"\xff"] {
-        assert!(rt; is_cut(&rt, rt.alloc(), word));
+        assert!(rt; takes_all(&rt, rt.alloc(), at_a_time));
     }
 }

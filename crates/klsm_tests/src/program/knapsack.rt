@@ -1,9 +1,9 @@
 //! Instances of the knapsack problem: the line of each, and its status.
 
-use super::process::Input;
-use super::{Told, gives, leaves_any_first};
+use super::{Told, first_otherwise};
 
-const KNAPSACK: &[&[u8]] = &[b"klsm", b"knapsack"];
+/// The words of a process that solves an instance.
+pub(super) const KNAPSACK: &[&[u8]] = &[b"klsm", b"knapsack"];
 
 const BY_FOUR: &[&[u8]] = &[
     b"klsm",
@@ -16,9 +16,9 @@ const BY_FOUR: &[&[u8]] = &[
     b"0",
 ];
 
-const INSTANCE: &[u8] = b"capacity,10\n60,5\n50,4\n70,6\n30,3\n";
+pub(super) const INSTANCE: &[u8] = b"capacity,10\n60,5\n50,4\n70,6\n30,3\n";
 
-const LINE: &[u8] = b"value 120 weight 10 picks 1 2\n";
+pub(super) const LINE: &[u8] = b"value 120 weight 10 picks 1 2\n";
 
 // One row more than the 32 things.
 const THIRTY_THREE: &[u8] = b"\
@@ -28,10 +28,7 @@ capacity,10
 1,1\n1,1\n1,1\n1,1\n1,1\n1,1\n1,1\n1,1\n1,1\n1,1\n1,1
 ";
 
-/// Words, an instance, the status of the program and all that it writes.
-type Worked = (&'static [&'static [u8]], &'static [u8], u8, &'static [u8]);
-
-const WORKED: &[Worked] = &[
+const WORKED: &[Told] = &[
     (KNAPSACK, INSTANCE, 0, LINE),
     (BY_FOUR, INSTANCE, 0, LINE),
     (
@@ -62,33 +59,5 @@ const WORKED: &[Worked] = &[
 
 #[test]
 fn instances_are_solved_or_refused(rt: HostRuntime) {
-    for (row, (words, instance, status, text)) in WORKED.iter().enumerate() {
-        let input = Input::whole(instance);
-        assert!(rt;
-            gives(&rt, rt.alloc(), words, input, *status, text),
-            "row {row}"
-        );
-    }
-}
-
-#[test]
-fn a_failed_read_is_told_of_an_instance(rt: HostRuntime) {
-    for left in [b"".as_slice(), b"capacity,10\n60,5\n5", b"capacity,10\n"] {
-        let input = Input {
-            left,
-            at_a_time: 3,
-            fails: true,
-        };
-        assert!(rt; gives(&rt, rt.alloc(), KNAPSACK, input, 4, b"read fault\n"));
-    }
-}
-
-#[test]
-fn a_failed_write_leaves_the_first_bytes_of_a_selection(rt: HostRuntime) {
-    let told = Told {
-        words: KNAPSACK,
-        input: INSTANCE,
-        text: LINE,
-    };
-    assert!(rt; leaves_any_first(&rt, rt.alloc(), told));
+    assert!(rt; first_otherwise(&rt, rt.alloc(), WORKED).is_none());
 }

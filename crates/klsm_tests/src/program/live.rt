@@ -1,23 +1,23 @@
 //! Scripts whose rows are run by threads: the line of each run, what becomes of a script that is not
 //! run, and that threads run side by side.
 
-use super::process::Input;
 use super::worked::SCRIPT;
-use super::{Told, gives, leaves_any_first};
+use super::{Told, first_otherwise};
 use crate::meeting::Meeting;
 use klsm_tool::{End, Pick, Report, Settings, live_over};
 
-const LIVE: &[&[u8]] = &[b"klsm", b"live"];
+/// The words of a process that lets threads run a script.
+pub(super) const LIVE: &[&[u8]] = &[b"klsm", b"live"];
 
 const LIVE_OF_TWO: &[&[u8]] = &[b"klsm", b"live", b"--threads", b"2"];
 
-/// Words, a script, the status of the program and all that it writes.
-type Worked = (&'static [&'static [u8]], &'static [u8], u8, &'static [u8]);
+/// The line of the script of one thread.
+pub(super) const TOTALS: &[u8] = b"inserted 3 deleted 3 left 0\n";
 
 // What each thread does does not depend on the others here: one thread, insertions alone, or a script
 // that is not run.
-const WORKED: &[Worked] = &[
-    (LIVE, SCRIPT, 0, b"inserted 3 deleted 3 left 0\n"),
+const WORKED: &[Told] = &[
+    (LIVE, SCRIPT, 0, TOTALS),
     (LIVE, b"", 0, b"inserted 0 deleted 0 left 0\n"),
     (
         LIVE,
@@ -49,35 +49,7 @@ const WORKED: &[Worked] = &[
 
 #[test]
 fn scripts_are_run_by_threads(rt: HostRuntime) {
-    for (row, (words, script, status, text)) in WORKED.iter().enumerate() {
-        let input = Input::whole(script);
-        assert!(rt;
-            gives(&rt, rt.alloc(), words, input, *status, text),
-            "row {row}"
-        );
-    }
-}
-
-#[test]
-fn a_failed_read_is_the_whole_line(rt: HostRuntime) {
-    for left in [b"".as_slice(), b"0,i,5,50\n0", b"0,i,5,50\n"] {
-        let input = Input {
-            left,
-            at_a_time: 3,
-            fails: true,
-        };
-        assert!(rt; gives(&rt, rt.alloc(), LIVE, input, 4, b"read fault\n"));
-    }
-}
-
-#[test]
-fn a_failed_write_leaves_the_first_bytes_of_the_line(rt: HostRuntime) {
-    let told = Told {
-        words: LIVE,
-        input: SCRIPT,
-        text: b"inserted 3 deleted 3 left 0\n",
-    };
-    assert!(rt; leaves_any_first(&rt, rt.alloc(), told));
+    assert!(rt; first_otherwise(&rt, rt.alloc(), WORKED).is_none());
 }
 
 #[test]

@@ -74,22 +74,13 @@ impl Read for Input<'_> {
     }
 }
 
-/// How an output refuses.
-#[derive(Clone, Copy)]
-pub(super) enum Refusal {
-    /// By an error.
-    Fails,
-    /// By taking nothing.
-    TakesNothing,
-}
-
-/// Takes so many bytes, a few at a time, and then refuses.
+/// Takes so many bytes, a few at a time, and then fails, or else takes nothing.
 #[derive(Drop)]
 pub(super) struct Output {
     pub taken: Vec<u8>,
     pub room: usize,
     pub at_a_time: usize,
-    pub refusal: Refusal,
+    pub fails: bool,
     /// How many writes were refused.
     pub refused: u32,
 }
@@ -101,7 +92,7 @@ impl Output {
             taken: Vec::new(alloc),
             room: usize::MAX,
             at_a_time: 4096,
-            refusal: Refusal::Fails,
+            fails: true,
             refused: 0,
         }
     }
@@ -113,10 +104,10 @@ impl Write for Output {
         let count = buf.len().min(left).min(self.at_a_time);
         if count == 0 && !buf.is_empty() {
             self.refused = self.refused.saturating_add(1);
-            return match self.refusal {
-                Refusal::Fails => Err(Error::from(ErrorKind::Other)),
-                Refusal::TakesNothing => Ok(0),
-            };
+            if self.fails {
+                return Err(Error::from(ErrorKind::Other));
+            }
+            return Ok(0);
         }
         self.taken.extend_from_slice(&buf[..count])?;
         Ok(count)

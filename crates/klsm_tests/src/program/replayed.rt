@@ -3,8 +3,7 @@
 
 use klsm_board::{Board, Member};
 use klsm_tool::{End, Report, Settings, replay_on, replay_over};
-use std::alloc::{AllocError, Global};
-use std::io::{Read, Write};
+use std::alloc::Global;
 use std::sync::Wait;
 
 /// The most insertions of a member.
@@ -28,29 +27,19 @@ impl Run {
 /// How many items a member has inserted and deleted.
 pub(super) type Counts = (u64, u64);
 
-/// What a run with a board of its own says of how it ended. `None` where no board has these
+/// A run with a board of its own, whose text goes behind this one. `None` where no board has these
 /// settings.
-pub(super) fn report_of<R: Read + Drop, W: Write>(
-    rt: &(impl AllocGlobal + Wait),
-    reader: R,
-    writer: &mut W,
-    settings: &Settings,
-) -> Option<Report> {
-    if settings.threads < 1 || settings.threads > 16 || settings.k > 64 {
-        return None;
-    }
-    Some(replay_over(rt, reader, writer, settings))
-}
-
-/// A run with a board of its own, whose text goes behind this one.
 pub(super) fn run_over(
     rt: &(impl AllocGlobal + Wait),
     script: &[u8],
     settings: &Settings,
     empty: Vec<u8>,
 ) -> Option<Run> {
+    if settings.threads < 1 || settings.threads > 16 || settings.k > 64 {
+        return None;
+    }
     let mut text = empty;
-    let report = report_of(rt, script, &mut text, settings)?;
+    let report = replay_over(rt, script, &mut text, settings);
     Some(Run { text, report })
 }
 
@@ -67,13 +56,15 @@ pub(super) fn run_on(
     };
     let mut text = empty;
     let report = replay_on(rt, script, &mut text, settings, &board, &mut members);
-    let counts = counts_of(rt.alloc(), members.as_slice()).ok()?;
+    let counts = counts_of(rt.alloc(), members.as_slice())?;
     Some((Run { text, report }, counts))
 }
 
-fn counts_of(alloc: Global, members: &[Member<64, 21>]) -> Result<Vec<Counts>, AllocError> {
-    members
-        .iter()
-        .map(|member| (member.inserted_count(), member.deleted_count()))
-        .collect(alloc)
+fn counts_of(alloc: Global, members: &[Member<64, 21>]) -> Option<Vec<Counts>> {
+    let mut counts = Vec::new(alloc);
+    for member in members {
+        let of_member = (member.inserted_count(), member.deleted_count());
+        counts.push(of_member).ok()?;
+    }
+    Some(counts)
 }

@@ -2,6 +2,7 @@
 //! of the live items.
 
 use super::replayed::{Run, run_over};
+use crate::numbered::add_words;
 use klsm_run::{Item, Stamp};
 use klsm_tool::{End, Pick, Settings};
 use rand_core::{Rng, SeedableRng};
@@ -10,61 +11,49 @@ use std::alloc::Global;
 use std::sync::Wait;
 
 /// A row: the thread, and the key and the load where it inserts.
-#[derive(Clone, Copy)]
-struct Row {
-    thread: u32,
-    inserts: Option<(u64, u64)>,
-}
-
-impl Row {
-    /// Some row. Keys are few, so that equal ones occur, and insertions somewhat more than
-    /// deletions.
-    fn drawn(mix: &mut Pcg32, threads: u32) -> Self {
-        let thread = mix.next_u32() % threads.max(1);
-        if mix.next_u32() % 9 < 4 {
-            return Row {
-                thread,
-                inserts: None,
-            };
-        }
-        let key = mix.next_u64() % 100;
-        let load = mix.next_u64();
-        Row {
-            thread,
-            inserts: Some((key, load)),
-        }
-    }
-
-    /// Adds the row to a script.
-    fn write_to(&self, script: &mut String) -> Option<()> {
-        let thread = self.thread;
-        match self.inserts {
-            Some((key, load)) => writeln!(script, "{thread},i,{key},{load}").ok(),
-            None => writeln!(script, "{thread},d,,").ok(),
-        }
-    }
-}
+type Row = (u32, Option<(u64, u64)>);
 
 /// How many rows a script has.
 const ROWS: usize = 200;
 
-/// Some rows of so many threads.
+/// Some rows of so many threads. Keys are few, so that equal ones occur, and insertions somewhat
+/// more than deletions.
 fn drawn_rows(alloc: Global, threads: u32, seed: u64) -> Option<Vec<Row>> {
     let mut mix = Pcg32::seed_from_u64(seed);
     let mut rows = Vec::new(alloc);
     for _ in 0..ROWS {
-        rows.push(Row::drawn(&mut mix, threads)).ok()?;
+        let thread = mix.next_u32() % threads.max(1);
+        let inserts = if mix.next_u32() % 9 < 4 {
+            None
+        } else {
+            Some((mix.next_u64() % 100, mix.next_u64()))
+        };
+        rows.push((thread, inserts)).ok()?;
     }
     Some(rows)
 }
 
 /// The script of these rows.
-fn script_of(alloc: Global, rows: &[Row]) -> Option<String> {
-    let mut script = String::new(alloc);
-    for row in rows {
-        row.write_to(&mut script)?;
+fn script_of(alloc: Global, rows: &[Row]) -> Option<Vec<u8>> {
+    let mut script = Vec::new(alloc);
+    for (thread, inserts) in rows {
+        let thread = u64::from(*thread);
+        match inserts {
+            Some((key, load)) => {
+                let words = [("", thread), (",i,", *key), (",", *load)];
+                add_words(&mut script, &words, "\n")?;
+            }
+            None => add_words(&mut script, &[("", thread)], ",d,,\n")?,
+        }
     }
     Some(script)
+}
+
+/// Whether a line has these words, with a number behind each, and a last one.
+fn says(alloc: Global, line: &str, words: &[(&str, u64)], last: &str) -> Option<bool> {
+    let mut want = Vec::new(alloc);
+    add_words(&mut want, words, last)?;
+    Some(want.as_slice() == line.as_bytes())
 }
 
 /// A plain list of live items, and what else the lines tell.
@@ -101,25 +90,23 @@ impl Plain {
     }
 
     /// Whether the line is the answer to that row.
-    fn has_answer(&mut self, row: &Row, line: &str) -> Option<bool> {
-        match row.inserts {
-            Some((key, load)) => self.has_inserted(row.thread, key, load, line),
-            None => self.has_deleted(row.thread, line),
+    fn has_answer(&mut self, (thread, inserts): Row, line: &str) -> Option<bool> {
+        match inserts {
+            Some((key, load)) => self.has_inserted(thread, key, load, line),
+            None => self.has_deleted(thread, line),
         }
     }
 
-    fn has_inserted(&mut self, thread: u32, key: u64, load: u64, line: &str) -> Option<bool> {
-        let count = self.inserted.get_mut(thread as usize)?;
+    fn has_inserted(&mut self, owner: u32, key: u64, load: u64, line: &str) -> Option<bool> {
+        let count = self.inserted.get_mut(owner as usize)?;
         let number = *count;
         *count = number.saturating_add(1);
-        let stamp = Stamp {
-            owner: thread,
-            number,
-        };
+        let stamp = Stamp { owner, number };
         self.live.push(Item { key, stamp, load }).ok()?;
         self.live.sort_unstable();
-        let want = format!(in self.alloc; "{thread} i {key} {thread}.{number}").ok()?;
-        Some(want.as_str() == line)
+        let thread = u64::from(owner);
+        let words = [("", thread), (" i ", key), (" ", thread), (".", number)];
+        says(self.alloc, line, &words, "")
     }
 
     /// A deletion tells one of the least items, and how many of them are smaller. It finds nothing
@@ -129,16 +116,22 @@ impl Plain {
             self.take_out(skip);
             return Some(true);
         }
-        let want = format!(in self.alloc; "{thread} d none").ok()?;
         let others = self.threads.saturating_sub(1).saturating_mul(self.k);
-        Some(want.as_str() == line && self.live.len() <= others)
+        let is_none = says(self.alloc, line, &[("", u64::from(thread))], " d none")?;
+        Some(is_none && self.live.len() <= others)
     }
 
-    /// The line of a deletion.
-    fn line_of(&self, thread: u32, item: Item, skip: usize) -> Option<String> {
-        let Item { key, stamp, load } = item;
-        let Stamp { owner, number } = stamp;
-        format!(in self.alloc; "{thread} d {key} {owner}.{number} load {load} skip {skip}").ok()
+    /// Whether the line tells the deletion of an item that so many smaller ones are skipped for.
+    fn tells(&self, thread: u32, item: Item, skip: usize, line: &str) -> Option<bool> {
+        let words = [
+            ("", u64::from(thread)),
+            (" d ", item.key),
+            (" ", u64::from(item.stamp.owner)),
+            (".", item.stamp.number),
+            (" load ", item.load),
+            (" skip ", skip as u64),
+        ];
+        says(self.alloc, line, &words, "")
     }
 
     /// How many live items are smaller than the one whose deletion this line tells, where it is one
@@ -146,7 +139,7 @@ impl Plain {
     fn told_skip(&self, thread: u32, line: &str) -> Option<Option<usize>> {
         let most = self.bound().saturating_add(1);
         for (skip, item) in self.live.iter().enumerate().take(most) {
-            if self.line_of(thread, *item, skip)?.as_str() == line {
+            if self.tells(thread, *item, skip, line)? {
                 return Some(Some(skip));
             }
         }
@@ -161,23 +154,20 @@ impl Plain {
         self.most = self.most.max(skip);
     }
 
-    /// Whether the last line tells the greatest skip.
-    fn has_last(&self, line: &str) -> Option<bool> {
-        let (most, bound) = (self.most, self.bound());
-        let want = format!(in self.alloc; "max skip {most} bound {bound}").ok()?;
-        Some(want.as_str() == line)
-    }
-
     /// Whether the lines are the answers to the rows, and the last one tells the greatest skip.
     fn has_text(&mut self, rows: &[Row], text: &str) -> Option<bool> {
         let mut lines = text.lines();
         for row in rows {
             let line = lines.next()?;
-            if !self.has_answer(row, line)? {
+            if !self.has_answer(*row, line)? {
                 return Some(false);
             }
         }
-        Some(self.has_last(lines.next()?)? && lines.next().is_none())
+        let words = [
+            ("max skip ", self.most as u64),
+            (" bound ", self.bound() as u64),
+        ];
+        Some(says(self.alloc, lines.next()?, &words, "")? && lines.next().is_none())
     }
 }
 
@@ -218,7 +208,7 @@ fn run_of(
         pick,
         seed,
     };
-    run_over(rt, script.as_bytes(), &settings, Vec::new(rt.alloc()))
+    run_over(rt, script.as_slice(), &settings, Vec::new(rt.alloc()))
 }
 
 /// Whether the text is right, with many deletions, and tells skips exactly where there can be some.
@@ -239,10 +229,7 @@ fn skips_of_each_pick(rt: HostRuntime) {
         for threads in 1..=4 {
             for k in [0, 1, 4] {
                 let skips = k > 0 && (threads > 1 || pick != Pick::First);
-                assert!(rt;
-                    is_right(&rt, threads, k, pick, skips) == Some(true),
-                    "{pick:?}, {threads} threads, k = {k}"
-                );
+                assert!(rt; is_right(&rt, threads, k, pick, skips) == Some(true));
             }
         }
     }
@@ -264,6 +251,6 @@ fn are_same(rt: &(impl AllocGlobal + Wait), one: u64, other: u64) -> Option<bool
 fn a_seed_gives_one_text(rt: HostRuntime) {
     assert!(rt; are_same(&rt, 5, 5) == Some(true));
     for other in [0, 4, 6, u64::MAX] {
-        assert!(rt; are_same(&rt, 5, other) == Some(false), "seed {other}");
+        assert!(rt; are_same(&rt, 5, other) == Some(false));
     }
 }

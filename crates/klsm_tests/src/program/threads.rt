@@ -3,15 +3,14 @@
 //! than a thread keeps for itself.
 
 use super::replayed::{Counts, run_on, run_over};
+use crate::numbered::add_words;
 use klsm_tool::{End, Pick, Settings};
-use std::alloc::Global;
 use std::sync::Wait;
 
 /// A script, how it ends, its text, and what each member inserted and deleted.
 type Worked = (&'static [u8], End, &'static [u8], &'static [Counts]);
 
 /// Scripts that are run alike.
-#[derive(Clone, Copy)]
 struct Scripts {
     settings: Settings,
     worked: &'static [Worked],
@@ -171,16 +170,20 @@ fn goes_so(
     Some(over.is(text, end) && on.is(text, end) && found.as_slice() == counts)
 }
 
+/// Whether all of these scripts do.
+fn all_go_so(rt: &(impl AllocGlobal + Wait), scripts: &Scripts) -> bool {
+    for worked in scripts.worked {
+        if goes_so(rt, &scripts.settings, *worked) != Some(true) {
+            return false;
+        }
+    }
+    true
+}
+
 #[test]
 fn scripts_of_several_threads(rt: HostRuntime) {
-    for scripts in [LAST_OF_TWO, NONE_KEPT, FIRST_OF_TWO, OF_SIXTEEN] {
-        let settings = scripts.settings;
-        for (row, worked) in scripts.worked.iter().enumerate() {
-            assert!(rt;
-                goes_so(&rt, &settings, *worked) == Some(true),
-                "{settings:?}, row {row}"
-            );
-        }
+    for scripts in [&LAST_OF_TWO, &NONE_KEPT, &FIRST_OF_TWO, &OF_SIXTEEN] {
+        assert!(rt; all_go_so(&rt, scripts));
     }
 }
 
@@ -194,27 +197,29 @@ const ONE_THREAD: Settings = Settings {
 /// How many items a script has: one more than the thread keeps.
 const ITEMS: u64 = 65;
 
-/// Insertions, the greatest key first, and a deletion for each, with their answers.
-fn insertions_and_deletions(alloc: Global) -> Option<(String, String)> {
-    let mut script = String::new(alloc);
-    let mut text = String::new(alloc);
-    for (number, key) in (0..ITEMS).rev().enumerate() {
-        writeln!(script, "0,i,{key},{number}").ok()?;
-        writeln!(text, "0 i {key} 0.{number}").ok()?;
+/// Adds insertions, the greatest key first, and a deletion for each, to a script, and their answers
+/// to a text.
+fn add_rows(script: &mut Vec<u8>, text: &mut Vec<u8>) -> Option<()> {
+    for number in 0..ITEMS {
+        let key = ITEMS - 1 - number;
+        add_words(script, &[("0,i,", key), (",", number)], "\n")?;
+        add_words(text, &[("0 i ", key), (" 0.", number)], "\n")?;
     }
-    for (key, number) in (0..ITEMS).rev().enumerate() {
-        writeln!(script, "0,d,,").ok()?;
-        writeln!(text, "0 d {key} 0.{number} load {number} skip 0").ok()?;
+    for key in 0..ITEMS {
+        let number = ITEMS - 1 - key;
+        let words = [("0 d ", key), (" 0.", number), (" load ", number)];
+        add_words(script, &[], "0,d,,\n")?;
+        add_words(text, &words, " skip 0\n")?;
     }
-    writeln!(text, "max skip 0 bound 64").ok()?;
-    Some((script, text))
+    add_words(text, &[], "max skip 0 bound 64\n")
 }
 
 /// Whether they are deleted in order.
 fn go_in_order(rt: &(impl AllocGlobal + Wait)) -> Option<bool> {
-    let (script, text) = insertions_and_deletions(rt.alloc())?;
-    let run = run_over(rt, script.as_bytes(), &ONE_THREAD, Vec::new(rt.alloc()))?;
-    Some(run.is(text.as_bytes(), End::Done))
+    let (mut script, mut text) = (Vec::new(rt.alloc()), Vec::new(rt.alloc()));
+    add_rows(&mut script, &mut text)?;
+    let run = run_over(rt, script.as_slice(), &ONE_THREAD, Vec::new(rt.alloc()))?;
+    Some(run.is(text.as_slice(), End::Done))
 }
 
 #[test]

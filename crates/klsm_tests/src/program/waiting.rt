@@ -193,11 +193,8 @@ fn keeps_nothing_back(
 
 #[test]
 fn no_answer_is_kept_back_while_a_row_is_waited_for(rt: HostRuntime) {
-    for (index, (pieces, lines, wanted)) in SCRIPTS.iter().enumerate() {
-        assert!(rt;
-            keeps_nothing_back(&rt, rt.alloc(), pieces, *lines, *wanted),
-            "script {index}"
-        );
+    for (pieces, lines, wanted) in SCRIPTS {
+        assert!(rt; keeps_nothing_back(&rt, rt.alloc(), pieces, *lines, *wanted));
     }
 }
 

@@ -1,7 +1,7 @@
 //! Words of a process, and the statuses of the program.
 
 use super::process::{Input, Output};
-use super::{REPLAY, gives, run};
+use super::{Told, first_otherwise, run};
 use std::alloc::Global;
 use std::sync::Wait;
 use std::test::Fail;
@@ -10,6 +10,8 @@ use std::thread::Threads;
 const SCRIPT: &[u8] = b"0,d,,\n";
 
 const NOT_TEXT: &[u8] = b"error: a word is not UTF-8\n\nFor more information, try '--help'.\n";
+
+const NO_PICK: &[u8] = b"refused: pick\n";
 
 /// Words that are no command, and the status of the program. The parser's texts for them are not
 /// fixed.
@@ -28,6 +30,7 @@ const OTHERS: &[(&[&[u8]], u8)] = &[
     (&[b"klsm", b"replay", b"--seed", b"18446744073709551616"], 2),
     (&[b"klsm", b"replay", b"--pick"], 2),
     (&[b"klsm", b"replay", b"--idle", b"1"], 2),
+    (&[b"klsm", b"replay", b"--pick", b"least", b"--k", b"65"], 2),
     (&[b"klsm", b"--version"], 2),
     (&[b"klsm", b"live", b"--threads", b"17"], 2),
     (&[b"klsm", b"live", b"replay"], 2),
@@ -43,7 +46,8 @@ const OTHERS: &[(&[&[u8]], u8)] = &[
     (&[b"klsm", b"knapsack", b"--help"], 0),
 ];
 
-/// Whether the words are answered with a text and this status, and no script is read.
+/// Whether the words are answered with a text and this status, no script is read, and no pick is
+/// refused.
 fn answers_words(
     rt: &(impl Wait + Threads + Sync),
     alloc: Global,
@@ -54,35 +58,88 @@ fn answers_words(
     run(rt, alloc, words, Input::whole(SCRIPT), &mut output) == status
         && !output.taken.is_empty()
         && !output.taken.as_slice().starts_with(b"0 d none")
+        && !output.taken.as_slice().starts_with(b"refused")
 }
 
 #[test]
 fn other_words_are_faults_or_requests_for_help(rt: HostRuntime) {
-    for (row, (words, status)) in OTHERS.iter().enumerate() {
-        assert!(rt; answers_words(&rt, rt.alloc(), words, *status), "row {row}");
+    for (words, status) in OTHERS {
+        assert!(rt; answers_words(&rt, rt.alloc(), words, *status));
     }
 }
 
-#[test]
-fn a_word_that_is_not_utf_8_is_a_fault(rt: HostRuntime) {
-    let table: [&[&[u8]]; 4] = [
-        &[b"klsm", b"\xff"],
-        &[b"klsm", b"replay", b"\xc3"],
-        &[b"klsm", b"--help", b"a\x80"],
-        &[b"klsm", b"repl\xe4y", b"more"],
-    ];
-    for words in table {
-        assert!(rt; gives(&rt, rt.alloc(), words, Input::whole(SCRIPT), 2, NOT_TEXT));
-    }
-}
+const NONE: &[u8] = b"0 d none\nmax skip 0 bound 64\n";
+
+/// Words that are not UTF-8; paths of the program, which do not matter; unknown picks where the
+/// parser finds no fault; and options, which are those of the replay.
+const TOLD: &[Told] = &[
+    (&[b"klsm", b"\xff"], SCRIPT, 2, NOT_TEXT),
+    (&[b"klsm", b"replay", b"\xc3"], SCRIPT, 2, NOT_TEXT),
+    (&[b"klsm", b"--help", b"a\x80"], SCRIPT, 2, NOT_TEXT),
+    (&[b"klsm", b"repl\xe4y", b"more"], SCRIPT, 2, NOT_TEXT),
+    (&[b"klsm", b"replay"], SCRIPT, 0, NONE),
+    (&[b"/a/\xff/klsm", b"replay"], SCRIPT, 0, NONE),
+    (&[b"", b"replay"], SCRIPT, 0, NONE),
+    (
+        &[b"klsm", b"replay", b"--pick", b"least"],
+        SCRIPT,
+        2,
+        NO_PICK,
+    ),
+    (&[b"klsm", b"live", b"--pick", b"least"], SCRIPT, 2, NO_PICK),
+    (
+        &[b"klsm", b"replay", b"--pick=First", b"--k", b"3"],
+        SCRIPT,
+        2,
+        NO_PICK,
+    ),
+    (&[b"klsm", b"replay", b"--pick", b""], SCRIPT, 2, NO_PICK),
+    (
+        &[
+            b"klsm",
+            b"replay",
+            b"--threads",
+            b"2",
+            b"--k",
+            b"1",
+            b"--pick",
+            b"last",
+        ],
+        b"1,i,3,0\n1,i,2,0\n1,i,9,0\n0,i,1,0\n1,d,,\n",
+        0,
+        b"\
+1 i 3 1.0
+1 i 2 1.1
+1 i 9 1.2
+0 i 1 0.0
+1 d 3 1.0 load 0 skip 2
+max skip 2 bound 2
+",
+    ),
+    (
+        &[b"klsm", b"replay", b"--k=0"],
+        b"0,i,2,0\n0,i,1,0\n0,d,,\n",
+        0,
+        b"0 i 2 0.0\n0 i 1 0.1\n0 d 1 0.1 load 0 skip 0\nmax skip 0 bound 0\n",
+    ),
+    (
+        &[
+            b"klsm",
+            b"replay",
+            b"--threads=16",
+            b"--pick=random",
+            b"--seed",
+            b"18446744073709551615",
+        ],
+        b"15,d,,\n",
+        0,
+        b"15 d none\nmax skip 0 bound 1024\n",
+    ),
+];
 
 #[test]
-fn the_path_of_the_program_does_not_matter(rt: HostRuntime) {
-    let answers = b"0 d none\nmax skip 0 bound 64\n";
-    for path in [b"klsm".as_slice(), b"/a/\xff/klsm", b""] {
-        let words = [path, b"replay"];
-        assert!(rt; gives(&rt, rt.alloc(), &words, Input::whole(SCRIPT), 0, answers));
-    }
+fn words_are_answered_or_refused(rt: HostRuntime) {
+    assert!(rt; first_otherwise(&rt, rt.alloc(), TOLD).is_none());
 }
 
 #[test]
@@ -103,87 +160,4 @@ fn a_long_word_is_read_whole(rt: HostRuntime) -> Result<(), Fail> {
         .any(|part| part == word.as_slice());
     assert!(rt; status == 2 && is_told);
     Ok(())
-}
-
-/// Words with an unknown pick and no fault of the parser's.
-const UNKNOWN_PICKS: &[&[&[u8]]] = &[
-    &[b"klsm", b"replay", b"--pick", b"least"],
-    &[b"klsm", b"live", b"--pick", b"least"],
-    &[b"klsm", b"replay", b"--pick=First", b"--k", b"3"],
-    &[b"klsm", b"replay", b"--pick", b""],
-];
-
-/// Words with both.
-const UNKNOWN_PICK_AND_FAULT: &[&[u8]] = &[b"klsm", b"replay", b"--pick", b"least", b"--k", b"65"];
-
-/// Whether the words are refused for their pick.
-fn refuses_pick(rt: &(impl Wait + Threads + Sync), alloc: Global, words: &[&[u8]]) -> bool {
-    gives(
-        rt,
-        alloc,
-        words,
-        Input::whole(SCRIPT),
-        2,
-        b"refused: pick\n",
-    )
-}
-
-#[test]
-fn an_unknown_pick_is_refused_where_the_parser_finds_no_fault(rt: HostRuntime) {
-    for words in UNKNOWN_PICKS {
-        assert!(rt; refuses_pick(&rt, rt.alloc(), words));
-    }
-    assert!(rt; !refuses_pick(&rt, rt.alloc(), UNKNOWN_PICK_AND_FAULT));
-}
-
-/// Options of a replay, a script, and what is written of it.
-type Call<'a> = (&'a [&'a [u8]], &'a [u8], &'a [u8]);
-
-const CALLS: &[Call] = &[
-    (
-        &[
-            b"klsm",
-            b"replay",
-            b"--threads",
-            b"2",
-            b"--k",
-            b"1",
-            b"--pick",
-            b"last",
-        ],
-        b"1,i,3,0\n1,i,2,0\n1,i,9,0\n0,i,1,0\n1,d,,\n",
-        b"\
-1 i 3 1.0
-1 i 2 1.1
-1 i 9 1.2
-0 i 1 0.0
-1 d 3 1.0 load 0 skip 2
-max skip 2 bound 2
-",
-    ),
-    (
-        &[b"klsm", b"replay", b"--k=0"],
-        b"0,i,2,0\n0,i,1,0\n0,d,,\n",
-        b"0 i 2 0.0\n0 i 1 0.1\n0 d 1 0.1 load 0 skip 0\nmax skip 0 bound 0\n",
-    ),
-    (
-        &[
-            b"klsm",
-            b"replay",
-            b"--threads=16",
-            b"--pick=random",
-            b"--seed",
-            b"18446744073709551615",
-        ],
-        b"15,d,,\n",
-        b"15 d none\nmax skip 0 bound 1024\n",
-    ),
-];
-
-#[test]
-fn options_are_those_of_the_replay(rt: HostRuntime) {
-    for (row, (words, script, text)) in CALLS.iter().enumerate() {
-        let is_so = gives(&rt, rt.alloc(), words, Input::whole(script), 0, text);
-        assert!(rt; is_so, "row {row}");
-    }
 }

@@ -120,10 +120,7 @@ fn are_same(alloc: Global, threads: u32, k: usize) -> Option<bool> {
 fn the_same_worlds(rt: HostRuntime) {
     for threads in 1..=4 {
         for k in 0..=3 {
-            assert!(rt;
-                are_same(rt.alloc(), threads, k) == Some(true),
-                "{threads} threads, k = {k}"
-            );
+            assert!(rt; are_same(rt.alloc(), threads, k) == Some(true));
         }
     }
 }

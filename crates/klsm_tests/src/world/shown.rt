@@ -1,6 +1,7 @@
 //! What a step prints.
 
 use super::steps::{Moved, Row, step_of};
+use crate::printed::prints;
 use std::alloc::Global;
 
 const FLUSH: &str = "Commit { thread: 0, event: Flush { \
@@ -10,8 +11,7 @@ const FLUSH: &str = "Commit { thread: 0, event: Flush { \
 fn flush_prints(alloc: Global) -> Option<bool> {
     let flush = Row::Flush(0, (3, 0, 1), Moved::One((2, 0, 0)));
     let step = step_of(alloc, flush)?;
-    let text = format!(in alloc; "{step:?}").ok()?;
-    Some(text.as_str() == FLUSH)
+    prints(alloc, &step, FLUSH)
 }
 
 #[test]
