@@ -14,9 +14,10 @@ use crossbeam_utils::Backoff;
 use std::hint;
 use std::sync::Wait;
 
-/// How often a member that missed a part looks away before its next try. Tries without a pause take
-/// the line of the lock word from the holder, who then needs longer.
-const PAUSE: u32 = 100;
+// How many `spin_loop` a member that missed a part makes before its next try, at first and at most.
+const SHORTEST_PAUSE: u32 = 100;
+
+const LONGEST_PAUSE: u32 = 3_200;
 
 /// Takes a part, if it is free.
 pub(crate) fn take_now<S: Holding>(
@@ -70,20 +71,39 @@ pub(crate) fn take_in_time<S: Holding>(
         × (mine seat.new.me.0
         ≡ mine seat.old.me.0 ++ (missed part bys ++ Acquired part found ∷ [])) }
 {
-    let backoff = Backoff::new();
+    let mut pause = Pause::new();
     for _ in rt.forever() {
         match take_now(table, seat, part, thread) {
             Ok(()) => return,
-            Err(_) => pause(&backoff),
+            Err(_) => pause.wait(),
         }
     }
     unreachable!()
 }
 
-// Looks away before the next try, and longer each time.
-fn pause(backoff: &Backoff) {
-    for _ in 0..PAUSE {
-        hint::spin_loop();
+// What a member does between two tries of a part that it missed. Tries without a pause take the line of the lock word from the
+// holder, who then needs longer; and the longer the pauses, the more of its calls the holder makes before the part moves to the
+// cache of another.
+#[derive(Drop)]
+struct Pause {
+    backoff: Backoff,
+    length: u32,
+}
+
+impl Pause {
+    fn new() -> Self {
+        Pause {
+            backoff: Backoff::new(),
+            length: SHORTEST_PAUSE,
+        }
     }
-    backoff.snooze();
+
+    // Looks away, and lets other threads run after some misses. The next time it takes twice as long.
+    fn wait(&mut self) {
+        for _ in 0..self.length {
+            hint::spin_loop();
+        }
+        self.backoff.snooze();
+        self.length = self.length.saturating_mul(2).min(LONGEST_PAUSE);
+    }
 }
