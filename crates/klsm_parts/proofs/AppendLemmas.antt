@@ -1,5 +1,5 @@
 -- A list that gains the items of an LSM, block after block.
-use Rattle.std.proofs.Common.{◌≡◌, ℕ, ◌≤◌, ◌<◌, ◌+◌, List, [], ◌++◌, length, take, drop, get_or, ap, sym, ◌∙◌, arith, length-append, append_assoc, take-append-drop}
+use Rattle.std.proofs.Common.{◌≡◌, ℕ, ◌≤◌, ◌<◌, ◌+◌, List, [], ◌++◌, length, take, drop, get_or, ap, sym, ◌∙◌, arith, length-append, append_assoc, take-append-drop, take_all}
 use Rattle.klsm_run.specs.declared.item.Item.{Item}
 use Rattle.klsm_run.proofs.SortedLemmas.{length_sorted}
 use Rattle.klsm_lsm.specs.Lsm.{content}
@@ -33,6 +33,13 @@ next_listed n bs before after len cap len' cap' next cap'' within is room listed
       len_is = omega (arith, listed.len_is, longer);
       room = omega (arith, listed.room, room);
     }
+
+-- in the end all items are listed
+pub all_listed : (n : ℕ) (bs : List (List Item)) (before after : List Item) (len cap len' cap' : ℕ) → length bs ≤ n → AreListed n bs before after len cap len' cap'
+    → (after ≡ before ++ content bs) × (len' ≡ len + length (content bs))
+all_listed n bs before after len cap len' cap' none_left listed =
+    let whole = take_all n bs none_left in
+    (listed.items ∙ ap (λ z. before ++ content z) whole, listed.len_is ∙ ap (λ z. len + length (content z)) whole)
 
 -- a part has as many items as its blocks
 pub so_many_in : (part : PartState) → length (items_in part) ≡ length (content part.blocks)

@@ -48,19 +48,33 @@ lsm_fits a b c d k p l m s limit whole = omega (arith, whole)
 pub pivots_fit : (a b l m p q limit : ℕ) → up a (up b (up 8 (up 8 q + p) + l) + m) < limit → p < limit
 pivots_fit a b l m p q limit whole = omega (arith, whole)
 
+-- what is as small has a place
+small_fits : (s : ℕ) → s < 131072 → s < 9223372036854775808
+small_fits s small = omega (arith, small)
+
 -- a run of any capacity
 run_is_small : (n : ℕ) → IsCapacity n → run n < 8192
 run_is_small n capacity = omega (arith, capacity.at_most)
 
 pub fixed_run_fits : (n : ℕ) → IsCapacity n → run n < 9223372036854775808
-fixed_run_fits n capacity = omega (arith, run_is_small n capacity)
+fixed_run_fits n capacity = small_fits _ (few (run n) (run_is_small n capacity)) where
+  few : (s : ℕ) → s < 8192 → s < 131072
+  few s small = omega (arith, small)
 
 -- the LSM of an own part of any capacity
 lsm_is_small : (s : ℕ) → s < 8192 → lsm 8 (option s) < 131072
-lsm_is_small s small = omega (arith, small)
+lsm_is_small s small = whole _ (slots _ (slot s small)) where
+  slot : (s : ℕ) → s < 8192 → option s < 8216
+  slot s small = omega (arith, small)
+
+  slots : (s : ℕ) → s < 8216 → array_vec 8 s < 66000
+  slots s small = omega (arith, small)
+
+  whole : (s : ℕ) → s < 66000 → up 8 (up 8 (up 8 (0 + s) + 8) + 8) < 131072
+  whole s small = omega (arith, small)
 
 pub own_lsm_fits : (n : ℕ) → IsCapacity n → lsm 8 (option (run n)) < 9223372036854775808
-own_lsm_fits n capacity = omega (arith, lsm_is_small _ (run_is_small n capacity))
+own_lsm_fits n capacity = small_fits _ (lsm_is_small _ (run_is_small n capacity))
 
 -- the own part
 pub local_fits : (n : ℕ) → IsCapacity n → local (run n) < 9223372036854775808
@@ -82,4 +96,12 @@ least_items = up 8 (up 8 (0 + 56) + up 8 (0 + array_vec 129 1))
 
 -- the shared part
 pub shared_fits : (n : ℕ) → IsLevelCount n → up 8 (up 1 (up 8 (up 8 (up 8 (0 + lsm n 48) + 8) + array_vec n 8) + least_items) + 0) < 9223372036854775808
-shared_fits n levels = omega (arith, levels.at_most)
+shared_fits n levels = whole _ _ (blocks n levels) (pivots n levels) where
+  blocks : (n : ℕ) → IsLevelCount n → lsm n 48 < 131072
+  blocks n levels = omega (arith, levels.at_most)
+
+  pivots : (n : ℕ) → IsLevelCount n → array_vec n 8 < 131072
+  pivots n levels = omega (arith, levels.at_most)
+
+  whole : (s p : ℕ) → s < 131072 → p < 131072 → up 8 (up 1 (up 8 (up 8 (up 8 (0 + s) + 8) + p) + least_items) + 0) < 9223372036854775808
+  whole s p few small = omega (arith, few, small)

@@ -1,6 +1,6 @@
 -- Pivots that are taken out and added.
 use Rattle.std.proofs.Common.{◌≡◌, ℕ, ◌+◌, ◌-◌, ◌<◌, ◌≤◌, List, [], ◌∷◌, ◌++◌, length, get_or, set, remove, take, drop, sum, refl, sym, ap, ◌∙◌, arith, zero, suc, add-one}
-use Rattle.std.proofs.lemmas.List.{drop-drop, length-drop}
+use Rattle.std.proofs.lemmas.List.{drop-drop, length-append, length-take-le, length-drop}
 use Rattle.std.proofs.lemmas.List.Sums.{sum_by_more, sum_by-set, sum_by-take-le, sum_by-take-drop}
 
 remove_next : (ps : List ℕ) (first n : ℕ) → first ≤ n → n < length ps → remove (take first ps ++ drop n ps) first ≡ take first ps ++ drop (suc n) ps
@@ -32,6 +32,11 @@ pub one_added : (ps now : List ℕ) (first i pivot total x : ℕ) → first + i 
 one_added ps now first i pivot total x within is value so_far =
     let at : x ≡ get_or (drop first ps) i 0 = value ∙ (ap (λ (l : List ℕ). get_or l first x) is ∙ (next_is ps first (first + i) x (omega arith) within ∙ sym (behind_is ps first i))) in
     omega (arith, so_far, at, sum_by_more (λ (y : ℕ). y) (drop first ps) i 0 (omega (arith, length-drop first ps, within)))
+
+-- so many are left
+pub so_many_left : (ps now : List ℕ) (first i : ℕ) → first + i ≤ length ps → now ≡ take first ps ++ drop (first + i) ps → length now + i ≡ length ps
+so_many_left ps now first i within is =
+    omega (arith, ap length is, length-append (take first ps) (drop (first + i) ps), length-take-le first ps (omega (arith, within)), length-drop (first + i) ps, within)
 
 -- the sum stays within that of all
 pub part_of_sum : (ps : List ℕ) (first i : ℕ) → sum (take i (drop first ps)) ≤ sum ps

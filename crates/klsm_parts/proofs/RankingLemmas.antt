@@ -1,5 +1,5 @@
 -- Pivots that are guessed, and how they are found to be exact.
-use Rattle.std.proofs.Common.{ℕ, ◌≡◌, ◌+◌, ◌<◌, ◌≤◌, zero, suc, [], ◌∷◌, List, length, take, get_or, false, true, Some, ap, sym, subst, ◌++◌, ◌∙◌, arith}
+use Rattle.std.proofs.Common.{ℕ, ◌≡◌, ◌+◌, ◌<◌, ◌≤◌, zero, suc, [], ◌∷◌, List, length, take, get_or, take_all, false, true, Some, ap, sym, subst, ◌++◌, ◌∙◌, arith}
 use Rattle.std.specs.List.{slice_get, sum}
 use Rattle.std.specs.Ordering.{is_lt}
 use Rattle.klsm_run.specs.declared.item.Item.{Item}
@@ -31,6 +31,11 @@ within_one_more bs ps i same inside within here =
       more (b ∷ bs) [] i same inside within here = absurd (omega (arith, same))
       more (b ∷ bs) (p ∷ ps) zero same inside within here = (here, tt)
       more (b ∷ bs) (p ∷ ps) (suc i) same inside within here = (within.0, more bs ps i (omega (arith, same)) (omega (arith, inside)) within.1 here)
+
+-- in the end each block has
+pub all_within : (bs : List (List Item)) (ps : List ℕ) (i : ℕ) → length ps ≡ length bs → length bs ≤ i → AreWithin (take i bs) (take i ps) → AreWithin bs ps
+all_within bs ps i same none_left within =
+    subst (λ cs. AreWithin cs ps) (take_all i bs none_left) (subst (AreWithin (take i bs)) (take_all i ps (omega (arith, same, none_left))) within)
 
 -- some item is not marked
 pub some_unmarked : (bs : List (List Item)) (ps : List ℕ) → length (marked bs ps) < length (content bs)

@@ -222,10 +222,11 @@ pub(crate) fn added_by<B: Run, R: Run, const LEVELS: usize>(
     requires k { k ≤ 128 }
     requires some { 0 < length (R.items run.now) }
     requires apart { ShareNone (content lsm.now) (R.items run.now) }
-    requires room { length (content lsm.now) + length (R.items run.now) < 2 ^ 64 }
     ensures { IsMendable k result.cascade.first result.cascade.count result.pivot result.marked
         (add lsm.now (R.items run.now)) pivots.now }
 {
+    // A look at both lengths tells that their sum fits.
+    let _lengths = (run.len(), lsm.len());
     let pivot = pivot_of_run(lsm, pivots, run, k);
     Added {
         cascade: lsm.cascade(run.level()),

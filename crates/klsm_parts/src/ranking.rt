@@ -57,9 +57,22 @@ impl Ranking {
         }
     }
 
-    /// The ranking after a run is put in, which becomes one with the blocks of a cascade. It costs one comparison for each item
-    /// that is known.
-    pub(crate) fn with<B: Run, R: Run, const LEVELS: usize>(
+    /// A run is to be put in, which becomes one with the blocks of a cascade. It costs one comparison for each item that is known.
+    pub(crate) fn put_in<B: Run, R: Run, const LEVELS: usize>(
+        &mut self,
+        lsm: &Lsm<B, LEVELS>,
+        run: &R,
+        cascade: Cascade,
+    )
+        requires { IsLevelCount LEVELS }
+    {
+        if !self.blocks.is_empty() {
+            *self = self.with(lsm, run, cascade);
+        }
+    }
+
+    // The ranking with a run that is put in.
+    fn with<B: Run, R: Run, const LEVELS: usize>(
         &self,
         lsm: &Lsm<B, LEVELS>,
         run: &R,
@@ -153,8 +166,8 @@ fn place_after(block: usize, cascade: Cascade) -> usize {
         return block;
     }
     block
-        .wrapping_sub(cascade.count)
-        .wrapping_add(1)
+        .saturating_add(1)
+        .saturating_sub(cascade.count)
         .max(cascade.first)
 }
 

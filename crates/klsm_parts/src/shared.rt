@@ -186,14 +186,12 @@ impl<const LEVELS: usize, A: Allocator + Copy> Shared<LEVELS, A> {
             < length (content self.old.blocks) + length (R.items run.now)) }
         ensures unchanged { OnErr result (self.new ≡ self.old) }
     {
-        // A look at both lengths tells that their sum fits.
-        let _lengths = (run.len(), self.lsm.len());
         let added = added_by(&self.lsm, self.pivots.as_slice(), run, self.k);
-        let ranking = self.least.ranking.with(&self.lsm, run, added.cascade);
+        // Where the run is refused the ranking is wrong, which costs the next deletion a count.
+        self.least.ranking.put_in(&self.lsm, run, added.cascade);
         match self.lsm.absorb_copy(self.alloc, run) {
             Ok(()) => {
                 mend_added(&self.lsm, &mut self.pivots, added, self.k);
-                self.least.ranking = ranking;
                 self.least.first = least_place(&self.lsm);
                 Ok(())
             }

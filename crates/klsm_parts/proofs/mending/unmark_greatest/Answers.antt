@@ -1,4 +1,4 @@
-use Rattle.std.proofs.Common.{arith}
+use Rattle.std.proofs.Common.{◌<◌, length, arith, rules}
 use Rattle.klsm_parts.proofs.GreatestLemmas.{less_counted}
 use Rattle.klsm_parts.proofs.FoundLemmas.{one_each}
 use Rattle.klsm_parts.proofs.mending.unmark_greatest.Goals as goal
@@ -20,3 +20,9 @@ as_mut_slice-requires g c = search
 
 pub bounds-as_mut_slice-place : goal.bounds-as_mut_slice-place
 bounds-as_mut_slice-place g c = rw c.as_mut_slice.ensures.value (omega (arith, c.greatest_marked-place.ensures.block, one_each c.args.lsm.now c.args.pivots.now.items c.requires.within))
+
+pub offset_bounds-as_mut_slice-place : goal.offset_bounds-as_mut_slice-place
+offset_bounds-as_mut_slice-place g c =
+    let here : c.greatest_marked-place.result.block < length c.as_mut_slice.result.now =
+    rw c.as_mut_slice.ensures.value (omega (arith, c.greatest_marked-place.ensures.block, one_each c.args.lsm.now c.args.pivots.now.items c.requires.within)) in
+    search rules

@@ -1,4 +1,4 @@
-use Rattle.std.proofs.Common.{◌≡◌, ◌<◌, ◌≤◌, length, arith}
+use Rattle.std.proofs.Common.{arith}
 use Rattle.klsm_parts.proofs.FitLemmas.{any_pivots_fit}
 use Rattle.klsm_parts.proofs.PivotLemmas.{pivots_none}
 use Rattle.klsm_parts.proofs.ranking.place_by.Goals as goal

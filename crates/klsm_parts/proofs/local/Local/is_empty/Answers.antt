@@ -3,3 +3,6 @@ use Rattle.klsm_parts.proofs.local.Local.is_empty.Goals as goal
 
 pub returns : goal.returns
 returns g c = none_in c.args.self.now c.len.result c.len.ensures.len
+
+pub len-requires : goal.len-requires
+len-requires g c = search

@@ -4,3 +4,6 @@ use Rattle.klsm_parts.proofs.part.Part.is_empty.Goals as goal
 
 pub returns : goal.returns
 returns g c = none_in (state_of c.args.self.now) c.len.result c.len.ensures.len
+
+pub len-requires : goal.len-requires
+len-requires g c = (search, (c.requires.capacity, c.requires.levels))

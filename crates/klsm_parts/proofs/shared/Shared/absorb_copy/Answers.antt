@@ -1,4 +1,4 @@
-use Rattle.std.proofs.Common.{◌+◌, ◌<◌, ◌^◌, length, subst, sym, arith, ◌∙◌, List, ap}
+use Rattle.std.proofs.Common.{◌+◌, subst, sym, ◌∙◌, List, ap}
 use Rattle.klsm_run.specs.Content.{ShareNone}
 use Rattle.klsm_run.specs.declared.item.Item.{Item}
 use Rattle.klsm_lsm.specs.Lsm.{content}
@@ -13,9 +13,7 @@ pub added_by-added-requires : goal.added_by-added-requires
 added_by-added-requires g c =
     let apart = subst (λ (p : PartState). ShareNone (content p.blocks) (g.R.Run.items c.args.run.now)) (sym c.self.view_is) c.requires.apart in
     let pivots = subst (ArePivots (c.self.inside.k + 1) c.self.inside.lsm) (sym c.as_slice.ensures.value) c.self.invariant.pivots_exact in
-    let room : length (content c.self.inside.lsm) + length (g.R.Run.items c.args.run.now) < 2 ^ 64 =
-    omega (arith, c.len.ensures.room, c.len.ensures.most, c.len-2.ensures.limit) in
-    (search lsm_fits, (c.self.invariant.lawful, (pivots, (c.self.invariant.k_in_range, (c.requires.some, (apart, room))))))
+    (search lsm_fits, (c.self.invariant.lawful, (pivots, (c.self.invariant.k_in_range, (c.requires.some, apart)))))
 
 pub absorb_copy-requires : goal.absorb_copy-requires
 absorb_copy-requires g c =
@@ -24,12 +22,6 @@ absorb_copy-requires g c =
 
 pub returns-in-Err-clause-full : goal.returns-in-Err-clause-full
 returns-in-Err-clause-full g c = rw (← c.self.view_is) c.in-Err.ensures.full
-
-pub len-requires : goal.len-requires
-len-requires g c = search
-
-pub len-requires-2 : goal.len-requires-2
-len-requires-2 g c = search lsm_fits
 
 pub invariant_of-self : goal.invariant_of-self
 invariant_of-self g c = search
@@ -67,3 +59,6 @@ mend_added-requires g c =
 
 pub least_place-self-inside-requires : goal.least_place-self-inside-requires
 least_place-self-inside-requires g c = search lsm_fits
+
+pub put_in-requires : goal.put_in-requires
+put_in-requires g c = (search lsm_fits, c.self.invariant.levels_in_range)

@@ -1,4 +1,4 @@
-use Rattle.std.proofs.Common.{List, ◌≡◌, ◌+◌, ◌<◌, length, Some, ap, subst, sym, ◌∙◌, arith, [], get_or}
+use Rattle.std.proofs.Common.{List, ◌≡◌, ◌+◌, ◌<◌, length, Some, refl, ap, subst, sym, ◌∙◌, arith, [], get_or}
 use Rattle.std.specs.List.{slice_get}
 use Rattle.std.proofs.lemmas.List.{length-take}
 use Rattle.klsm_run.specs.Content.{sorted}
@@ -11,7 +11,7 @@ use Rattle.klsm_parts.specs.Least.{least}
 use Rattle.klsm_parts.specs.LeastPlaces.{IsLeastPlace}
 use Rattle.klsm_parts.specs.Parts.{PartState, candidates_of}
 use Rattle.klsm_parts.proofs.TakeLemmas.{least_is_candidate}
-use Rattle.klsm_parts.proofs.FitLemmas.{lsm_fits}
+use Rattle.klsm_parts.proofs.FitLemmas.{lsm_fits, pivots_fit}
 use Rattle.klsm_parts.proofs.shared.Shared.place_of_candidate.Goals as goal
 
 pub place_by-requires : goal.place_by-requires
@@ -59,3 +59,24 @@ unreachable-requires g c =
     let none = empty_if_no_least held (sym found.item) in
     let among = subst (λ (p : PartState). c.args.index < length (least (p.k + 1) (content p.blocks))) (sym c.self.view_is) c.requires in
     omega (arith, among, length-take (c.self.inside.k + 1) (sorted held), length_sorted held, ap (λ (xs : List Item). length xs) none)
+
+pub same-self : goal.same-self
+same-self g c = refl
+
+pub same-self-then-index-eq0 : goal.same-self-then-index-eq0
+same-self-then-index-eq0 g c = refl
+
+pub returns-then-index-eq0-clause-same : goal.returns-then-index-eq0-clause-same
+returns-then-index-eq0-clause-same g c = refl
+
+pub as_slice-requires : goal.as_slice-requires
+as_slice-requires g c = search pivots_fit
+
+pub invariant_of-self : goal.invariant_of-self
+invariant_of-self g c = c.self.invariant
+
+pub returns-clause-same : goal.returns-clause-same
+returns-clause-same g c = c.self.view_is
+
+pub candidates-candidates-requires : goal.candidates-candidates-requires
+candidates-candidates-requires g c = search
