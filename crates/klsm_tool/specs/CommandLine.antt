@@ -26,18 +26,29 @@ live_app = with_options (new_app (codes "live"))
 abbrev pub knapsack_app : App
 knapsack_app = with_search_options (new_app (codes "knapsack"))
 
--- the command `klsm`, which wants a subcommand: `replay`, `live` or `knapsack`
-abbrev pub klsm_command : App
-klsm_command =
+-- the command `klsm`, which wants a subcommand, with none yet
+abbrev pub bare_app : App
+bare_app =
     let name = new_app (codes "klsm") in
-    let top = record (name.top) {
-      no_binary_name = true;
-      subcommand_required = true;
-      arg_required_else_help = true;
-    } in
-    with_subcommand
-    (with_subcommand (with_subcommand (record name { top = top }) replay_app.top) live_app.top)
-    knapsack_app.top
+    record name {
+      top = record (name.top) {
+        no_binary_name = true;
+        subcommand_required = true;
+        arg_required_else_help = true;
+      };
+    }
+
+-- with `replay`
+abbrev pub command_over_rows : App
+command_over_rows = with_subcommand bare_app replay_app.top
+
+-- with `live` too
+abbrev pub command_over_scripts : App
+command_over_scripts = with_subcommand command_over_rows live_app.top
+
+-- and with `knapsack`
+abbrev pub klsm_command : App
+klsm_command = with_subcommand command_over_scripts knapsack_app.top
 
 -- the words that ask for a replay
 abbrev pub replay_words : List (List ℕ)

@@ -22,23 +22,29 @@ option_rule name default parser = record (new_rule name) {
   parser = parser;
 }
 
--- `--threads` from 1 to 16, `--k` from 0 to 64, `--pick` and `--seed`
+-- `--threads` from 1 to 16 and `--k` from 0 to 64
+abbrev pub with_threads : App → App
+with_threads a =
+    let threads = option_rule (codes "threads") (codes "1") (Some (parser.Unsigned 1 16)) in
+    let k = option_rule (codes "k") (codes "64") (Some (parser.Unsigned 0 64)) in
+    with_rule (with_rule a threads) k
+
+-- these and `--pick`
+abbrev pub with_pick : App → App
+with_pick a = with_rule (with_threads a) (option_rule (codes "pick") (codes "first") None)
+
+-- these and `--seed`
 abbrev pub with_options : App → App
 with_options a =
-    let threads = option_rule (codes "threads") (codes "1") (Some (parser.Unsigned 1 16)) in
-    let k = option_rule (codes "k") (codes "64") (Some (parser.Unsigned 0 64)) in
     let seed = option_rule (codes "seed") (codes "1")
     (Some (parser.Unsigned 0 18446744073709551615)) in
-    with_rule (with_rule (with_rule (with_rule a threads) k)
-    (option_rule (codes "pick") (codes "first") None)) seed
+    with_rule (with_pick a) seed
 
--- `--threads` from 1 to 16, `--k` from 0 to 64, and `--idle` up to a million
+-- `--threads`, `--k`, and `--idle` up to a million
 abbrev pub with_search_options : App → App
 with_search_options a =
-    let threads = option_rule (codes "threads") (codes "1") (Some (parser.Unsigned 1 16)) in
-    let k = option_rule (codes "k") (codes "64") (Some (parser.Unsigned 0 64)) in
     let idle = option_rule (codes "idle") (codes "64") (Some (parser.Unsigned 0 1000000)) in
-    with_rule (with_rule (with_rule a threads) k) idle
+    with_rule (with_threads a) idle
 
 -- the number that a text spells, or 0 where it spells none that fits
 abbrev pub number_or_zero : Text → ℕ

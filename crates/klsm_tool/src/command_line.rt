@@ -4,8 +4,8 @@ ghost use Rattle.std.specs.List.{All};
 ghost use Rattle.clap.specs.Words.{app_of, found_of, kind_of, rows_of, subcommand_rows_of};
 ghost use Rattle.clap.specs.declared.builder.command.Command.TheViews.{out-Command as fields_of};
 ghost use Rattle.klsm_tool.specs.CommandLine.{IsCommand, IsInRange, action_in as action_in_words};
-ghost use Rattle.klsm_tool.specs.CommandLine.{action_of, action_under, klsm_command, knapsack_app};
-ghost use Rattle.klsm_tool.specs.CommandLine.{live_app, replay_app, replay_words, script_action};
+ghost use Rattle.klsm_tool.specs.CommandLine.{action_of, action_under, bare_app, klsm_command, knapsack_app};
+ghost use Rattle.klsm_tool.specs.CommandLine.{command_over_rows, command_over_scripts, live_app, replay_app, replay_words, script_action};
 ghost use Rattle.klsm_tool.specs.Options.{AreInRange, IsSearchInRange};
 ghost use Rattle.klsm_tool.specs.Program.{Explains, IsFaultIn, RefusesBytes, Runs, RunsKnapsack};
 ghost use Rattle.klsm_tool.specs.Program.{RunsLive, RunsReplay};
@@ -257,17 +257,34 @@ fn command<'a>(alloc: Global) -> Result<Command<'a>, AllocError>
 fn unnamed_command<'a>(alloc: Global) -> Result<Command<'a>, AllocError>
     ensures { IfOk result (λ command. app_of command ≡ klsm_command) }
 {
-    let replay = replay_command(alloc)?;
-    let live = live_command(alloc)?;
     let knapsack = knapsack_command(alloc)?;
+    with_live(alloc)?.subcommand(knapsack)
+}
+
+// With the commands over scripts.
+fn with_live<'a>(alloc: Global) -> Result<Command<'a>, AllocError>
+    ensures { IfOk result (λ command. app_of command ≡ command_over_scripts) }
+{
+    let live = live_command(alloc)?;
+    with_replay(alloc)?.subcommand(live)
+}
+
+// With the first of its commands alone.
+fn with_replay<'a>(alloc: Global) -> Result<Command<'a>, AllocError>
+    ensures { IfOk result (λ command. app_of command ≡ command_over_rows) }
+{
+    let replay = replay_command(alloc)?;
+    bare_command(alloc).subcommand(replay)
+}
+
+fn bare_command<'a>(alloc: Global) -> Command<'a>
+    ensures { app_of result ≡ bare_app }
+{
     Command::new(alloc, "klsm")
         .about("A priority queue for several threads, with a proof of what it answers")
         .no_binary_name(true)
         .subcommand_required(true)
         .arg_required_else_help(true)
-        .subcommand(replay)?
-        .subcommand(live)?
-        .subcommand(knapsack)
 }
 
 fn replay_command<'a>(alloc: Global) -> Result<Command<'a>, AllocError>

@@ -1,13 +1,16 @@
 //! The options of the commands.
-ghost use Rattle.std.specs.Prelude.{◌≡◌, None, IfOk, IfSome, false};
+ghost use Rattle.std.specs.Prelude.{◌≡◌, Some, None, IfOk, IfSome, false};
 ghost use Rattle.clap.specs.Words.{app_of, found_of, rows_of, rule_of};
 ghost use Rattle.clap.specs.declared.builder.command.Command.TheViews.{out-Command as fields_of};
 ghost use Rattle.klsm_tool.specs.Options.{AreInRange, number_at, option_rule, pick_at, pick_of};
 ghost use Rattle.klsm_tool.specs.Options.{IsSearchInRange, search_at, settings_at};
 ghost use Rattle.klsm_tool.specs.Options.{with_options as with_options_of};
 ghost use Rattle.klsm_tool.specs.Options.{with_search_options as with_search_options_of};
+ghost use Rattle.klsm_tool.specs.Options.{with_pick as with_pick_of};
+ghost use Rattle.klsm_tool.specs.Options.{with_threads as with_threads_of};
 
 use crate::settings::{Pick, Search, Settings};
+use clap::builder::ValueParser;
 use clap::{Arg, ArgMatches, Command, value_parser};
 use std::alloc::{AllocError, Global};
 
@@ -20,14 +23,18 @@ pub(crate) fn with_options<'a>(
     ensures local { (fields_of command.entry).has_globals ≡ false
         → IfOk result (λ with. (fields_of with).has_globals ≡ false) }
 {
-    let one_to_16 = value_parser!(u64).range(1..=16);
-    let up_to_64 = value_parser!(u64).range(0..=64);
-    let any = value_parser!(u64);
-    let threads = option(alloc, THREADS, "1", "N", THREADS_HELP).value_parser(one_to_16);
-    let k = option(alloc, K, "64", "N", K_HELP).value_parser(up_to_64);
+    let seed = number(alloc, SEED, "1", SEED_HELP, value_parser!(u64));
+    with_pick(alloc, command)?.arg(seed)
+}
+
+// All but the last of them.
+fn with_pick<'a>(alloc: Global, command: Command<'a>) -> Result<Command<'a>, AllocError>
+    ensures app { IfOk result (λ with. app_of with ≡ with_pick_of (app_of command.entry)) }
+    ensures local { (fields_of command.entry).has_globals ≡ false
+        → IfOk result (λ with. (fields_of with).has_globals ≡ false) }
+{
     let pick = option(alloc, PICK, "first", "PICK", PICK_HELP);
-    let seed = option(alloc, SEED, "1", "N", SEED_HELP).value_parser(any);
-    command.arg(threads)?.arg(k)?.arg(pick)?.arg(seed)
+    with_threads(alloc, command, THREADS_HELP, K_HELP)?.arg(pick)
 }
 
 /// A command over instances, with its options.
@@ -40,13 +47,43 @@ pub(crate) fn with_search_options<'a>(
     ensures local { (fields_of command.entry).has_globals ≡ false
         → IfOk result (λ with. (fields_of with).has_globals ≡ false) }
 {
+    let up_to_a_million = value_parser!(u64).range(0..=1_000_000);
+    let idle = number(alloc, IDLE, "64", IDLE_HELP, up_to_a_million);
+    with_threads(alloc, command, WORKERS_HELP, NODES_HELP)?.arg(idle)
+}
+
+// With the options that every command has: how many threads there are, and how many items each keeps
+// for itself.
+fn with_threads<'a>(
+    alloc: Global,
+    command: Command<'a>,
+    threads_help: &'a str,
+    k_help: &'a str,
+) -> Result<Command<'a>, AllocError>
+    ensures app { IfOk result (λ with. app_of with ≡ with_threads_of (app_of command.entry)) }
+    ensures local { (fields_of command.entry).has_globals ≡ false
+        → IfOk result (λ with. (fields_of with).has_globals ≡ false) }
+{
     let one_to_16 = value_parser!(u64).range(1..=16);
     let up_to_64 = value_parser!(u64).range(0..=64);
-    let up_to_a_million = value_parser!(u64).range(0..=1_000_000);
-    let threads = option(alloc, THREADS, "1", "N", WORKERS_HELP).value_parser(one_to_16);
-    let k = option(alloc, K, "64", "N", NODES_HELP).value_parser(up_to_64);
-    let idle = option(alloc, IDLE, "64", "N", IDLE_HELP).value_parser(up_to_a_million);
-    command.arg(threads)?.arg(k)?.arg(idle)
+    let threads = number(alloc, THREADS, "1", threads_help, one_to_16);
+    let k = number(alloc, K, "64", k_help, up_to_64);
+    command.arg(threads)?.arg(k)
+}
+
+// An option whose value is a number that the parser takes.
+fn number<'a>(
+    alloc: Global,
+    name: &'a str,
+    default: &'a str,
+    help: &'a str,
+    parser: ValueParser<'a>,
+) -> Arg<'a>
+    ensures rule { rule_of result
+        ≡ option_rule name.entry.now default.entry.now (Some parser.entry) }
+    ensures local { result.global ≡ false }
+{
+    option(alloc, name, default, "N", help).value_parser(parser)
 }
 
 fn option<'a>(

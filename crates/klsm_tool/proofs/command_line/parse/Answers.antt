@@ -1,5 +1,5 @@
 use Rattle.std.proofs.Common.{◌≡◌, ℕ, List, Option, Some, None, Result, Ok, Err, true, ap, ap₂, map, refl, sym, ◌∙◌, subst, inl, inr}
-use Rattle.std.specs.Prelude.{◌⊎◌, IfErr, IfOk, OnOk, IsUtf8, ok_or}
+use Rattle.std.specs.Prelude.{◌⊎◌, IfErr, IfOk, IfSome, OnOk, IsUtf8, ok_or}
 use Rattle.std.specs.List.{All}
 use Rattle.clap.specs.Words.{App, HasMatchesOf, IsAmong, fault_of, is_simple, is_simple_and_free, subcommand_of, subcommand_rows_of}
 use Rattle.clap.specs.declared.parser.matches.ArgMatches.{ArgMatches}
@@ -9,7 +9,7 @@ use Rattle.clap.proofs.OnLiterals.{clap_on_literals}
 use Rattle.klsm_tool.specs.declared.command_line.Fault.{Fault}
 use Rattle.klsm_tool.specs.declared.command_line.Fault.TheVariants.{Said, UnknownPick, NotText, NoMemory}
 use Rattle.klsm_tool.specs.declared.command_line.Action.{Action}
-use Rattle.klsm_tool.specs.CommandLine.{IsCommand, action_in, action_under, found_in, klsm_command}
+use Rattle.klsm_tool.specs.CommandLine.{IsCommand, IsInRange, action_in, action_under, found_in, klsm_command}
 use Rattle.klsm_tool.specs.Program.{Explains, IsFaultIn}
 use Rattle.klsm_tool.proofs.command_line.parse.Goals as goal
 
@@ -73,3 +73,11 @@ pub returns-clause-fault : goal.returns-clause-fault
 returns-clause-fault c =
     let same = ap (map (λ text. text.now)) c.as_slice.ensures.value ∙ c.in_ok-texts.ensures.texts in
     explained _ _ c.fault_of.result c.in_ok-texts.ensures.readable (rw (found_is _ _ _ c.in-Ok.ensures same) at c.in-Err.ensures.kinds (command_simple _ c.in-Ok.ensures)) c.fault_of.ensures.fault c.fault_of.ensures.memory
+
+-- the options let its settings through
+range_asked : (asked : Option Action) (r : Result Action Fault) → r ≡ ok_or asked UnknownPick → IfSome asked IsInRange → IfOk r IsInRange
+range_asked None r is range = subst (λ (x : Result Action Fault). IfOk x IsInRange) (sym is) tt
+range_asked (Some action) r is range = subst (λ (x : Result Action Fault). IfOk x IsInRange) (sym is) range
+
+pub returns-in-Ok-try_get_matches_from-clause-range : goal.returns-in-Ok-try_get_matches_from-clause-range
+returns-in-Ok-try_get_matches_from-clause-range c = range_asked c.action_in.result c.ok_or.result c.ok_or.ensures.value c.action_in.ensures.range

@@ -1,11 +1,11 @@
-use Rattle.std.proofs.Common.{◌≡◌, ◌∙◌, ℕ, zero, suc, List, [], Option, Some, None, ap, codes, arith, refl, sym, subst, inl}
+use Rattle.std.proofs.Common.{◌≡◌, ◌∙◌, ℕ, zero, suc, List, [], Option, Some, None, ap, codes, arith, refl, sym, subst, inl, inr}
 use Rattle.std.specs.Prelude.{IsUtf8, unwrap_or}
 use Rattle.std.specs.List.{All}
 use Rattle.clap.specs.Words.{IsAmong, Kinds}
 use Rattle.clap.specs.declared.error.kind.ErrorKind.{ErrorKind}
 use Rattle.clap.proofs.OnLiterals.{clap_on_literals}
-use Rattle.klsm_tool.specs.CommandLine.{HasStatus, action_in, found_in, replay_words, usual_settings}
-use Rattle.klsm_tool.specs.Program.{RunsBy, RunsReplay, Says}
+use Rattle.klsm_tool.specs.CommandLine.{HasStatus, IsCommand, action_in, found_in, replay_words, usual_settings}
+use Rattle.klsm_tool.specs.Program.{RefusesBytes, Runs, RunsBy, RunsReplay, Says}
 use Rattle.klsm_tool.specs.declared.command_line.Action.{Action}
 use Rattle.klsm_tool.specs.declared.command_line.Action.TheVariants.{Replay, Live, Knapsack}
 use Rattle.klsm_tool.specs.declared.settings.Settings.{Settings}
@@ -83,3 +83,34 @@ pub returns-in-Err-UnknownPick-clause-replays : goal.returns-in-Err-UnknownPick-
 returns-in-Err-UnknownPick-clause-replays g c are =
     let fault = rw c.in-Err-UnknownPick.field-0-is at c.in-Err-UnknownPick.ensures.fault in
     absurd (none_is_not_usual None refl (sym fault.1 ∙ replay_is_usual _ are))
+
+-- a command is run, or the words are answered
+runs_command : (words : List (List ℕ)) (action : Action) (input before after : Option (List ℕ)) (n : ℕ) → IsCommand words → action_in words ≡ Some action → RunsBy (Some action) input before after n → Runs words input before after n
+runs_command words action input before after n command asked runs = inl (command, subst (λ (o : Option Action). RunsBy o input before after n) (sym asked) runs)
+
+answers_text : (words : List (List ℕ)) (text : List ℕ) (status : ℕ) (input before after : Option (List ℕ)) (n : ℕ) → HasStatus words status → Says before after text status n → Runs words input before after n
+answers_text words text status input before after n has says = inr (inl (text, status, has, says))
+
+refuses : (words : List (List ℕ)) (input before after : Option (List ℕ)) (n : ℕ) → (All IsUtf8 words → ⊥) → RefusesBytes before after n → Runs words input before after n
+refuses words input before after n none says = inr (inr (inl (none, says)))
+
+pub returns-in-Ok-Replay-clause-runs : goal.returns-in-Ok-Replay-clause-runs
+returns-in-Ok-Replay-clause-runs g c = runs_command _ (Replay c.in-Ok-Replay.settings) _ _ _ c.run_replay.result.code c.in-Ok-Replay.ensures.asked (rw c.in-Ok-Replay.field-0-is at c.in-Ok-Replay.ensures.action) c.run_replay.ensures
+
+pub returns-in-Ok-Live-clause-runs : goal.returns-in-Ok-Live-clause-runs
+returns-in-Ok-Live-clause-runs g c = runs_command _ (Live c.in-Ok-Live.settings) _ _ _ c.run_live.result.code c.in-Ok-Live.ensures.asked (rw c.in-Ok-Live.field-0-is at c.in-Ok-Live.ensures.action) c.run_live.ensures
+
+pub returns-in-Ok-Knapsack-clause-runs : goal.returns-in-Ok-Knapsack-clause-runs
+returns-in-Ok-Knapsack-clause-runs g c = runs_command _ (Knapsack c.in-Ok-Knapsack.search) _ _ _ c.run_knapsack.result.code c.in-Ok-Knapsack.ensures.asked (rw c.in-Ok-Knapsack.field-0-is at c.in-Ok-Knapsack.ensures.action) c.run_knapsack.ensures
+
+pub returns-in-Err-Said-clause-runs : goal.returns-in-Err-Said-clause-runs
+returns-in-Err-Said-clause-runs g c = answers_text _ c.as_bytes.result.now c.in-Err-Said.status _ _ _ c.say.result.code (rw c.in-Err-Said.field-0-is at c.in-Err-Said.ensures.fault) c.say.ensures
+
+pub returns-in-Err-NotText-clause-runs : goal.returns-in-Err-NotText-clause-runs
+returns-in-Err-NotText-clause-runs g c = refuses _ _ _ _ c.refuse_bytes.result.code (rw c.in-Err-NotText.field-0-is at c.in-Err-NotText.ensures.fault) c.refuse_bytes.ensures
+
+pub returns-clause-runs : goal.returns-clause-runs
+returns-clause-runs g c = inr (inr (inr c.say-in-Err-NoMemory.ensures))
+
+pub returns-clause-replays : goal.returns-clause-replays
+returns-clause-replays g c are = inr c.say-in-Err-NoMemory.ensures

@@ -38,3 +38,14 @@ pub returns-clause-readable : goal.returns-clause-readable
 returns-clause-readable c =
     let whole : take c.loop-word.word-index c.args.words.now ≡ c.args.words.now = take_all _ _ (omega (arith, c.loop-word-test.false)) in
     All-map IsUtf8 (λ word. word.items) c.args.words.now (rw whole at c.loop-word.invariant.text)
+
+pub loop-word-init : goal.loop-word-init
+loop-word-init c = record {
+  same = ap (map (λ text. text.now)) c.new-texts.ensures.items;
+  text = λ k d below. absurd (omega (arith, below));
+}
+
+pub returns-clause-texts : goal.returns-clause-texts
+returns-clause-texts c =
+    let whole : take c.loop-word.word-index c.args.words.now ≡ c.args.words.now = take_all _ _ (omega (arith, c.loop-word-test.false)) in
+    rw whole at c.loop-word.invariant.same

@@ -10,3 +10,9 @@ returns-in-Err-Full g c =
 
 pub returns : goal.returns
 returns g c = inr (c.in-Ok.instance, c.in-Ok.ensures, inr (inr c.write_last-in-Err-solve.ensures.goes))
+
+pub returns-in-Err : goal.returns-in-Err
+returns-in-Err g c = inl (c.in-Err.why, c.in-Err.ensures, c.refuse.ensures)
+
+pub returns-in-Ok-solve : goal.returns-in-Ok-solve
+returns-in-Ok-solve g c = inr (c.in-Ok.instance, c.in-Ok.ensures, inl (c.in-Ok-solve.best, c.in-Ok-solve.ensures.best, c.write_selection.ensures))

@@ -1,13 +1,45 @@
 use Rattle.std.proofs.Common.{◌≡◌, ◌<◌, ◌∙◌, ℕ, List, map, length, drop, slice_index_or, Option, Some, None, refl, sym, ap, subst, arith}
 use Rattle.std.proofs.lemmas.List.{length-map}
+use Rattle.klsm_board.specs.declared.board.Member.{Member}
+use Rattle.klsm_tool.specs.declared.stop.Stop.{Stop}
+use Rattle.klsm_tool.specs.declared.stop.Stop.TheVariants as stop
 use Rattle.klsm_tool.specs.declared.worker.Worker.{Worker}
 use Rattle.klsm_tool.specs.Keeping.{kept_for}
 use Rattle.klsm_tool.specs.ThreadRows.{asked_of}
 use Rattle.klsm_tool.specs.Live.{HasNoTotals}
 use Rattle.klsm_tool.specs.Working.{HasRunAt, IsReadyAt, gave_up_at, ready}
 use Rattle.klsm_tool.proofs.CrewLemmas.{written_back}
+use Rattle.klsm_tool.proofs.KeepingLemmas.{no_memory_at_first}
 use Rattle.klsm_tool.proofs.PlaceLemmas.{all_back, crew_ready, finished, one_gave_up}
 use Rattle.klsm_tool.proofs.live.run_rows.Goals as goal
+
+-- there is a place for each member
+as_many : (crew : List (Option Worker)) (members : List (Member 64 21)) (threads : ℕ) → crew ≡ map ready members → length members ≡ threads → length crew ≡ threads
+as_many crew members threads is count = ap (λ (z : List (Option Worker)). length z) is ∙ (length-map members ready ∙ count)
+
+-- memory is wanted before the first row
+none_run : (threads k number : ℕ) (input : Option (List ℕ)) (why : Stop) → why ≡ stop.NoMemory → HasNoTotals threads k input number why
+none_run threads k number input why is = subst (HasNoTotals threads k input number) (sym is) (no_memory_at_first threads k number input)
+
+pub returns-in_default : goal.returns-in_default
+returns-in_default g c = λ input _ _ _ _. none_run c.args.settings.now.threads c.args.settings.now.k _ input _ c.at.ensures.stop
+
+pub returns-in_default-crew_of : goal.returns-in_default-crew_of
+returns-in_default-crew_of g c = λ input _ _ _ _. none_run c.args.settings.now.threads c.args.settings.now.k _ input _ c.at-in_default-crew_of.ensures.stop
+
+pub run_all-requires-clause-some : goal.run_all-requires-clause-some
+run_all-requires-clause-some g c =
+    let many = as_many _ c.in-Ok.members.items _ (c.as_mut_slice.ensures.value ∙ c.in-Ok-crew_of.ensures) c.in-Ok.ensures.count in
+    λ _ _. omega (arith, many, c.requires.some_thread)
+
+pub run_all-requires-clause-many : goal.run_all-requires-clause-many
+run_all-requires-clause-many g c = λ _ _. c.requires.many ∙ sym (as_many _ c.in-Ok.members.items _ (c.as_mut_slice.ensures.value ∙ c.in-Ok-crew_of.ensures) c.in-Ok.ensures.count)
+
+pub run_all-requires-clause-few : goal.run_all-requires-clause-few
+run_all-requires-clause-few g c = λ _ _. c.requires.few
+
+pub run_all-requires-clause-quota : goal.run_all-requires-clause-quota
+run_all-requires-clause-quota g c = λ _ _. omega (arith, ap (λ m. m.quota) c.in-Ok.ensures.sizes)
 
 pub run_all-requires-clause-ready : goal.run_all-requires-clause-ready
 run_all-requires-clause-ready g c =
@@ -19,9 +51,9 @@ pub returns-in-Some : goal.returns-in-Some
 returns-in-Some g c = λ input all rows accepted kept.
     let crew = c.run_all.new.crew in let threads = c.args.settings.now.threads in
     let same = c.as_mut_slice.ensures.value ∙ c.in-Ok-crew_of.ensures in
-    let lent : length c.as_mut_slice.result.now ≡ threads = ap (λ (z : List (Option Worker)). length z) same ∙ (length-map c.in-Ok.members.items ready ∙ c.in-Ok.ensures.count) in
+    let lent : length c.as_mut_slice.result.now ≡ threads = as_many _ c.in-Ok.members.items _ same c.in-Ok.ensures.count in
     let many : length crew ≡ threads = c.run_all.auto.crew ∙ lent in
-    let len : c.in-Ok-crew_of.crew.len ≡ threads = c.in-Ok-crew_of.crew.ok.0 ∙ (ap (λ (z : List (Option Worker)). length z) c.in-Ok-crew_of.ensures ∙ (length-map c.in-Ok.members.items ready ∙ c.in-Ok.ensures.count)) in
+    let len : c.in-Ok-crew_of.crew.len ≡ threads = c.in-Ok-crew_of.crew.ok.0 ∙ as_many _ c.in-Ok.members.items _ c.in-Ok-crew_of.ensures c.in-Ok.ensures.count in
     let whole : c.as_slice.result.now ≡ crew = c.as_slice.ensures.value ∙ written_back crew (drop (length crew) c.in-Ok-crew_of.crew.items) c.in-Ok-crew_of.crew.len (many ∙ sym len) in
     let ran = λ (t : ℕ) (d : Option Worker) (below : t < length crew). subst (λ asked. HasRunAt c.in-Ok.board t asked (slice_index_or crew t d)) (kept.each t (omega (arith, below, many))) (c.run_all.ensures t d (omega (arith, below, many, lent))) in
     let first = c.in-Some.ensures.some in
@@ -37,9 +69,9 @@ pub finish-requires : goal.finish-requires
 finish-requires g c =
     let crew = c.run_all.new.crew in let threads = c.args.settings.now.threads in
     let same = c.as_mut_slice.ensures.value ∙ c.in-Ok-crew_of.ensures in
-    let lent : length c.as_mut_slice.result.now ≡ threads = ap (λ (z : List (Option Worker)). length z) same ∙ (length-map c.in-Ok.members.items ready ∙ c.in-Ok.ensures.count) in
+    let lent : length c.as_mut_slice.result.now ≡ threads = as_many _ c.in-Ok.members.items _ same c.in-Ok.ensures.count in
     let many : length crew ≡ threads = c.run_all.auto.crew ∙ lent in
-    let len : c.in-Ok-crew_of.crew.len ≡ threads = c.in-Ok-crew_of.crew.ok.0 ∙ (ap (λ (z : List (Option Worker)). length z) c.in-Ok-crew_of.ensures ∙ (length-map c.in-Ok.members.items ready ∙ c.in-Ok.ensures.count)) in
+    let len : c.in-Ok-crew_of.crew.len ≡ threads = c.in-Ok-crew_of.crew.ok.0 ∙ as_many _ c.in-Ok.members.items _ c.in-Ok-crew_of.ensures c.in-Ok.ensures.count in
     let back = written_back crew (drop (length crew) c.in-Ok-crew_of.crew.items) c.in-Ok-crew_of.crew.len (many ∙ sym len) in
     let whole : c.as_slice.result.now ≡ crew = c.as_slice.ensures.value ∙ back in
     let all = all_back c.in-Ok.board (kept_for (map (λ list. list.items) c.args.rows.now)) crew (many ∙ sym (ap (λ m. m.threads) c.in-Ok.ensures.sizes))
@@ -51,9 +83,9 @@ pub returns : goal.returns
 returns g c = λ input all rows accepted kept.
     let crew = c.run_all.new.crew in let threads = c.args.settings.now.threads in
     let same = c.as_mut_slice.ensures.value ∙ c.in-Ok-crew_of.ensures in
-    let lent : length c.as_mut_slice.result.now ≡ threads = ap (λ (z : List (Option Worker)). length z) same ∙ (length-map c.in-Ok.members.items ready ∙ c.in-Ok.ensures.count) in
+    let lent : length c.as_mut_slice.result.now ≡ threads = as_many _ c.in-Ok.members.items _ same c.in-Ok.ensures.count in
     let many : length crew ≡ threads = c.run_all.auto.crew ∙ lent in
-    let len : c.in-Ok-crew_of.crew.len ≡ threads = c.in-Ok-crew_of.crew.ok.0 ∙ (ap (λ (z : List (Option Worker)). length z) c.in-Ok-crew_of.ensures ∙ (length-map c.in-Ok.members.items ready ∙ c.in-Ok.ensures.count)) in
+    let len : c.in-Ok-crew_of.crew.len ≡ threads = c.in-Ok-crew_of.crew.ok.0 ∙ as_many _ c.in-Ok.members.items _ c.in-Ok-crew_of.ensures c.in-Ok.ensures.count in
     let back = written_back crew (drop (length crew) c.in-Ok-crew_of.crew.items) c.in-Ok-crew_of.crew.len (many ∙ sym len) in
     let whole : c.as_slice.result.now ≡ crew = c.as_slice.ensures.value ∙ back in
     let threads_are = ap (λ m. m.threads) c.in-Ok.ensures.sizes in

@@ -1,4 +1,5 @@
-use Rattle.std.proofs.Common.{rules, ◌≡◌, ◌≢◌, ◌∙◌, List, [], map, length, drop, sym, ap, subst, Vec, Global}
+use Rattle.std.proofs.Common.{rules, ◌≡◌, ◌≢◌, ◌∙◌, List, [], map, length, drop, sym, ap, arith, subst, Vec, Global}
+use Rattle.std.proofs.lemmas.List.{length-map}
 use Rattle.klsm_tool.specs.declared.stop.Stop.TheVariants as stop
 use Rattle.klsm_tool.specs.declared.thread_rows.ThreadRow.{ThreadRow}
 use Rattle.klsm_tool.specs.Keeping.{AreKept}
@@ -44,3 +45,11 @@ returns g c =
     let whole : c.as_slice.result.now ≡ lists = c.as_slice.ensures.value ∙ written_back lists (drop (length lists) c.in-Ok.rows.items) c.in-Ok.rows.len many in
     c.run_rows.ensures input ended.rows (subst (StopsReading threads input ended.rows) at_end ended.stops) ended.accepted
     (subst (λ (z : List (Vec ThreadRow Global)). AreKept threads ended.rows (kept_lists z)) (sym whole) (ended.kept at_end))
+
+pub keep_rows-closing-requires : goal.keep_rows-closing-requires
+keep_rows-closing-requires g c =
+    let many = length-map c.in-Ok.rows.items (λ list. list.items) in let kept = c.in-Ok.ensures.many in
+    (record { shared = c.type_bounds.sync-typeof-progress.shared }, omega (arith, c.as_mut_slice.ensures.len, c.in-Ok.rows.ok.0, many, kept, c.requires.threads))
+
+pub run_rows-requires-clause-many : goal.run_rows-requires-clause-many
+run_rows-requires-clause-many g c = λ _ _. c.as_slice.ensures.len ∙ (c.in-Ok.rows.ok.0 ∙ (sym (length-map c.in-Ok.rows.items (λ list. list.items)) ∙ c.in-Ok.ensures.many))

@@ -16,7 +16,7 @@ finish-requires g c =
     let crew = c.replay_on-report.ensures.members in let members = c.replay_on-report.new.members in let v = c.in-Ok.members in
     let threads = ap (λ z. z.threads) c.in-Ok.ensures.sizes in let many = crew.many in let count = c.in-Ok.ensures.count in let len = v.ok.0 in
     let same = written_back members (drop (length members) v.items) v.len (omega (arith, many, threads, count, len)) in
-    (search rules, (search rules, (search rules, subst (λ (z : List (Member 64 21)). All (λ member. IsOf member c.in-Ok.board) z) (sym same) (crew_all c.in-Ok.board members crew))))
+    (omega (arith), (omega (arith), (omega (arith), subst (λ (z : List (Member 64 21)). All (λ member. IsOf member c.in-Ok.board) z) (sym same) (crew_all c.in-Ok.board members crew))))
 
 pub returns-then-ne : goal.returns-then-ne
 returns-then-ne g c =

@@ -1,6 +1,8 @@
-use Rattle.std.proofs.Common.{◌∙◌, false, get_or, subst, ap, arith}
+use Rattle.std.proofs.Common.{◌≡◌, ◌∙◌, [], false, get_or, take, refl, subst, sym, ap, arith}
+use Rattle.std.proofs.lemmas.List.{take_all}
 use Rattle.klsm_board.specs.Boards.{own_steps}
 use Rattle.klsm_tool.specs.declared.thread_rows.ThreadRow.{ThreadRow}
+use Rattle.klsm_tool.specs.ThreadRows.{AreAnswers}
 use Rattle.klsm_tool.specs.Turns.{GivesUp, IsAnswer}
 use Rattle.klsm_tool.proofs.ShownLemmas.{inserted_within}
 use Rattle.klsm_tool.proofs.WorkLemmas.{row_answered, row_given_up, so_many}
@@ -32,3 +34,14 @@ loop-row-preserved g c =
       answers = row_answered c.args.rows.now c.loop-row.row-index empty c.loop-row-test.true (own_steps c.loop-row.member) (own_steps c.answer.new.member) c.in_default.field-0 was.answers
           (subst (λ o. IsAnswer o c.in_default.field-0) c.operation.ensures told.answer) told.shown;
     }
+
+pub loop-row-init : goal.loop-row-init
+loop-row-init g c = record {
+  same = (refl, refl, refl);
+  answers = subst (AreAnswers []) (sym c.requires.shows_none) tt;
+}
+
+pub returns-clause-works : goal.returns-clause-works
+returns-clause-works g c =
+    let whole : take c.loop-row.row-index c.args.rows.now ≡ c.args.rows.now = take_all _ _ (omega (arith, c.loop-row-test.false)) in
+    rw whole at c.loop-row.invariant.answers
