@@ -2,7 +2,7 @@
 ghost use Rattle.klsm_parts.specs.Limit.{IsLevelCount};
 
 use super::crew::Crew;
-use super::script::{Name, Step, first_otherwise, item};
+use super::script::{Name, Step, all_go, item};
 use klsm_board::{Account, FinishError, TryInsertError};
 use std::alloc::Global;
 use std::sync::Wait;
@@ -22,10 +22,7 @@ fn after<const LEVELS: usize>(
     requires { IsLevelCount LEVELS }
 {
     let mut crew = Crew::new(alloc, threads, k, quota).ok()?;
-    match first_otherwise(rt, &mut crew, true, steps) {
-        Some(_) => None,
-        None => Some(crew),
-    }
+    all_go(rt, &mut crew, true, steps).then_some(crew)
 }
 
 // The board and the members that come back, in the order given, where it is not finished for this

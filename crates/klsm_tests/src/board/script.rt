@@ -119,48 +119,40 @@ fn goes<const LEVELS: usize>(
     })
 }
 
-/// The first step that goes otherwise, counted from 0.
-pub(super) fn first_otherwise<const LEVELS: usize>(
+/// Whether each step goes as it has to.
+pub(super) fn all_go<const LEVELS: usize>(
     rt: &impl Wait,
     crew: &mut Crew<LEVELS>,
     waits: bool,
     steps: &[Step],
-) -> Option<usize> {
-    for (index, step) in steps.iter().enumerate() {
+) -> bool {
+    for step in steps {
         if goes(rt, crew, waits, *step) != Some(true) {
-            return Some(index);
+            return false;
         }
     }
-    None
+    true
 }
 
-// The same on a new board. Where there is none, its number is one too many.
-fn first_on_new<const LEVELS: usize>(
+// The same on a new board.
+fn all_go_on_new<const LEVELS: usize>(
     rt: &impl Wait,
     alloc: Global,
     script: &Script,
     waits: bool,
-) -> Option<usize>
+) -> bool
     requires { IsLevelCount LEVELS }
 {
     match Crew::<LEVELS>::new(alloc, script.threads, script.k, script.quota) {
-        Ok(mut crew) => first_otherwise(rt, &mut crew, waits, script.steps),
-        Err(_) => Some(script.steps.len()),
+        Ok(mut crew) => all_go(rt, &mut crew, waits, script.steps),
+        Err(_) => false,
     }
 }
 
-/// The first step of a script that goes otherwise, and whether by the calls that may wait.
-pub(super) fn wrong_step<const LEVELS: usize>(
-    rt: &impl Wait,
-    alloc: Global,
-    script: &Script,
-) -> Option<(bool, usize)>
+/// Whether each step of a script goes as it has to, by the calls that do not wait and by those that may.
+pub(super) fn passes<const LEVELS: usize>(rt: &impl Wait, alloc: Global, script: &Script) -> bool
     requires { IsLevelCount LEVELS }
 {
-    for waits in [false, true] {
-        if let Some(index) = first_on_new::<LEVELS>(rt, alloc, script, waits) {
-            return Some((waits, index));
-        }
-    }
-    None
+    all_go_on_new::<LEVELS>(rt, alloc, script, false)
+        && all_go_on_new::<LEVELS>(rt, alloc, script, true)
 }

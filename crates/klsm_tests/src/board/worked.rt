@@ -1,6 +1,6 @@
 //! Worked runs of scripts.
 
-use super::script::{Script, Step, wrong_step};
+use super::script::{Script, Step, passes};
 use klsm_board::{Busy, HoldError, TryInsertError};
 
 // The most insertions of a member.
@@ -165,7 +165,7 @@ const SCRIPTS: &[Script] = &[
 #[test]
 fn scripts_of_one_to_three_members(rt: HostRuntime) {
     for script in SCRIPTS {
-        assert!(rt; wrong_step::<21>(&rt, rt.alloc(), script).is_none());
+        assert!(rt; passes::<21>(&rt, rt.alloc(), script));
     }
 }
 
@@ -216,6 +216,6 @@ const FULL_FOR_TWO: Script = Script {
 
 #[test]
 fn full_shared_parts(rt: HostRuntime) {
-    assert!(rt; wrong_step::<4>(&rt, rt.alloc(), &FULL).is_none());
-    assert!(rt; wrong_step::<2>(&rt, rt.alloc(), &FULL_FOR_TWO).is_none());
+    assert!(rt; passes::<4>(&rt, rt.alloc(), &FULL));
+    assert!(rt; passes::<2>(&rt, rt.alloc(), &FULL_FOR_TWO));
 }

@@ -87,13 +87,26 @@ fn has_partners<R: Run, const LEVELS: usize>(
     true
 }
 
-// Whether the LSM of two blocks, and that of none, tell their cascades and partners.
+// Runs, the blocks that a run of each level from 0 on would become one with, and the partner of each
+// block.
+const FORETOLD: &[(&[&[u64]], &[(usize, usize)], &[Option<usize>])] = &[
+    (
+        &[&[1, 2, 3], &[4, 5]],
+        &[(2, 0), (0, 2), (0, 1), (0, 0)],
+        &[Some(1), None],
+    ),
+    (&[], &[(0, 0), (0, 0)], &[]),
+];
+
+// Whether the LSM of each row tells its cascades and partners.
 fn are_foretold<'a>(heap: &'a Rationed<Global>, grown: &mut RationedGrown<'a>) -> Option<bool> {
-    grown.refill(heap, How::Run, &[&[1, 2, 3], &[4, 5]])?;
-    let two = has_cascades(&grown.lsm, &[(2, 0), (0, 2), (0, 1), (0, 0)])
-        && has_partners(&grown.lsm, &[Some(1), None]);
-    grown.clear();
-    Some(two && has_cascades(&grown.lsm, &[(0, 0), (0, 0)]) && has_partners(&grown.lsm, &[]))
+    for (runs, cascades, partners) in FORETOLD {
+        grown.refill(heap, How::Run, runs)?;
+        if !has_cascades(&grown.lsm, cascades) || !has_partners(&grown.lsm, partners) {
+            return Some(false);
+        }
+    }
+    Some(true)
 }
 
 // Runs, the number of their items, the least key, and its block.

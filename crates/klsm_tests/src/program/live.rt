@@ -2,7 +2,7 @@
 //! run, and that threads run side by side.
 
 use super::worked::SCRIPT;
-use super::{Told, first_otherwise};
+use super::{Told, all_go};
 use crate::meeting::Meeting;
 use klsm_tool::{End, Pick, Report, Settings, live_over};
 
@@ -49,7 +49,7 @@ const WORKED: &[Told] = &[
 
 #[test]
 fn scripts_are_run_by_threads(rt: HostRuntime) {
-    assert!(rt; first_otherwise(&rt, rt.alloc(), WORKED).is_none());
+    assert!(rt; all_go(&rt, rt.alloc(), WORKED));
 }
 
 #[test]

@@ -1,6 +1,6 @@
 //! Scripts, their answers and statuses.
 
-use super::{REPLAY, Told, first_otherwise};
+use super::{REPLAY, Told, all_go};
 
 /// Scripts, their statuses, and what is written of them. Those of `examples/` are compared by
 /// `klsm_examples`.
@@ -59,5 +59,5 @@ const SCRIPTS: &[Told] = &[
 
 #[test]
 fn scripts_are_answered_or_refused(rt: HostRuntime) {
-    assert!(rt; first_otherwise(&rt, rt.alloc(), SCRIPTS).is_none());
+    assert!(rt; all_go(&rt, rt.alloc(), SCRIPTS));
 }

@@ -1,7 +1,7 @@
 //! Words of a process, and the statuses of the program.
 
 use super::process::{Input, Output};
-use super::{Told, first_otherwise, run};
+use super::{Told, all_go, run};
 use std::alloc::Global;
 use std::sync::Wait;
 use std::test::Fail;
@@ -139,7 +139,7 @@ max skip 2 bound 2
 
 #[test]
 fn words_are_answered_or_refused(rt: HostRuntime) {
-    assert!(rt; first_otherwise(&rt, rt.alloc(), TOLD).is_none());
+    assert!(rt; all_go(&rt, rt.alloc(), TOLD));
 }
 
 #[test]
