@@ -32,24 +32,34 @@ pub(crate) fn print<R: Print + Clock + AllocGlobal + Threads + Wait + Sync>(
         }
     }
     for workload in Workload::all() {
-        let Some(in_order) = board_agrees(rt, rt.alloc(), workload, 64) else {
-            return println!(rt; "{} k 64: no memory", workload.name());
-        };
-        println!(rt;
-            "{} k 64: a board of one member gives the heap's keys: {in_order}",
-            workload.name()
-        )?;
+        let agreement = board_agrees(rt, rt.alloc(), workload, 64);
+        print_board(rt, workload, agreement)?;
     }
     for kind in Kind::all() {
-        let Some(all_best) = searches_agree(rt, kind)? else {
-            return println!(rt; "{}: no memory", kind.name());
-        };
-        println!(rt;
-            "{} {THINGS} things: all searches find a best selection: {all_best}",
-            kind.name()
-        )?;
+        let agreement = searches_agree(rt, kind)?;
+        print_searches(rt, kind, agreement)?;
     }
     Ok(())
+}
+
+fn print_board<R: Print>(rt: &R, workload: Workload, agreement: Option<bool>) -> io::Result<()> {
+    let Some(in_order) = agreement else {
+        return println!(rt; "{} k 64: no memory", workload.name());
+    };
+    println!(rt;
+        "{} k 64: a board of one member gives the heap's keys: {in_order}",
+        workload.name()
+    )
+}
+
+fn print_searches<R: Print>(rt: &R, kind: Kind, agreement: Option<bool>) -> io::Result<()> {
+    let Some(all_best) = agreement else {
+        return println!(rt; "{}: no memory", kind.name());
+    };
+    println!(rt;
+        "{} {THINGS} things: all searches find a best selection: {all_best}",
+        kind.name()
+    )
 }
 
 // Whether the searches of an instance, by one thread and by two, find the value that a search depth first finds.

@@ -73,8 +73,6 @@ fn median(mut rounds: [Search; ROUNDS]) -> Search {
     rounds[ROUNDS / 2]
 }
 
-// Searches the instances of a kind in each of five rounds, by all contenders one after another. An
-// instance that one of them has no room for is left out.
 fn print_set<R: Print + Clock + AllocGlobal + Threads + Wait + Sync>(
     rt: &R,
     kind: Kind,
@@ -83,10 +81,33 @@ fn print_set<R: Print + Clock + AllocGlobal + Threads + Wait + Sync>(
     threads: usize,
 ) -> io::Result<()> {
     let order = if is_sorted { "sorted" } else { "drawn" };
+    let Some(rounds) = search_set(rt, kind, is_sorted, things, threads)? else {
+        return println!(rt; "{} {order} {things}: no memory", kind.name());
+    };
+    print!(rt; "{} {order} {things} {threads}", kind.name())?;
+    print_search(rt, median(rounds.heap))?;
+    print_search(rt, median(rounds.locked))?;
+    print_search(rt, median(rounds.board))?;
+    println!(rt; " {}", median(rounds.solve).time / 1_000)
+}
+
+fn print_search<R: Print>(rt: &R, search: Search) -> io::Result<()> {
+    print!(rt; " {} {}", search.nodes, search.per_node())
+}
+
+// Searches the instances of a kind in each of five rounds, by all contenders one after another. An
+// instance that one of them has no room for is left out. `None` where there is no memory for one.
+fn search_set<R: Clock + AllocGlobal + Threads + Wait + Sync>(
+    rt: &R,
+    kind: Kind,
+    is_sorted: bool,
+    things: usize,
+    threads: usize,
+) -> io::Result<Option<Rounds>> {
     let mut rounds = Rounds::none();
     for seed in 0..INSTANCES {
         let Some(instance) = kind.instance(rt.alloc(), things, is_sorted, seed) else {
-            return println!(rt; "{} {order} {things}: no memory", kind.name());
+            return Ok(None);
         };
         for round in 0..ROUNDS {
             if let Some(searches) = search_all(rt, &instance, threads)? {
@@ -94,18 +115,5 @@ fn print_set<R: Print + Clock + AllocGlobal + Threads + Wait + Sync>(
             }
         }
     }
-    let heap = median(rounds.heap);
-    let locked = median(rounds.locked);
-    let board = median(rounds.board);
-    println!(rt;
-        "{} {order} {things} {threads} {} {} {} {} {} {} {}",
-        kind.name(),
-        heap.nodes,
-        heap.per_node(),
-        locked.nodes,
-        locked.per_node(),
-        board.nodes,
-        board.per_node(),
-        median(rounds.solve).time / 1_000
-    )
+    Ok(Some(rounds))
 }

@@ -20,8 +20,39 @@ const FILLINGS: usize = 1_000;
 pub(crate) fn print<R: Print + Clock + AllocGlobal + Wait>(rt: &R, k: usize) -> io::Result<()>
     requires { k ≤ 128 }
 {
+    match time_own(rt, k)? {
+        Some(own) => print_own(rt, k, own),
+        None => println!(rt; "own {k}: no memory"),
+    }
+}
+
+// What both take.
+#[derive(Clone, Copy)]
+struct Own {
+    in_queue: Times,
+    by_member: Times,
+}
+
+fn print_own<R: Print>(rt: &R, k: usize, own: Own) -> io::Result<()> {
+    let calls = FILLINGS.wrapping_mul(k);
+    println!(rt;
+        "own-insertions {k} {} {}",
+        per_operation(own.in_queue.filling, calls),
+        per_operation(own.by_member.filling, calls)
+    )?;
+    println!(rt;
+        "own-deletions {k} {} {}",
+        per_operation(own.in_queue.draining, calls),
+        per_operation(own.by_member.draining, calls)
+    )
+}
+
+// Measures both. `None` where there is no memory for the board.
+fn time_own<R: Clock + AllocGlobal + Wait>(rt: &R, k: usize) -> io::Result<Option<Own>>
+    requires { k ≤ 128 }
+{
     let Some((board, member)) = board_of_one(rt.alloc(), k) else {
-        return println!(rt; "own {k}: no memory");
+        return Ok(None);
     };
     let mut on_board = OnBoard {
         rt,
@@ -33,27 +64,28 @@ pub(crate) fn print<R: Print + Clock + AllocGlobal + Wait>(rt: &R, k: usize) -> 
         queue: Queue::new(rt.alloc(), k),
         picker: First,
     };
+    Ok(Some(time_rounds(rt, &mut queue, &mut on_board, k)?))
+}
+
+fn time_rounds<Q: Contender, B: Contender, R: Clock + AllocGlobal>(
+    rt: &R,
+    queue: &mut Q,
+    on_board: &mut B,
+    k: usize,
+) -> io::Result<Own> {
     let mut draws = Pcg32::seed_from_u64(42);
-    let mut in_queue = Times::new();
-    let mut by_member = Times::new();
+    let mut own = Own {
+        in_queue: Times::new(),
+        by_member: Times::new(),
+    };
     for round in 0..ROUNDS {
         for _ in 0..FILLINGS {
             let keys = Workload::Uniform.keys(rt.alloc(), &mut draws, 0, k)?;
-            in_queue.add(rt, round, &mut queue, keys.as_slice())?;
-            by_member.add(rt, round, &mut on_board, keys.as_slice())?;
+            own.in_queue.add(rt, round, queue, keys.as_slice())?;
+            own.by_member.add(rt, round, on_board, keys.as_slice())?;
         }
     }
-    let calls = FILLINGS.wrapping_mul(k);
-    println!(rt;
-        "own-insertions {k} {} {}",
-        per_operation(in_queue.filling, calls),
-        per_operation(by_member.filling, calls)
-    )?;
-    println!(rt;
-        "own-deletions {k} {} {}",
-        per_operation(in_queue.draining, calls),
-        per_operation(by_member.draining, calls)
-    )
+    Ok(own)
 }
 
 // Nanoseconds of each round.

@@ -38,22 +38,13 @@ pub(crate) fn print<R: Print + Clock + AllocGlobal + Threads + Wait + Sync>(
     own::print(rt, K)
 }
 
-// Measures a heap and a board with so many threads each.
 fn print_threads<R: Print + Clock + AllocGlobal + Threads + Wait + Sync>(
     rt: &R,
     workload: Workload,
     items: usize,
     threads: usize,
 ) -> io::Result<()> {
-    let heap = Mutex::new(Heap::new(rt.alloc()));
-    let in_turn = workers_of(rt.alloc(), all_in_turn(rt, rt.alloc(), &heap, threads)?)?;
-    let Some((board, members)) = board_of(rt.alloc(), threads, K) else {
-        return println!(rt; "{} {items} {threads}: no memory", workload.name());
-    };
-    let crew = all_on_board::<R, First>(rt, rt.alloc(), &board, members)?;
-    let on_board = workers_of(rt.alloc(), crew)?;
-    let share = items / threads.max(1);
-    let Some(times) = time_both(rt, workload, share, in_turn, on_board)? else {
+    let Some(times) = time_threads(rt, workload, items, threads)? else {
         return println!(rt; "{} {items} {threads}: no room", workload.name());
     };
     let operations = PAIRS.wrapping_mul(2).wrapping_mul(threads);
@@ -63,6 +54,24 @@ fn print_threads<R: Print + Clock + AllocGlobal + Threads + Wait + Sync>(
         per_operation(times.heap, operations),
         per_operation(times.board, operations)
     )
+}
+
+// Measures a heap and a board with so many threads each. `None` where there is no memory for the board, or one of them had
+// no room.
+fn time_threads<R: Clock + AllocGlobal + Threads + Wait + Sync>(
+    rt: &R,
+    workload: Workload,
+    items: usize,
+    threads: usize,
+) -> io::Result<Option<Times>> {
+    let heap = Mutex::new(Heap::new(rt.alloc()));
+    let in_turn = workers_of(rt.alloc(), all_in_turn(rt, rt.alloc(), &heap, threads)?)?;
+    let Some((board, members)) = board_of(rt.alloc(), threads, K) else {
+        return Ok(None);
+    };
+    let crew = all_on_board::<R, First>(rt, rt.alloc(), &board, members)?;
+    let on_board = workers_of(rt.alloc(), crew)?;
+    time_both(rt, workload, items / threads.max(1), in_turn, on_board)
 }
 
 // A worker for each of these contenders.

@@ -89,13 +89,40 @@ impl Bench {
     }
 }
 
-// Fills all three, and measures a workload on them.
+// Prints the medians, or that one of the three had no room.
+fn print_timed<R: Print>(
+    rt: &R,
+    name: &str,
+    items: usize,
+    k: usize,
+    operations: usize,
+    rounds: Option<Rounds>,
+) -> io::Result<()> {
+    match rounds {
+        Some(rounds) => rounds.print(rt, name, items, k, operations),
+        None => println!(rt; "{name} {items} {k}: no room"),
+    }
+}
+
 fn print_workload<R: Print + Clock + AllocGlobal>(
     rt: &R,
     workload: Workload,
     items: usize,
     k: usize,
 ) -> io::Result<()>
+    requires { k ≤ 128 }
+{
+    let rounds = time_workload(rt, workload, items, k)?;
+    print_timed(rt, workload.name(), items, k, 2 * PAIRS, rounds)
+}
+
+// Fills all three, and measures a workload on them. `None` where one of them had no room.
+fn time_workload<R: Clock + AllocGlobal>(
+    rt: &R,
+    workload: Workload,
+    items: usize,
+    k: usize,
+) -> io::Result<Option<Rounds>>
     requires { k ≤ 128 }
 {
     let mut bench = Bench::new(rt.alloc(), k);
@@ -105,13 +132,12 @@ fn print_workload<R: Print + Clock + AllocGlobal>(
     for round in 0..ROUNDS {
         let before = items.wrapping_add(round * PAIRS) as u64;
         if !bench.time_run(rt, &mut rounds, round, workload, before)? {
-            return println!(rt; "{} {items} {k}: no room", workload.name());
+            return Ok(None);
         }
     }
-    rounds.print(rt, workload.name(), items, k, 2 * PAIRS)
+    Ok(Some(rounds))
 }
 
-// Measures insertions into empty ones.
 fn print_insertions<R: Print + Clock + AllocGlobal>(
     rt: &R,
     items: usize,
@@ -119,19 +145,48 @@ fn print_insertions<R: Print + Clock + AllocGlobal>(
 ) -> io::Result<()>
     requires { k ≤ 128 }
 {
+    let rounds = time_insertions(rt, items, k)?;
+    print_timed(rt, "insertions", items, k, items, rounds)
+}
+
+// Measures insertions into empty ones. `None` where one of them had no room.
+fn time_insertions<R: Clock + AllocGlobal>(
+    rt: &R,
+    items: usize,
+    k: usize,
+) -> io::Result<Option<Rounds>>
+    requires { k ≤ 128 }
+{
     let mut bench = Bench::new(rt.alloc(), k);
     let mut rounds = Rounds::new();
     for round in 0..ROUNDS {
         bench.trio = Trio::new(rt.alloc(), k);
         if !bench.time_fill(rt, &mut rounds, round, Workload::Uniform, items)? {
-            return println!(rt; "insertions {items} {k}: no room");
+            return Ok(None);
         }
     }
-    rounds.print(rt, "insertions", items, k, items)
+    Ok(Some(rounds))
 }
 
-// Measures insertions into an own part that has room for them, and the deletions of its items.
+// Prints what insertions into an own part cost that has room for them, and the deletions of its items.
 fn print_own<R: Print + Clock + AllocGlobal>(rt: &R, k: usize) -> io::Result<()>
+    requires { k ≤ 128 }
+{
+    let own = time_own(rt, k)?;
+    own.inserted
+        .print(rt, "own-insertions", k, k, FILLINGS * k)?;
+    own.deleted.print(rt, "own-deletions", k, k, FILLINGS * k)
+}
+
+// An own part's insertions and deletions.
+#[derive(Clone, Copy)]
+struct Own {
+    inserted: Rounds,
+    deleted: Rounds,
+}
+
+// Measures them.
+fn time_own<R: Clock + AllocGlobal>(rt: &R, k: usize) -> io::Result<Own>
     requires { k ≤ 128 }
 {
     let mut bench = Bench::new(rt.alloc(), k);
@@ -143,6 +198,5 @@ fn print_own<R: Print + Clock + AllocGlobal>(rt: &R, k: usize) -> io::Result<()>
             deleted.add(rt, round, &mut bench.trio, Calls::Drain(k))?;
         }
     }
-    inserted.print(rt, "own-insertions", k, k, FILLINGS * k)?;
-    deleted.print(rt, "own-deletions", k, k, FILLINGS * k)
+    Ok(Own { inserted, deleted })
 }
