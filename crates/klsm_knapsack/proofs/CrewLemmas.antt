@@ -1,24 +1,28 @@
 -- The workers of a search together.
-use Rattle.std.proofs.Common.{◌≡◌, ℕ, zero, suc, ◌<◌, ◌≤◌, inl, List, [], ◌∷◌, ◌++◌, length, map, get_or, set, All, Option, Some, None, refl, sym, ap, ◌∙◌, subst, arith}
-use Rattle.std.specs.List.{flat_map}
+use Rattle.std.proofs.Common.{◌≡◌, ℕ, zero, suc, ◌<◌, ◌≤◌, ◌⊎◌, inl, inr, List, [], ◌∷◌, ◌++◌, length, map, get_or, set, All, Option, Some, None, refl, sym, ap, ◌∙◌, subst, arith}
+use Rattle.std.specs.List.{Contains, flat_map}
 use Rattle.std.specs.Option.{option_or}
 use Rattle.std.proofs.lemmas.Option.{none-some}
 use Rattle.std.proofs.lemmas.List.Elements.{Contains-append_left}
 use mathlib.Core.Option.{some, some-injective, some-ne-none}
 use lib.ListN.{get_elem?}
+use Rattle.klsm_run.specs.declared.item.Item.{Item}
 use Rattle.klsm_world.specs.declared.step.Entry.{Entry}
 use Rattle.klsm_world.specs.OwnSteps.{inserted, deleted}
 use Rattle.klsm_board.specs.declared.board.Member.{Member}
+use Rattle.klsm_board.specs.Boards.{own_steps}
 use Rattle.klsm_board.proofs.ending.EndLemmas.{place_within}
 use Rattle.klsm_knapsack.specs.declared.common.Common.{Common}
 use Rattle.klsm_knapsack.specs.declared.common.Worker.{Worker}
 use Rattle.klsm_knapsack.specs.declared.errors.Refusal.{Refusal}
 use Rattle.klsm_knapsack.specs.Selections.{Problem}
+use Rattle.klsm_knapsack.specs.Nodes.{level_in, picks_in}
 use Rattle.klsm_knapsack.specs.Watching.{found_by}
-use Rattle.klsm_knapsack.specs.Work.{Has, HasWorked}
-use Rattle.klsm_knapsack.specs.Ends.{first_refusal}
-use Rattle.klsm_knapsack.specs.Workers.{HasRun, HaveWorked, IsAtWork, IsCrew, IsNew, IsSameWorker, IsWorkerOf, work_of}
+use Rattle.klsm_knapsack.specs.Work.{Has, HasWorked, IsNodeItem}
+use Rattle.klsm_knapsack.specs.Ends.{EndsAnswered, HasEnded, first_refusal}
+use Rattle.klsm_knapsack.specs.Workers.{HasEndedSo, HasRun, HaveWorked, IsAtWork, IsCrew, IsNew, IsSameWorker, IsWorkerOf, work_of}
 use Rattle.klsm_knapsack.proofs.CoverageLemmas.{wider}
+use Rattle.klsm_knapsack.proofs.WorkLemmas.{inserts_one, has_last}
 
 -- what stands at an index, in two ways of saying so
 pub stands_at : {A : Type 0} (xs : List A) (i : ℕ) (d : A) → i < length xs → get_elem? xs i ≡ some (get_or xs i d)
@@ -46,6 +50,47 @@ module _ {LEVELS : ℕ} where
     where
       none : HasWorked p record { inserted = []; deleted = []; found = found_by w.watcher }
       none = record { inserts_nodes = λ x there. absurd (omega (arith, there.1)); is_done = λ x there node. absurd (omega (arith, there.1)) }
+
+  -- and has ended without a refusal
+  new_ended : (w : Worker LEVELS) → IsNew w → HasEndedSo w
+  new_ended w new = subst (λ (r : Option Refusal). HasEnded LEVELS w.member.sizes.k w.member.number (own_steps w.member) r) (sym new.refused) (inl new.steps)
+
+  -- so where the first worker has ended and the others have not begun, all have ended
+  pub crew_ended : (crew : List (Worker LEVELS)) (after : Worker LEVELS) → All IsNew crew → HasEndedSo after → All HasEndedSo (set crew 0 after)
+  crew_ended [] after new ended = λ k d lt. absurd (omega (arith, lt))
+  crew_ended (w ∷ crew) after new ended = by_place
+    where
+      by_place : (k : ℕ) (d : Worker LEVELS) → k < length (after ∷ crew) → HasEndedSo (get_or (after ∷ crew) k d)
+      by_place zero d lt = ended
+      by_place (suc k) d lt = new_ended (get_or crew k d) (new (suc k) d lt)
+
+  -- it has room for its first insertion
+  pub new_room : (w : Worker LEVELS) → IsNew w → 2 ≤ w.member.sizes.quota → length (work_of w).inserted < w.member.sizes.quota
+  new_room w new room = subst (λ (es : List Entry). length (inserted es) < w.member.sizes.quota) (sym new.steps) (omega (arith, room))
+
+  -- after which it is at work
+  pub root_at_work : (p : Problem) (before after : Worker LEVELS) (x : Item) → IsNew before → IsNodeItem p x → level_in x.load ≡ 0 → picks_in x.load ≡ 0 → (work_of after).inserted ≡ (work_of before).inserted ++ x ∷ []
+      → (work_of after).deleted ≡ (work_of before).deleted → EndsAnswered after.member.number (own_steps after.member) → IsAtWork p after × Has (work_of after).inserted 0 0
+  root_at_work p before after x new node level picks is same answered = (record { worked = worked; answered = answered }, has_last _ _ x 0 0 is level picks)
+    where
+      only : (work_of after).inserted ≡ x ∷ []
+      only = is ∙ ap (λ (es : List Entry). inserted es ++ x ∷ []) new.steps
+
+      no_more : (work_of after).deleted ≡ []
+      no_more = same ∙ ap deleted new.steps
+
+      by_place : (y : Item) → Contains [] y ⊎ IsNodeItem p y → IsNodeItem p y
+      by_place y (inl there) = absurd (omega (arith, there.1))
+      by_place y (inr here) = here
+
+      worked : HasWorked p (work_of after)
+      worked = record {
+        inserts_nodes = λ y there. by_place y ((inserts_one p [] (work_of after).inserted x node only).nodes y there);
+        is_done = λ y there found. absurd (none_in y (subst (λ (ys : List Item). Contains ys y) no_more there));
+      }
+        where
+          none_in : (y : Item) → Contains [] y → ⊥
+          none_in y there = omega (arith, there.1)
 
   -- the first refusal among one worker more
   pub first_refused : (before : List (Worker LEVELS)) (w : Worker LEVELS) → first_refusal (map (λ (v : Worker LEVELS). v.refused) (before ++ w ∷ [])) ≡ option_or (first_refusal (map (λ (v : Worker LEVELS). v.refused) before)) w.refused
@@ -109,7 +154,7 @@ module _ {LEVELS : ℕ} where
   }
 
   module _ (common : Common LEVELS) where
-    same_of : (before after : Worker LEVELS) → IsWorkerOf common before → IsSameWorker before after → IsWorkerOf common after
+    pub same_of : (before after : Worker LEVELS) → IsWorkerOf common before → IsSameWorker before after → IsWorkerOf common after
     same_of before after of same = record {
       member = (same.member.2 ∙ of.member.0, same.member.1 ∙ of.member.1);
       watcher = same.watcher ∙ of.watcher;

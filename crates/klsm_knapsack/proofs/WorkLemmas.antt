@@ -1,14 +1,17 @@
 -- A worker's work grows, and what it has done stays done.
-use Rattle.std.proofs.Common.{◌≡◌, ℕ, ◌+◌, ◌^◌, ◌≤◌, ◌⊎◌, inl, inr, List, [], ◌∷◌, ◌++◌, refl, sym, subst, arith}
+use Rattle.std.proofs.Common.{◌≡◌, ℕ, ◌+◌, ◌^◌, ◌<◌, ◌≤◌, ◌⊎◌, inl, inr, List, [], ◌∷◌, ◌++◌, length, refl, sym, ap, ◌∙◌, subst, arith}
 use Rattle.std.specs.List.{Contains}
+use Rattle.std.proofs.lemmas.List.{length-append}
 use Rattle.std.proofs.lemmas.List.Elements.{Contains-append_left, Contains-push, Contains-push_cases}
 use Rattle.std.proofs.Math.Pow.{shr_mono}
 use Rattle.klsm_run.specs.declared.item.Item.{Item}
+use Rattle.klsm_board.specs.declared.sizes.Sizes.{Sizes}
+use Rattle.klsm_knapsack.specs.declared.common.Worker.{Worker}
 use Rattle.klsm_knapsack.specs.Selections.{Problem}
 use Rattle.klsm_knapsack.specs.Nodes.{level_in, picks_in}
 use Rattle.klsm_knapsack.specs.Numbers.{value_in}
 use Rattle.klsm_knapsack.specs.Work.{Work, Has, IsNodeItem, IsSplit, IsDone, HasWorked}
-use Rattle.klsm_knapsack.specs.Workers.{InsertsNodes, Extends}
+use Rattle.klsm_knapsack.specs.Workers.{InsertsNodes, Extends, IsSameWorker}
 use Rattle.klsm_knapsack.proofs.SearchLemmas.{covers_more}
 use Rattle.klsm_knapsack.proofs.CoverageLemmas.{wider}
 
@@ -35,8 +38,22 @@ inserts_both p xs ys zs first second = record {
     by_place x (inl old) = first.nodes x old
     by_place x (inr node) = inr node
 
+pub inserts_same : (p : Problem) (xs ys : List Item) → ys ≡ xs → InsertsNodes p xs ys
+inserts_same p xs ys is = subst (λ (zs : List Item). InsertsNodes p xs zs) (sym is) (inserts_none p xs)
+
 pub extends_none : (p : Problem) (w : Work) → Extends p w w
 extends_none p w = record { inserts = inserts_none p w.inserted; deletes = refl; finds = omega arith }
+
+pub extends_both : (p : Problem) (before between after : Work) → Extends p before between → Extends p between after → Extends p before after
+extends_both p before between after first second = record {
+  inserts = inserts_both p before.inserted between.inserted after.inserted first.inserts second.inserts;
+  deletes = second.deletes ∙ first.deletes;
+  finds = omega (arith, first.finds, second.finds);
+}
+
+-- where one of two insertions was made, there is room for the other
+pub room_left : (xs ys : List Item) (x : Item) (m n : Sizes) → ys ≡ xs ++ x ∷ [] → n ≡ m → length xs + 2 ≤ m.quota → length ys < n.quota
+room_left xs ys x m n is same room = omega (arith, ap length is, length-append xs (x ∷ []), ap (λ (s : Sizes). s.quota) same, room)
 
 split_more : (p : Problem) (xs ys : List Item) (level picks : ℕ) → ((x : Item) → Contains xs x → Contains ys x) → IsSplit p xs level picks → IsSplit p ys level picks
 split_more p xs ys level picks kept split = record {
@@ -72,3 +89,11 @@ worked_on p before between after x worked same more still extends done = record 
 
 pub has_last : (xs ys : List Item) (x : Item) (level picks : ℕ) → ys ≡ xs ++ x ∷ [] → level_in x.load ≡ level → picks_in x.load ≡ picks → Has ys level picks
 has_last xs ys x level picks is is_level is_picks = (x, subst (λ (zs : List Item). Contains zs x) (sym is) (Contains-push xs x), is_level, is_picks)
+
+module _ {LEVELS : ℕ} where
+  -- a worker that is the same after each of two calls
+  pub same_both : (before between after : Worker LEVELS) → IsSameWorker before between → IsSameWorker between after → IsSameWorker before after
+  same_both before between after first second = record {
+    member = (second.member.0 ∙ first.member.0, second.member.1 ∙ first.member.1, second.member.2 ∙ first.member.2);
+    watcher = second.watcher ∙ first.watcher;
+  }

@@ -1,5 +1,5 @@
 -- The events of each call's entries.
-use Rattle.std.proofs.Common.{◌≡◌, ℕ, ◌+◌, List, [], ◌∷◌, ◌++◌, length, sym, refl, ap, ◌∙◌, inl, inr, arith}
+use Rattle.std.proofs.Common.{◌≡◌, ℕ, ◌+◌, List, [], ◌∷◌, ◌++◌, length, sym, refl, ap, ◌∙◌, inl, inr, arith, Result, Ok, Err, IfErr, IsErrAnd}
 use Rattle.std.proofs.lemmas.List.{append-nil, length-append}
 use Rattle.std.specs.List.{flat_map}
 use Rattle.klsm_run.specs.declared.item.Item.{Item}
@@ -96,3 +96,24 @@ refused_in_time_events levels k t es es' insert.NoMemory told = gives_up_events 
 
 pub refused_in_time_gains : (levels k t : ℕ) (es es' : List Entry) (why : InsertError) → RefusesInsertInTime ⊥ levels k t es es' why → Gains es es' [] []
 refused_in_time_gains levels k t es es' why told = quiet_gains es es' (refused_in_time_events levels k t es es' why told)
+
+-- a member that began the call is not one that may insert no more
+pub began : (Spent : Type 0) (levels k t : ℕ) (es es' : List Entry) (why : TryInsertError) → RefusesInsert ⊥ levels k t es es' why → RefusesInsert Spent levels k t es es' why
+began Spent levels k t es es' try_insert.Spent told = absurd told.0
+began Spent levels k t es es' (try_insert.Busy busy) told = told
+began Spent levels k t es es' try_insert.Full told = told
+began Spent levels k t es es' try_insert.NoMemory told = told
+
+pub began_in_time : (Spent : Type 0) (levels k t : ℕ) (es es' : List Entry) (why : InsertError) → RefusesInsertInTime ⊥ levels k t es es' why → RefusesInsertInTime Spent levels k t es es' why
+began_in_time Spent levels k t es es' insert.Spent told = absurd told.0
+began_in_time Spent levels k t es es' insert.Full told = told
+began_in_time Spent levels k t es es' insert.NoMemory told = told
+
+-- what is said of an error that was passed on
+pub passed_on : {T E : Type 0} (r : Result T E) (Q P : E → Type 0) → IsErrAnd r Q → ((why : E) → Q why → P why) → IfErr r P
+passed_on (Ok x) Q P is all = tt
+passed_on (Err why) Q P is all = all why is
+
+pub no_error : {T E : Type 0} (r : Result T E) (Q P : E → Type 0) → IsErrAnd r Q → IsErrAnd r P → ((why : E) → Q why → P why → ⊥) → ⊥
+no_error (Ok x) Q P is is' none = is
+no_error (Err why) Q P is is' none = none why is is'

@@ -1,13 +1,14 @@
 -- What is said of a slot, as the part in it has it.
-use Rattle.std.proofs.Common.{◌≡◌, ℕ, List, length, Bool, true, false, MatchBool, sym, ap, ◌∙◌, subst}
+use Rattle.std.proofs.Common.{◌≡◌, ℕ, List, length, Bool, true, false, MatchBool, sym, ap, ◌∙◌, subst, refl, arith}
 use Rattle.std.specs.List.{Contains}
 use Rattle.klsm_run.specs.declared.item.Item.{Item}
 use Rattle.klsm_run.specs.Content.{sorted, ShareNone}
 use Rattle.klsm_run.proofs.ContainsLemmas.{contains_sorted}
 use Rattle.klsm_parts.specs.Parts.{PartState, items_in}
 use Rattle.klsm_parts.specs.Events.{MayPut, own_after_put}
+use Rattle.klsm_world.specs.OwnSteps.{own_part, shared_part}
 use Rattle.klsm_board.specs.declared.slot.Slot.{Slot}
-use Rattle.klsm_board.specs.declared.slot.Slot.TheVariants.{Own, Common}
+use Rattle.klsm_board.specs.declared.slot.Slot.TheVariants.{Own, Common, Vacant}
 use Rattle.klsm_board.specs.Slots.{slot_content, IsSlotOf}
 
 -- a slot of the board, as contracts see it
@@ -62,3 +63,15 @@ absent_unsorted c d x is absent within = absent (subst (λ e. Contains e x) (sym
 pub apart_unsorted : (c d own shared : List Item) → own ≡ sorted c → shared ≡ sorted d → ShareNone own shared → ShareNone c d
 apart_unsorted c d own shared own_is shared_is apart x in_own in_shared =
     apart x (subst (λ e. Contains e x) (sym own_is) (contains_sorted x c in_own)) (subst (λ e. Contains e x) (sym shared_is) (contains_sorted x d in_shared))
+
+-- the slot of a member has an own part
+pub holds_own : (k t : ℕ) (slot : AnySlot) → IsSlotOf k (own_part t) slot → ((own : PartState) → slot ≡ Own own → ⊥) → ⊥
+holds_own k t (Own own) kind not_own = not_own own refl
+holds_own k t (Common shared) kind not_own = omega (arith, kind.0)
+holds_own k t Vacant kind not_own = kind
+
+-- and the shared part's slot has the shared one
+pub holds_shared : (k : ℕ) (slot : AnySlot) → IsSlotOf k shared_part slot → ((shared : PartState) → slot ≡ Common shared → ⊥) → ⊥
+holds_shared k (Own own) kind not_shared = omega (arith, kind.0)
+holds_shared k (Common shared) kind not_shared = not_shared shared refl
+holds_shared k Vacant kind not_shared = kind

@@ -55,6 +55,10 @@ fresh_is_reached m t thread = record {
   thread = thread;
 }
 
+-- a list without elements has none at any place
+pub none_at_start : {A : Type 0} (xs : List A) → xs ≡ [] → (i : ℕ) (a : A) → get_elem? xs i ≡ some a → ⊥
+none_at_start xs none i a at = some-ne-none a (sym (ap (λ z. get_elem? z i) (sym none) ∙ at))
+
 -- what holds of each element by its place holds with one more at the end
 pub at_new_end : {A : Type 0} (xs : List A) (x : A) (n : ℕ) → length xs ≡ n → (P : ℕ → A → Type 0) → ((i : ℕ) (a : A) → get_elem? xs i ≡ some a → P i a) → P n x → (i : ℕ) (a : A) → get_elem? (xs ++ x ∷ []) i ≡ some a → P i a
 at_new_end {A} [] x n len P all last zero a e = subst (λ (z : ℕ × A). P z.0 z.1) (λ i. (sym len i, some-injective x a e i)) last

@@ -6,7 +6,7 @@ use Rattle.klsm_run.specs.ItemOrder.{item_cmp, is_smaller, is_same}
 use Rattle.klsm_world.proofs.counts.SameLemmas.{same_if_counted}
 use Rattle.klsm_world.proofs.counts.ItemGrowthLemmas.{flat_map_more}
 use Rattle.std.specs.List.{flat_map}
-use Rattle.std.proofs.lemmas.List.{take_more}
+use Rattle.std.proofs.lemmas.List.{take_more, length-append}
 use Rattle.std.proofs.Math.Seq.{take-length}
 use Rattle.klsm_run.specs.declared.item.Item.{Item}
 use Rattle.klsm_run.specs.Content.{placed, skipped, sorted}
@@ -27,6 +27,22 @@ skipped_more contents i c d x within is =
     ap (λ all. skipped all x) (items_more (λ c. c) contents i d within)
     ∙ (skipped_append (flat_map (λ c. c) (take i contents)) (get_or contents i d) x
     ∙ ap (λ e. skipped (flat_map (λ c. c) (take i contents)) x + skipped e x) (sym is))
+
+-- one content more has as many items more
+pub length_more : (contents : List (List Item)) (i : ℕ) (c d : List Item) → i < length contents → c ≡ get_or contents i d
+    → length (flat_map (λ c. c) (take (i + 1) contents)) ≡ length (flat_map (λ c. c) (take i contents)) + length c
+length_more contents i c d within is =
+    ap length (items_more (λ c. c) contents i d within)
+    ∙ (length-append (flat_map (λ c. c) (take i contents)) (get_or contents i d)
+    ∙ ap (λ e. length (flat_map (λ c. c) (take i contents)) + length e) (sym is))
+
+-- contents that are joined so far, and one more
+pub joined_more : (contents : List (List Item)) (i : ℕ) (c d all more : List Item) → i < length contents → d ≡ get_or contents i d → c ≡ d
+    → all ≡ flat_map (λ c. c) (take i contents) → more ≡ all ++ c → more ≡ flat_map (λ c. c) (take (i + 1) contents)
+joined_more contents i c d all more within is same joined longer =
+    longer
+    ∙ (ap (λ xs. xs ++ c) joined
+    ∙ (ap (λ e. flat_map (λ c. c) (take i contents) ++ e) (same ∙ is) ∙ sym (items_more (λ c. c) contents i d within)))
 
 -- where contents are current, the live items of the first parts are their contents
 pub live_below_joined : (limits : Limits) (words : List ℕ) (contents : List (List Item)) (lists : List (List Entry)) (n : ℕ) → IsKept limits words contents lists → n ≤ limits.threads + 1

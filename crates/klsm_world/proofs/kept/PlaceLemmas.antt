@@ -26,6 +26,11 @@ module _ {limits : Limits} {words : List ℕ} {contents : List (List Item)} {lis
     pub own_place : {p len : ℕ} → p ≡ t + 1 → len ≡ length contents → p < len
     own_place is counted = omega (arith, is, less_kept, kept.contents_are, counted)
 
+    pub part_place : {p len : ℕ} → p ≤ before.limits.threads → len ≡ length contents → p < len
+    part_place {p = p} up counted =
+        let there : p ≤ limits.threads = subst (λ (r : WorldView). p ≤ r.limits.threads) (sym view) up in
+        omega (arith, there, kept.contents_are, counted)
+
     pub list_place : {len : ℕ} → len ≡ length lists → t < len
     list_place counted = omega (arith, less_kept, kept.lawful.agreed.lists_are, counted)
 

@@ -1,6 +1,7 @@
-use Rattle.std.proofs.Common.{[], length, sym, ap, subst, ◌∙◌, append-nil, arith}
-use Rattle.std.proofs.lemmas.List.{nil_from_length}
+use Rattle.std.proofs.Common.{List, [], ◌∷◌, length, sym, ap, subst, ◌∙◌, append-nil, arith}
+use Rattle.std.proofs.lemmas.List.{length-append, nil_from_length}
 use Rattle.klsm_parts.proofs.FitLemmas.{local_fits, shared_fits}
+use Rattle.klsm_board.specs.declared.board.Member.{Member}
 use Rattle.klsm_board.specs.Slots.{slot_content, IsSlotOf}
 use Rattle.klsm_board.proofs.table.OpeningLemmas.{gathers}
 use Rattle.klsm_board.proofs.ending.JoinLemmas.{AreJoined, join_last, joins_one, joined_all, last_of_whole}
@@ -49,3 +50,11 @@ returns-clause-table g c = c.loop-member.invariant.0
 
 pub unreachable-requires : goal.unreachable-requires
 unreachable-requires g c = omega (arith, c.requires.some, c.args.members.ok.0, c.in_default.ensures.cases.0)
+
+pub loop-member-smaller : goal.loop-member-smaller
+loop-member-smaller g c =
+    let more = ap (λ (z : List (Member g.row.CAP g.row.LEVELS)). length z) c.in-Some-pop.ensures.items ∙ length-append c.pop-in-loop-member.new.self.items (c.in-Some-pop.member ∷ []) in
+    omega (arith, more)
+
+pub unreachable-unreachable : goal.unreachable-unreachable
+unreachable-unreachable g c = c.unreachable.type_inv

@@ -1,9 +1,10 @@
 use Rattle.std.proofs.Common.{arith, ◌≡◌, ◌<◌, ◌+◌, ◌-◌, List, [], ◌∷◌, ◌++◌, length, slice_index_or, sym, ap, ◌∙◌, length-append}
+use Rattle.std.proofs.lemmas.Result.{IfOk-from_err}
 use lib.ListN.{get_elem?}
 use Rattle.klsm_parts.proofs.FitLemmas.{local_fits, shared_fits}
 use Rattle.klsm_board.specs.declared.board.Member.{Member}
 use Rattle.klsm_board.specs.Boards.{IsOf, own_steps}
-use Rattle.klsm_board.proofs.table.MakeLemmas.{so_many_fresh, at_new_end, found_at}
+use Rattle.klsm_board.proofs.table.MakeLemmas.{so_many_fresh, none_at_start, at_new_end, found_at}
 use Rattle.klsm_board.proofs.making.deal.Goals as goal
 
 pub next_member-requires : goal.next_member-requires
@@ -43,3 +44,29 @@ drop-seat-requires-in_err-push-room-S-Destruct g c κs = shared_fits _ c.args.bo
 
 pub drop-seat-requires-2-room-S-Destruct : goal.drop-seat-requires-2-room-S-Destruct
 drop-seat-requires-2-room-S-Destruct g c κs = shared_fits _ c.args.board.now.levels
+
+pub loop-number-init : goal.loop-number-init
+loop-number-init g c =
+    let none = c.in_ok-members.ensures.items in
+    record { of_table = c.requires.table; left = so_many_fresh 0 c.args.board.now.sizes.threads (c.args.board.now.sizes.threads - 0) c.args.seat.me (omega arith) c.requires.view; count = ap (λ z. length z) none; members = λ i member at. absurd (none_at_start c.in_ok-members.members.items none i member at) }
+
+pub returns-in_err-members-clause-of : goal.returns-in_err-members-clause-of
+returns-in_err-members-clause-of g c = IfOk-from_err c.from_residual.result _ c.from_residual.ensures.0
+
+pub returns-in_err-members-clause-count : goal.returns-in_err-members-clause-count
+returns-in_err-members-clause-count g c = IfOk-from_err c.from_residual.result _ c.from_residual.ensures.0
+
+pub returns-in_err-members-clause-crew : goal.returns-in_err-members-clause-crew
+returns-in_err-members-clause-crew g c = IfOk-from_err c.from_residual.result _ c.from_residual.ensures.0
+
+pub returns-in_err-push-clause-of : goal.returns-in_err-push-clause-of
+returns-in_err-push-clause-of g c = IfOk-from_err c.from_residual-in_err-push.result _ c.from_residual-in_err-push.ensures.0
+
+pub returns-in_err-push-clause-count : goal.returns-in_err-push-clause-count
+returns-in_err-push-clause-count g c = IfOk-from_err c.from_residual-in_err-push.result _ c.from_residual-in_err-push.ensures.0
+
+pub returns-in_err-push-clause-crew : goal.returns-in_err-push-clause-crew
+returns-in_err-push-clause-crew g c = IfOk-from_err c.from_residual-in_err-push.result _ c.from_residual-in_err-push.ensures.0
+
+pub returns-clause-count : goal.returns-clause-count
+returns-clause-count g c = omega (arith, c.loop-number.invariant.count, c.loop-number-test.false, c.loop-number.auto.number-end)

@@ -1,4 +1,4 @@
-use Rattle.std.proofs.Common.{◌∙◌, ◌++◌, ◌≤◌, [], ◌∷◌, rules, sym, ap, arith, List}
+use Rattle.std.proofs.Common.{◌∙◌, refl, ◌++◌, ◌≤◌, [], ◌∷◌, sym, ap, arith, List}
 use Rattle.std.specs.Option.{option_or}
 use Rattle.klsm_board.specs.declared.board.Member.{Member}
 use Rattle.klsm_knapsack.specs.declared.rule.View.{View}
@@ -14,9 +14,18 @@ loop-worker-preserved g c =
     let before : found_by c.loop-worker.first ≤ found_by c.join.new.watcher = omega (arith, found) in
     let here : found_by w.watcher ≤ found_by c.join.new.watcher = omega (arith, found) in
     record {
-      first = search rules;
-      members = c.in-Ok.ensures.items ∙ (ap (λ (ms : List (Member 64 g.row.LEVELS)). ms ++ w.member ∷ []) inv.members ∙ sent_home c.loop-worker.yielded w);
+      first = c.join.ensures.same ∙ inv.first;
+      members = ◌∙◌ {A = List (Member 64 g.row.LEVELS)} c.in-Ok.ensures.items (ap (λ (ms : List (Member 64 g.row.LEVELS)). ms ++ w.member ∷ []) inv.members ∙ sent_home c.loop-worker.yielded w);
       room = omega (arith, c.in-Ok.ensures.capacity, inv.room);
       found = found_too c.loop-worker.yielded w (found_by c.loop-worker.first) (found_by c.join.new.watcher) before here inv.found;
       refused = c.or-refused.ensures ∙ (ap (λ r. option_or r w.refused) inv.refused ∙ sym (first_refused c.loop-worker.yielded w));
     }
+
+pub loop-worker-init : goal.loop-worker-init
+loop-worker-init g c = record {
+  first = c.requires.first;
+  members = c.requires.empty;
+  room = omega arith;
+  found = λ k d lt. absurd (omega (arith, lt));
+  refused = refl;
+}

@@ -1,9 +1,10 @@
-use Rattle.std.proofs.Common.{arith, length, drop, ◌-◌, ◌+◌, [], ◌∷◌}
+use Rattle.std.proofs.Common.{◌≡◌, arith, length, drop, ◌-◌, ◌+◌, ◌++◌, List, [], ◌∷◌, None, refl, ap, ◌∙◌}
 use Rattle.std.proofs.lemmas.List.{length-drop, length-append}
+use Rattle.klsm_knapsack.specs.declared.tail.Tail.{Tail}
 use Rattle.klsm_knapsack.specs.Limits.{IsThing}
-use Rattle.klsm_knapsack.specs.Prepared.{IsTail}
+use Rattle.klsm_knapsack.specs.Prepared.{IsTail, AreTails}
 use Rattle.klsm_knapsack.proofs.BoundLemmas.{all_drop}
-use Rattle.klsm_knapsack.proofs.TailLemmas.{tail_small, steepest_thing, tails_more, before}
+use Rattle.klsm_knapsack.proofs.TailLemmas.{tail_small, steepest_thing, tails_more, tails_none, before}
 use Rattle.klsm_knapsack.proofs.tail.tails_of.Goals as goal
 
 pub with-tail-requires-clause-value : goal.with-tail-requires-clause-value
@@ -27,3 +28,12 @@ loop-n-preserved c =
       tail = tail;
       are = rw c.in_ok-push-2.ensures.items (tails_more things c.loop-n.tails.items c.with-tail.result (n + 1) c.loop-n.invariant.as_many tail c.loop-n.invariant.are);
     }
+
+pub loop-n-init : goal.loop-n-init
+loop-n-init c =
+    let things = c.args.things.now in
+    let tail : Tail = record { value = 0; steepest = None } in
+    let none : IsTail [] tail = record { value = refl; steepest = refl } in
+    let items : c.push.new.self.items ≡ tail ∷ [] = c.in_ok-push.ensures.items ∙ ap (λ (ts : List Tail). ts ++ tail ∷ []) c.new-tails.ensures.items in
+    let are : AreTails things (tail ∷ []) = tails_none things tail none in
+    record { as_many = ap length items; tail = are 0 tail refl; are = rw items are }

@@ -1,6 +1,7 @@
-use Rattle.std.proofs.Common.{◌≡◌, ◌≢◌, ◌+◌, ◌-◌, ◌<◌, ◌∙◌, true, false, Some, None, length, take, get_or, sym, ap, subst, rules, arith}
+use Rattle.std.proofs.Common.{◌≡◌, ◌≢◌, ◌+◌, ◌-◌, ◌<◌, ◌∙◌, true, false, [], Some, None, inl, length, take, get_or, refl, sym, ap, subst, rules, arith}
 use Rattle.std.specs.List.{slice_get}
 use Rattle.std.specs.Ordering.{is_le}
+use Rattle.std.proofs.lemmas.List.{length-take, nil_from_length}
 use Rattle.std.proofs.lemmas.Option.{slice_get-get_or}
 use Rattle.klsm_run.specs.Content.{sorted}
 use Rattle.klsm_run.specs.ItemOrder.{item_cmp, is_smaller}
@@ -19,6 +20,14 @@ returns-in_default c =
       λ has. take_candidate k own shared x none (subst (λ xs. 0 < times x xs) candidates (c.has.ensures.0 has)),
       λ may. c.has.ensures.1 (subst (λ xs. 0 < times x xs) (sym candidates) (candidate_if_taken k own shared x none may)),
     )
+
+pub returns-in-empty : goal.returns-in-empty
+returns-in-empty c =
+    let own = c.args.own.now in let shared = c.args.shared.now in let x = c.args.item in
+    let same : c.in-Some.least.now ≡ x = same_if_equal c.in-Some.least.now x (sym c.if-eq.ensures) in
+    let first : slice_get (sorted own) 0 ≡ Some x = ap (λ xs. slice_get xs 0) c.requires.own_sorted ∙ (sym c.in-Some.ensures.value ∙ ap Some same) in
+    let none : shared ≡ [] = nil_from_length shared (omega (arith, c.in-empty.len_below, length-take c.min.result shared, c.min.ensures)) in
+    (λ goes. inl (none, first), λ may. refl)
 
 pub returns-in-len1-up : goal.returns-in-len1-up
 returns-in-len1-up c =

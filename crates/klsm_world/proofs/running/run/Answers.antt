@@ -17,7 +17,7 @@ returns-in-Err g c =
     let limits : Limits = limits_of c.args.threads c.args.k in
     let step = c.index-steps-index.result in
     let refuses : Refuses limits c.loop-index.world.world step c.in-Err.why =
-    subst (λ (l : Limits). Refuses l c.loop-index.world.world step c.in-Err.why) c.loop-index.invariant.limits c.in-Err.ensures.refused in
+    subst (λ (l : Limits). Refuses l c.loop-index.world.world step c.in-Err.why) {y = limits} c.loop-index.invariant.limits c.in-Err.ensures.refused in
     record {
       trace = tt;
       refused = refused_by_step limits c.args.steps.now c.loop-index.index c.loop-index.world.world step c.in-Err.why c.refused_at.result

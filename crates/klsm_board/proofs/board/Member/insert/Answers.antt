@@ -1,15 +1,19 @@
-use Rattle.std.proofs.Common.{rules, ◌≡◌, ◌+◌, ◌∷◌, ◌∙◌, [], length, sym, ap, subst, arith}
+use Rattle.std.proofs.Common.{◌≡◌, ◌+◌, ◌<◌, ◌∷◌, ◌++◌, ◌∙◌, [], length, refl, sym, ap, subst, arith}
+use Rattle.std.proofs.lemmas.List.{append-nil}
+use Rattle.std.proofs.lemmas.Result.{IfOk-from_err}
 use Rattle.klsm_run.specs.declared.item.Item.{Item}
 use Rattle.klsm_run.specs.declared.item.Stamp.{Stamp}
 use Rattle.klsm_world.specs.OwnSteps.{inserted, deleted}
 use Rattle.klsm_parts.proofs.FitLemmas.{local_fits, shared_fits}
+use Rattle.klsm_board.specs.declared.errors.InsertError.{InsertError}
 use Rattle.klsm_board.specs.declared.sizes.Sizes.{Sizes}
+use Rattle.klsm_board.specs.Rule.{IsSized}
 use Rattle.klsm_board.specs.Steps.{mine}
-use Rattle.klsm_board.specs.Inserting.{Inserts, stamped}
-use Rattle.klsm_board.specs.Seats.{Has}
+use Rattle.klsm_board.specs.Inserting.{Inserts, RefusesInsertInTime, stamped}
+use Rattle.klsm_board.specs.Seats.{Has, Stands}
 use Rattle.klsm_board.specs.Slots.{slot_content, IsSlotOf}
-use Rattle.klsm_board.proofs.seats.RestLemmas.{rests_after}
-use Rattle.klsm_board.proofs.calls.AddedLemmas.{inserts_gain, refused_in_time_gains, gained_counts}
+use Rattle.klsm_board.proofs.seats.RestLemmas.{stands_at_rest, rests_after}
+use Rattle.klsm_board.proofs.calls.AddedLemmas.{inserts_gain, refused_in_time_gains, gained_counts, began_in_time, passed_on, no_error}
 use Rattle.klsm_board.proofs.board.Member.insert.Goals as goal
 
 pub invariant_of-self : goal.invariant_of-self
@@ -46,7 +50,9 @@ pub insert_in_time-requires-room-S-Destruct : goal.insert_in_time-requires-room-
 insert_in_time-requires-room-S-Destruct g c κs within = shared_fits _ c.args.self.now.levels
 
 pub returns-then-self-clause-refused : goal.returns-then-self-clause-refused
-returns-then-self-clause-refused g c = search rules
+returns-then-self-clause-refused g c =
+    let me = c.args.self.now in let es = mine me.seat.me.0 in
+    (record { inserted_are = sym (append-nil (inserted es)); deleted_are = sym (append-nil (deleted es)) }, (me.rests.insertions_are ∙ c.if-self.true, refl))
 
 pub returns-clause-ok : goal.returns-clause-ok
 returns-clause-ok g c =
@@ -61,3 +67,93 @@ returns-clause-ok g c =
 
 pub overflow_add-self : goal.overflow_add-self
 overflow_add-self g c = let me = c.args.self.now in omega (arith, me.rests.within, me.in_range.quota)
+
+pub returns-then-self-clause-same : goal.returns-then-self-clause-same
+returns-then-self-clause-same g c = (refl, refl, refl)
+
+pub returns-then-self-clause-stamp : goal.returns-then-self-clause-stamp
+returns-then-self-clause-stamp g c = tt
+
+pub returns-then-self-clause-ok : goal.returns-then-self-clause-ok
+returns-then-self-clause-ok g c = tt
+
+pub returns-then-self-clause-adds : goal.returns-then-self-clause-adds
+returns-then-self-clause-adds g c = tt
+
+pub returns-then-self-clause-spent : goal.returns-then-self-clause-spent
+returns-then-self-clause-spent g c = (λ is. c.args.self.now.rests.insertions_are ∙ c.if-self.true, λ full. refl)
+
+pub insert_in_time-requires-clause-sized : goal.insert_in_time-requires-clause-sized
+insert_in_time-requires-clause-sized g c = (c.args.self.now.capacity, c.args.self.now.levels)
+
+pub insert_in_time-requires-clause-seat : goal.insert_in_time-requires-clause-seat
+insert_in_time-requires-clause-seat g c =
+    let me = c.args.self.now in let board = c.args.board.now in let same = board.key ∙ sym c.requires.1 in
+    (c.requires.0, subst (λ (m : Sizes). IsSized board.table.shared.table_id m) (sym board.key) board.sized, subst (λ (m : Sizes). me.number < m.threads) (sym same) me.rests.thread)
+
+pub insert_in_time-requires-clause-stamp : goal.insert_in_time-requires-clause-stamp
+insert_in_time-requires-clause-stamp g c =
+    let is = c.next_item-item.ensures in
+    record { owner = ap (λ (x : Item). x.stamp.owner) is; number = ap (λ (x : Item). x.stamp.number) is }
+
+pub insert_in_time-requires-clause-room : goal.insert_in_time-requires-clause-room
+insert_in_time-requires-clause-room g c =
+    let me = c.args.self.now in let same = c.args.board.now.key ∙ sym c.requires.1 in
+    omega (arith, me.rests.insertions_are, me.rests.within, c.if-self.false, ap (λ (m : Sizes). m.quota) same)
+
+pub insert_in_time-requires-clause-stands : goal.insert_in_time-requires-clause-stands
+insert_in_time-requires-clause-stands g c =
+    let me = c.args.self.now in let same = c.args.board.now.key ∙ sym c.requires.1 in
+    subst (λ (m : Sizes). Stands slot_content IsSlotOf m me.number [] me.seat.me) (sym same) (stands_at_rest g.row.CAP me.sizes me.in_range me.number me.inserted me.deleted me.seat.me me.rests)
+
+pub returns-in_err-insert_in_time-clause-same : goal.returns-in_err-insert_in_time-clause-same
+returns-in_err-insert_in_time-clause-same g c = (refl, refl, c.in_err-insert_in_time.ensures.same)
+
+pub returns-in_err-insert_in_time-clause-stamp : goal.returns-in_err-insert_in_time-clause-stamp
+returns-in_err-insert_in_time-clause-stamp g c = IfOk-from_err c.from_residual.result _ c.from_residual.ensures.0
+
+pub returns-in_err-insert_in_time-clause-ok : goal.returns-in_err-insert_in_time-clause-ok
+returns-in_err-insert_in_time-clause-ok g c = IfOk-from_err c.from_residual.result _ c.from_residual.ensures.0
+
+pub returns-in_err-insert_in_time-clause-adds : goal.returns-in_err-insert_in_time-clause-adds
+returns-in_err-insert_in_time-clause-adds g c = IfOk-from_err c.from_residual.result _ c.from_residual.ensures.0
+
+pub returns-clause-same : goal.returns-clause-same
+returns-clause-same g c = (refl, refl, c.in_ok-insert_in_time.ensures.same)
+
+pub returns-clause-stamp : goal.returns-clause-stamp
+returns-clause-stamp g c = ap (λ (x : Item). x.stamp) c.next_item-item.ensures
+
+pub returns-clause-adds : goal.returns-clause-adds
+returns-clause-adds g c =
+    let me = c.args.self.now in let es = mine me.seat.me.0 in let es' = mine c.insert_in_time.new.seat.me.0 in
+    let ok = c.in_ok-insert_in_time.ensures.ok in let is = c.next_item-item.ensures in
+    let item_is = is ∙ ap (λ (stamp : Stamp). stamped c.args.key stamp c.args.load) (sym (ap (λ (x : Item). x.stamp) is)) in
+    let gains = inserts_gain g.row.LEVELS c.args.board.now.table.shared.key.k me.number ok.0 ok.1 es es' c.next_item-item.result ok.2 in
+    record { inserted_are = gains.inserted_are ∙ ap (λ (x : Item). inserted es ++ x ∷ []) item_is; deleted_are = gains.deleted_are }
+
+pub returns-clause-refused : goal.returns-clause-refused
+returns-clause-refused g c = tt
+
+pub returns-clause-spent : goal.returns-clause-spent
+returns-clause-spent g c = (λ no. absurd no, λ full. c.if-self.false (sym c.args.self.now.rests.insertions_are ∙ full))
+
+pub returns-in_err-insert_in_time-clause-refused : goal.returns-in_err-insert_in_time-clause-refused
+returns-in_err-insert_in_time-clause-refused g c =
+    let me = c.args.self.now in let t = me.number in let es = mine me.seat.me.0 in let es' = mine c.insert_in_time.new.seat.me.0 in
+    let board = c.args.board.now in let refused = c.in_err-insert_in_time.ensures.refused in
+    let gains = refused_in_time_gains g.row.LEVELS board.table.shared.key.k t es es' _ refused in
+    let Spent = length (inserted es) ≡ me.sizes.quota in
+    passed_on c.from_residual.result _ _ c.from_residual.ensures.1 (λ why is. (
+      record { inserted_are = gains.inserted_are; deleted_are = gains.deleted_are },
+      subst (λ (e : InsertError). RefusesInsertInTime Spent g.row.LEVELS me.sizes.k t es es' e) (sym is)
+          (subst (λ (m : Sizes). RefusesInsertInTime Spent g.row.LEVELS m.k t es es' c.in_err-insert_in_time.field-0.0) (board.key ∙ sym c.requires.1) (began_in_time Spent g.row.LEVELS board.table.shared.key.k t es es' _ refused)),
+    ))
+
+pub returns-in_err-insert_in_time-clause-spent : goal.returns-in_err-insert_in_time-clause-spent
+returns-in_err-insert_in_time-clause-spent g c =
+    let me = c.args.self.now in let es = mine me.seat.me.0 in let es' = mine c.insert_in_time.new.seat.me.0 in
+    let refused = c.in_err-insert_in_time.ensures.refused in (
+      λ spent. absurd (no_error c.from_residual.result _ _ c.from_residual.ensures.1 spent (λ why is no. (subst (λ (e : InsertError). RefusesInsertInTime ⊥ g.row.LEVELS c.args.board.now.table.shared.key.k me.number es es' e) (sym is ∙ no) refused).0)),
+      λ full. absurd (c.if-self.false (sym me.rests.insertions_are ∙ full)),
+    )

@@ -3,8 +3,9 @@ use Rattle.klsm_run.proofs.SortedLemmas.{length_sorted}
 use Rattle.klsm_parts.specs.Parts.{items_in}
 use Rattle.klsm_parts.proofs.FitLemmas.{local_fits, shared_fits}
 use Rattle.klsm_board.specs.declared.slot.Slot.TheVariants.{Own, Common}
-use Rattle.klsm_board.proofs.slots.KindLemmas.{own_content, shared_content, is_full, absent_unsorted, apart_unsorted, keeps_own, keeps_shared}
+use Rattle.klsm_board.proofs.slots.KindLemmas.{own_content, shared_content, is_full, absent_unsorted, apart_unsorted, keeps_own, keeps_shared, holds_own, holds_shared}
 use Rattle.klsm_board.proofs.slots.FlushLemmas.{flushed, lacks_room, own_keeps_k, common_keeps_k, unchanged}
+use Rattle.klsm_board.proofs.slot.BoardSlotPartSlot.flush.Goals.{in_default-via-in-Own+in_default, in_default-via-in_default}
 use Rattle.klsm_board.proofs.slot.BoardSlotPartSlot.flush.Goals as goal
 
 pub flush-requires : goal.flush-requires
@@ -61,3 +62,14 @@ returns-clause-unchanged g c =
     let own_is : c.args.self.now ≡ Own own = c.in-Own-Common.is-0 ∙ ap Own (sym c.get_mut.ensures.value) in
     let common_is : c.args.shared.now ≡ Common common = c.in-Own-Common.is-1 ∙ ap Common (sym c.get_mut-in-Own-Common.ensures.value) in
     unchanged c.args.self.now c.args.shared.now own c.flush.new.own common c.flush.new.shared own_is common_is c.flush.result c.flush.ensures.unchanged
+
+pub unreachable-requires : goal.unreachable-requires
+unreachable-requires g c =
+    let parts = c.requires.parts in
+    elim c.in_default.branch [
+      | in_default-via-in-Own+in_default w ↦ holds_shared parts.0 c.args.shared.now parts.3 w.in_default.not-Common-1
+      | in_default-via-in_default w ↦ holds_own parts.0 parts.1 c.args.self.now parts.2 w.in_default.not-Own-0
+    ]
+
+pub unreachable-unreachable : goal.unreachable-unreachable
+unreachable-unreachable g c = c.unreachable.type_inv

@@ -17,3 +17,6 @@ len-requires g c = search
 
 pub len-requires-in-Common : goal.len-requires-in-Common
 len-requires-in-Common g c = search
+
+pub returns-in-Vacant : goal.returns-in-Vacant
+returns-in-Vacant g c = sym (ap (λ slot. length (slot_content slot)) c.in-Vacant.is)

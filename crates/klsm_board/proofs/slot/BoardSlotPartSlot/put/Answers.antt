@@ -2,7 +2,7 @@ use Rattle.std.proofs.Common.{◌≡◌, sym, ap, ◌∙◌, subst}
 use Rattle.std.specs.List.{Contains}
 use Rattle.klsm_parts.proofs.FitLemmas.{local_fits}
 use Rattle.klsm_board.specs.declared.slot.Slot.TheVariants.{Own}
-use Rattle.klsm_board.proofs.slots.KindLemmas.{own_content, keeps_own, put_done}
+use Rattle.klsm_board.proofs.slots.KindLemmas.{own_content, keeps_own, put_done, holds_own}
 use Rattle.klsm_board.proofs.slot.BoardSlotPartSlot.put.Goals as goal
 
 pub put_where_room-requires : goal.put_where_room-requires
@@ -20,3 +20,9 @@ pub returns-clause-done : goal.returns-clause-done
 returns-clause-done g c = λ k t.
     let own = c.get_mut.result.now in
     put_done c.args.self.now own c.put_where_room.new.own c.args.item c.put_where_room.result (c.in-Own.is ∙ ap Own (sym c.get_mut.ensures.value)) c.put_where_room.ensures.done k _
+
+pub unreachable-requires : goal.unreachable-requires
+unreachable-requires g c = holds_own c.requires.own.0 c.requires.own.1 c.args.self.now c.requires.own.2 c.in_default.not-Own
+
+pub unreachable-unreachable : goal.unreachable-unreachable
+unreachable-unreachable g c = c.unreachable.type_inv

@@ -2,8 +2,9 @@ use Rattle.std.proofs.Common.{◌≡◌, sym, ap, ◌∙◌}
 use Rattle.klsm_parts.specs.Parts.{PartState}
 use Rattle.klsm_parts.proofs.FitLemmas.{local_fits}
 use Rattle.klsm_board.specs.declared.slot.Slot.TheVariants.{Own}
-use Rattle.klsm_board.proofs.slots.KindLemmas.{own_content, own_k, keeps_own}
+use Rattle.klsm_board.proofs.slots.KindLemmas.{own_content, own_k, keeps_own, holds_own}
 use Rattle.klsm_board.proofs.slots.SpyLemmas.{has_spied}
+use Rattle.klsm_board.proofs.slot.BoardSlotPartSlot.spy.Goals.{in_default-via-in-Own+in_default, in_default-via-in_default}
 use Rattle.klsm_board.proofs.slot.BoardSlotPartSlot.spy.Goals as goal
 
 pub spy-requires : goal.spy-requires
@@ -34,3 +35,14 @@ pub returns-clause-victim_kind : goal.returns-clause-victim_kind
 returns-clause-victim_kind g c = λ k t.
     let victim = c.get_mut-in-Own-Own.result.now in
     keeps_own c.args.victim.now victim c.spy.new.victim (c.in-Own-Own.is-1 ∙ ap Own (sym c.get_mut-in-Own-Own.ensures.value)) (ap (λ (part : PartState). part.k) c.spy.ensures.victim) k _
+
+pub unreachable-requires : goal.unreachable-requires
+unreachable-requires g c =
+    let parts = c.requires.parts in
+    elim c.in_default.branch [
+      | in_default-via-in-Own+in_default w ↦ holds_own parts.0 parts.2 c.args.victim.now parts.4 w.in_default.not-Own-1
+      | in_default-via-in_default w ↦ holds_own parts.0 parts.1 c.args.self.now parts.3 w.in_default.not-Own-0
+    ]
+
+pub unreachable-unreachable : goal.unreachable-unreachable
+unreachable-unreachable g c = c.unreachable.type_inv

@@ -1,8 +1,9 @@
 use Rattle.std.proofs.Common.{◌≡◌, sym, ap, ◌∙◌}
 use Rattle.klsm_parts.proofs.FitLemmas.{local_fits, shared_fits}
 use Rattle.klsm_board.specs.declared.slot.Slot.TheVariants.{Own, Common}
-use Rattle.klsm_board.proofs.slots.KindLemmas.{own_content, shared_content, own_k, shared_k, apart_unsorted, keeps_own, keeps_shared}
+use Rattle.klsm_board.proofs.slots.KindLemmas.{own_content, shared_content, own_k, shared_k, apart_unsorted, keeps_own, keeps_shared, holds_own, holds_shared}
 use Rattle.klsm_board.proofs.slots.TakeLemmas.{taken, own_keeps_k, common_keeps_k}
+use Rattle.klsm_board.proofs.slot.BoardSlotPartSlot.take.Goals.{in_default-via-in-Own+in_default, in_default-via-in_default}
 use Rattle.klsm_board.proofs.slot.BoardSlotPartSlot.take.Goals as goal
 
 pub take-requires : goal.take-requires
@@ -39,3 +40,14 @@ returns-clause-shared_kind g c = λ k.
     let common = c.get_mut-in-Own-Common.result.now in
     let common_is : c.args.shared.now ≡ Common common = c.in-Own-Common.is-1 ∙ ap Common (sym c.get_mut-in-Own-Common.ensures.value) in
     keeps_shared c.args.shared.now common c.take.new.shared common_is (common_keeps_k c.get_mut.result.now c.take.new.own common c.take.new.shared c.take.result c.take.ensures.left) k
+
+pub unreachable-requires : goal.unreachable-requires
+unreachable-requires g c =
+    let parts = c.requires.parts in
+    elim c.in_default.branch [
+      | in_default-via-in-Own+in_default w ↦ holds_shared parts.0 c.args.shared.now parts.3 w.in_default.not-Common-1
+      | in_default-via-in_default w ↦ holds_own parts.0 parts.1 c.args.self.now parts.2 w.in_default.not-Own-0
+    ]
+
+pub unreachable-unreachable : goal.unreachable-unreachable
+unreachable-unreachable g c = c.unreachable.type_inv

@@ -1,10 +1,12 @@
-use Rattle.std.proofs.Common.{◌≡◌, ◌≤◌, ℕ, arith, rules, sym, subst, ap, ◌∙◌, inl}
+use Rattle.std.proofs.Common.{◌≡◌, ◌≤◌, ℕ, arith, rules, sym, subst, ap, ◌∙◌, inl, refl, lit<}
+use Rattle.std.proofs.lemmas.Result.{IfOk-weaker}
 use Rattle.std.proofs.Math.Pow.{shr_mono}
 use Rattle.klsm_knapsack.specs.Selections.{Problem, IsFeasible}
 use Rattle.klsm_knapsack.specs.Nodes.{NoneAbove, level_in, picks_in}
 use Rattle.klsm_knapsack.specs.Numbers.{IsIncumbent, value_in}
 use Rattle.klsm_knapsack.proofs.NodeLemmas.{own_feasible}
 use Rattle.klsm_knapsack.proofs.TailLemmas.{value_small}
+use Rattle.klsm_knapsack.proofs.WorkLemmas.{inserts_none, extends_none, extends_both, same_both}
 use Rattle.klsm_knapsack.proofs.SearchLemmas.{covers_last, covers_more}
 use Rattle.klsm_knapsack.proofs.common.Worker.examine.Goals as goal
 use Rattle.klsm_knapsack.proofs.common.Worker.examine.Goals.{then-node-len-via-then-node-len, then-node-len-via-else-node-len+then-bound_of-found}
@@ -41,3 +43,24 @@ returns-then-node-len-clause-done g c = λ x is is_item.
     inl (subst (λ (n : ℕ). NoneAbove p (level_in x.load) (picks_in x.load) (value_in n)) (sym c.raise-found.ensures.found.0)
     (subst (λ (m : ℕ). NoneAbove p m (picks_in x.load) (value_in found)) level
     (subst (λ (m : ℕ). NoneAbove p l m (value_in found)) picks closed)))
+
+pub returns-in_default-clause-extends : goal.returns-in_default-clause-extends
+returns-in_default-clause-extends g c = extends_none _ _
+
+pub returns-then-node-len-clause-extends : goal.returns-then-node-len-clause-extends
+returns-then-node-len-clause-extends g c =
+    let found = c.raise-found.ensures.found in
+    record { inserts = inserts_none _ _; deletes = refl; finds = omega (arith, found.0, found.1) }
+
+pub split-requires : goal.split-requires
+split-requires g c =
+    let node = c.in-Some.ensures in
+    (lit< tt, (lit< tt, (record { member = c.requires.of.member; watcher = c.raise-found.ensures.same ∙ c.requires.of.watcher }, (c.requires.room, (node.0, omega (arith, node.0.is_node.of_things, c.if-node-len.false, c.len.ensures.len))))))
+
+pub returns-clause-same : goal.returns-clause-same
+returns-clause-same g c = same_both c.args.self.now _ c.split.new.self record { member = (refl, refl, refl); watcher = c.raise-found.ensures.same } c.split.ensures.same
+
+pub returns-clause-extends : goal.returns-clause-extends
+returns-clause-extends g c =
+    let found = c.raise-found.ensures.found in
+    IfOk-weaker c.split.result _ _ (λ _ more. extends_both _ _ _ _ record { inserts = inserts_none _ _; deletes = refl; finds = omega (arith, found.0, found.1) } more) c.split.ensures.extends

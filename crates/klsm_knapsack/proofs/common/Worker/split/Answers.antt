@@ -1,7 +1,8 @@
-use Rattle.std.proofs.Common.{◌+◌, ◌^◌, ℕ, arith, ◌∙◌}
+use Rattle.std.proofs.Common.{◌+◌, ◌^◌, ℕ, arith, ◌∙◌, lit<}
 use Rattle.klsm_knapsack.specs.Workers.{InsertsNodes}
 use Rattle.klsm_knapsack.proofs.CoverageLemmas.{wider}
-use Rattle.klsm_knapsack.proofs.WorkLemmas.{inserts_one, inserts_both, has_last}
+use Rattle.klsm_knapsack.proofs.CrewLemmas.{same_of}
+use Rattle.klsm_knapsack.proofs.WorkLemmas.{inserts_one, inserts_both, has_last, room_left, same_both}
 use Rattle.klsm_knapsack.proofs.common.Worker.split.Goals as goal
 
 pub returns-in_ok-insert-2-clause-extends : goal.returns-in_ok-insert-2-clause-extends
@@ -47,3 +48,18 @@ returns-in_default-clause-split g c =
       leaves = has_last _ _ first.0 (l + 1) c.args.node.now.picks first.4 (first.2 ∙ leaving.0) (first.3 ∙ leaving.1);
       takes = λ fits. absurd (omega (arith, fits, c.in_default.ensures));
     }
+
+pub insert-requires : goal.insert-requires
+insert-requires g c = (lit< tt, (lit< tt, (c.requires.of, (omega (arith, c.requires.room), c.leaving.ensures.node))))
+
+pub insert-requires-in-Some : goal.insert-requires-in-Some
+insert-requires-in-Some g c =
+    let made = c.in_ok-insert.ensures in
+    let one = made.inserts in
+    (lit< tt, (lit< tt, (same_of c.args.common.now c.args.self.now c.insert.new.self c.requires.of made.same, (room_left _ _ one.0 _ _ one.4 made.same.member.1 c.requires.room, c.in-Some.ensures.0))))
+
+pub returns-in_err-insert-2-clause-same : goal.returns-in_err-insert-2-clause-same
+returns-in_err-insert-2-clause-same g c = same_both c.args.self.now c.insert.new.self c.insert-in-Some.new.self c.in_ok-insert.ensures.same c.in_err-insert-2.ensures.same
+
+pub returns-in_ok-insert-2-clause-same : goal.returns-in_ok-insert-2-clause-same
+returns-in_ok-insert-2-clause-same g c = same_both c.args.self.now c.insert.new.self c.insert-in-Some.new.self c.in_ok-insert.ensures.same c.in_ok-insert-2.ensures.same

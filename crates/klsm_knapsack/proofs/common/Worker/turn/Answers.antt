@@ -1,7 +1,7 @@
-use Rattle.std.proofs.Common.{◌∙◌, refl}
+use Rattle.std.proofs.Common.{◌∙◌, refl, lit<}
 use Rattle.std.proofs.lemmas.List.{append-nil}
 use Rattle.klsm_knapsack.specs.Workers.{work_of}
-use Rattle.klsm_knapsack.proofs.WorkLemmas.{worked_on}
+use Rattle.klsm_knapsack.proofs.WorkLemmas.{inserts_same, inserts_both, same_both, worked_on}
 use Rattle.klsm_knapsack.proofs.common.Worker.turn.Goals as goal
 
 pub returns-clause-goes_on : goal.returns-clause-goes_on
@@ -13,3 +13,21 @@ returns-clause-goes_on g c =
           (adds.inserted_are ∙ append-nil _) adds.deleted_are refl c.in_ok-examine.ensures.extends (c.in_ok-examine.ensures.done c.in-Some.item refl);
       answered = c.in_ok-examine.ensures.answered;
     }
+
+pub returns-in_default-clause-inserts : goal.returns-in_default-clause-inserts
+returns-in_default-clause-inserts g c = inserts_same _ _ _ (c.in_default.ensures.adds.inserted_are ∙ append-nil _)
+
+pub returns-clause-same : goal.returns-clause-same
+returns-clause-same g c = same_both c.args.self.now _ c.examine.new.self record { member = c.delete_min.ensures.same; watcher = refl } c.in_ok-examine.ensures.same
+
+pub returns-in_err-examine-clause-same : goal.returns-in_err-examine-clause-same
+returns-in_err-examine-clause-same g c = same_both c.args.self.now _ c.examine.new.self record { member = c.delete_min.ensures.same; watcher = refl } c.in_err-examine.ensures.same
+
+pub returns-clause-inserts : goal.returns-clause-inserts
+returns-clause-inserts g c = inserts_both _ _ _ _ (inserts_same _ _ _ (c.in-Some.ensures.adds.inserted_are ∙ append-nil _)) c.in_ok-examine.ensures.extends.inserts
+
+pub delete_min-requires : goal.delete_min-requires
+delete_min-requires g c = (lit< tt, (lit< tt, c.requires.of.member))
+
+pub returns-in_default-clause-same : goal.returns-in_default-clause-same
+returns-in_default-clause-same g c = record { member = c.delete_min.ensures.same; watcher = refl }

@@ -1,10 +1,10 @@
-use Rattle.std.proofs.Common.{[], ◌∙◌, sym, subst, refl}
+use Rattle.std.proofs.Common.{[], ◌∙◌, sym, subst, refl, arith}
 use Rattle.std.proofs.lemmas.List.{get_or_read}
 use Rattle.klsm_world.specs.Kept.{IsKept}
 use Rattle.klsm_world.specs.Worlds.{Limits, limits_of}
 use Rattle.klsm_world.proofs.kept.TakenLemmas.{acquire_taken}
 use Rattle.klsm_world.proofs.kept.MemoryLemmas.{lists_kept, refused_for_memory}
-use Rattle.klsm_world.proofs.kept.PlaceLemmas.{list_place}
+use Rattle.klsm_world.proofs.kept.PlaceLemmas.{part_place, list_place}
 use Rattle.klsm_world.proofs.world.World.acquire.Goals as goal
 
 pub invariant_of-self-2 : goal.invariant_of-self-2
@@ -34,3 +34,11 @@ returns-in_err-note g c =
 
 pub note-requires : goal.note-requires
 note-requires g c = list_place c.self.invariant c.self.view_is c.requires.thread c.self.inside.lists.ok.0
+
+pub index_mut-requires : goal.index_mut-requires
+index_mut-requires g c =
+    part_place c.self.invariant c.self.view_is c.requires.thread c.requires.part
+    (omega (arith, c.self.inside.words.ok.0, c.self.invariant.lawful.agreed.words_are, c.self.invariant.contents_are))
+
+pub index-requires : goal.index-requires
+index-requires g c = part_place c.self.invariant c.self.view_is c.requires.thread c.requires.part c.self.inside.contents.ok.0

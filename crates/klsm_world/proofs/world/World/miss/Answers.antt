@@ -1,10 +1,11 @@
-use Rattle.std.proofs.Common.{sym, subst}
+use Rattle.std.proofs.Common.{◌≡◌, ◌≢◌, get_or, length, sym, subst, arith}
 use Rattle.std.proofs.lemmas.List.{get_or_read}
 use Rattle.klsm_world.specs.Kept.{IsKept}
-use Rattle.klsm_world.specs.Worlds.{Limits, limits_of}
+use Rattle.klsm_world.specs.WorldView.{WorldView}
+use Rattle.klsm_world.specs.Worlds.{Limits, limits_of, word_of}
 use Rattle.klsm_world.proofs.kept.TakenLemmas.{miss_taken}
 use Rattle.klsm_world.proofs.kept.MemoryLemmas.{lists_kept, refused_for_memory}
-use Rattle.klsm_world.proofs.kept.PlaceLemmas.{list_place}
+use Rattle.klsm_world.proofs.kept.PlaceLemmas.{part_place, list_place}
 use Rattle.klsm_world.proofs.world.World.miss.Goals as goal
 
 pub invariant_of-self-2 : goal.invariant_of-self-2
@@ -31,3 +32,16 @@ returns-in_err-note g c =
 
 pub note-requires : goal.note-requires
 note-requires g c = list_place c.self.invariant c.self.view_is c.requires.thread c.self.inside.lists.ok.0
+
+pub index-requires : goal.index-requires
+index-requires g c =
+    part_place c.self.invariant c.self.view_is c.requires.thread c.requires.part
+    (omega (arith, c.self.inside.words.ok.0, c.self.invariant.lawful.agreed.words_are, c.self.invariant.contents_are))
+
+pub overflow_sub-by : goal.overflow_sub-by
+overflow_sub-by g c =
+    let words = c.self.inside.words.items in let part = c.args.part in
+    let taken : get_or words part 0 ≢ 0 = subst (λ (r : WorldView). word_of r.world part ≢ 0) (sym c.self.view_is) c.requires.taken in
+    let same : length words ≡ length c.self.inside.contents.items = omega (arith, c.self.invariant.lawful.agreed.words_are, c.self.invariant.contents_are) in
+    let within = part_place c.self.invariant c.self.view_is c.requires.thread c.requires.part same in
+    omega (arith, get_or_read words part c.index.result.now within c.index.ensures 0, taken)

@@ -1,9 +1,9 @@
-use Rattle.std.proofs.Common.{sym, subst}
+use Rattle.std.proofs.Common.{refl, sym, subst, arith}
 use Rattle.klsm_world.specs.Kept.{IsKept}
 use Rattle.klsm_world.specs.Worlds.{Limits, limits_of}
 use Rattle.klsm_world.proofs.kept.TakenLemmas.{release_taken}
 use Rattle.klsm_world.proofs.kept.MemoryLemmas.{lists_kept, refused_for_memory}
-use Rattle.klsm_world.proofs.kept.PlaceLemmas.{list_place}
+use Rattle.klsm_world.proofs.kept.PlaceLemmas.{held_place, list_place}
 use Rattle.klsm_world.proofs.world.World.release.Goals as goal
 
 pub invariant_of-self-2 : goal.invariant_of-self-2
@@ -28,3 +28,8 @@ returns-in_err-note g c =
 
 pub note-requires : goal.note-requires
 note-requires g c = list_place c.self.invariant c.self.view_is c.requires.thread c.self.inside.lists.ok.0
+
+pub index_mut-requires : goal.index_mut-requires
+index_mut-requires g c =
+    held_place c.self.invariant c.self.view_is c.requires.thread refl c.requires.held.holds
+    (omega (arith, c.self.inside.words.ok.0, c.self.invariant.lawful.agreed.words_are, c.self.invariant.contents_are))

@@ -4,7 +4,7 @@ use Rattle.klsm_world.specs.Kept.{IsKept}
 use Rattle.klsm_world.specs.Worlds.{Limits, limits_of}
 use Rattle.klsm_world.proofs.kept.CommitTakenLemmas.{take_taken}
 use Rattle.klsm_world.proofs.kept.MemoryLemmas.{lists_kept, refused_for_memory}
-use Rattle.klsm_world.proofs.kept.PlaceLemmas.{list_place, own_place}
+use Rattle.klsm_world.proofs.kept.PlaceLemmas.{held_place, list_place, own_place}
 use Rattle.klsm_world.proofs.world.World.take.Goals as goal
 
 pub invariant_of-self-2 : goal.invariant_of-self-2
@@ -46,3 +46,15 @@ slice_bounds-without_all-end g c = refl
 
 pub note-requires : goal.note-requires
 note-requires g c = list_place c.self.invariant c.self.view_is c.requires.thread c.self.inside.lists.ok.0
+
+pub index-requires-2 : goal.index-requires-2
+index-requires-2 g c = elim c.if-is_own.branch [
+  | then-is_own w ↦ own_place c.self.invariant c.self.view_is c.requires.thread (w.part-is ∙ c.own_part-own.ensures) c.self.inside.contents.ok.0
+  | else-is_own w ↦ held_place c.self.invariant c.self.view_is c.requires.thread w.part-is c.requires.commit.holds_other c.self.inside.contents.ok.0
+]
+
+pub index_mut-requires : goal.index_mut-requires
+index_mut-requires g c = elim c.if-is_own.branch [
+  | then-is_own w ↦ own_place c.self.invariant c.self.view_is c.requires.thread (w.part-is ∙ c.own_part-own.ensures) c.self.inside.contents.ok.0
+  | else-is_own w ↦ held_place c.self.invariant c.self.view_is c.requires.thread w.part-is c.requires.commit.holds_other c.self.inside.contents.ok.0
+]

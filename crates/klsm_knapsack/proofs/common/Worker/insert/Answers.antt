@@ -1,0 +1,23 @@
+use Rattle.std.proofs.Common.{refl}
+use Rattle.klsm_run.specs.declared.item.Item.{Item}
+use Rattle.klsm_knapsack.specs.Work.{IsNodeItem}
+use Rattle.klsm_knapsack.proofs.common.Worker.insert.Goals as goal
+
+pub returns-in-Ok-clause-same : goal.returns-in-Ok-clause-same
+returns-in-Ok-clause-same g c = record { member = c.in-Ok.ensures.same; watcher = refl }
+
+pub returns-in-Ok-clause-inserts : goal.returns-in-Ok-clause-inserts
+returns-in-Ok-clause-inserts g c =
+    let x : Item = record { key = c.key_of-key.result; stamp = c.in-Ok.field-0; load = c.load_of-load.result } in
+    let load = c.load_of-load.ensures in
+    let node : IsNodeItem c.args.instance.now x = record {
+      node = rw (load.level, load.picks) c.requires.node.is_node;
+      key = rw (load.level, load.picks) c.key_of-key.ensures;
+    } in
+    (x, node, load.level, load.picks, c.in-Ok.ensures.adds.inserted_are)
+
+pub returns-in-Err-Full-clause-same : goal.returns-in-Err-Full-clause-same
+returns-in-Err-Full-clause-same g c = record { member = c.in-Err-Full.ensures.same; watcher = refl }
+
+pub returns-in-Err-NoMemory-clause-same : goal.returns-in-Err-NoMemory-clause-same
+returns-in-Err-NoMemory-clause-same g c = record { member = c.in-Err-NoMemory.ensures.same; watcher = refl }

@@ -1,0 +1,48 @@
+use Rattle.std.proofs.Common.{arith, refl, lit<}
+use Rattle.klsm_knapsack.proofs.CrewLemmas.{same_of}
+use Rattle.klsm_knapsack.proofs.WorkLemmas.{inserts_none, inserts_both, same_both}
+use Rattle.klsm_knapsack.proofs.common.Worker.work.Goals as goal
+
+pub loop-init : goal.loop-init
+loop-init g c = record {
+  next = (tt, tt);
+  few = omega arith;
+  same = record { member = (refl, refl, refl); watcher = refl };
+  at_work = c.requires.begins;
+  inserts = inserts_none _ _;
+}
+
+pub may_split-requires : goal.may_split-requires
+may_split-requires g c = (lit< tt, (lit< tt, same_of c.args.common.now c.args.self.now c.loop.self c.requires.of c.loop.invariant.same))
+
+pub turn-requires : goal.turn-requires
+turn-requires g c =
+    let inv = c.loop.invariant in
+    (lit< tt, (lit< tt, (same_of c.args.common.now c.args.self.now c.loop.self c.requires.of inv.same, (c.if-not-may_split.ensures refl, (c.requires.problem, inv.at_work)))))
+
+pub returns-in_err-turn-clause-same : goal.returns-in_err-turn-clause-same
+returns-in_err-turn-clause-same g c = same_both c.args.self.now c.loop.self c.turn.new.self c.loop.invariant.same c.turn.ensures.same
+
+pub loop-preserved-then-branch : goal.loop-preserved-then-branch
+loop-preserved-then-branch g c =
+    let inv = c.loop.invariant in
+    let turned = c.in_ok-turn.ensures in
+    record {
+      next = (tt, tt);
+      few = omega arith;
+      same = same_both c.args.self.now c.loop.self c.turn.new.self inv.same turned.same;
+      at_work = turned.goes_on;
+      inserts = inserts_both _ _ _ _ inv.inserts turned.inserts;
+    }
+
+pub loop-preserved : goal.loop-preserved
+loop-preserved g c =
+    let inv = c.loop.invariant in
+    let turned = c.in_ok-turn.ensures in
+    record {
+      next = (tt, tt);
+      few = omega (arith, inv.few, c.if-nothings-idle.false);
+      same = same_both c.args.self.now c.loop.self c.turn.new.self inv.same turned.same;
+      at_work = turned.goes_on;
+      inserts = inserts_both _ _ _ _ inv.inserts turned.inserts;
+    }
