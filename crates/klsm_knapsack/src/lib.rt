@@ -15,8 +15,9 @@
 //!
 //! - **The answer is a best selection**, for every number of workers, every k, `idle` and gate, and
 //!   whatever the threads do: clause `best` of `solve`, and that of `solve_in_turn`.
-//! - **A refusal is that of the least numbered worker that met one**: clause `refused` of `solve`,
-//!   and the clauses `bad_threads` and `bad_k`. No growth stands between the joins and that answer.
+//! - **A refusal is that of the least numbered worker that met one.** Of a full board clause `refused` of
+//!   `solve` says so; want of memory could also be that of the board itself. The clauses `bad_threads` and
+//!   `bad_k` say when the arguments are refused. No growth stands between the joins and that answer.
 //! - **The bound is exact**, and no completion of a node is above it: clauses `exact` and `sound` of
 //!   `Instance::bound`. An instance keeps the sum and the steepest thing of each suffix, so that a
 //!   bound costs one division beside the sum of what is taken.
