@@ -1,4 +1,4 @@
-use Rattle.std.proofs.Common.{◌≡◌, ◌∙◌, ◌+◌, Result, Err, arith, sym, subst}
+use Rattle.std.proofs.Common.{◌≡◌, ◌∙◌, ◌+◌, Result, Err, arith, sym, subst, rules}
 use Rattle.csv.specs.Records.{fields_of}
 use Rattle.klsm_rows.specs.Rows.{Row}
 use Rattle.klsm_knapsack.specs.declared.thing.Thing.{Thing}
@@ -23,3 +23,6 @@ returns-clause-thing c =
     let is = two row w.value w.weight (omega (arith, c.len.ensures, c.if-len-ne-FIELDS.false)) w.ensures.value w.ensures'.value in
     let many : Result Thing ReadError = Err read_error.TooMany in
     subst (λ (fields : Row). c.thing_in.result ≡ thing_of c.args.before fields) (sym is) (c.thing_in.ensures.thing ∙ not_equal c.args.before 32 many (thing_in (c.args.before + 2) (number_of w.value.now) (number_of w.weight.now)) c.if-before-eq-MOST_THINGS.false)
+
+pub returns-then-before-eq-MOST_THINGS-clause-thing : goal.returns-then-before-eq-MOST_THINGS-clause-thing
+returns-then-before-eq-MOST_THINGS-clause-thing c = search rules

@@ -1,4 +1,4 @@
-use Rattle.std.proofs.Common.{arith}
+use Rattle.std.proofs.Common.{arith, rules}
 use Rattle.klsm_knapsack.proofs.RuleLemmas.{gathers}
 use Rattle.klsm_knapsack.proofs.incumbent.Incumbent.join.Goals as goal
 
@@ -8,3 +8,6 @@ join_seat-requires c =
     let seat = c.args.watcher.now.seat in
     let other = c.args.other.seat in
     (c.requires.one, c.requires.other, c.args.other.empty_handed, omega (arith, i.one_word), gathers i.table.shared.key seat.id seat.me.0 other.id other.me.0)
+
+pub returns-clause-both : goal.returns-clause-both
+returns-clause-both c = search rules

@@ -1,4 +1,4 @@
-use Rattle.std.proofs.Common.{arith}
+use Rattle.std.proofs.Common.{arith, rules}
 use Rattle.klsm_knapsack.proofs.RuleLemmas.{divides}
 use Rattle.klsm_knapsack.proofs.incumbent.Incumbent.split.Goals as goal
 
@@ -7,3 +7,9 @@ split_seat-requires c =
     let i = c.args.self.now in
     let seat = c.args.watcher.now.seat in
     (c.requires, omega (arith, i.one_word), divides i.table.shared.key seat.id seat.me.0)
+
+pub returns-clause-kept : goal.returns-clause-kept
+returns-clause-kept c = search rules
+
+pub returns-clause-new : goal.returns-clause-new
+returns-clause-new c = search rules
