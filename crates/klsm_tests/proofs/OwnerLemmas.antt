@@ -36,6 +36,10 @@ pub apart_by_owner : (owner : ℕ) (xs ys : List Item) → OwnersBelow owner xs 
 apart_by_owner owner xs ys below of =
     sharing_none_if_apart xs ys (all_weaker (λ x. x.stamp.owner < owner) (λ x. IsNew x ys) (λ x low. all_weaker (λ y. y.stamp.owner ≡ owner) (λ y. y ≢ x) (λ y at is. omega (arith, low, at, ap (λ (z : Item). z.stamp.owner) is)) ys of) xs below)
 
+-- the items of two runs in one
+pub below_merged : (l : ℕ) (xs ys both : List Item) → both ≡ sorted (xs ++ ys) → OwnersBelow l xs → OwnersBelow l ys → OwnersBelow l both
+below_merged l xs ys both is left right = rw is (all_sorted (λ x. x.stamp.owner < l) (xs ++ ys) (all_append (λ x. x.stamp.owner < l) xs ys left right))
+
 -- an owner's first items
 pub record AreFirst (owner n : ℕ) (run : List Item) : Type 0 where
   pub len : length run ≡ n

@@ -5,7 +5,7 @@
 //!
 //! - `board`: a board and its members, in one thread and in several;
 //! - `knapsack`: the knapsack client, beside a plain loop over all selections;
-//! - `runs`: copies and merges of runs on the heap;
+//! - `runs`: copies, merges, removals and unions of runs;
 //! - `lsm`: LSMs over runs on the heap, with the blocks that each call leaves;
 //! - `parts`: a queue for one thread and its parts, beside a plain program written from the rules;
 //! - `printed`: what runs, LSMs, parts and worlds print, and the texts of refusals;

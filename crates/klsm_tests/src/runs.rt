@@ -1,6 +1,7 @@
 //! Runs on the heap: what a copy's store has places for, and the one growth of a copy or a merge
-//! refused.
-ghost use Rattle.std.specs.Prelude.{◌<◌, ◌≤◌, length};
+//! refused. And that a run of either kind loses an item and takes others in where it stands.
+ghost use Rattle.std.specs.Prelude.{◌≡◌, ◌+◌, ◌<◌, ◌≤◌, length};
+ghost use Rattle.std.specs.List.{AllByRecursion};
 
 use super::owned::{has_keys, heap_run_of, run_of};
 use klsm_run::{HeapRun, Run, RunError};
@@ -62,4 +63,43 @@ fn copies_and_merges(rt: HostRuntime) {
     }
     assert!(rt; merged(&heap, 0).is_none());
     assert!(rt; merged(&heap, 1) == Some((4, 2)));
+}
+
+// Merges two runs to 1, 2 and 3, takes the least item out, and puts the item 4 of a third one in.
+// Whether all of that goes on in a store of this capacity.
+fn unites<R: Run>(one: &R, two: &R, three: &R, capacity: usize) -> Option<bool>
+    requires one { AllByRecursion (λ x. x.stamp.owner ≡ 0) (R.items one.now) }
+    requires two { AllByRecursion (λ x. x.stamp.owner ≡ 1) (R.items two.now) }
+    requires three { AllByRecursion (λ x. x.stamp.owner ≡ 2) (R.items three.now) }
+    requires room { length (R.items one.now) + length (R.items two.now) ≤ R.ROOM }
+{
+    let mut run = one.merge(two).ok()?;
+    let merged = has_keys(&run, &[1, 2, 3]) && run.capacity() == capacity;
+    if run.len() == 0 || run.capacity() - run.len() < three.len() {
+        return None;
+    }
+    let least = run.remove_at(0);
+    run.unite(three);
+    Some(merged && least.key == 1 && has_keys(&run, &[2, 3, 4]) && run.capacity() == capacity)
+}
+
+// On the heap, where no growth is granted but that of the merge.
+fn heap_runs_unite(heap: &Rationed<Global>) -> Option<bool> {
+    heap.allow(3);
+    let one = heap_run_of(heap, 0, &[3, 1])?;
+    let two = heap_run_of(heap, 1, &[2])?;
+    let three = heap_run_of(heap, 2, &[4])?;
+    heap.allow(1);
+    Some(unites(&one, &two, &three, 4)? && !heap.has_refused())
+}
+
+fn fixed_runs_unite() -> Option<bool> {
+    unites(&run_of(0, &[3, 1]), &run_of(1, &[2]), &run_of(2, &[4]), 64)
+}
+
+#[test]
+fn removals_and_unions_in_place(rt: HostRuntime) {
+    let heap = Rationed::new(rt.alloc());
+    assert!(rt; heap_runs_unite(&heap) == Some(true));
+    assert!(rt; fixed_runs_unite() == Some(true));
 }
