@@ -6,7 +6,7 @@
 //! - `board`: a board and its members, in one thread and in several;
 //! - `knapsack`: the knapsack client, beside a plain loop over all selections;
 //! - `runs`: copies, merges, removals and unions of runs;
-//! - `lsm`: LSMs over runs on the heap, with the blocks that each call leaves;
+//! - `lsm`: LSMs over runs on the heap and fixed ones, with the blocks that each call leaves;
 //! - `parts`: a queue for one thread and its parts, beside a plain program written from the rules;
 //! - `printed`: what runs, LSMs, parts and worlds print, and the texts of refusals;
 //! - `program`: the program's texts and statuses, and faults in mid-stream;

@@ -7,7 +7,7 @@ ghost use Rattle.klsm_lsm.specs.Limit.{IsLevelCount};
 
 use super::super::owned::{are_keys, has_keys, heap_run_of, run_of};
 use klsm_lsm::{Lsm, LsmError, Refused};
-use klsm_run::{HeapRun, Item, Run};
+use klsm_run::{FixedRun, HeapRun, Item, Run};
 use klsm_testing::Rationed;
 use std::alloc::Global;
 
@@ -22,6 +22,9 @@ pub(super) struct Grown<R: Run, const LEVELS: usize> {
 
 /// One of four levels, over runs on the heap whose growths are rationed.
 pub(super) type RationedGrown<'a> = Grown<HeapRun<&'a Rationed<Global>>, 4>;
+
+/// One of four levels, over fixed runs.
+pub(super) type FixedGrown = Grown<FixedRun<64>, 4>;
 
 /// How items are put in.
 #[derive(Clone, Copy)]
@@ -132,6 +135,25 @@ impl<'a> RationedGrown<'a> {
         self.clear();
         for keys in runs {
             self.add(heap, how, keys, u64::MAX)?.ok()?;
+        }
+        Some(())
+    }
+}
+
+impl FixedGrown {
+    /// Absorbs the run of these keys.
+    fn absorb_fixed(&mut self, keys: &[u64]) -> Option<()> {
+        if !are_keys(keys) {
+            return None;
+        }
+        self.absorb(run_of(self.owners, keys)).ok()
+    }
+
+    /// Has the items of these runs in place of its own.
+    pub fn refill_fixed(&mut self, runs: &[&[u64]]) -> Option<()> {
+        self.clear();
+        for keys in runs {
+            self.absorb_fixed(keys)?;
         }
         Some(())
     }

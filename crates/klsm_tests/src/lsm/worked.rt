@@ -1,7 +1,7 @@
-//! Worked examples: each call with the blocks that it leaves. Own parts have those of insertions
-//! into fixed runs and of spies.
+//! Worked examples: each call with the blocks that it leaves, over runs on the heap, and removals over
+//! fixed runs too. Own parts have those of insertions into fixed runs and of spies.
 use super::super::owned::{has_blocks, has_keys};
-use super::grown::{Grown, How, RationedGrown};
+use super::grown::{FixedGrown, Grown, How, RationedGrown};
 use klsm_lsm::{Cascade, Lsm};
 use klsm_run::{FixedRun, HeapRun, Run};
 use klsm_testing::Rationed;
@@ -33,21 +33,49 @@ fn are_added<'a>(
     Some(true)
 }
 
-// Runs, a block and an index, the key of the item there, and the blocks without it: two blocks
-// unite; a block stays at its level; it falls to one that no other has; it goes with its only item.
-const REMOVED: &[(&[&[u64]], usize, usize, u64, &[&[u64]])] = &[
+/// Runs, a block and an index, the key of the item there, and the blocks without it.
+type Removal = (
+    &'static [&'static [u64]],
+    usize,
+    usize,
+    u64,
+    &'static [&'static [u64]],
+);
+
+// Two blocks unite; a block stays at its level; it falls to one that no other has; it goes with its
+// only item.
+const REMOVED: &[Removal] = &[
     (&[&[1, 2, 3], &[4, 5]], 0, 0, 1, &[&[2, 3, 4, 5]]),
     (&[&[1, 2, 3, 7], &[4, 5]], 0, 3, 7, &[&[1, 2, 3], &[4, 5]]),
     (&[&[1, 2, 3], &[4]], 0, 1, 2, &[&[1, 3], &[4]]),
     (&[&[1, 2, 3], &[4]], 1, 0, 4, &[&[1, 2, 3]]),
 ];
 
-// Whether each row's item leaves so.
+// Whether a row's item leaves so.
+fn is_removed<R: Run, const LEVELS: usize>(
+    grown: &mut Grown<R, LEVELS>,
+    (_, block, index, key, left): &Removal,
+) -> Option<bool> {
+    let item = grown.remove(*block, *index)?;
+    Some(item.key == *key && has_blocks(&grown.lsm, left))
+}
+
+// Whether each row's item does, over runs on the heap.
 fn are_removed<'a>(heap: &'a Rationed<Global>, grown: &mut RationedGrown<'a>) -> Option<bool> {
-    for (runs, block, index, key, left) in REMOVED {
-        grown.refill(heap, How::Run, runs)?;
-        let item = grown.remove(*block, *index)?;
-        if item.key != *key || !has_blocks(&grown.lsm, left) {
+    for row in REMOVED {
+        grown.refill(heap, How::Run, row.0)?;
+        if !is_removed(grown, row)? {
+            return Some(false);
+        }
+    }
+    Some(true)
+}
+
+// The same over fixed runs.
+fn are_removed_from_fixed(grown: &mut FixedGrown) -> Option<bool> {
+    for row in REMOVED {
+        grown.refill_fixed(row.0)?;
+        if !is_removed(grown, row)? {
             return Some(false);
         }
     }
@@ -189,6 +217,12 @@ fn blocks_of_each_call(rt: HostRuntime) {
     let heap = Rationed::new(rt.alloc());
     let mut grown: RationedGrown = Grown::new();
     assert!(rt; are_right(&heap, &mut grown) == Some(true));
+}
+
+#[test]
+fn removals_from_fixed_runs(rt: HostRuntime) {
+    let mut grown: FixedGrown = Grown::new();
+    assert!(rt; are_removed_from_fixed(&mut grown) == Some(true));
 }
 
 // The same of an LSM of three blocks that loses them.
