@@ -76,9 +76,18 @@ pub(super) fn insert_all(both: &mut Both, keys: &[u64]) -> Option<()> {
 
 /// Deletes an item from both, if there is one. `None` where they then differ.
 pub(super) fn delete(both: &mut Both, pick: Pick) -> Option<Option<Item>> {
-    let want = both.plain.delete(pick).ok()?;
     let mut picker = pick;
-    let answer = both.queue.delete_min(&mut picker);
+    delete_by(both, &mut picker, pick)
+}
+
+/// The same by a picker that has to pick so.
+pub(super) fn delete_by<P: Picker>(
+    both: &mut Both,
+    picker: &mut P,
+    pick: Pick,
+) -> Option<Option<Item>> {
+    let want = both.plain.delete(pick).ok()?;
+    let answer = both.queue.delete_min(picker);
     if answer != want || !are_same(&both.queue, &both.plain)? {
         return None;
     }
