@@ -160,6 +160,25 @@ const SCRIPTS: &[Script] = &[
             Step::Deletes(0, None),
         ],
     },
+    // With k = 0 all items are shared ones, and leave in order until there is none.
+    Script {
+        threads: 1,
+        k: 0,
+        quota: MANY,
+        steps: &[
+            Step::Inserts((1, 0, 0)),
+            Step::Inserts((2, 0, 1)),
+            Step::Inserts((3, 0, 2)),
+            Step::Inserts((4, 0, 3)),
+            Step::Inserts((5, 0, 4)),
+            Step::Deletes(0, Some((1, 0, 0))),
+            Step::Deletes(0, Some((2, 0, 1))),
+            Step::Deletes(0, Some((3, 0, 2))),
+            Step::Deletes(0, Some((4, 0, 3))),
+            Step::Deletes(0, Some((5, 0, 4))),
+            Step::Deletes(0, None),
+        ],
+    },
 ];
 
 #[test]
