@@ -56,13 +56,18 @@ fn insert(crew: &mut Crew<21>, owner: u32, key: u64) -> Option<bool> {
 }
 
 // How many items each of the two members inserts.
-const EACH: u64 = 20;
+const EACH: u64 = 250;
 
-// Both insert their items, the least one last.
+// The key of a member's item of this number. Keys rise and fall, and each is one of both members.
+fn key_of(number: u64) -> u64 {
+    number % EACH * 107 % EACH
+}
+
+// Both insert their items, in turn.
 fn insert_all(crew: &mut Crew<21>) -> Option<bool> {
-    for key in (0..EACH).rev() {
+    for number in 0..EACH {
         for member in 0..2 {
-            if !insert(crew, member, key)? {
+            if !insert(crew, member, key_of(number))? {
                 return Some(false);
             }
         }
@@ -73,27 +78,32 @@ fn insert_all(crew: &mut Crew<21>) -> Option<bool> {
 // Whether an item is one of theirs that was not found before. It is found now.
 fn is_next(found: &mut [bool], item: Item) -> Option<bool> {
     let number = item.stamp.number;
-    let index = item.stamp.owner as usize % 2 * 20 + number as usize % 20;
+    let index = item.stamp.owner as usize % 2 * 250 + number as usize % 250;
     let place = found.get_mut(index)?;
     let was_found = *place;
     *place = true;
-    Some(
-        !was_found
-            && item.key.saturating_add(item.load) == EACH
-            && item.load == number.saturating_add(1),
-    )
+    Some(!was_found && item.key == key_of(number) && item.load == number.saturating_add(1))
 }
 
-// Whether a member deletes each item once.
-fn delete_all(crew: &mut Crew<21>) -> Option<bool> {
-    let mut found = [false; 40];
-    for _ in 0..40 {
-        let item = crew.deleted(0, &mut First)?;
+// Whether the two delete each item once, in turn.
+fn each_is_deleted(crew: &mut Crew<21>) -> Option<bool> {
+    let mut found = [false; 500];
+    for turn in 0..500 {
+        let item = crew.deleted(turn % 2, &mut First)?;
         if !is_next(&mut found, item)? {
             return Some(false);
         }
     }
-    Some(crew.try_delete_min(0, &mut First)? == Ok(None))
+    Some(true)
+}
+
+// Whether they do, and both find nothing then.
+fn delete_all(crew: &mut Crew<21>) -> Option<bool> {
+    Some(
+        each_is_deleted(crew)?
+            && crew.try_delete_min(0, &mut First)? == Ok(None)
+            && crew.try_delete_min(1, &mut First)? == Ok(None),
+    )
 }
 
 // Whether all insertions go through, at the second try where a growth is refused, and then all
