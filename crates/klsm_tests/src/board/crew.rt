@@ -1,5 +1,5 @@
 //! A board with its members, one of which may hold a part, and some of which may be away.
-ghost use Rattle.std.specs.Prelude.{All, IfSome};
+ghost use Rattle.std.specs.Prelude.{◌≡◌, All, IfSome};
 ghost use Rattle.std.proofs.Props.{props};
 ghost use Rattle.klsm_parts.specs.Limit.{IsLevelCount};
 ghost use Rattle.klsm_board.specs.Boards.{IsOf, IsHeldOf};
@@ -143,6 +143,22 @@ impl<const LEVELS: usize> Crew<LEVELS> {
     /// Those that are away come back, in their order, and those that are here go away.
     pub(super) fn relieve(&mut self) {
         mem::swap(&mut self.members, &mut self.away);
+    }
+
+    /// Takes all members out that hold no part and are not away.
+    pub(super) fn take_members(&mut self, alloc: Global) -> Vec<Member<64, LEVELS>>
+        ensures board { self.new.board ≡ self.old.board }
+        ensures of { All (λ member. IsOf member self.old.board) result.items }
+    {
+        mem::replace(&mut self.members, Vec::new(alloc))
+    }
+
+    /// One of them comes back.
+    pub(super) fn come_back(&mut self, member: Member<64, LEVELS>) -> Option<()>
+        requires { IsOf member self.old.board }
+        ensures { self.new.board ≡ self.old.board }
+    {
+        self.members.push(member).ok()
     }
 
     /// Whether the members that hold no part and are not away have these numbers, in this order.

@@ -1,10 +1,10 @@
 //! Members in threads of their own, which insert, delete, hold parts and put them back. What they
-//! noted is compared with what is left on the board.
-ghost use Rattle.std.specs.Prelude.{All};
+//! noted is compared with what is found on the board afterwards, and with its account.
+ghost use Rattle.std.specs.Prelude.{◌≡◌, All, IfSome};
 ghost use Rattle.klsm_board.specs.Boards.{IsOf};
 
 use super::crew::Crew;
-use klsm_board::{Board, Member};
+use klsm_board::{Account, Board, Member};
 use klsm_parts::Last;
 use klsm_run::{Item, Stamp};
 use rand_core::{Rng, SeedableRng};
@@ -14,24 +14,54 @@ use std::sync::Wait;
 use std::thread;
 use std::thread::Threads;
 
+// What a thread does in each of its rounds.
+#[derive(Clone, Copy)]
+enum Kind {
+    // Makes a call of some kind, or holds some part.
+    Mixes,
+    // Makes a call that may wait.
+    Waits,
+    // Holds the next part in turn.
+    Holds,
+}
+
+// The threads of a test.
+struct Team {
+    threads: usize,
+    k: usize,
+    calls: u32,
+    // Whether the last of them holds parts while the others make calls that may wait.
+    is_held_up: bool,
+}
+
+impl Team {
+    // What a thread does, and how often: there are a few parts to be held for each call.
+    fn rounds_of(&self, number: u32) -> (Kind, u32) {
+        if !self.is_held_up {
+            return (Kind::Mixes, self.calls);
+        }
+        if number as usize + 1 < self.threads {
+            return (Kind::Waits, self.calls);
+        }
+        (Kind::Holds, self.calls.saturating_mul(6))
+    }
+}
+
 // A member, and what it noted of its insertions and deletions.
 #[derive(Drop)]
-struct Worker<'a> {
-    board: &'a Board<64, 21>,
+struct Worker {
     member: Member<64, 21>,
     mix: Pcg32,
     inserted: Vec<Item>,
     deleted: Vec<Item>,
-    ghost is_of: { IsOf member board.now },
 }
 
-impl<'a> Worker<'a> {
-    fn new(alloc: Global, board: &'a Board<64, 21>, member: Member<64, 21>) -> Self
-        requires { IsOf member board.now }
+impl Worker {
+    fn new(alloc: Global, member: Member<64, 21>) -> Self
+        ensures { result.member ≡ member }
     {
         let mix = Pcg32::seed_from_u64(u64::from(member.number()));
         Worker {
-            board,
             member,
             mix,
             inserted: Vec::new(alloc),
@@ -39,64 +69,72 @@ impl<'a> Worker<'a> {
         }
     }
 
-    // Notes an insertion, where it was not refused.
-    fn note_inserted(&mut self, key: u64, stamp: Option<Stamp>) -> Option<()> {
+    // Notes an insertion, where it was not refused. Where there is no memory for that, the member
+    // counts more than was noted.
+    fn note_inserted(&mut self, key: u64, stamp: Option<Stamp>)
+        ensures { self.new.member ≡ self.old.member }
+    {
         if let Some(stamp) = stamp {
             let load = stamp.number;
-            self.inserted.push(Item { key, stamp, load }).ok()?;
+            let _ = self.inserted.push(Item { key, stamp, load });
         }
-        Some(())
     }
 
-    // Notes a deletion, where it found an item.
-    fn note_deleted(&mut self, item: Option<Item>) -> Option<()> {
+    // Notes a deletion likewise, where it found an item.
+    fn note_deleted(&mut self, item: Option<Item>)
+        ensures { self.new.member ≡ self.old.member }
+    {
         if let Some(item) = item {
-            self.deleted.push(item).ok()?;
+            let _ = self.deleted.push(item);
         }
-        Some(())
     }
 
     // Inserts an item of some key, by a call that may wait or by one that does not.
-    fn insert(&mut self, rt: &impl Wait, waits: bool) -> Option<()> {
+    fn insert(&mut self, rt: &impl Wait, board: &Board<64, 21>, waits: bool)
+        requires { IsOf self.old.member board.now }
+        ensures { IsOf self.new.member board.now }
+    {
         let key = self.mix.next_u64() % 1000;
         let load = self.member.inserted_count();
         let stamp = if waits {
-            self.member.insert(rt, self.board, key, load).ok()
+            self.member.insert(rt, board, key, load).ok()
         } else {
-            self.member.try_insert(self.board, key, load).ok()
+            self.member.try_insert(board, key, load).ok()
         };
-        self.note_inserted(key, stamp)
+        self.note_inserted(key, stamp);
     }
 
     // Deletes an item likewise.
-    fn delete(&mut self, rt: &impl Wait, waits: bool) -> Option<()> {
+    fn delete(&mut self, rt: &impl Wait, board: &Board<64, 21>, waits: bool)
+        requires { IsOf self.old.member board.now }
+        ensures { IsOf self.new.member board.now }
+    {
         let item = if waits {
-            self.member.delete_min(rt, self.board, &mut Last)
+            self.member.delete_min(rt, board, &mut Last)
         } else {
             self.member
-                .try_delete_min(self.board, &mut Last)
+                .try_delete_min(board, &mut Last)
                 .unwrap_or(None)
         };
-        self.note_deleted(item)
+        self.note_deleted(item);
     }
 
-    // Holds some part, if it is free, and puts it back.
-    fn hold(self) -> Self {
+    // Holds a part, if it is free, and puts it back.
+    fn hold(self, board: &Board<64, 21>, lock: usize) -> Self
+        requires { IsOf self.member board.now }
+        ensures { IsOf result.member board.now }
+    {
         let Worker {
-            board,
             member,
-            mut mix,
+            mix,
             inserted,
             deleted,
-            ..
         } = self;
-        let lock = mix.next_u32() as usize % (board.threads() + 1);
         let member = match member.try_hold(board, lock) {
             Ok(held) => held.put_back(board),
             Err(refused) => refused.member,
         };
         Worker {
-            board,
             member,
             mix,
             inserted,
@@ -105,22 +143,57 @@ impl<'a> Worker<'a> {
     }
 
     // Makes a call of some kind. Deletions are more than insertions, so that parts are often empty.
-    fn call(mut self, rt: &impl Wait) -> Option<Self> {
+    fn mix(mut self, rt: &impl Wait, board: &Board<64, 21>) -> Self
+        requires { IsOf self.member board.now }
+        ensures { IsOf result.member board.now }
+    {
         match self.mix.next_u32() % 16 {
-            kind @ 0..=5 => self.insert(rt, kind < 3)?,
-            kind @ 6..=13 => self.delete(rt, kind < 10)?,
-            _ => return Some(self.hold()),
+            kind @ 0..=5 => self.insert(rt, board, kind < 3),
+            kind @ 6..=13 => self.delete(rt, board, kind < 10),
+            _ => {
+                let lock = self.mix.next_u32() as usize % (board.threads() + 1);
+                return self.hold(board, lock);
+            }
         }
-        Some(self)
+        self
     }
 
-    // Makes so many calls.
-    fn run(self, rt: &impl Wait, calls: u32) -> Option<Self> {
-        let mut worker = self;
-        for _ in 0..calls {
-            worker = worker.call(rt)?;
+    // Makes a call that may wait. Insertions and deletions are alike in number.
+    fn wait(mut self, rt: &impl Wait, board: &Board<64, 21>) -> Self
+        requires { IsOf self.member board.now }
+        ensures { IsOf result.member board.now }
+    {
+        if self.mix.next_u32() % 2 == 0 {
+            self.insert(rt, board, true);
+        } else {
+            self.delete(rt, board, true);
         }
-        Some(worker)
+        self
+    }
+
+    // Does what there is to do in a round.
+    fn go_on(self, rt: &impl Wait, board: &Board<64, 21>, kind: Kind, round: u32) -> Self
+        requires { IsOf self.member board.now }
+        ensures { IsOf result.member board.now }
+    {
+        match kind {
+            Kind::Mixes => self.mix(rt, board),
+            Kind::Waits => self.wait(rt, board),
+            Kind::Holds => self.hold(board, round as usize % (board.threads() + 1)),
+        }
+    }
+
+    // Does what there is to do in each of its rounds.
+    fn run(self, rt: &impl Wait, board: &Board<64, 21>, team: &Team) -> Self
+        requires { IsOf self.member board.now }
+        ensures { IsOf result.member board.now }
+    {
+        let (kind, rounds) = team.rounds_of(self.member.number());
+        let mut worker = self;
+        for round in 0..rounds {
+            worker = worker.go_on(rt, board, kind, round);
+        }
+        worker
     }
 
     // Whether its counts are those of what it noted.
@@ -130,95 +203,170 @@ impl<'a> Worker<'a> {
     }
 }
 
-// Lets each member make so many calls in a thread of its own.
-fn run_all<'a, R: Threads + Wait + Sync>(
+// Lets each member work in a thread of its own.
+fn run_all<R: Threads + Wait + Sync>(
     rt: &R,
     alloc: Global,
-    board: &'a Board<64, 21>,
+    board: &Board<64, 21>,
     members: Vec<Member<64, 21>>,
-    calls: u32,
-) -> Option<Vec<Option<Worker<'a>>>>
+    team: &Team,
+) -> Option<Vec<Worker>>
     requires { All (λ member. IsOf member board.now) members.items }
+    ensures { IfSome result (λ workers. All (λ worker. IsOf worker.member board.now) workers.items) }
 {
     thread::map_vec(
         rt,
         members,
-        &|member| -> Option<Worker>
+        &|member| -> Worker
             requires { IsOf member board.now }
-        { Worker::new(alloc, board, member).run(rt, calls) },
+            ensures { IsOf result.member board.entry.now }
+        { Worker::new(alloc, member).run(rt, board, team) },
     )
     .ok()
 }
 
-// Notes what a member still finds.
-fn drain<'a>(worker: &mut Worker<'a>, most: usize) -> Option<bool> {
-    for _ in 0..most {
-        let item = worker.member.try_delete_min(worker.board, &mut Last).ok()?;
-        if item.is_none() {
-            return Some(true);
-        }
-        worker.note_deleted(item)?;
-    }
-    Some(false)
+// A board whose members are back, and what they noted.
+#[derive(Drop)]
+struct Found {
+    crew: Crew<21>,
+    inserted: Vec<Item>,
+    deleted: Vec<Item>,
 }
 
-// Adds all items of some.
-fn add_all(all: &mut Vec<Item>, some: &[Item]) -> Option<()> {
-    all.extend_from_slice(some).ok()
-}
-
-// What all workers inserted, ascending, and what they deleted, or nothing where some worker's counts
-// are not those of what it noted.
-fn gather(alloc: Global, workers: &[Worker]) -> Option<(Vec<Item>, Vec<Item>)> {
-    let (mut inserted, mut deleted) = (Vec::new(alloc), Vec::new(alloc));
-    for worker in workers {
+impl Found {
+    // A worker's member comes back. `None` where its counts are not those of what it noted.
+    fn add(&mut self, worker: Worker) -> Option<()>
+        requires { IsOf worker.member self.old.crew.board }
+        ensures { self.new.crew.board ≡ self.old.crew.board }
+    {
         if !worker.agrees() {
             return None;
         }
-        add_all(&mut inserted, worker.inserted.as_slice())?;
-        add_all(&mut deleted, worker.deleted.as_slice())?;
+        let Worker {
+            member,
+            inserted,
+            deleted,
+            ..
+        } = worker;
+        self.crew.come_back(member)?;
+        self.inserted.extend_from_slice(inserted.as_slice()).ok()?;
+        self.deleted.extend_from_slice(deleted.as_slice()).ok()
     }
+
+    // Notes what a member still finds. Whether that was so much at most.
+    fn drain(&mut self, most: usize) -> Option<bool> {
+        for _ in 0..most {
+            let Some(item) = self.crew.try_delete_min(0, &mut Last)?.ok()? else {
+                return Some(true);
+            };
+            self.deleted.push(item).ok()?;
+        }
+        Some(false)
+    }
+
+    // Whether the board's account tells what was noted, and each item was deleted or is left.
+    fn has_account(self, alloc: Global) -> Option<bool> {
+        let Found {
+            crew,
+            inserted,
+            deleted,
+        } = self;
+        tells_all(crew.finish(alloc).ok()?, inserted, deleted)
+    }
+}
+
+// The same while some workers that have ended are not back.
+#[derive(Drop)]
+struct Ended {
+    found: Found,
+    workers: Vec<Worker>,
+    ghost workers_are_of: { All (λ worker. IsOf worker.member found.crew.board) workers.items },
+}
+
+impl Ended {
+    // The last worker comes back.
+    fn take_back(&mut self) -> Option<()> {
+        let worker = self.workers.pop()?;
+        self.found.add(worker)
+    }
+
+    // All workers do.
+    fn take_all_back(&mut self) -> Option<()> {
+        for _ in 0..self.workers.len() {
+            self.take_back()?;
+        }
+        Some(())
+    }
+}
+
+// Whether an account tells of these insertions and deletions, and of what is left.
+fn tells_all(account: Account, inserted: Vec<Item>, deleted: Vec<Item>) -> Option<bool> {
+    let noted = (inserted.len() as u64, deleted.len() as u64);
+    let (mut inserted, mut found) = (inserted, deleted);
+    found.extend_from_slice(account.left.as_slice()).ok()?;
     inserted.sort_unstable();
-    deleted.sort_unstable();
-    Some((inserted, deleted))
+    found.sort_unstable();
+    Some((account.inserted, account.deleted) == noted && found == inserted)
 }
 
-// The workers, where each made all its calls.
-fn all_of(alloc: Global, ended: Vec<Option<Worker>>) -> Option<Vec<Worker>> {
-    let mut workers = Vec::new(alloc);
-    for worker in ended {
-        workers.push(worker?).ok()?;
-    }
-    Some(workers)
+// What is found once all threads of a team have ended.
+fn run_team<R: Threads + Wait + Sync>(rt: &R, alloc: Global, team: &Team) -> Option<Found> {
+    let quota = u64::from(team.calls);
+    let mut crew = Crew::new(alloc, team.threads, team.k, quota).ok()?;
+    let members = crew.take_members(alloc);
+    let workers = run_all(rt, alloc, &crew.board, members, team)?;
+    let found = Found {
+        crew,
+        inserted: Vec::new(alloc),
+        deleted: Vec::new(alloc),
+    };
+    let mut ended = Ended { found, workers };
+    ended.take_all_back()?;
+    Some(ended.found)
 }
 
-// Whether each item that was inserted was deleted once, by a thread or by the first member
-// afterwards.
-fn each_once<R: Threads + Wait + Sync>(
-    rt: &R,
-    alloc: Global,
-    threads: usize,
-    k: usize,
-    calls: u32,
-) -> Option<bool> {
-    let Crew { board, members, .. } = Crew::new(alloc, threads, k, u64::from(calls)).ok()?;
-    let ended = run_all(rt, alloc, &board, members, calls)?;
-    let mut workers = all_of(alloc, ended)?;
-    let most = threads.saturating_mul(calls as usize).saturating_add(1);
-    let is_drained = drain(workers.get_mut(0)?, most)?;
-    let (inserted, deleted) = gather(alloc, workers.as_slice())?;
-    Some(is_drained && inserted == deleted && inserted.len() > calls as usize / 4)
+// Whether each item was inserted once, and deleted once by a thread or by some member afterwards,
+// or is left in the account.
+fn each_once<R: Threads + Wait + Sync>(rt: &R, alloc: Global, team: &Team) -> Option<bool> {
+    let mut found = run_team(rt, alloc, team)?;
+    let many = found.inserted.len() > team.calls as usize / 4;
+    let most = found.inserted.len().saturating_add(1);
+    let drained = team.is_held_up || found.drain(most)?;
+    Some(many && drained && found.has_account(alloc)?)
 }
 
-// How many calls each thread makes.
-const CALLS: u32 = 100_000;
+const TWO: Team = Team {
+    threads: 2,
+    k: 4,
+    calls: 100_000,
+    is_held_up: false,
+};
 
 #[test]
 fn two_threads_find_each_item_once(rt: HostRuntime) {
-    assert!(rt; each_once(&rt, rt.alloc(), 2, 4, CALLS) == Some(true));
+    assert!(rt; each_once(&rt, rt.alloc(), &TWO) == Some(true));
 }
+
+const FOUR: Team = Team {
+    threads: 4,
+    k: 4,
+    calls: 100_000,
+    is_held_up: false,
+};
 
 #[test]
 fn four_threads_find_each_item_once(rt: HostRuntime) {
-    assert!(rt; each_once(&rt, rt.alloc(), 4, 4, CALLS) == Some(true));
+    assert!(rt; each_once(&rt, rt.alloc(), &FOUR) == Some(true));
+}
+
+const FOUR_HELD_UP: Team = Team {
+    threads: 5,
+    k: 4,
+    calls: 2000,
+    is_held_up: true,
+};
+
+#[test]
+fn four_threads_wait_for_parts_that_a_fifth_holds(rt: HostRuntime) {
+    assert!(rt; each_once(&rt, rt.alloc(), &FOUR_HELD_UP) == Some(true));
 }
