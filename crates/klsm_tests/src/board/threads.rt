@@ -112,9 +112,7 @@ impl Worker {
         let item = if waits {
             self.member.delete_min(rt, board, &mut Last)
         } else {
-            self.member
-                .try_delete_min(board, &mut Last)
-                .unwrap_or(None)
+            self.member.try_delete_min(board, &mut Last).unwrap_or(None)
         };
         self.note_deleted(item);
     }

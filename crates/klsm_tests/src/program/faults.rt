@@ -1,10 +1,13 @@
-//! A reader or a writer that fails in mid-stream, in each command.
+//! A reader or a writer that fails in mid-stream, in each command, and how many bytes a run then says
+//! that it wrote.
 
 use super::knapsack::{INSTANCE, KNAPSACK, LINE};
 use super::live::{LIVE, TOTALS};
 use super::process::{Input, Output};
 use super::worked::{ANSWERS, SCRIPT};
 use super::{REPLAY, gives, run};
+use klsm_board::Open;
+use klsm_tool::{End, Pick, Report, Settings, knapsack_over, live_over, replay_over};
 use std::alloc::Global;
 use std::sync::Wait;
 use std::thread::Threads;
@@ -93,6 +96,76 @@ fn a_failed_write_leaves_the_first_bytes(rt: HostRuntime) {
     assert!(rt; leaves_any_first(&rt, rt.alloc(), (REPLAY, SCRIPT, ANSWERS)));
     assert!(rt; leaves_any_first(&rt, rt.alloc(), (LIVE, SCRIPT, TOTALS)));
     assert!(rt; leaves_any_first(&rt, rt.alloc(), (KNAPSACK, INSTANCE, LINE)));
+}
+
+/// The settings of a run whose words name none.
+const USUAL: Settings = Settings {
+    threads: 1,
+    k: 64,
+    pick: Pick::First,
+    seed: 1,
+};
+
+/// A command, which has an input of its own.
+#[derive(Clone, Copy)]
+enum Command {
+    Replay,
+    Live,
+    Knapsack,
+}
+
+/// What a run of a command leaves.
+fn report_of(
+    rt: &(impl AllocGlobal + Wait + Threads + Sync),
+    command: Command,
+    output: &mut Output,
+) -> Report {
+    match command {
+        Command::Replay => replay_over(rt, SCRIPT, output, &USUAL),
+        Command::Live => live_over(rt, SCRIPT, output, &USUAL, &Open),
+        Command::Knapsack => knapsack_over(rt, INSTANCE, output, 1, 16, 100, &Open),
+    }
+}
+
+/// Whether a run over an output that refuses after so many bytes says that it wrote just those that
+/// the output took.
+fn tells_written(
+    rt: &(impl AllocGlobal + Wait + Threads + Sync),
+    command: Command,
+    room: usize,
+    fails: bool,
+) -> bool {
+    let mut output = Output {
+        room,
+        at_a_time: 5,
+        fails,
+        ..Output::ample(rt.alloc())
+    };
+    let report = report_of(rt, command, &mut output);
+    let written = output.taken.len() as u64;
+    let end = End::WriteFault;
+    report == Report { end, written } && output.taken.len() == room
+}
+
+/// The same for each number of bytes below that of the text, and for both kinds of refusal.
+fn tells_any_written(
+    rt: &(impl AllocGlobal + Wait + Threads + Sync),
+    command: Command,
+    text: &[u8],
+) -> bool {
+    for room in 0..text.len() {
+        if !tells_written(rt, command, room, true) || !tells_written(rt, command, room, false) {
+            return false;
+        }
+    }
+    true
+}
+
+#[test]
+fn a_run_tells_how_many_bytes_went_out(rt: HostRuntime) {
+    assert!(rt; tells_any_written(&rt, Command::Replay, ANSWERS));
+    assert!(rt; tells_any_written(&rt, Command::Live, TOTALS));
+    assert!(rt; tells_any_written(&rt, Command::Knapsack, LINE));
 }
 
 /// Words that are answered with another text, which is longer than 20 bytes.
