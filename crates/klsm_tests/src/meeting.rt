@@ -1,7 +1,8 @@
-//! A gate at which two workers meet, so that a test sees them run side by side.
+//! Gates of tests: one at which two workers meet, so that a test sees them run side by side, and one
+//! that counts.
 
 use klsm_board::Gate;
-use std::sync::atomic::{AtomicBool, Ordering};
+use std::sync::atomic::{AtomicBool, AtomicU64, Ordering};
 
 /// How often a worker at a gate looks for another.
 pub(crate) const LOOKS: u64 = 1_000_000_000;
@@ -36,6 +37,37 @@ impl Gate for Meeting {
                 self.met[here].store(true, Ordering::SeqCst);
                 return;
             }
+        }
+    }
+}
+
+/// A gate for three workers, which counts how often each passes.
+#[derive(Drop)]
+pub(crate) struct Counting {
+    passed: [AtomicU64; 3],
+}
+
+impl Counting {
+    pub(crate) fn new() -> Self {
+        Counting {
+            passed: [AtomicU64::new(0), AtomicU64::new(0), AtomicU64::new(0)],
+        }
+    }
+
+    /// How often each has passed.
+    pub(crate) fn passed(&self) -> [u64; 3] {
+        [
+            self.passed[0].load(Ordering::SeqCst),
+            self.passed[1].load(Ordering::SeqCst),
+            self.passed[2].load(Ordering::SeqCst),
+        ]
+    }
+}
+
+impl Gate for Counting {
+    fn pass(&self, worker: usize) {
+        if let Some(passed) = self.passed.get(worker) {
+            passed.fetch_add(1, Ordering::SeqCst);
         }
     }
 }

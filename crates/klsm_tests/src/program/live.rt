@@ -1,9 +1,9 @@
 //! Scripts whose rows are run by threads: the line of each run, what becomes of a script that is not
-//! run, and that threads run side by side.
+//! run, that threads run side by side, and that each passes the gate once.
 
 use super::worked::SCRIPT;
 use super::{Told, all_go};
-use crate::meeting::Meeting;
+use crate::meeting::{Counting, Meeting};
 use klsm_tool::{End, Pick, Report, Settings, live_over};
 
 /// The words of a process that lets threads run a script.
@@ -70,4 +70,21 @@ fn two_threads_run_side_by_side(rt: HostRuntime) {
     };
     assert!(rt; text.as_slice() == b"inserted 2 deleted 0 left 2\n".as_slice() && report == want);
     assert!(rt; meeting.took_place());
+}
+
+// Three threads, of which the last has no row.
+#[test]
+fn each_thread_passes_the_gate_once(rt: HostRuntime) {
+    let settings = Settings {
+        threads: 3,
+        k: 64,
+        pick: Pick::First,
+        seed: 1,
+    };
+    let gate = Counting::new();
+    let mut text = Vec::new(rt.alloc());
+    let script: &[u8] = b"0,i,1,0\n1,i,2,0\n0,i,3,0\n";
+    let report = live_over(&rt, script, &mut text, &settings, &gate);
+    assert!(rt; text.as_slice() == b"inserted 3 deleted 0 left 3\n".as_slice());
+    assert!(rt; report.end == End::Done && gate.passed() == [1, 1, 1]);
 }
