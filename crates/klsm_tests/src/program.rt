@@ -5,6 +5,7 @@ mod knapsack;
 mod limits;
 mod live;
 mod process;
+mod progress;
 mod refused;
 mod replayed;
 mod scripts;
