@@ -1,5 +1,5 @@
 -- Pivots that are mended where blocks change. No public clause speaks of it: those say which items are marked.
-use Rattle.std.specs.Prelude.{ℕ, ◌≡◌, ◌+◌, ◌-◌, ◌<◌, ◌≤◌, ◌∷◌, ◌++◌, min, length, Bool, List, take, drop, remove, sum, slice_set, slice_index_or, if◌then◌else◌, Option, Some, None, IfSome}
+use Rattle.std.specs.Prelude.{ℕ, ◌+◌, ◌-◌, ◌<◌, ◌≤◌, ◌∷◌, ◌++◌, min, length, Bool, List, take, drop, remove, sum, slice_set, slice_index_or, if◌then◌else◌, Option, Some, None, IfSome}
 use Rattle.klsm_run.specs.declared.item.Item.{Item}
 use Rattle.klsm_lsm.specs.Lsm.{content, IsLsm}
 use Rattle.klsm_parts.specs.Pivots.{ArePivots}
@@ -17,17 +17,6 @@ less_marked pivots at = slice_set pivots at (slice_index_or pivots at 0 - 1)
 abbrev pub cut_pivots : List ℕ → ℕ → Bool → Option ℕ → List ℕ
 cut_pivots pivots at is_only None = if is_only then remove pivots at else less_marked pivots at
 cut_pivots pivots at is_only (Some next) = united_pivots (less_marked pivots at) at 2 0
-
--- blocks after a run was put in that became one with `count` blocks from `first` on, and the pivots before: with q items of the
--- run n items are marked, which are the least
-pub record IsMendable (k first count q n : ℕ) (after : List (List Item)) (pivots : List ℕ) : Type 0 where
-  pub lawful : IsLsm after
-  pub within : first + count ≤ length pivots
-  pub blocks : length after + count ≡ length pivots + 1
-  pub total : q + sum pivots ≡ n
-  pub enough : min (k + 1) (length (content after)) ≤ n
-  pub at_most : n ≤ length (content after)
-  pub marks : ArePivots n after (united_pivots pivots first count q)
 
 -- blocks after a marked item was cut out of block `at`: fewer items are marked by one, and they are the least
 pub record IsCutMendable (k : ℕ) (after : List (List Item)) (at : ℕ) (is_only : Bool) (partner : Option ℕ) (pivots : List ℕ) : Type 0 where

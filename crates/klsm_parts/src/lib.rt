@@ -41,6 +41,8 @@
 //!   its callers.
 //! - **A deletion takes no memory** and is never refused. `flush` makes one growth, before anything
 //!   changes; refused, it has changed nothing: clauses `unchanged`.
+//! - **The candidates are known in their order**, a byte for each, so that a deletion finds any of
+//!   them without a comparison.
 //! - **Pivots are mended, not counted anew.** A change of the shared part costs about one
 //!   comparison a block for them. `Shared::pivot_anew` counts, and its contract is that of `pivot`.
 #![tactic(auto)]
@@ -50,6 +52,7 @@ mod flushing;
 pub mod laws;
 mod local;
 mod mending;
+mod merging;
 mod part;
 mod picker;
 mod queue;

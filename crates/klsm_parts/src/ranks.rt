@@ -6,6 +6,7 @@ ghost use Rattle.klsm_lsm.specs.Lsm.{content, IsLsm};
 ghost use Rattle.klsm_lsm.specs.Limit.{IsLevelCount};
 ghost use Rattle.klsm_parts.specs.LeastPlaces.{IsLeastPlace};
 ghost use Rattle.klsm_parts.specs.Pivots.{ArePivots, AreWithin, marked, unmarked};
+ghost use Rattle.klsm_parts.specs.Ranking.{IsOfBlock};
 
 use arrayvec::ArrayVec;
 use klsm_lsm::Lsm;
@@ -66,8 +67,11 @@ pub(crate) fn mark_least<R: Run, const LEVELS: usize>(
     requires lawful { IsLsm lsm.now }
     requires within { AreWithin lsm.now pivots.old.items }
     requires some { length (marked lsm.now pivots.old.items) < length (content lsm.now) }
-    ensures { (n : ℕ) → n < length (content lsm.now) → ArePivots n lsm.now pivots.old.items
+    ensures marks { (n : ℕ) → n < length (content lsm.now) → ArePivots n lsm.now pivots.old.items
         → ArePivots (n + 1) lsm.now pivots.new.items }
+    ensures block { (n : ℕ) → n < length (content lsm.now) → ArePivots n lsm.now pivots.old.items
+        → IsOfBlock lsm.now n result }
+    ensures inside { result < length lsm.now }
 {
     let _count = lsm.len();
     let block = least_unmarked(lsm, pivots.as_slice());
@@ -85,40 +89,6 @@ pub(crate) fn none_of<R: Run, const LEVELS: usize>(lsm: &Lsm<R, LEVELS>) -> Arra
         pivots.push(0);
     }
     pivots
-}
-
-/// The item of a rank, and where it stands. It costs `rank + 1` comparisons a block.
-pub(crate) fn place_of<R: Run, const LEVELS: usize>(lsm: &Lsm<R, LEVELS>, rank: usize) -> Place
-    requires levels { IsLevelCount LEVELS }
-    requires lawful { IsLsm lsm.now }
-    requires rank { rank < length (content lsm.now) }
-    ensures block { result.block < length lsm.now }
-    ensures index { slice_get (slice_index_or lsm.now result.block []) result.index
-        ≡ Some result.item }
-    ensures rank { slice_get (sorted (content lsm.now)) rank ≡ Some result.item }
-{
-    let pivots = pivots_of(lsm, rank);
-    place_behind(lsm, pivots.as_slice(), rank)
-}
-
-/// The least item behind the pivots of the least `rank` ones, and where it stands. It costs one comparison a block.
-pub(crate) fn place_behind<R: Run, const LEVELS: usize>(
-    lsm: &Lsm<R, LEVELS>,
-    pivots: &[usize],
-    rank: usize,
-) -> Place
-    requires lawful { IsLsm lsm.now }
-    requires pivots { ArePivots rank lsm.now pivots.now }
-    requires rank { rank < length (content lsm.now) }
-    ensures block { result.block < length lsm.now }
-    ensures index { slice_get (slice_index_or lsm.now result.block []) result.index
-        ≡ Some result.item }
-    ensures rank { slice_get (sorted (content lsm.now)) rank ≡ Some result.item }
-{
-    let block = least_unmarked(lsm, pivots);
-    let index = pivots[block];
-    let item = lsm.block(block).item_at(index);
-    Place { block, index, item }
 }
 
 /// The block whose items behind its pivot begin with the least of all such items.
@@ -149,9 +119,9 @@ pub(crate) fn least_unmarked<R: Run, const LEVELS: usize>(
     block
 }
 
-// Whether an item is smaller than the least found, where one is found.
+/// Whether an item is smaller than the least found, where one is found.
 #[inline]
-fn comes_before(item: Item, found: Option<(usize, Item)>) -> bool
+pub(crate) fn comes_before(item: Item, found: Option<(usize, Item)>) -> bool
     ensures { MatchOption found (IsTrue result) (λ f. result ≡ is_smaller item f.1) }
 {
     found.is_none_or(|(_, least)| item.is_before(&least))

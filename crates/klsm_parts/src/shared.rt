@@ -1,6 +1,5 @@
 //! The part that all members share.
 ghost use Rattle.std.specs.Prelude.{◌≡◌, ◌≢◌, ◌+◌, ◌<◌, ◌≤◌, ◌↔◌, [], length, min, slice_get, slice_index_or, Some, IsTrue, IsOk, IfOk, IfErr, OnOk, OnErr, IsErrAnd, ◌++◌, vec_len, vec_capacity};
-ghost use Rattle.std.specs.List.{Contains};
 ghost use Rattle.klsm_run.specs.Capacity.{IsCapacity, heap_room};
 ghost use Rattle.klsm_run.specs.Content.{sorted, ShareNone};
 ghost use Rattle.klsm_lsm.specs.Lsm.{content, IsLsm};
@@ -10,9 +9,10 @@ ghost use Rattle.klsm_parts.specs.Pivots.{ArePivots, IsPivotAt, count_in_least};
 ghost use Rattle.klsm_parts.specs.Parts.{PartState, IsShared, items_in, least_in, candidates_of};
 
 use crate::appending::append_blocks;
-use crate::mending::{added_by, mend_added, mend_cut};
-use crate::ranking::{LeastItems, Ranking, place_by};
-use crate::ranks::{Place, item_of, least_place, pivots_of, place_of};
+use crate::mending::{mend_cut, unite_pivots};
+use crate::merging::{Merging, merged};
+use crate::ranking::{LeastItems, Ranking};
+use crate::ranks::{Place, item_of, pivots_of};
 use arrayvec::ArrayVec;
 use klsm_lsm::{Lsm, LsmError};
 use klsm_run::{HeapRun, Item, Run};
@@ -39,7 +39,8 @@ impl<const LEVELS: usize, A: Allocator + Copy> Model for Shared<LEVELS, A> {
     ghost view = { λ shared. record { k = shared.k; blocks = shared.lsm } };
 
     ghost invariant = { λ shared. IsShared LEVELS
-        (record { k = shared.k; blocks = shared.lsm }) shared.pivots.items shared.least.first };
+        (record { k = shared.k; blocks = shared.lsm }) shared.pivots.items
+        shared.least.ranking.blocks.items shared.least.first };
 }
 
 impl<const LEVELS: usize, A: Allocator + Copy> Shared<LEVELS, A> {
@@ -142,22 +143,22 @@ impl<const LEVELS: usize, A: Allocator + Copy> Shared<LEVELS, A> {
         (self.k + 1).min(self.lsm.len())
     }
 
-    /// Candidate `index`, counted from the least. It costs `index + 1` comparisons a block.
+    /// Candidate `index`, counted from the least. It costs a look at one byte for each candidate
+    /// before it.
     pub fn candidate(&self, index: usize) -> Item
         requires { index < length (candidates_of self.now) }
         ensures { slice_get (candidates_of self.now) index ≡ Some result }
     {
-        place_of(&self.lsm, index).item
+        self.place_of_candidate(index).item
     }
 
     // A candidate, and where it stands. The least one is at hand.
-    pub(crate) fn place_of_candidate(&mut self, index: usize) -> Place
-        requires { index < length (candidates_of self.old) }
-        ensures same { self.new ≡ self.old }
-        ensures block { result.block < length self.old.blocks }
-        ensures index { slice_get (slice_index_or self.old.blocks result.block []) result.index
+    pub(crate) fn place_of_candidate(&self, index: usize) -> Place
+        requires { index < length (candidates_of self.now) }
+        ensures block { result.block < length self.now.blocks }
+        ensures index { slice_get (slice_index_or self.now.blocks result.block []) result.index
             ≡ Some result.item }
-        ensures candidate { slice_get (candidates_of self.old) index ≡ Some result.item }
+        ensures candidate { slice_get (candidates_of self.now) index ≡ Some result.item }
     {
         if index == 0 {
             let Some(least) = self.least.first else {
@@ -165,14 +166,7 @@ impl<const LEVELS: usize, A: Allocator + Copy> Shared<LEVELS, A> {
             };
             return least;
         }
-        let candidates = self.candidates();
-        place_by(
-            &self.lsm,
-            &mut self.least.ranking,
-            self.pivots.as_slice(),
-            candidates,
-            index,
-        )
+        self.least.ranking.place(&self.lsm, index)
     }
 
     // Puts a copy of a run in. What can be refused comes first, and Full before a growth.
@@ -186,28 +180,40 @@ impl<const LEVELS: usize, A: Allocator + Copy> Shared<LEVELS, A> {
             < length (content self.old.blocks) + length (R.items run.now)) }
         ensures unchanged { OnErr result (self.new ≡ self.old) }
     {
-        let added = added_by(&self.lsm, self.pivots.as_slice(), run, self.k);
-        // Where the run is refused the ranking is wrong, which costs the next deletion a count.
-        self.least.ranking.put_in(&self.lsm, run, added.cascade);
+        let merged = merged(&self.least.ranking, &self.lsm, run, self.k);
         match self.lsm.absorb_copy(self.alloc, run) {
             Ok(()) => {
-                mend_added(&self.lsm, &mut self.pivots, added, self.k);
-                self.least.first = least_place(&self.lsm);
+                let Merging {
+                    cascade,
+                    ranking,
+                    mut pivots,
+                    of_run,
+                } = merged;
+                // There is a pivot's place for each block.
+                let _blocks = self.lsm.blocks();
+                unite_pivots(&mut pivots, cascade.first, cascade.count, of_run);
+                self.pivots = pivots;
+                self.least = LeastItems {
+                    first: ranking.least(&self.lsm),
+                    ranking,
+                };
                 Ok(())
             }
             Err(why) => Err(why),
         }
     }
 
-    // Takes a candidate out of its place. `rank` is how many candidates are smaller, which only the ranking asks.
+    // Takes the candidate of a rank out of its place.
     pub(crate) fn remove(&mut self, place: Place, rank: usize)
         requires block { place.block < length self.old.blocks }
         requires index { slice_get (slice_index_or self.old.blocks place.block []) place.index
             ≡ Some place.item }
-        requires candidate { Contains (candidates_of self.old) place.item }
+        requires rank { slice_get (candidates_of self.old) rank ≡ Some place.item }
         ensures { self.new
             ≡ record { k = self.old.k; blocks = cut self.old.blocks place.block place.index } }
     {
+        // The number of each block fits a byte, before and after.
+        let _before = self.lsm.blocks();
         let partner = self.lsm.partner(place.block);
         let is_only = self.lsm.block(place.block).len() == 1;
         let _item = self.lsm.remove(place.block, place.index);
@@ -219,11 +225,11 @@ impl<const LEVELS: usize, A: Allocator + Copy> Shared<LEVELS, A> {
             partner,
             self.k,
         );
-        let closes_up = is_only | partner.is_some();
-        let ranking = &mut self.least.ranking;
-        ranking.remove(rank, place.block, closes_up);
-        ranking.push_last(next, self.k);
-        self.least.first = least_place(&self.lsm);
+        let _after = self.lsm.blocks();
+        self.least
+            .ranking
+            .replace(rank, place.block, is_only, partner, next);
+        self.least.first = self.least.ranking.least(&self.lsm);
     }
 }
 

@@ -1,6 +1,5 @@
 //! The deletion from an own part and the shared one.
 ghost use Rattle.std.specs.Prelude.{◌≡◌, ◌+◌, ◌<◌, ◌≤◌, ◌↔◌, ◌++◌, [], false, length, slice_get, slice_index_or, option_map, Some, None, IsTrue, MatchOption, IfSome};
-ghost use Rattle.std.specs.List.{Contains};
 ghost use Rattle.klsm_run.specs.Content.{ShareNone, skipped};
 ghost use Rattle.klsm_run.specs.ItemOrder.{is_smaller};
 ghost use Rattle.klsm_lsm.specs.Lsm.{content};
@@ -18,8 +17,7 @@ use std::alloc::Allocator;
 /// parts are empty.
 ///
 /// What it takes skips at most k items of the two parts. It takes no memory. It costs one
-/// comparison a block of the own part and, where a shared item goes, some few of the shared one; and
-/// as many more a block there as items have not been ranked since the last one came.
+/// comparison a block of the own part and, where a shared item goes, one a block of the shared one.
 pub fn take<const CAP: usize, const LEVELS: usize, A: Allocator + Copy, P: Picker>(
     own: &mut Local<CAP>,
     shared: &mut Shared<LEVELS, A>,
@@ -63,20 +61,19 @@ pub fn take<const CAP: usize, const LEVELS: usize, A: Allocator + Copy, P: Picke
 // The candidate to take, and how many candidates are smaller. `None` where the least own item is to be taken, if there is one.
 fn choose<const LEVELS: usize, A: Allocator + Copy, P: Picker>(
     least_own: Option<Item>,
-    shared: &mut Shared<LEVELS, A>,
+    shared: &Shared<LEVELS, A>,
     picker: &mut P,
 ) -> Option<(Place, usize)>
-    ensures same { shared.new ≡ shared.old }
-    ensures unasked { picks least_own (least_in shared.old) ≡ false
+    ensures unasked { picks least_own (least_in shared.now) ≡ false
         → (picker.new ≡ picker.old) × (result ≡ None) }
-    ensures asked { IsTrue (picks least_own (least_in shared.old))
-        → IsPicked P.may_pick picker.old picker.new (candidates_of shared.old)
+    ensures asked { IsTrue (picks least_own (least_in shared.now))
+        → IsPicked P.may_pick picker.old picker.new (candidates_of shared.now)
         (λ candidate. option_map (λ chosen. chosen.0.item) result
         ≡ unless_smaller candidate least_own) }
-    ensures place { IfSome result (λ chosen. (chosen.0.block < length shared.old.blocks)
-        × (slice_get (slice_index_or shared.old.blocks chosen.0.block []) chosen.0.index
+    ensures place { IfSome result (λ chosen. (chosen.0.block < length shared.now.blocks)
+        × (slice_get (slice_index_or shared.now.blocks chosen.0.block []) chosen.0.index
         ≡ Some chosen.0.item)
-        × Contains (candidates_of shared.old) chosen.0.item) }
+        × (slice_get (candidates_of shared.now) chosen.1 ≡ Some chosen.0.item)) }
 {
     let least = shared.least()?;
     if is_smaller_own(least_own, least) {

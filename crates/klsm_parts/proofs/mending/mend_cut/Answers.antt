@@ -1,6 +1,7 @@
-use Rattle.std.proofs.Common.{◌≡◌, ◌+◌, ◌-◌, length, min, subst, sym, arith}
+use Rattle.std.proofs.Common.{◌≡◌, ◌+◌, ◌-◌, ◌<◌, length, min, subst, sym, arith}
 use Rattle.klsm_lsm.specs.Lsm.{content}
 use Rattle.klsm_parts.specs.Pivots.{ArePivots}
+use Rattle.klsm_parts.proofs.CutPivotLemmas.{k_marked}
 use Rattle.klsm_parts.proofs.PivotLemmas.{length_marked, pivots_all}
 use Rattle.klsm_parts.proofs.mending.mend_cut.Goals as goal
 
@@ -25,12 +26,16 @@ cut_pivot-requires g c =
 pub returns-then-len-k-clause-pivots : goal.returns-then-len-k-clause-pivots
 returns-then-len-k-clause-pivots g c =
     let after = c.args.lsm.now in
+    let more : c.args.k < length (content after) = rw (← c.len.ensures.len) c.if-len-k.true in
     let marks = subst (ArePivots (min (c.args.k + 1) (length (content after) + 1) - 1) after) (sym c.cut_pivot.ensures) c.requires.mendable.marks in
-    let count : min (c.args.k + 1) (length (content after) + 1) - 1 ≡ c.args.k = omega (arith, c.len.ensures.len, c.if-len-k.true) in
-    c.mark_least-block.ensures c.args.k (omega (arith, c.len.ensures.len, c.if-len-k.true)) (subst (λ n. ArePivots n after c.cut_pivot.new.pivots.items) count marks)
+    c.mark_least-block.ensures.marks c.args.k more (k_marked c.args.k after c.cut_pivot.new.pivots.items more marks)
 
-pub returns-then-len-k-clause-lawful : goal.returns-then-len-k-clause-lawful
-returns-then-len-k-clause-lawful g c = c.len.ensures.lawful
+pub returns-then-len-k-clause-next : goal.returns-then-len-k-clause-next
+returns-then-len-k-clause-next g c =
+    let after = c.args.lsm.now in
+    let more : c.args.k < length (content after) = rw (← c.len.ensures.len) c.if-len-k.true in
+    let marks = subst (ArePivots (min (c.args.k + 1) (length (content after) + 1) - 1) after) (sym c.cut_pivot.ensures) c.requires.mendable.marks in
+    (c.mark_least-block.ensures.inside, more, c.mark_least-block.ensures.block c.args.k more (k_marked c.args.k after c.cut_pivot.new.pivots.items more marks))
 
-pub returns-else-len-k-clause-lawful : goal.returns-else-len-k-clause-lawful
-returns-else-len-k-clause-lawful g c = c.len.ensures.lawful
+pub returns-else-len-k-clause-next : goal.returns-else-len-k-clause-next
+returns-else-len-k-clause-next g c = rw (← c.len.ensures.len) c.if-len-k.false

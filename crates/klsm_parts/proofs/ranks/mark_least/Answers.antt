@@ -1,9 +1,11 @@
-use Rattle.std.proofs.Common.{◌≡◌, ◌<◌, ◌≤◌, [], length, get_or, subst, arith, rules}
+use Rattle.std.proofs.Common.{◌≡◌, ◌<◌, ◌≤◌, [], length, get_or, Some, subst, ◌∙◌, arith, rules}
 use Rattle.std.specs.List.{slice_get}
 use Rattle.klsm_run.specs.Content.{sorted}
 use Rattle.klsm_lsm.specs.Lsm.{content}
 use Rattle.klsm_parts.specs.Pivots.{marked, unmarked}
-use Rattle.klsm_parts.proofs.FoundLemmas.{one_each, pivot_within, pivot_counted}
+use Rattle.klsm_parts.proofs.FoundLemmas.{one_each, pivot_within, pivot_counted, some_ranked}
+use Rattle.klsm_parts.proofs.PivotLemmas.{first_unmarked}
+use Rattle.klsm_run.proofs.IndexLemmas.{contains_at}
 use Rattle.klsm_parts.proofs.ranks.mark_least.Goals as goal
 
 pub least_unmarked-block-requires : goal.least_unmarked-block-requires
@@ -30,10 +32,23 @@ pub bounds-as_mut_slice-block-2 : goal.bounds-as_mut_slice-block-2
 bounds-as_mut_slice-block-2 g c =
     rw c.as_mut_slice.ensures.value (omega (arith, one_each c.args.lsm.now c.args.pivots.now.items c.requires.within, c.least_unmarked-block.ensures.block))
 
-pub returns : goal.returns
-returns g c n more pivots =
+pub returns-clause-marks : goal.returns-clause-marks
+returns-clause-marks g c n more pivots =
     pivot_counted n c.args.lsm.now c.args.pivots.now.items c.as_mut_slice.result.now c.least_unmarked-block.result c.as_mut_slice.ensures.value c.requires.lawful pivots more
     (subst (λ ps. slice_get (get_or c.args.lsm.now c.least_unmarked-block.result []) (get_or ps c.least_unmarked-block.result 0) ≡ slice_get (sorted (content (unmarked c.args.lsm.now ps))) 0) c.as_slice.ensures.value c.least_unmarked-block.ensures.least)
+
+pub returns-clause-block : goal.returns-clause-block
+returns-clause-block g c n more pivots =
+    let bs = c.args.lsm.now in
+    let ps = c.args.pivots.now.items in
+    let b = c.least_unmarked-block.result in
+    let item = some_ranked n bs more in
+    let first = subst (λ qs. slice_get (get_or bs b []) (get_or qs b 0) ≡ slice_get (sorted (content (unmarked bs qs))) 0) c.as_slice.ensures.value c.least_unmarked-block.ensures.least in
+    let there : slice_get (get_or bs b []) (get_or ps b 0) ≡ Some item.0 = first ∙ (first_unmarked n bs ps c.requires.lawful pivots ∙ item.1) in
+    (item.0, item.1, contains_at (get_or bs b []) (get_or ps b 0) item.0 there)
+
+pub returns-clause-inside : goal.returns-clause-inside
+returns-clause-inside g c = c.least_unmarked-block.ensures.block
 
 pub as_slice-requires : goal.as_slice-requires
 as_slice-requires g c = search

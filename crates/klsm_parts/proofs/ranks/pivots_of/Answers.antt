@@ -13,4 +13,4 @@ mark_least-requires g c =
     (search, (search, (c.requires.lawful, (c.loop.invariant.within, some_behind c.loop.counter c.args.lsm.now c.loop.pivots.items c.loop.invariant more))))
 
 pub loop-preserved : goal.loop-preserved
-loop-preserved g c = c.mark_least.ensures c.loop.counter (omega (arith, c.loop-test.true, c.requires.count)) c.loop.invariant
+loop-preserved g c = c.mark_least.ensures.marks c.loop.counter (omega (arith, c.loop-test.true, c.requires.count)) c.loop.invariant

@@ -1,5 +1,4 @@
 use Rattle.std.proofs.Common.{◌≡◌, true, false, refl, sym, subst, ◌∙◌, rules}
-use Rattle.klsm_run.proofs.IndexLemmas.{contains_at}
 use Rattle.klsm_lsm.specs.Lsm.{content}
 use Rattle.klsm_parts.specs.Taking.{picks}
 use Rattle.klsm_parts.proofs.TakeLemmas.{not_asked, is_asked, own_goes, candidate_goes, some_candidate}
@@ -51,7 +50,7 @@ returns-clause-asked g c asked = record {
 
 pub returns-clause-place : goal.returns-clause-place
 returns-clause-place g c =
-    (c.place_of_candidate-candidate.ensures.block, c.place_of_candidate-candidate.ensures.index, contains_at _ c.pick-index.result _ c.place_of_candidate-candidate.ensures.candidate)
+    (c.place_of_candidate-candidate.ensures.block, c.place_of_candidate-candidate.ensures.index, c.place_of_candidate-candidate.ensures.candidate)
 
 pub least-requires : goal.least-requires
 least-requires g c = search

@@ -4,7 +4,6 @@ use Rattle.std.specs.Option.{option_map}
 use Rattle.klsm_parts.specs.declared.ranks.Place.{Place}
 use Rattle.klsm_run.specs.Content.{sorted}
 use Rattle.klsm_lsm.specs.Lsm.{content}
-use Rattle.klsm_lsm.specs.Adding.{cut}
 use Rattle.klsm_parts.specs.Least.{IsLeast}
 use Rattle.klsm_parts.specs.Parts.{PartState, items_in, least_in, candidates_of}
 use Rattle.klsm_parts.specs.Taking.{picks, IsCutFrom}
@@ -27,12 +26,12 @@ returns-in-Some-clause-asked g c asked =
 
 pub returns-in-Some-clause-left : goal.returns-in-Some-clause-left
 returns-in-Some-clause-left g c =
-    let rest = c.remove.ensures ∙ ap (λ (p : PartState). record { k = p.k; blocks = cut p.blocks c.in-Some.place.block c.in-Some.place.index }) c.in-Some.ensures.same in
+    let rest = c.remove.ensures in
     (refl, ap (λ (p : PartState). p.k) rest, inr ((c.in-Some.place.block, c.in-Some.place.index, c.in-Some.ensures.place.1, ap (λ (p : PartState). p.blocks) rest), refl))
 
 pub returns-in-Some-clause-nothing : goal.returns-in-Some-clause-nothing
 returns-in-Some-clause-nothing g c =
-    let rest = c.remove.ensures ∙ ap (λ (p : PartState). record { k = p.k; blocks = cut p.blocks c.in-Some.place.block c.in-Some.place.index }) c.in-Some.ensures.same in
+    let rest = c.remove.ensures in
     let gone : IsCutFrom c.in-Some.place.item c.args.shared.now.blocks c.remove.new.self.blocks = (c.in-Some.place.block, c.in-Some.place.index, c.in-Some.ensures.place.1, ap (λ (p : PartState). p.blocks) rest) in
     (λ bad. cc, λ none. absurd (some_cut c.args.shared.now.blocks c.remove.new.self.blocks c.in-Some.place.item gone none.shared_empty))
 
@@ -40,7 +39,7 @@ pub returns-in-Some-clause-event : goal.returns-in-Some-clause-event
 returns-in-Some-clause-event g c =
     let own_is = c.item_of.ensures ∙ c.least_place-least_own.ensures.item ∙ ap (λ bs. slice_get (sorted (content bs)) 0) c.lsm.ensures in
     let own_asked = asked_of g.P.Picker.may_pick c.args.picker.now c.choose.new.picker (candidates_of c.args.shared.now) (least_in c.args.shared.now) _ _ (least_in c.args.own.now) own_is c.in-Some.ensures.asked in
-    let rest = c.remove.ensures ∙ ap (λ (p : PartState). record { k = p.k; blocks = cut p.blocks c.in-Some.place.block c.in-Some.place.index }) c.in-Some.ensures.same in
+    let rest = c.remove.ensures in
     let gone : IsCutFrom c.in-Some.place.item c.args.shared.now.blocks c.remove.new.self.blocks = (c.in-Some.place.block, c.in-Some.place.index, c.in-Some.ensures.place.1, ap (λ (p : PartState). p.blocks) rest) in
     let taken = chosen_may_go g.P.Picker.may_pick c.args.picker.now c.choose.new.picker c.args.shared.now.k (content c.args.own.now.blocks) (content c.args.shared.now.blocks) c.in-Some.place.item (λ unasked. let bad = (c.in-Some.ensures.unasked (ap (λ o. picks o (least_in c.args.shared.now)) own_is ∙ unasked)).1 in cc) own_asked in
     let absent : Contains (content c.args.own.now.blocks) c.in-Some.place.item → ⊥ = λ in_own. c.requires.apart c.in-Some.place.item in_own (contains_cut c.args.shared.now.blocks c.remove.new.self.blocks c.in-Some.place.item gone) in
@@ -98,7 +97,7 @@ returns-in_ok-least_own-in-None-clause-event g c =
     let own_asked = asked_of g.P.Picker.may_pick c.args.picker.now c.choose.new.picker (candidates_of c.args.shared.now) (least_in c.args.shared.now) _ _ (least_in c.args.own.now) own_is c.in-None.ensures.asked in
     let taken = own_may_go g.P.Picker.may_pick c.args.picker.now c.choose.new.picker c.args.shared.now.k (content c.args.own.now.blocks) (content c.args.shared.now.blocks) c.remove-in-None.result c.remove-in-None.ensures.least own_asked in
     let within = contains_cut c.args.own.now.blocks c.remove-in-None.new.self.blocks c.remove-in-None.result c.remove-in-None.ensures.cut in
-    (may_take_sorted c.args.own.now.k (content c.args.own.now.blocks) (content c.args.shared.now.blocks) c.remove-in-None.result (rw c.requires.same_k taken), cut_is_taken c.args.own.now.blocks c.remove-in-None.new.self.blocks c.remove-in-None.result c.remove-in-None.ensures.cut, ap items_in c.in-None.ensures.same ∙ shared_stays c.args.own.now.blocks c.args.shared.now.blocks c.remove-in-None.result within)
+    (may_take_sorted c.args.own.now.k (content c.args.own.now.blocks) (content c.args.shared.now.blocks) c.remove-in-None.result (rw c.requires.same_k taken), cut_is_taken c.args.own.now.blocks c.remove-in-None.new.self.blocks c.remove-in-None.result c.remove-in-None.ensures.cut, shared_stays c.args.own.now.blocks c.args.shared.now.blocks c.remove-in-None.result within)
 
 pub returns-in_ok-least_own-in-None-clause-skips : goal.returns-in_ok-least_own-in-None-clause-skips
 returns-in_ok-least_own-in-None-clause-skips g c =
@@ -108,7 +107,7 @@ returns-in_ok-least_own-in-None-clause-skips g c =
     take_skips_few c.args.own.now.k (items_in c.args.own.now) (items_in c.args.shared.now) c.remove-in-None.result (may_take_sorted c.args.own.now.k (content c.args.own.now.blocks) (content c.args.shared.now.blocks) c.remove-in-None.result (rw c.requires.same_k taken))
 
 pub returns-in_ok-least_own-in-None-clause-left : goal.returns-in_ok-least_own-in-None-clause-left
-returns-in_ok-least_own-in-None-clause-left g c = (c.remove-in-None.ensures.k, ap (λ (p : PartState). p.k) c.in-None.ensures.same, inl (c.remove-in-None.ensures.cut, ap (λ (p : PartState). p.blocks) c.in-None.ensures.same))
+returns-in_ok-least_own-in-None-clause-left g c = (c.remove-in-None.ensures.k, refl, inl (c.remove-in-None.ensures.cut, refl))
 
 pub choose-requires : goal.choose-requires
 choose-requires g c = search
@@ -117,10 +116,7 @@ pub least_place-least_own-requires : goal.least_place-least_own-requires
 least_place-least_own-requires g c = search field_fits
 
 pub remove-requires : goal.remove-requires
-remove-requires g c =
-    let place = c.in-Some.place in
-    let here = subst (λ (p : PartState). (place.block < length p.blocks) × (slice_get (get_or p.blocks place.block []) place.index ≡ Some place.item) × Contains (candidates_of p) place.item) (sym c.in-Some.ensures.same) c.in-Some.ensures.place in
-    (search, (here.0, (here.1, here.2)))
+remove-requires g c = (search, (c.in-Some.ensures.place.0, (c.in-Some.ensures.place.1, c.in-Some.ensures.place.2)))
 
 pub remove-requires-in-None : goal.remove-requires-in-None
 remove-requires-in-None g c =
@@ -129,7 +125,7 @@ remove-requires-in-None g c =
     (search, subst (λ bs. (place.block < length bs) × ((slice_get (get_or bs place.block []) place.index ≡ Some place.item) × IsLeast place.item (content bs))) c.lsm.ensures (found.place.0, (found.place.1, sym found.item)))
 
 pub returns-in_err-least_own-in-None-clause-left : goal.returns-in_err-least_own-in-None-clause-left
-returns-in_err-least_own-in-None-clause-left g c = rw c.from_residual.ensures (refl, c.in-None.ensures.same)
+returns-in_err-least_own-in-None-clause-left g c = rw c.from_residual.ensures (refl, refl)
 
 pub returns-in_err-least_own-in-None-clause-event : goal.returns-in_err-least_own-in-None-clause-event
 returns-in_err-least_own-in-None-clause-event g c = rw c.from_residual.ensures tt

@@ -1,4 +1,4 @@
-use Rattle.std.proofs.Common.{List, ◌≡◌, ◌+◌, ◌<◌, length, Some, refl, ap, subst, sym, ◌∙◌, arith, [], get_or}
+use Rattle.std.proofs.Common.{List, ◌≡◌, ◌+◌, ◌<◌, length, Some, ap, subst, sym, ◌∙◌, arith, [], get_or}
 use Rattle.std.specs.List.{slice_get}
 use Rattle.std.proofs.lemmas.List.{length-take}
 use Rattle.klsm_run.specs.Content.{sorted}
@@ -11,27 +11,28 @@ use Rattle.klsm_parts.specs.Least.{least}
 use Rattle.klsm_parts.specs.LeastPlaces.{IsLeastPlace}
 use Rattle.klsm_parts.specs.Parts.{PartState, candidates_of}
 use Rattle.klsm_parts.proofs.TakeLemmas.{least_is_candidate}
-use Rattle.klsm_parts.proofs.FitLemmas.{lsm_fits, pivots_fit}
+use Rattle.klsm_parts.proofs.FitLemmas.{lsm_fits}
 use Rattle.klsm_parts.proofs.shared.Shared.place_of_candidate.Goals as goal
 
-pub place_by-requires : goal.place_by-requires
-place_by-requires g c =
+pub place-requires : goal.place-requires
+place-requires g c =
     let lsm = c.self.inside.lsm in
     let among = subst (λ (p : PartState). c.args.index < length (least (p.k + 1) (content p.blocks))) (sym c.self.view_is) c.requires in
-    let rank : c.args.index < length (content lsm) = omega (arith, among, length-take (c.self.inside.k + 1) (sorted (content lsm)), length_sorted (content lsm)) in
-    (search lsm_fits, (c.self.invariant.levels_in_range, (c.self.invariant.lawful, rank)))
+    let rank : c.args.index < length c.self.inside.least.ranking.blocks.items =
+    omega (arith, among, length-take (c.self.inside.k + 1) (sorted (content lsm)), length_sorted (content lsm), c.self.invariant.ranking_whole) in
+    (search lsm_fits, (c.self.invariant.lawful, (c.self.invariant.ranking_exact, rank)))
 
 pub returns-clause-candidate : goal.returns-clause-candidate
 returns-clause-candidate g c =
     let among : c.args.index < c.args.self.now.k + 1 = omega (arith, c.requires, length-take (c.args.self.now.k + 1) (sorted (content c.args.self.now.blocks))) in
     slice_get-take (c.args.self.now.k + 1) (sorted (content c.args.self.now.blocks)) c.args.index among
-    ∙ subst (λ (p : PartState). slice_get (sorted (content p.blocks)) c.args.index ≡ Some c.place_by.result.item) c.self.view_is c.place_by.ensures.rank
+    ∙ subst (λ (p : PartState). slice_get (sorted (content p.blocks)) c.args.index ≡ Some c.place.result.item) c.self.view_is c.place.ensures.rank
 
 pub returns-clause-block : goal.returns-clause-block
-returns-clause-block g c = subst (λ (p : PartState). c.place_by.result.block < length p.blocks) c.self.view_is c.place_by.ensures.block
+returns-clause-block g c = subst (λ (p : PartState). c.place.result.block < length p.blocks) c.self.view_is c.place.ensures.block
 
 pub returns-clause-index : goal.returns-clause-index
-returns-clause-index g c = subst (λ (p : PartState). slice_get (get_or p.blocks c.place_by.result.block []) c.place_by.result.index ≡ Some c.place_by.result.item) c.self.view_is c.place_by.ensures.index
+returns-clause-index g c = subst (λ (p : PartState). slice_get (get_or p.blocks c.place.result.block []) c.place.result.index ≡ Some c.place.result.item) c.self.view_is c.place.ensures.index
 
 pub returns-then-index-eq0-clause-candidate : goal.returns-then-index-eq0-clause-candidate
 returns-then-index-eq0-clause-candidate g c =
@@ -59,24 +60,3 @@ unreachable-requires g c =
     let none = empty_if_no_least held (sym found.item) in
     let among = subst (λ (p : PartState). c.args.index < length (least (p.k + 1) (content p.blocks))) (sym c.self.view_is) c.requires in
     omega (arith, among, length-take (c.self.inside.k + 1) (sorted held), length_sorted held, ap (λ (xs : List Item). length xs) none)
-
-pub same-self : goal.same-self
-same-self g c = refl
-
-pub same-self-then-index-eq0 : goal.same-self-then-index-eq0
-same-self-then-index-eq0 g c = refl
-
-pub returns-then-index-eq0-clause-same : goal.returns-then-index-eq0-clause-same
-returns-then-index-eq0-clause-same g c = refl
-
-pub as_slice-requires : goal.as_slice-requires
-as_slice-requires g c = search pivots_fit
-
-pub invariant_of-self : goal.invariant_of-self
-invariant_of-self g c = c.self.invariant
-
-pub returns-clause-same : goal.returns-clause-same
-returns-clause-same g c = c.self.view_is
-
-pub candidates-candidates-requires : goal.candidates-candidates-requires
-candidates-candidates-requires g c = search

@@ -1,12 +1,14 @@
-use Rattle.std.proofs.Common.{◌≡◌, ◌<◌, ◌==◌, [], length, get_or, Some, subst, sym, ap, ◌∙◌, List}
-use Rattle.std.specs.List.{Contains, slice_get}
+use Rattle.std.proofs.Common.{◌≡◌, ◌<◌, ◌==◌, [], length, get_or, Some, subst, sym, ap, ◌∙◌, List, arith}
+use Rattle.std.specs.List.{slice_get}
 use Rattle.std.proofs.lemmas.Option.{slice_get_within, get_or_from_slice_get}
 use Rattle.klsm_run.specs.declared.item.Item.{Item}
-use Rattle.klsm_run.proofs.IndexLemmas.{index_of}
+use Rattle.klsm_lsm.specs.Lsm.{IsLsm}
 use Rattle.klsm_lsm.specs.Adding.{cut}
+use Rattle.klsm_lsm.proofs.CutLemmas.{lawful_cut}
 use Rattle.klsm_parts.specs.Parts.{PartState, candidates_of}
 use Rattle.klsm_parts.specs.Mending.{IsCutMendable}
-use Rattle.klsm_parts.proofs.AddedLemmas.{cut_mendable}
+use Rattle.klsm_parts.proofs.CutPivotLemmas.{cut_mendable}
+use Rattle.klsm_parts.proofs.RankingCutLemmas.{candidate_ranked, ranking_mended, next_small}
 use Rattle.klsm_parts.proofs.FitLemmas.{lsm_fits, pivots_fit}
 use Rattle.klsm_parts.proofs.shared.Shared.remove.Goals as goal
 
@@ -22,15 +24,53 @@ mend_cut-next-requires g c =
     let at = c.args.place.block in
     let here = subst (λ (p : PartState). at < length p.blocks) (sym c.self.view_is) c.requires.block in
     let found = subst (λ (p : PartState). slice_get (get_or p.blocks at []) c.args.place.index ≡ Some c.args.place.item) (sym c.self.view_is) c.requires.index in
-    let among = subst (λ (p : PartState). Contains (candidates_of p) c.args.place.item) (sym c.self.view_is) c.requires.candidate in
-    let rank = index_of _ c.args.place.item among in
+    let among = subst (λ (p : PartState). slice_get (candidates_of p) c.args.rank ≡ Some c.args.place.item) (sym c.self.view_is) c.requires.rank in
     let block = get_or_from_slice_get bs at _ [] c.block.ensures.block in
     let only = ap (λ n. n == 1) (c.len-is_only.ensures.len ∙ ap length (sym block)) in
-    let can = cut_mendable c.self.inside.k at c.args.place.index rank.0 c.args.place.item _ _ bs c.self.inside.pivots.items c.self.invariant.lawful c.self.invariant.pivots_exact here found rank.1 c.partner-partner.ensures only in
+    let can = cut_mendable c.self.inside.k at c.args.place.index c.args.rank c.args.place.item _ _ bs c.self.inside.pivots.items c.self.invariant.lawful c.self.invariant.pivots_exact here found among c.partner-partner.ensures only in
     (search lsm_fits, (search pivots_fit, (subst (λ cs. IsCutMendable c.self.inside.k cs at (c.len-is_only.result == 1) c.partner-partner.result c.self.inside.pivots.items) (sym c.remove-item.ensures.rest) can, c.self.invariant.k_in_range)))
 
+pub replace-requires : goal.replace-requires
+replace-requires g c =
+    let among = subst (λ (p : PartState). slice_get (candidates_of p) c.args.rank ≡ Some c.args.place.item) (sym c.self.view_is) c.requires.rank in
+    let here = subst (λ (p : PartState). c.args.place.block < length p.blocks) (sym c.self.view_is) c.requires.block in
+    record {
+      rank = candidate_ranked c.self.inside.k c.self.inside.lsm c.self.inside.least.ranking.blocks.items c.args.rank c.args.place.item c.self.invariant.ranking_whole among;
+      room = omega (arith, c.self.invariant.ranking_whole, c.self.invariant.k_in_range);
+      block = omega (arith, here, c.blocks-before.ensures, c.self.invariant.levels_in_range.at_most);
+      next = next_small c.self.inside.k c.remove-item.new.self c.mend_cut-next.result c.mend_cut-next.ensures.next (omega (arith, c.blocks-after.ensures, c.self.invariant.levels_in_range.at_most));
+    }
+
+pub least-self-inside-requires : goal.least-self-inside-requires
+least-self-inside-requires g c =
+    let bs = c.self.inside.lsm in
+    let at = c.args.place.block in
+    let here = subst (λ (p : PartState). at < length p.blocks) (sym c.self.view_is) c.requires.block in
+    let found = subst (λ (p : PartState). slice_get (get_or p.blocks at []) c.args.place.index ≡ Some c.args.place.item) (sym c.self.view_is) c.requires.index in
+    let among = subst (λ (p : PartState). slice_get (candidates_of p) c.args.rank ≡ Some c.args.place.item) (sym c.self.view_is) c.requires.rank in
+    let only = ap (λ n. n == 1) (c.len-is_only.ensures.len ∙ ap length (sym (get_or_from_slice_get bs at _ [] c.block.ensures.block))) in
+    let mended = ranking_mended c.self.inside.k at c.args.place.index c.args.rank c.args.place.item _ _ c.mend_cut-next.result bs c.remove-item.new.self c.self.inside.least.ranking.blocks.items c.remove-item.ensures.rest c.self.invariant.lawful c.self.invariant.ranking_exact c.self.invariant.ranking_whole here found among c.partner-partner.ensures only c.mend_cut-next.ensures.next in
+    let lawful = subst IsLsm (sym c.remove-item.ensures.rest) (lawful_cut bs at c.args.place.index c.self.invariant.lawful (slice_get_within (get_or bs at []) c.args.place.index c.args.place.item found)) in
+    (search lsm_fits, (lawful, (rw c.replace.ensures mended.0, λ some. rw c.replace.ensures (omega (arith, mended.1, some)))))
+
 pub invariant_of-self : goal.invariant_of-self
-invariant_of-self g c = search
+invariant_of-self g c =
+    let bs = c.self.inside.lsm in
+    let at = c.args.place.block in
+    let here = subst (λ (p : PartState). at < length p.blocks) (sym c.self.view_is) c.requires.block in
+    let found = subst (λ (p : PartState). slice_get (get_or p.blocks at []) c.args.place.index ≡ Some c.args.place.item) (sym c.self.view_is) c.requires.index in
+    let among = subst (λ (p : PartState). slice_get (candidates_of p) c.args.rank ≡ Some c.args.place.item) (sym c.self.view_is) c.requires.rank in
+    let only = ap (λ n. n == 1) (c.len-is_only.ensures.len ∙ ap length (sym (get_or_from_slice_get bs at _ [] c.block.ensures.block))) in
+    let mended = ranking_mended c.self.inside.k at c.args.place.index c.args.rank c.args.place.item _ _ c.mend_cut-next.result bs c.remove-item.new.self c.self.inside.least.ranking.blocks.items c.remove-item.ensures.rest c.self.invariant.lawful c.self.invariant.ranking_exact c.self.invariant.ranking_whole here found among c.partner-partner.ensures only c.mend_cut-next.ensures.next in
+    record {
+      lawful = subst IsLsm (sym c.remove-item.ensures.rest) (lawful_cut bs at c.args.place.index c.self.invariant.lawful (slice_get_within (get_or bs at []) c.args.place.index c.args.place.item found));
+      pivots_exact = c.mend_cut-next.ensures.pivots;
+      ranking_exact = rw c.replace.ensures mended.0;
+      ranking_whole = rw c.replace.ensures mended.1;
+      least_found = c.least-self-inside.ensures;
+      k_in_range = c.self.invariant.k_in_range;
+      levels_in_range = c.self.invariant.levels_in_range;
+    }
 
 pub returns : goal.returns
 returns g c =
@@ -42,6 +82,3 @@ partner-partner-requires g c = (search lsm_fits, subst (λ (p : PartState). c.ar
 
 pub block-requires : goal.block-requires
 block-requires g c = (search lsm_fits, subst (λ (p : PartState). c.args.place.block < length p.blocks) (sym c.self.view_is) c.requires.block)
-
-pub least_place-self-inside-requires : goal.least_place-self-inside-requires
-least_place-self-inside-requires g c = search lsm_fits

@@ -1,0 +1,51 @@
+-- The order of the candidates, kept as the block of each. No public contract cites it.
+use Rattle.std.specs.Prelude.{ℕ, ◌≡◌, ◌+◌, ◌-◌, ◌≤◌, List, [], ◌∷◌, ◌++◌, length, map, max, remove, nat_lt, Bool, true, if◌then◌else◌, Option, Some, None, slice_get, slice_set, slice_index_or}
+use Rattle.std.specs.List.{Contains}
+use Rattle.klsm_run.specs.declared.item.Item.{Item}
+use Rattle.klsm_run.specs.Content.{sorted}
+use Rattle.klsm_lsm.specs.Lsm.{content}
+use Rattle.klsm_lsm.specs.Places.{united}
+use Rattle.klsm_parts.specs.Pivots.{ArePivots}
+
+-- in which block each of the first items is
+abbrev pub AreInBlocks : List (List Item) → List Item → List ℕ → Type 0
+AreInBlocks blocks items [] = Unit {0}
+AreInBlocks blocks [] (b ∷ order) = ⊥
+AreInBlocks blocks (x ∷ items) (b ∷ order) = Contains (slice_index_or blocks b []) x × AreInBlocks blocks items order
+
+-- the blocks of the least items, in the order of these
+abbrev pub IsRanking : List (List Item) → List ℕ → Type 0
+IsRanking blocks order = AreInBlocks blocks (sorted (content blocks)) order
+
+-- there is an item of a rank, and it is one of a block
+abbrev pub IsOfBlock : List (List Item) → ℕ → ℕ → Type 0
+IsOfBlock blocks rank b = (x : Item) × (slice_get (sorted (content blocks)) rank ≡ Some x) × Contains (slice_index_or blocks b []) x
+
+-- the pivots with one marked item more in a block
+abbrev pub more_marked : List ℕ → ℕ → List ℕ
+more_marked pivots at = slice_set pivots at (slice_index_or pivots at 0 + 1)
+
+-- whether the block behind has its place, after an item was cut out of a block: where it was the only one, or the two became one
+abbrev pub closes_up : Bool → Option ℕ → Bool
+closes_up is_only None = is_only
+closes_up is_only (Some next) = true
+
+-- the place of a block then
+abbrev pub place_after_cut : Bool → ℕ → ℕ → ℕ
+place_after_cut closes at b = if closes then (if nat_lt at b then b - 1 else b) else b
+
+-- the ranking without the item of a rank
+abbrev pub cut_ranking : List ℕ → ℕ → Bool → ℕ → List ℕ
+cut_ranking order rank closes at = map (place_after_cut closes at) (remove order rank)
+
+-- the place of a block after a run was put in that became one with `count` blocks from `first` on
+abbrev pub place_after_add : ℕ → ℕ → ℕ → ℕ
+place_after_add first count b = if nat_lt b first then b else max (b + 1 - count) first
+
+-- the least items of an LSM and of a run that is to be put in, as far as they are ranked: the blocks of these as they will be, how
+-- many of them each block has, and how many the run has
+pub record IsMerging (blocks : List (List Item)) (run : List Item) (first count : ℕ) (order pivots : List ℕ) (of_run : ℕ) : Type 0 where
+  pub of_run_few : of_run ≤ length order
+  pub marks : ArePivots (length order) (run ∷ blocks) (of_run ∷ pivots)
+  pub old_marks : ArePivots (length order - of_run) blocks pivots
+  pub ranking : AreInBlocks (united blocks first count run) (sorted (run ++ content blocks)) order
