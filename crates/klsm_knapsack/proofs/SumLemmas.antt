@@ -1,8 +1,9 @@
 -- Sums over the things selected.
-use Rattle.std.proofs.Common.{◌≡◌, ℕ, zero, suc, ◌+◌, ◌*◌, ◌/◌, ◌%◌, ◌^◌, ◌<◌, ◌≤◌, ◌==◌, if◌then◌else◌, List, [], ◌∷◌, length, drop, get_or, drop-cons, Bool, true, false, refl, sym, ◌∙◌, arith, zero-add}
+use Rattle.std.proofs.Common.{◌≡◌, ℕ, zero, suc, ◌+◌, ◌*◌, ◌/◌, ◌%◌, ◌^◌, ◌<◌, ◌≤◌, ◌==◌, if◌then◌else◌, List, [], ◌∷◌, length, drop, get_or, drop-cons, Bool, true, false, refl, sym, ◌∙◌, arith, zero-add, inl, inr}
 use Rattle.std.specs.List.{AllByRecursion, sum_by}
 use Rattle.std.proofs.lemmas.List.Sums.{sum_by-cons}
 use Rattle.std.proofs.Math.Nat.{mod-one, div-one}
+use Rattle.std.proofs.lemmas.Bool.{cases_eq}
 use Rattle.klsm_knapsack.specs.declared.thing.Thing.{Thing}
 use Rattle.klsm_knapsack.specs.Selections.{sum_selected}
 use Rattle.klsm_knapsack.proofs.BitLemmas.{low_bit, low_half, high_half, with_bit_low, with_bit_high}
@@ -54,3 +55,10 @@ sum_leaving f xs i s d lt left =
     let after : i + 1 ≡ suc i = omega arith in
     let even : s % 2 ≡ 0 = omega arith in
     rw (drop-cons xs i d lt, after, even) (zero-add _)
+
+-- either way, by the bit of the thing
+pub sum_next : (f : Thing → ℕ) (xs : List Thing) (i s : ℕ) (d : Thing) → i < length xs → sum_selected f (drop i xs) s ≡ s % 2 * f (get_or xs i d) + sum_selected f (drop (i + 1) xs) (s / 2)
+sum_next f xs i s d lt = elim (cases_eq (s % 2) 1) [
+  | inl taken ↦ rw taken (omega (arith, sum_taking f xs i s d lt taken))
+  | inr left ↦ let none : s % 2 ≡ 0 = omega (arith, left) in rw none (omega (arith, sum_leaving f xs i s d lt left))
+]

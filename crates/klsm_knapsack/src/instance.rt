@@ -104,10 +104,10 @@ impl Instance {
         };
         let mut rest = picks;
         for thing in self.things.iter() {
-            if rest % 2 == 1 {
-                totals.value += thing.value;
-                totals.weight += thing.weight;
-            }
+            // Without a jump, which nobody could foresee.
+            let bit = rest % 2;
+            totals.value += bit * thing.value;
+            totals.weight += bit * thing.weight;
             rest /= 2;
         }
         totals

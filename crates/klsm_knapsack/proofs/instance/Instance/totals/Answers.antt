@@ -5,28 +5,27 @@ use Rattle.klsm_knapsack.specs.declared.thing.Thing.{Thing}
 use Rattle.klsm_knapsack.specs.Selections.{sum_selected}
 use Rattle.klsm_knapsack.specs.Limits.{IsThing}
 use Rattle.klsm_knapsack.proofs.BoundLemmas.{all_weaker}
-use Rattle.klsm_knapsack.proofs.SumLemmas.{sum_taking, sum_leaving, sum_all, sum_small}
+use Rattle.klsm_knapsack.proofs.SumLemmas.{sum_next, sum_all, sum_small}
 use Rattle.klsm_knapsack.proofs.instance.Instance.totals.Goals as goal
-use Rattle.klsm_knapsack.proofs.instance.Instance.totals.Goals.{then-rest-eq1, else-rest-eq1}
 
-few : (m : ℕ) (f : Thing → ℕ) (xs : List Thing) (i s t : ℕ) (d : Thing) → (all : AllByRecursion (λ x. f x ≤ m) xs) → length xs ≤ 32 → i < length xs → s % 2 ≡ 1
-    → (v : ℕ) → v + sum_selected f (drop i xs) s ≡ sum_selected f xs t → v + f (get_or xs i d) ≤ m * 32
-few m f xs i s t d all short lt odd v same =
+few : (m : ℕ) (f : Thing → ℕ) (xs : List Thing) (i s t : ℕ) (d : Thing) → (all : AllByRecursion (λ x. f x ≤ m) xs) → length xs ≤ 32 → i < length xs
+    → (v : ℕ) → v + sum_selected f (drop i xs) s ≡ sum_selected f xs t → v + s % 2 * f (get_or xs i d) ≤ m * 32
+few m f xs i s t d all short lt v same =
     let short_of : m * length xs ≤ m * 32 = mul-le-mul_left m short in
-    omega (arith, sum_taking f xs i s d lt odd, sum_all f xs t, sum_small f m xs all)
+    omega (arith, sum_next f xs i s d lt, sum_all f xs t, sum_small f m xs all)
 
 pub overflow_add-totals : goal.overflow_add-totals
 overflow_add-totals c =
     let range = rw (← c.deref-thing-items.ensures.value) at c.self.invariant.in_range in
     let d : Thing = record { value = 0; weight = 0 } in
-    let le = few 1000000 (λ x. x.value) c.deref-thing-items.result.now c.loop-thing.thing-index c.loop-thing.rest c.args.picks d (all_weaker IsThing (λ x. x.value ≤ 1000000) (λ x thing. thing.value_small) c.deref-thing-items.result.now range.things_are) range.few c.loop-thing-test.true c.if-rest-eq1.true c.loop-thing.totals.value c.loop-thing.invariant.value in
+    let le = few 1000000 (λ x. x.value) c.deref-thing-items.result.now c.loop-thing.thing-index c.loop-thing.rest c.args.picks d (all_weaker IsThing (λ x. x.value ≤ 1000000) (λ x thing. thing.value_small) c.deref-thing-items.result.now range.things_are) range.few c.loop-thing-test.true c.loop-thing.totals.value c.loop-thing.invariant.value in
     omega (arith, le)
 
-pub overflow_add-totals-then-rest-eq1 : goal.overflow_add-totals-then-rest-eq1
-overflow_add-totals-then-rest-eq1 c =
+pub overflow_add-totals-in-loop-thing : goal.overflow_add-totals-in-loop-thing
+overflow_add-totals-in-loop-thing c =
     let range = rw (← c.deref-thing-items.ensures.value) at c.self.invariant.in_range in
     let d : Thing = record { value = 0; weight = 0 } in
-    let le = few 1000000000 (λ x. x.weight) c.deref-thing-items.result.now c.loop-thing.thing-index c.loop-thing.rest c.args.picks d (all_weaker IsThing (λ x. x.weight ≤ 1000000000) (λ x thing. thing.weight_small) c.deref-thing-items.result.now range.things_are) range.few c.loop-thing-test.true c.if-rest-eq1.true c.loop-thing.totals.weight c.loop-thing.invariant.weight in
+    let le = few 1000000000 (λ x. x.weight) c.deref-thing-items.result.now c.loop-thing.thing-index c.loop-thing.rest c.args.picks d (all_weaker IsThing (λ x. x.weight ≤ 1000000000) (λ x thing. thing.weight_small) c.deref-thing-items.result.now range.things_are) range.few c.loop-thing-test.true c.loop-thing.totals.weight c.loop-thing.invariant.weight in
     omega (arith, le)
 
 pub loop-thing-preserved : goal.loop-thing-preserved
@@ -35,13 +34,7 @@ loop-thing-preserved c =
     let i : ℕ = c.loop-thing.thing-index in
     let s : ℕ = c.loop-thing.rest in
     let d : Thing = record { value = 0; weight = 0 } in
-    elim c.if-rest-eq1.branch [
-      | then-rest-eq1 w ↦ rw w.totals-is record {
-        value = omega (arith, sum_taking (λ x. x.value) xs i s d c.loop-thing-test.true w.if-rest-eq1.true, c.loop-thing.invariant.value);
-        weight = omega (arith, sum_taking (λ x. x.weight) xs i s d c.loop-thing-test.true w.if-rest-eq1.true, c.loop-thing.invariant.weight);
-      }
-      | else-rest-eq1 w ↦ rw w.totals-is record {
-        value = omega (arith, sum_leaving (λ x. x.value) xs i s d c.loop-thing-test.true w.if-rest-eq1.false, c.loop-thing.invariant.value);
-        weight = omega (arith, sum_leaving (λ x. x.weight) xs i s d c.loop-thing-test.true w.if-rest-eq1.false, c.loop-thing.invariant.weight);
-      }
-    ]
+    record {
+      value = omega (arith, sum_next (λ x. x.value) xs i s d c.loop-thing-test.true, c.loop-thing.invariant.value);
+      weight = omega (arith, sum_next (λ x. x.weight) xs i s d c.loop-thing-test.true, c.loop-thing.invariant.weight);
+    }
