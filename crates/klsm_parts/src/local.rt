@@ -129,22 +129,22 @@ impl<const CAP: usize> Local<CAP> {
         let Some(place) = least_place(&self.lsm) else {
             unreachable!();
         };
-        self.remove(place)
+        self.remove(place.block, place.index)
     }
 
-    // Takes the least item out of its place.
-    pub(crate) fn remove(&mut self, place: Place) -> Item
-        requires block { place.block < length self.old.blocks }
-        requires index { slice_get (slice_index_or self.old.blocks place.block []) place.index
-            ≡ Some place.item }
-        requires least { IsLeast place.item (content self.old.blocks) }
+    // Takes the least item out, which is item `index` of block `block`.
+    pub(crate) fn remove(&mut self, block: usize, index: usize) -> Item
+        requires block { block < length self.old.blocks }
+        requires index { index < length (slice_index_or self.old.blocks block []) }
+        requires least { slice_get (slice_index_or self.old.blocks block []) index
+            ≡ least_in self.old }
         ensures least { IsLeast result (content self.old.blocks) }
         ensures cut { IsCutFrom result self.old.blocks self.new.blocks }
         ensures k { self.new.k ≡ self.old.k }
         ensures event { MayTake self.old.k (items_in self.old) [] result
             × (items_in self.new ≡ own_after_take (items_in self.old) result) }
     {
-        self.lsm.remove(place.block, place.index)
+        self.lsm.remove(block, index)
     }
 
     // Takes what goes to a member that spies from a victim.

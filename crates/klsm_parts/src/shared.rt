@@ -203,32 +203,25 @@ impl<const LEVELS: usize, A: Allocator + Copy> Shared<LEVELS, A> {
         }
     }
 
-    // Takes the candidate of a rank out of its place.
-    pub(crate) fn remove(&mut self, place: Place, rank: usize)
-        requires block { place.block < length self.old.blocks }
-        requires index { slice_get (slice_index_or self.old.blocks place.block []) place.index
-            ≡ Some place.item }
-        requires rank { slice_get (candidates_of self.old) rank ≡ Some place.item }
+    // Takes the candidate of a rank out, which is item `index` of block `block`.
+    pub(crate) fn remove(&mut self, block: usize, index: usize, rank: usize)
+        requires block { block < length self.old.blocks }
+        requires index { index < length (slice_index_or self.old.blocks block []) }
+        requires rank { slice_get (slice_index_or self.old.blocks block []) index
+            ≡ slice_get (candidates_of self.old) rank }
         ensures { self.new
-            ≡ record { k = self.old.k; blocks = cut self.old.blocks place.block place.index } }
+            ≡ record { k = self.old.k; blocks = cut self.old.blocks block index } }
     {
         // The number of each block fits a byte, before and after.
         let _before = self.lsm.blocks();
-        let partner = self.lsm.partner(place.block);
-        let is_only = self.lsm.block(place.block).len() == 1;
-        let _item = self.lsm.remove(place.block, place.index);
-        let next = mend_cut(
-            &self.lsm,
-            &mut self.pivots,
-            place.block,
-            is_only,
-            partner,
-            self.k,
-        );
+        let partner = self.lsm.partner(block);
+        let is_only = self.lsm.block(block).len() == 1;
+        let _item = self.lsm.remove(block, index);
+        let next = mend_cut(&self.lsm, &mut self.pivots, block, is_only, partner, self.k);
         let _after = self.lsm.blocks();
         self.least
             .ranking
-            .replace(rank, place.block, is_only, partner, next);
+            .replace(rank, block, is_only, partner, next);
         self.least.first = self.least.ranking.least(&self.lsm);
     }
 }

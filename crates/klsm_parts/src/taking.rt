@@ -51,10 +51,13 @@ pub fn take<const CAP: usize, const LEVELS: usize, A: Allocator + Copy, P: Picke
     let least_own = least_place(own.lsm());
     match choose(item_of(least_own), shared, picker) {
         Some((place, rank)) => {
-            shared.remove(place, rank);
+            shared.remove(place.block, place.index, rank);
             Some(place.item)
         }
-        None => Some(own.remove(least_own?)),
+        None => {
+            let least = least_own?;
+            Some(own.remove(least.block, least.index))
+        }
     }
 }
 

@@ -1,10 +1,9 @@
 use Rattle.std.proofs.Common.{◌≡◌, ◌<◌, [], length, get_or, Some, refl, sym, ap, ◌∙◌, subst, inl}
 use Rattle.std.specs.List.{slice_get}
-use Rattle.std.proofs.lemmas.Option.{slice_get_within, same_Some}
 use Rattle.klsm_run.specs.Content.{sorted}
 use Rattle.klsm_lsm.specs.Lsm.{content}
 use Rattle.klsm_parts.specs.Least.{IsLeast}
-use Rattle.klsm_parts.specs.Parts.{PartState, items_in}
+use Rattle.klsm_parts.specs.Parts.{PartState, items_in, least_in}
 use Rattle.klsm_parts.specs.Events.{MayTake, own_after_take}
 use Rattle.klsm_parts.specs.Taking.{IsCutFrom}
 use Rattle.klsm_parts.proofs.EventLemmas.{cut_is_taken, may_take_own, may_take_sorted}
@@ -14,29 +13,25 @@ use Rattle.klsm_parts.proofs.local.Local.remove.Goals as goal
 
 pub remove-requires : goal.remove-requires
 remove-requires g c =
-    let bs = c.self.inside.lsm in
-    let at = c.args.place.block in
-    let block = subst (λ (p : PartState). at < length p.blocks) (sym c.self.view_is) c.requires.block in
-    let index = subst (λ (p : PartState). slice_get (get_or p.blocks at []) c.args.place.index ≡ Some c.args.place.item) (sym c.self.view_is) c.requires.index in
-    (search field_fits, (block, slice_get_within (get_or bs at []) c.args.place.index c.args.place.item index))
+    let block = subst (λ (p : PartState). c.args.block < length p.blocks) (sym c.self.view_is) c.requires.block in
+    let index = subst (λ (p : PartState). c.args.index < length (get_or p.blocks c.args.block [])) (sym c.self.view_is) c.requires.index in
+    (search field_fits, (block, index))
 
 pub invariant_of-self : goal.invariant_of-self
 invariant_of-self g c =
-    rw c.remove.ensures.rest (own_cut g.row.CAP c.self.inside.k c.self.inside.lsm c.args.place.block c.args.place.index c.remove.result c.self.invariant c.remove.ensures.item)
+    rw c.remove.ensures.rest (own_cut g.row.CAP c.self.inside.k c.self.inside.lsm c.args.block c.args.index c.remove.result c.self.invariant c.remove.ensures.item)
 
 pub returns-clause-least : goal.returns-clause-least
 returns-clause-least g c =
-    let bs = c.self.inside.lsm in
-    let index = subst (λ (p : PartState). slice_get (get_or p.blocks c.args.place.block []) c.args.place.index ≡ Some c.args.place.item) (sym c.self.view_is) c.requires.index in
-    subst (λ x. IsLeast x (content c.args.self.now.blocks)) (same_Some c.args.place.item c.remove.result (sym index ∙ c.remove.ensures.item)) c.requires.least
+    let least = subst (λ (p : PartState). slice_get (get_or p.blocks c.args.block []) c.args.index ≡ least_in p) (sym c.self.view_is) c.requires.least in
+    subst (λ (p : PartState). IsLeast c.remove.result (content p.blocks)) c.self.view_is (sym least ∙ c.remove.ensures.item)
 
 pub returns-clause-event : goal.returns-clause-event
 returns-clause-event g c =
     let bs = c.self.inside.lsm in
-    let index = subst (λ (p : PartState). slice_get (get_or p.blocks c.args.place.block []) c.args.place.index ≡ Some c.args.place.item) (sym c.self.view_is) c.requires.index in
-    let least = subst (λ (p : PartState). IsLeast c.args.place.item (content p.blocks)) (sym c.self.view_is) c.requires.least in
-    let first : slice_get (sorted (content bs)) 0 ≡ Some c.remove.result = least ∙ (sym index ∙ c.remove.ensures.item) in
-    let cut : IsCutFrom c.remove.result bs c.remove.new.self = (c.args.place.block, c.args.place.index, c.remove.ensures.item, c.remove.ensures.rest) in
+    let least = subst (λ (p : PartState). slice_get (get_or p.blocks c.args.block []) c.args.index ≡ least_in p) (sym c.self.view_is) c.requires.least in
+    let first : slice_get (sorted (content bs)) 0 ≡ Some c.remove.result = sym least ∙ c.remove.ensures.item in
+    let cut : IsCutFrom c.remove.result bs c.remove.new.self = (c.args.block, c.args.index, c.remove.ensures.item, c.remove.ensures.rest) in
     subst (λ (p : PartState). MayTake p.k (items_in p) [] c.remove.result × (sorted (content c.remove.new.self) ≡ own_after_take (items_in p) c.remove.result)) c.self.view_is (
       may_take_sorted c.self.inside.k (content bs) [] c.remove.result (may_take_own c.self.inside.k (content bs) [] c.remove.result first (inl refl)),
       cut_is_taken bs c.remove.new.self c.remove.result cut,
@@ -44,7 +39,7 @@ returns-clause-event g c =
 
 pub returns-clause-cut : goal.returns-clause-cut
 returns-clause-cut g c =
-    subst (λ (p : PartState). IsCutFrom c.remove.result p.blocks c.remove.new.self) c.self.view_is (c.args.place.block, c.args.place.index, c.remove.ensures.item, c.remove.ensures.rest)
+    subst (λ (p : PartState). IsCutFrom c.remove.result p.blocks c.remove.new.self) c.self.view_is (c.args.block, c.args.index, c.remove.ensures.item, c.remove.ensures.rest)
 
 pub returns-clause-k : goal.returns-clause-k
 returns-clause-k g c = ap (λ (p : PartState). p.k) c.self.view_is

@@ -1,8 +1,9 @@
 use Rattle.std.proofs.Common.{◌≡◌, ◌<◌, [], None, Some, length, get_or, refl, sym, ◌∙◌, subst}
+use Rattle.std.proofs.lemmas.Option.{slice_get_within}
 use Rattle.std.specs.List.{slice_get}
 use Rattle.klsm_lsm.specs.Lsm.{content}
 use Rattle.klsm_parts.specs.Least.{IsLeast}
-use Rattle.klsm_parts.specs.Parts.{PartState}
+use Rattle.klsm_parts.specs.Parts.{PartState, least_in}
 use Rattle.klsm_parts.proofs.FitLemmas.{field_fits, run_fits}
 use Rattle.klsm_parts.proofs.FoundLemmas.{some_ranked}
 use Rattle.klsm_parts.proofs.local.Local.take_least.Goals as goal
@@ -19,10 +20,11 @@ least_place-requires g c = search field_fits
 
 pub remove-requires : goal.remove-requires
 remove-requires g c =
+    let bs = c.self.inside.lsm in
     let place = c.in-Some.place in
     let found = c.in-Some.ensures.place in
-    let least = sym c.in-Some.ensures.item in
-    (search, subst (λ (p : PartState). (place.block < length p.blocks) × ((slice_get (get_or p.blocks place.block []) place.index ≡ Some place.item) × IsLeast place.item (content p.blocks))) c.self.view_is (found.0, (found.1, least)))
+    let within = slice_get_within (get_or bs place.block []) place.index place.item found.1 in
+    (search, subst (λ (p : PartState). (place.block < length p.blocks) × ((place.index < length (get_or p.blocks place.block [])) × (slice_get (get_or p.blocks place.block []) place.index ≡ least_in p))) c.self.view_is (found.0, (within, found.1 ∙ c.in-Some.ensures.item)))
 
 pub returns-clause-least : goal.returns-clause-least
 returns-clause-least g c = c.remove.ensures.least

@@ -1,7 +1,8 @@
 use Rattle.std.proofs.Common.{◌≡◌, ◌<◌, ◌==◌, [], length, get_or, Some, subst, sym, ap, ◌∙◌, List, arith}
 use Rattle.std.specs.List.{slice_get}
-use Rattle.std.proofs.lemmas.Option.{slice_get_within, get_or_from_slice_get}
+use Rattle.std.proofs.lemmas.Option.{get_or_from_slice_get}
 use Rattle.klsm_run.specs.declared.item.Item.{Item}
+use Rattle.klsm_run.proofs.IndexLemmas.{at_index}
 use Rattle.klsm_lsm.specs.Lsm.{IsLsm}
 use Rattle.klsm_lsm.specs.Adding.{cut}
 use Rattle.klsm_lsm.proofs.CutLemmas.{lawful_cut}
@@ -14,28 +15,32 @@ use Rattle.klsm_parts.proofs.shared.Shared.remove.Goals as goal
 
 pub remove-item-requires : goal.remove-item-requires
 remove-item-requires g c =
-    let block = subst (λ (p : PartState). c.args.place.block < length p.blocks) (sym c.self.view_is) c.requires.block in
-    let index = subst (λ (p : PartState). slice_get (get_or p.blocks c.args.place.block []) c.args.place.index ≡ Some c.args.place.item) (sym c.self.view_is) c.requires.index in
-    (search lsm_fits, (block, slice_get_within (get_or c.self.inside.lsm c.args.place.block []) c.args.place.index c.args.place.item index))
+    let block = subst (λ (p : PartState). c.args.block < length p.blocks) (sym c.self.view_is) c.requires.block in
+    let index = subst (λ (p : PartState). c.args.index < length (get_or p.blocks c.args.block [])) (sym c.self.view_is) c.requires.index in
+    (search lsm_fits, (block, index))
 
 pub mend_cut-next-requires : goal.mend_cut-next-requires
 mend_cut-next-requires g c =
     let bs = c.self.inside.lsm in
-    let at = c.args.place.block in
+    let at = c.args.block in
     let here = subst (λ (p : PartState). at < length p.blocks) (sym c.self.view_is) c.requires.block in
-    let found = subst (λ (p : PartState). slice_get (get_or p.blocks at []) c.args.place.index ≡ Some c.args.place.item) (sym c.self.view_is) c.requires.index in
-    let among = subst (λ (p : PartState). slice_get (candidates_of p) c.args.rank ≡ Some c.args.place.item) (sym c.self.view_is) c.requires.rank in
-    let block = get_or_from_slice_get bs at _ [] c.block.ensures.block in
-    let only = ap (λ n. n == 1) (c.len-is_only.ensures.len ∙ ap length (sym block)) in
-    let can = cut_mendable c.self.inside.k at c.args.place.index c.args.rank c.args.place.item _ _ bs c.self.inside.pivots.items c.self.invariant.lawful c.self.invariant.pivots_exact here found among c.partner-partner.ensures only in
+    let within = subst (λ (p : PartState). c.args.index < length (get_or p.blocks at [])) (sym c.self.view_is) c.requires.index in
+    let item = at_index (get_or bs at []) c.args.index within in
+    let among = sym (subst (λ (p : PartState). slice_get (get_or p.blocks at []) c.args.index ≡ slice_get (candidates_of p) c.args.rank) (sym c.self.view_is) c.requires.rank) ∙ item.1 in
+    let only = ap (λ n. n == 1) (c.len-is_only.ensures.len ∙ ap length (sym (get_or_from_slice_get bs at _ [] c.block.ensures.block))) in
+    let can = cut_mendable c.self.inside.k at c.args.index c.args.rank item.0 _ _ bs c.self.inside.pivots.items c.self.invariant.lawful c.self.invariant.pivots_exact here item.1 among c.partner-partner.ensures only in
     (search lsm_fits, (search pivots_fit, (subst (λ cs. IsCutMendable c.self.inside.k cs at (c.len-is_only.result == 1) c.partner-partner.result c.self.inside.pivots.items) (sym c.remove-item.ensures.rest) can, c.self.invariant.k_in_range)))
 
 pub replace-requires : goal.replace-requires
 replace-requires g c =
-    let among = subst (λ (p : PartState). slice_get (candidates_of p) c.args.rank ≡ Some c.args.place.item) (sym c.self.view_is) c.requires.rank in
-    let here = subst (λ (p : PartState). c.args.place.block < length p.blocks) (sym c.self.view_is) c.requires.block in
+    let bs = c.self.inside.lsm in
+    let at = c.args.block in
+    let here = subst (λ (p : PartState). at < length p.blocks) (sym c.self.view_is) c.requires.block in
+    let within = subst (λ (p : PartState). c.args.index < length (get_or p.blocks at [])) (sym c.self.view_is) c.requires.index in
+    let item = at_index (get_or bs at []) c.args.index within in
+    let among = sym (subst (λ (p : PartState). slice_get (get_or p.blocks at []) c.args.index ≡ slice_get (candidates_of p) c.args.rank) (sym c.self.view_is) c.requires.rank) ∙ item.1 in
     record {
-      rank = candidate_ranked c.self.inside.k c.self.inside.lsm c.self.inside.least.ranking.blocks.items c.args.rank c.args.place.item c.self.invariant.ranking_whole among;
+      rank = candidate_ranked c.self.inside.k bs c.self.inside.least.ranking.blocks.items c.args.rank item.0 c.self.invariant.ranking_whole among;
       room = omega (arith, c.self.invariant.ranking_whole, c.self.invariant.k_in_range);
       block = omega (arith, here, c.blocks-before.ensures, c.self.invariant.levels_in_range.at_most);
       next = next_small c.self.inside.k c.remove-item.new.self c.mend_cut-next.result c.mend_cut-next.ensures.next (omega (arith, c.blocks-after.ensures, c.self.invariant.levels_in_range.at_most));
@@ -44,26 +49,28 @@ replace-requires g c =
 pub least-self-inside-requires : goal.least-self-inside-requires
 least-self-inside-requires g c =
     let bs = c.self.inside.lsm in
-    let at = c.args.place.block in
+    let at = c.args.block in
     let here = subst (λ (p : PartState). at < length p.blocks) (sym c.self.view_is) c.requires.block in
-    let found = subst (λ (p : PartState). slice_get (get_or p.blocks at []) c.args.place.index ≡ Some c.args.place.item) (sym c.self.view_is) c.requires.index in
-    let among = subst (λ (p : PartState). slice_get (candidates_of p) c.args.rank ≡ Some c.args.place.item) (sym c.self.view_is) c.requires.rank in
+    let within = subst (λ (p : PartState). c.args.index < length (get_or p.blocks at [])) (sym c.self.view_is) c.requires.index in
+    let item = at_index (get_or bs at []) c.args.index within in
+    let among = sym (subst (λ (p : PartState). slice_get (get_or p.blocks at []) c.args.index ≡ slice_get (candidates_of p) c.args.rank) (sym c.self.view_is) c.requires.rank) ∙ item.1 in
     let only = ap (λ n. n == 1) (c.len-is_only.ensures.len ∙ ap length (sym (get_or_from_slice_get bs at _ [] c.block.ensures.block))) in
-    let mended = ranking_mended c.self.inside.k at c.args.place.index c.args.rank c.args.place.item _ _ c.mend_cut-next.result bs c.remove-item.new.self c.self.inside.least.ranking.blocks.items c.remove-item.ensures.rest c.self.invariant.lawful c.self.invariant.ranking_exact c.self.invariant.ranking_whole here found among c.partner-partner.ensures only c.mend_cut-next.ensures.next in
-    let lawful = subst IsLsm (sym c.remove-item.ensures.rest) (lawful_cut bs at c.args.place.index c.self.invariant.lawful (slice_get_within (get_or bs at []) c.args.place.index c.args.place.item found)) in
+    let mended = ranking_mended c.self.inside.k at c.args.index c.args.rank item.0 _ _ c.mend_cut-next.result bs c.remove-item.new.self c.self.inside.least.ranking.blocks.items c.remove-item.ensures.rest c.self.invariant.lawful c.self.invariant.ranking_exact c.self.invariant.ranking_whole here item.1 among c.partner-partner.ensures only c.mend_cut-next.ensures.next in
+    let lawful = subst IsLsm (sym c.remove-item.ensures.rest) (lawful_cut bs at c.args.index c.self.invariant.lawful within) in
     (search lsm_fits, (lawful, (rw c.replace.ensures mended.0, λ some. rw c.replace.ensures (omega (arith, mended.1, some)))))
 
 pub invariant_of-self : goal.invariant_of-self
 invariant_of-self g c =
     let bs = c.self.inside.lsm in
-    let at = c.args.place.block in
+    let at = c.args.block in
     let here = subst (λ (p : PartState). at < length p.blocks) (sym c.self.view_is) c.requires.block in
-    let found = subst (λ (p : PartState). slice_get (get_or p.blocks at []) c.args.place.index ≡ Some c.args.place.item) (sym c.self.view_is) c.requires.index in
-    let among = subst (λ (p : PartState). slice_get (candidates_of p) c.args.rank ≡ Some c.args.place.item) (sym c.self.view_is) c.requires.rank in
+    let within = subst (λ (p : PartState). c.args.index < length (get_or p.blocks at [])) (sym c.self.view_is) c.requires.index in
+    let item = at_index (get_or bs at []) c.args.index within in
+    let among = sym (subst (λ (p : PartState). slice_get (get_or p.blocks at []) c.args.index ≡ slice_get (candidates_of p) c.args.rank) (sym c.self.view_is) c.requires.rank) ∙ item.1 in
     let only = ap (λ n. n == 1) (c.len-is_only.ensures.len ∙ ap length (sym (get_or_from_slice_get bs at _ [] c.block.ensures.block))) in
-    let mended = ranking_mended c.self.inside.k at c.args.place.index c.args.rank c.args.place.item _ _ c.mend_cut-next.result bs c.remove-item.new.self c.self.inside.least.ranking.blocks.items c.remove-item.ensures.rest c.self.invariant.lawful c.self.invariant.ranking_exact c.self.invariant.ranking_whole here found among c.partner-partner.ensures only c.mend_cut-next.ensures.next in
+    let mended = ranking_mended c.self.inside.k at c.args.index c.args.rank item.0 _ _ c.mend_cut-next.result bs c.remove-item.new.self c.self.inside.least.ranking.blocks.items c.remove-item.ensures.rest c.self.invariant.lawful c.self.invariant.ranking_exact c.self.invariant.ranking_whole here item.1 among c.partner-partner.ensures only c.mend_cut-next.ensures.next in
     record {
-      lawful = subst IsLsm (sym c.remove-item.ensures.rest) (lawful_cut bs at c.args.place.index c.self.invariant.lawful (slice_get_within (get_or bs at []) c.args.place.index c.args.place.item found));
+      lawful = subst IsLsm (sym c.remove-item.ensures.rest) (lawful_cut bs at c.args.index c.self.invariant.lawful within);
       pivots_exact = c.mend_cut-next.ensures.pivots;
       ranking_exact = rw c.replace.ensures mended.0;
       ranking_whole = rw c.replace.ensures mended.1;
@@ -75,10 +82,10 @@ invariant_of-self g c =
 pub returns : goal.returns
 returns g c =
     let state : List (List Item) → PartState = λ bs. record { k = c.self.inside.k; blocks = bs } in
-    ap state c.remove-item.ensures.rest ∙ ap (λ (p : PartState). record { k = p.k; blocks = cut p.blocks c.args.place.block c.args.place.index }) c.self.view_is
+    ap state c.remove-item.ensures.rest ∙ ap (λ (p : PartState). record { k = p.k; blocks = cut p.blocks c.args.block c.args.index }) c.self.view_is
 
 pub partner-partner-requires : goal.partner-partner-requires
-partner-partner-requires g c = (search lsm_fits, subst (λ (p : PartState). c.args.place.block < length p.blocks) (sym c.self.view_is) c.requires.block)
+partner-partner-requires g c = (search lsm_fits, subst (λ (p : PartState). c.args.block < length p.blocks) (sym c.self.view_is) c.requires.block)
 
 pub block-requires : goal.block-requires
-block-requires g c = (search lsm_fits, subst (λ (p : PartState). c.args.place.block < length p.blocks) (sym c.self.view_is) c.requires.block)
+block-requires g c = (search lsm_fits, subst (λ (p : PartState). c.args.block < length p.blocks) (sym c.self.view_is) c.requires.block)
