@@ -16,7 +16,7 @@ use Rattle.klsm_run.proofs.SortedLemmas.{IsNew, sorted_ascending, length_sorted}
 use Rattle.klsm_run.proofs.RemoveLemmas.{ascending_remove}
 use Rattle.klsm_run.proofs.ContentLemmas.{sorted_remove, sorted_itself}
 use Rattle.klsm_run.proofs.LeastLemmas.{Has}
-use Rattle.klsm_run.proofs.IndexLemmas.{at_each, index_of, taken_at}
+use Rattle.klsm_run.proofs.IndexLemmas.{at_each, at_index, index_of, taken_at}
 use Rattle.klsm_run.proofs.ContainsLemmas.{contains_if_has, has_if_contains, contains_sorted}
 use Rattle.klsm_run.proofs.WithoutLemmas.{placed_cancel}
 use Rattle.klsm_lsm.specs.Lsm.{content, IsLsm}
@@ -26,6 +26,7 @@ use Rattle.klsm_lsm.proofs.ContentLemmas.{ascending_content}
 use Rattle.klsm_lsm.proofs.CutLemmas.{sorted_cut, length_cut}
 use Rattle.klsm_parts.specs.Ranking.{AreInBlocks, IsRanking, IsOfBlock, closes_up, place_after_cut, cut_ranking}
 use Rattle.klsm_parts.specs.Least.{least}
+use Rattle.klsm_parts.specs.Parts.{PartState, candidates_of}
 use Rattle.klsm_parts.proofs.RankingLemmas.{ranking_more}
 
 -- one item less is ranked
@@ -194,3 +195,25 @@ ranking_mended k at index rank x is_only partner next bs after order is lsm rank
 pub next_small : (k : ℕ) (bs : List (List Item)) (next : Option ℕ) → MatchOption next (length (content bs) ≤ k) (λ b. (b < length bs) × (k < length (content bs)) × IsOfBlock bs k b) → length bs < 256 → IfSome next (λ b. b < 256)
 next_small k bs None told few = tt
 next_small k bs (Some b) told few = omega (arith, told.0, few)
+
+-- a candidate by where it stands and by its rank
+pub record IsCandidateAt (k : ℕ) (bs : List (List Item)) (at index rank : ℕ) : Type 0 where
+  pub here : at < length bs
+  pub within : index < length (get_or bs at [])
+  pub item : Item
+  pub found : slice_get (get_or bs at []) index ≡ Some item
+  pub among : slice_get (least (k + 1) (content bs)) rank ≡ Some item
+
+-- a candidate of a part, as its fields know it
+pub candidate_at : (inside part : PartState) (at index rank : ℕ) → inside ≡ part → at < length part.blocks → index < length (get_or part.blocks at []) → slice_get (get_or part.blocks at []) index ≡ slice_get (candidates_of part) rank
+    → IsCandidateAt inside.k inside.blocks at index rank
+candidate_at inside part at index rank same here within ranked =
+    let inner = subst (λ (p : PartState). index < length (get_or p.blocks at [])) (sym same) within in
+    let item = at_index (get_or inside.blocks at []) index inner in
+    record {
+      here = subst (λ (p : PartState). at < length p.blocks) (sym same) here;
+      within = inner;
+      item = item.0;
+      found = item.1;
+      among = sym (subst (λ (p : PartState). slice_get (get_or p.blocks at []) index ≡ slice_get (candidates_of p) rank) (sym same) ranked) ∙ item.1;
+    }

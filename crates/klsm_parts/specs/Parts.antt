@@ -5,9 +5,7 @@ use Rattle.klsm_run.specs.Capacity.{IsCapacity}
 use Rattle.klsm_run.specs.Content.{sorted}
 use Rattle.klsm_lsm.specs.Lsm.{content, IsLsm}
 use Rattle.klsm_lsm.specs.Limit.{IsLevelCount}
-use Rattle.klsm_parts.specs.declared.ranks.Place.{Place}
 use Rattle.klsm_parts.specs.Least.{least}
-use Rattle.klsm_parts.specs.LeastPlaces.{IsLeastPlace}
 use Rattle.klsm_parts.specs.Pivots.{ArePivots}
 use Rattle.klsm_parts.specs.Ranking.{IsRanking}
 
@@ -34,13 +32,13 @@ pub record IsOwn (capacity : ℕ) (part : PartState) : Type 0 where
   pub k_in_range : part.k ≤ capacity
   pub capacity_in_range : IsCapacity capacity
 
--- a shared part is a lawful LSM with exact pivots of its least k+1 items, of which the blocks are known in their order, and of the
--- least one the place
-pub record IsShared (levels : ℕ) (part : PartState) (pivots : List ℕ) (ranking : List ℕ) (least : Option Place) : Type 0 where
+-- a shared part is a lawful LSM with exact pivots of its least k+1 items, of which the blocks are known in their order, and the least
+-- one itself
+pub record IsShared (levels : ℕ) (part : PartState) (pivots : List ℕ) (ranking : List ℕ) (least : Option Item) : Type 0 where
   pub lawful : IsLsm part.blocks
   pub pivots_exact : ArePivots (part.k + 1) part.blocks pivots
   pub ranking_exact : IsRanking part.blocks ranking
   pub ranking_whole : length ranking ≡ min (part.k + 1) (length (content part.blocks))
-  pub least_found : IsLeastPlace part.blocks least
+  pub least_found : least ≡ least_in part
   pub k_in_range : part.k ≤ 128
   pub levels_in_range : IsLevelCount levels

@@ -118,9 +118,7 @@ fn next_item<R: Run, const LEVELS: usize>(
     requires ranking { IsRanking lsm.now ranking.now.blocks.items }
     requires pivots { ArePivots rank lsm.now pivots.now }
     ensures { MatchOption result (length ranking.now.blocks.items ≤ rank) (λ next.
-        (rank < length ranking.now.blocks.items)
-        × (next.0 ≡ slice_index_or ranking.now.blocks.items rank 0)
-        × (next.0 < length lsm.now)
+        (next.0 < length lsm.now)
         × (slice_get (slice_index_or lsm.now next.0 []) (slice_index_or pivots.now next.0 0)
         ≡ Some next.1)
         × (slice_get (sorted (content lsm.now)) rank ≡ Some next.1)) }

@@ -4,19 +4,18 @@ ghost use Rattle.std.specs.Option.{option_to_list};
 ghost use Rattle.arrayvec.specs.ArrayVec.{array_vec_len};
 ghost use Rattle.klsm_run.specs.Content.{sorted};
 ghost use Rattle.klsm_lsm.specs.Lsm.{content, IsLsm};
-ghost use Rattle.klsm_parts.specs.LeastPlaces.{IsLeastPlace};
 ghost use Rattle.klsm_parts.specs.Ranking.{IsRanking, closes_up, cut_ranking, place_after_cut};
 
 use crate::ranks::Place;
 use arrayvec::ArrayVec;
 use klsm_lsm::Lsm;
-use klsm_run::Run;
+use klsm_run::{Item, Run};
 
 /// What is known of the least items, so that a deletion need not search for them.
 #[derive(Drop)]
 pub(crate) struct LeastItems {
-    /// The least item and where it stands, if there is one.
-    pub(crate) first: Option<Place>,
+    /// The least item, if there is one. A look at it needs no access to a block.
+    pub(crate) first: Option<Item>,
     pub(crate) ranking: Ranking,
 }
 
@@ -71,18 +70,18 @@ impl Ranking {
         Place { block, index, item }
     }
 
-    /// The least candidate, and where it stands, if there is one.
+    /// The least candidate, if there is one.
     #[inline]
-    pub(crate) fn least<R: Run, const LEVELS: usize>(&self, lsm: &Lsm<R, LEVELS>) -> Option<Place>
+    pub(crate) fn least<R: Run, const LEVELS: usize>(&self, lsm: &Lsm<R, LEVELS>) -> Option<Item>
         requires lawful { IsLsm lsm.now }
         requires ranking { IsRanking lsm.now self.now.blocks.items }
         requires whole { 0 < length (content lsm.now) → 0 < length self.now.blocks.items }
-        ensures { IsLeastPlace lsm.now result }
+        ensures { result ≡ slice_get (sorted (content lsm.now)) 0 }
     {
         if self.len() == 0 {
             return None;
         }
-        Some(self.place(lsm, 0))
+        Some(self.place(lsm, 0).item)
     }
 
     /// One candidate more, the next after those that are known, of a block.

@@ -12,7 +12,7 @@ use crate::appending::append_blocks;
 use crate::mending::{mend_cut, unite_pivots};
 use crate::merging::{Merging, merged};
 use crate::ranking::{LeastItems, Ranking};
-use crate::ranks::{Place, item_of, pivots_of};
+use crate::ranks::{Place, pivots_of};
 use arrayvec::ArrayVec;
 use klsm_lsm::{Lsm, LsmError};
 use klsm_run::{HeapRun, Item, Run};
@@ -95,7 +95,7 @@ impl<const LEVELS: usize, A: Allocator + Copy> Shared<LEVELS, A> {
     pub fn least(&self) -> Option<Item>
         ensures { result ≡ least_in self.now }
     {
-        item_of(self.least.first)
+        self.least.first
     }
 
     /// The items, as an LSM.
@@ -152,7 +152,7 @@ impl<const LEVELS: usize, A: Allocator + Copy> Shared<LEVELS, A> {
         self.place_of_candidate(index).item
     }
 
-    // A candidate, and where it stands. The least one is at hand.
+    // A candidate, and where it stands.
     pub(crate) fn place_of_candidate(&self, index: usize) -> Place
         requires { index < length (candidates_of self.now) }
         ensures block { result.block < length self.now.blocks }
@@ -160,12 +160,6 @@ impl<const LEVELS: usize, A: Allocator + Copy> Shared<LEVELS, A> {
             ≡ Some result.item }
         ensures candidate { slice_get (candidates_of self.now) index ≡ Some result.item }
     {
-        if index == 0 {
-            let Some(least) = self.least.first else {
-                unreachable!();
-            };
-            return least;
-        }
         self.least.ranking.place(&self.lsm, index)
     }
 

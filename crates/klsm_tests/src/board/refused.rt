@@ -58,6 +58,9 @@ fn insert(crew: &mut Crew<21>, owner: u32, key: u64) -> Option<bool> {
 // How many items each of the two members inserts.
 const EACH: u64 = 250;
 
+// How many they insert together.
+const ALL: usize = 500;
+
 // The key of a member's item of this number. Keys rise and fall, and each is one of both members.
 fn key_of(number: u64) -> u64 {
     number % EACH * 107 % EACH
@@ -78,8 +81,8 @@ fn insert_all(crew: &mut Crew<21>) -> Option<bool> {
 // Whether an item is one of theirs that was not found before. It is found now.
 fn is_next(found: &mut [bool], item: Item) -> Option<bool> {
     let number = item.stamp.number;
-    let index = item.stamp.owner as usize % 2 * 250 + number as usize % 250;
-    let place = found.get_mut(index)?;
+    let index = u64::from(item.stamp.owner) % 2 * EACH + number % EACH;
+    let place = found.get_mut(index as usize)?;
     let was_found = *place;
     *place = true;
     Some(!was_found && item.key == key_of(number) && item.load == number.saturating_add(1))
@@ -87,8 +90,8 @@ fn is_next(found: &mut [bool], item: Item) -> Option<bool> {
 
 // Whether the two delete each item once, in turn.
 fn each_is_deleted(crew: &mut Crew<21>) -> Option<bool> {
-    let mut found = [false; 500];
-    for turn in 0..500 {
+    let mut found = [false; ALL];
+    for turn in 0..ALL {
         let item = crew.deleted(turn % 2, &mut First)?;
         if !is_next(&mut found, item)? {
             return Some(false);

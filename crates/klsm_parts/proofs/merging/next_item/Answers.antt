@@ -8,25 +8,24 @@ use Rattle.klsm_parts.proofs.merging.next_item.Goals as goal
 pub block-requires : goal.block-requires
 block-requires g c =
     let known : c.args.rank < length c.args.ranking.now.blocks.items = rw (← c.as_slice-blocks.ensures.value) c.if-rank-blocks.false in
-    let found = next_by_ranking c.args.lsm.now c.args.ranking.now.blocks.items c.as_slice-blocks.result.now c.args.pivots.now c.args.rank c.from-block.result c.as_slice-blocks.ensures.value c.requires.lawful c.requires.ranking c.requires.pivots known c.from-block.ensures in
+    let found = next_by_ranking _ _ _ _ _ _ c.as_slice-blocks.ensures.value c.requires.lawful c.requires.ranking c.requires.pivots known c.from-block.ensures in
     (search, found.inside)
 
 pub bounds-pivots-block : goal.bounds-pivots-block
 bounds-pivots-block g c =
     let known : c.args.rank < length c.args.ranking.now.blocks.items = rw (← c.as_slice-blocks.ensures.value) c.if-rank-blocks.false in
-    let found = next_by_ranking c.args.lsm.now c.args.ranking.now.blocks.items c.as_slice-blocks.result.now c.args.pivots.now c.args.rank c.from-block.result c.as_slice-blocks.ensures.value c.requires.lawful c.requires.ranking c.requires.pivots known c.from-block.ensures in
+    let found = next_by_ranking _ _ _ _ _ _ c.as_slice-blocks.ensures.value c.requires.lawful c.requires.ranking c.requires.pivots known c.from-block.ensures in
     omega (arith, found.inside, one_each c.args.lsm.now c.args.pivots.now c.requires.pivots.within)
 
 pub item_at-item-requires : goal.item_at-item-requires
 item_at-item-requires g c =
     let known : c.args.rank < length c.args.ranking.now.blocks.items = rw (← c.as_slice-blocks.ensures.value) c.if-rank-blocks.false in
-    let found = next_by_ranking c.args.lsm.now c.args.ranking.now.blocks.items c.as_slice-blocks.result.now c.args.pivots.now c.args.rank c.from-block.result c.as_slice-blocks.ensures.value c.requires.lawful c.requires.ranking c.requires.pivots known c.from-block.ensures in
+    let found = next_by_ranking _ _ _ _ _ _ c.as_slice-blocks.ensures.value c.requires.lawful c.requires.ranking c.requires.pivots known c.from-block.ensures in
     rw (← get_or_from_slice_get c.args.lsm.now c.from-block.result _ [] c.block.ensures.block) found.within
 
 pub returns : goal.returns
 returns g c =
     let known : c.args.rank < length c.args.ranking.now.blocks.items = rw (← c.as_slice-blocks.ensures.value) c.if-rank-blocks.false in
-    let found = next_by_ranking c.args.lsm.now c.args.ranking.now.blocks.items c.as_slice-blocks.result.now c.args.pivots.now c.args.rank c.from-block.result c.as_slice-blocks.ensures.value c.requires.lawful c.requires.ranking c.requires.pivots known c.from-block.ensures in
-    let is = c.from-block.ensures ∙ ap (λ (l : List ℕ). get_or l c.args.rank 0) c.as_slice-blocks.ensures.value in
+    let found = next_by_ranking _ _ _ _ _ _ c.as_slice-blocks.ensures.value c.requires.lawful c.requires.ranking c.requires.pivots known c.from-block.ensures in
     let here = ap (λ xs. slice_get xs (get_or c.args.pivots.now c.from-block.result 0)) (get_or_from_slice_get c.args.lsm.now c.from-block.result _ [] c.block.ensures.block) ∙ c.item_at-item.ensures in
-    (known, is, found.inside, here, sym found.at ∙ here)
+    (found.inside, here, sym found.at ∙ here)

@@ -26,25 +26,25 @@ unreachable-requires g c =
 pub place_after-requires : goal.place_after-requires
 place_after-requires g c =
     let known = c.in-Some.ensures in
-    omega (arith, known.2, c.blocks-blocks.ensures.blocks, c.blocks-blocks.ensures.within, c.requires.levels.at_most)
+    omega (arith, known.0, c.blocks-blocks.ensures.blocks, c.blocks-blocks.ensures.within, c.requires.levels.at_most)
 
 pub push-requires-else-run_comes_first-clause-block : goal.push-requires-else-run_comes_first-clause-block
 push-requires-else-run_comes_first-clause-block g c =
     let known = c.in-Some.ensures in
     let first = c.args.self.now.cascade.first in
-    let inside = place_inside first c.args.self.now.cascade.count c.in-Some.block (length c.args.lsm.now) (omega (arith, c.requires.within)) known.2 in
+    let inside = place_inside first c.args.self.now.cascade.count c.in-Some.block (length c.args.lsm.now) (omega (arith, c.requires.within)) known.0 in
     omega (arith, c.place_after.ensures, inside, c.blocks-blocks.ensures.blocks, c.blocks-blocks.ensures.within, c.requires.levels.at_most)
 
 pub offset_bounds-as_mut_slice-block : goal.offset_bounds-as_mut_slice-block
 offset_bounds-as_mut_slice-block g c =
     let known = c.in-Some.ensures in
-    let small : c.in-Some.block < 32 = omega (arith, known.2, c.blocks-blocks.ensures.blocks, c.blocks-blocks.ensures.within, c.requires.levels.at_most) in
+    let small : c.in-Some.block < 32 = omega (arith, known.0, c.blocks-blocks.ensures.blocks, c.blocks-blocks.ensures.within, c.requires.levels.at_most) in
     omega (arith, small)
 
 pub bounds-as_mut_slice-block : goal.bounds-as_mut_slice-block
 bounds-as_mut_slice-block g c =
     let known = c.in-Some.ensures in
-    rw c.as_mut_slice.ensures.value (omega (arith, one_each c.args.lsm.now c.args.self.now.pivots.items c.requires.merging.old_marks.within, known.2))
+    rw c.as_mut_slice.ensures.value (omega (arith, one_each c.args.lsm.now c.args.self.now.pivots.items c.requires.merging.old_marks.within, known.0))
 
 pub overflow_add-as_mut_slice : goal.overflow_add-as_mut_slice
 overflow_add-as_mut_slice g c =
@@ -57,7 +57,7 @@ overflow_add-as_mut_slice g c =
 pub bounds-as_mut_slice-block-else-run_comes_first : goal.bounds-as_mut_slice-block-else-run_comes_first
 bounds-as_mut_slice-block-else-run_comes_first g c =
     let known = c.in-Some.ensures in
-    rw c.as_mut_slice.ensures.value (omega (arith, one_each c.args.lsm.now c.args.self.now.pivots.items c.requires.merging.old_marks.within, known.2))
+    rw c.as_mut_slice.ensures.value (omega (arith, one_each c.args.lsm.now c.args.self.now.pivots.items c.requires.merging.old_marks.within, known.0))
 
 pub returns-then-run_comes_first-clause-merging : goal.returns-then-run_comes_first-clause-merging
 returns-then-run_comes_first-clause-merging g c =
@@ -70,7 +70,7 @@ returns-then-run_comes_first-clause-merging g c =
     let first = c.args.self.now.cascade.first in
     let count = c.args.self.now.cascade.count in
     let tested = subst (λ t. MatchOption (slice_get run q) (t ≡ false) (λ y. MatchOption c.next_item-next.result (IsTrue t) (λ f. t ≡ is_smaller y f.1))) c.if-run_comes_first.true c.run_comes_first.ensures in
-    let next = run_is_next bs run rank q c.next_item-next.result _ _ (λ past. blocks_are_past (length order) q (length (content bs)) (length old) c.requires.known (rw (← c.len.ensures) past)) (λ f is. rw (← c.len.ensures) is.4) c.next_item-next.ensures tested in
+    let next = run_is_next bs run rank q c.next_item-next.result _ _ (λ past. blocks_are_past (length order) q (length (content bs)) (length old) c.requires.known (rw (← c.len.ensures) past)) (λ f is. rw (← c.len.ensures) is.2) c.next_item-next.ensures tested in
     rw c.push.ensures (merging_of_run bs run first count order c.args.self.now.pivots.items q next.item c.requires.lawful c.requires.ascending c.requires.run_ascending c.requires.within c.requires.merging next.here next.smaller)
 
 pub returns-in-Some-clause-merging : goal.returns-in-Some-clause-merging
@@ -87,7 +87,7 @@ returns-in-Some-clause-merging g c =
     let known = c.in-Some.ensures in
     let tested = subst (λ t. MatchOption (slice_get run q) (t ≡ false) (λ y. MatchOption c.next_item-next.result (IsTrue t) (λ f. t ≡ is_smaller y f.1))) c.if-run_comes_first.false c.run_comes_first.ensures in
     let later = run_is_later run q c.next_item-next.result (b, x) c.in-Some.is tested in
-    let there : slice_get (sorted (content bs)) (length order - q) ≡ Some x = rw (← c.len.ensures) known.4 in
-    let here : slice_get (get_or bs b []) (get_or ps b 0) ≡ Some x = rw (← c.as_slice.ensures.value) known.3 in
+    let there : slice_get (sorted (content bs)) (length order - q) ≡ Some x = rw (← c.len.ensures) known.2 in
+    let here : slice_get (get_or bs b []) (get_or ps b 0) ≡ Some x = rw (← c.as_slice.ensures.value) known.1 in
     rw (c.push-else-run_comes_first.ensures, c.place_after.ensures, marked_in_place ps c.as_mut_slice.result.now b c.as_mut_slice.ensures.value)
-    (merging_of_block bs run first count order ps q b x c.requires.lawful c.requires.ascending c.requires.run_ascending c.requires.within c.requires.merging known.2 there here later)
+    (merging_of_block bs run first count order ps q b x c.requires.lawful c.requires.ascending c.requires.run_ascending c.requires.within c.requires.merging known.0 there here later)

@@ -7,7 +7,7 @@ use Rattle.klsm_lsm.specs.Lsm.{content}
 use Rattle.klsm_parts.proofs.ranking.Ranking.least.Goals as goal
 
 pub returns : goal.returns
-returns g c = record { item = sym c.place.ensures.rank; place = (c.place.ensures.block, c.place.ensures.index) }
+returns g c = sym c.place.ensures.rank
 
 pub returns-then-len-eq0 : goal.returns-then-len-eq0
 returns-then-len-eq0 g c =
@@ -16,4 +16,4 @@ returns-then-len-eq0 g c =
       | inl some ↦ omega (arith, c.requires.whole some, c.len.ensures, c.if-len-eq0.true)
       | inr none ↦ none
     ] in
-    record { item = sym (slice_get_past (sorted held) 0 (rw (length_sorted held) none)); place = tt }
+    sym (slice_get_past (sorted held) 0 (rw (length_sorted held) none))

@@ -6,17 +6,17 @@ use Rattle.klsm_parts.proofs.ranking.Ranking.place.Goals as goal
 
 pub block-requires : goal.block-requires
 block-requires g c =
-    let found = found_by_ranking c.args.lsm.now c.args.self.now.blocks.items c.as_slice-blocks.result.now c.args.rank c.from-block.result c.from-index.result c.as_slice-blocks.ensures.value c.requires.lawful c.requires.ranking c.requires.rank c.from-block.ensures (c.from-index.ensures ∙ c.count_equal.ensures) in
+    let found = found_by_ranking _ _ _ _ _ _ c.as_slice-blocks.ensures.value c.requires.lawful c.requires.ranking c.requires.rank c.from-block.ensures (c.from-index.ensures ∙ c.count_equal.ensures) in
     (search, found.inside)
 
 pub item_at-item-requires : goal.item_at-item-requires
 item_at-item-requires g c =
-    let found = found_by_ranking c.args.lsm.now c.args.self.now.blocks.items c.as_slice-blocks.result.now c.args.rank c.from-block.result c.from-index.result c.as_slice-blocks.ensures.value c.requires.lawful c.requires.ranking c.requires.rank c.from-block.ensures (c.from-index.ensures ∙ c.count_equal.ensures) in
+    let found = found_by_ranking _ _ _ _ _ _ c.as_slice-blocks.ensures.value c.requires.lawful c.requires.ranking c.requires.rank c.from-block.ensures (c.from-index.ensures ∙ c.count_equal.ensures) in
     rw (← get_or_from_slice_get c.args.lsm.now c.from-block.result _ [] c.block.ensures.block) found.within
 
 pub returns-clause-block : goal.returns-clause-block
 returns-clause-block g c =
-    let found = found_by_ranking c.args.lsm.now c.args.self.now.blocks.items c.as_slice-blocks.result.now c.args.rank c.from-block.result c.from-index.result c.as_slice-blocks.ensures.value c.requires.lawful c.requires.ranking c.requires.rank c.from-block.ensures (c.from-index.ensures ∙ c.count_equal.ensures) in
+    let found = found_by_ranking _ _ _ _ _ _ c.as_slice-blocks.ensures.value c.requires.lawful c.requires.ranking c.requires.rank c.from-block.ensures (c.from-index.ensures ∙ c.count_equal.ensures) in
     found.inside
 
 pub returns-clause-index : goal.returns-clause-index
@@ -24,5 +24,5 @@ returns-clause-index g c = ap (λ xs. slice_get xs c.from-index.result) (get_or_
 
 pub returns-clause-rank : goal.returns-clause-rank
 returns-clause-rank g c =
-    let found = found_by_ranking c.args.lsm.now c.args.self.now.blocks.items c.as_slice-blocks.result.now c.args.rank c.from-block.result c.from-index.result c.as_slice-blocks.ensures.value c.requires.lawful c.requires.ranking c.requires.rank c.from-block.ensures (c.from-index.ensures ∙ c.count_equal.ensures) in
+    let found = found_by_ranking _ _ _ _ _ _ c.as_slice-blocks.ensures.value c.requires.lawful c.requires.ranking c.requires.rank c.from-block.ensures (c.from-index.ensures ∙ c.count_equal.ensures) in
     sym found.at ∙ (ap (λ xs. slice_get xs c.from-index.result) (get_or_from_slice_get c.args.lsm.now c.from-block.result _ [] c.block.ensures.block) ∙ c.item_at-item.ensures)

@@ -22,7 +22,7 @@ invariant_of-result g c =
       pivots_exact = pivots_all (c.args.k + 1) [] [] (subst (λ n. ArePivots n [] []) none (pivots_none []));
       ranking_exact = rw c.new-3.ensures tt;
       ranking_whole = rw c.new-3.ensures none;
-      least_found = record { item = refl; place = tt };
+      least_found = refl;
       k_in_range = c.requires.k;
       levels_in_range = c.requires.levels;
     })

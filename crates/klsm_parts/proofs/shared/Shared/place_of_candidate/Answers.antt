@@ -33,30 +33,3 @@ returns-clause-block g c = subst (λ (p : PartState). c.place.result.block < len
 
 pub returns-clause-index : goal.returns-clause-index
 returns-clause-index g c = subst (λ (p : PartState). slice_get (get_or p.blocks c.place.result.block []) c.place.result.index ≡ Some c.place.result.item) c.self.view_is c.place.ensures.index
-
-pub returns-then-index-eq0-clause-candidate : goal.returns-then-index-eq0-clause-candidate
-returns-then-index-eq0-clause-candidate g c =
-    let held = content c.self.inside.lsm in
-    let found = subst (IsLeastPlace c.self.inside.lsm) c.in-Some.is c.self.invariant.least_found in
-    rw c.if-index-eq0.true (subst (λ (p : PartState). slice_get (candidates_of p) 0 ≡ Some c.in-Some.least.item) c.self.view_is (least_is_candidate c.self.inside.k held c.in-Some.least.item (sym found.item)))
-
-pub returns-then-index-eq0-clause-block : goal.returns-then-index-eq0-clause-block
-returns-then-index-eq0-clause-block g c =
-    let found = subst (IsLeastPlace c.self.inside.lsm) c.in-Some.is c.self.invariant.least_found in
-    subst (λ (p : PartState). c.in-Some.least.block < length p.blocks) c.self.view_is found.place.0
-
-pub returns-then-index-eq0-clause-index : goal.returns-then-index-eq0-clause-index
-returns-then-index-eq0-clause-index g c =
-    let found = subst (IsLeastPlace c.self.inside.lsm) c.in-Some.is c.self.invariant.least_found in
-    subst (λ (p : PartState). slice_get (get_or p.blocks c.in-Some.least.block []) c.in-Some.least.index ≡ Some c.in-Some.least.item) c.self.view_is found.place.1
-
-pub unreachable-unreachable : goal.unreachable-unreachable
-unreachable-unreachable g c = absurd c.unreachable.result
-
-pub unreachable-requires : goal.unreachable-requires
-unreachable-requires g c =
-    let held = content c.self.inside.lsm in
-    let found = subst (IsLeastPlace c.self.inside.lsm) c.in_default.is c.self.invariant.least_found in
-    let none = empty_if_no_least held (sym found.item) in
-    let among = subst (λ (p : PartState). c.args.index < length (least (p.k + 1) (content p.blocks))) (sym c.self.view_is) c.requires in
-    omega (arith, among, length-take (c.self.inside.k + 1) (sorted held), length_sorted held, ap (λ (xs : List Item). length xs) none)

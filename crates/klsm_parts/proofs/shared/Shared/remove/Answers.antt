@@ -1,48 +1,37 @@
-use Rattle.std.proofs.Common.{◌≡◌, ◌<◌, ◌==◌, [], length, get_or, Some, subst, sym, ap, ◌∙◌, List, arith}
-use Rattle.std.specs.List.{slice_get}
+use Rattle.std.proofs.Common.{◌≡◌, ◌<◌, ◌==◌, [], length, subst, sym, ap, ◌∙◌, List, arith}
 use Rattle.std.proofs.lemmas.Option.{get_or_from_slice_get}
 use Rattle.klsm_run.specs.declared.item.Item.{Item}
-use Rattle.klsm_run.proofs.IndexLemmas.{at_index}
 use Rattle.klsm_lsm.specs.Lsm.{IsLsm}
 use Rattle.klsm_lsm.specs.Adding.{cut}
 use Rattle.klsm_lsm.proofs.CutLemmas.{lawful_cut}
-use Rattle.klsm_parts.specs.Parts.{PartState, candidates_of}
+use Rattle.klsm_parts.specs.Parts.{PartState}
 use Rattle.klsm_parts.specs.Mending.{IsCutMendable}
 use Rattle.klsm_parts.proofs.CutPivotLemmas.{cut_mendable}
-use Rattle.klsm_parts.proofs.RankingCutLemmas.{candidate_ranked, ranking_mended, next_small}
+use Rattle.klsm_parts.proofs.RankingCutLemmas.{candidate_at, candidate_ranked, ranking_mended, next_small}
 use Rattle.klsm_parts.proofs.FitLemmas.{lsm_fits, pivots_fit}
 use Rattle.klsm_parts.proofs.shared.Shared.remove.Goals as goal
 
 pub remove-item-requires : goal.remove-item-requires
 remove-item-requires g c =
-    let block = subst (λ (p : PartState). c.args.block < length p.blocks) (sym c.self.view_is) c.requires.block in
-    let index = subst (λ (p : PartState). c.args.index < length (get_or p.blocks c.args.block [])) (sym c.self.view_is) c.requires.index in
-    (search lsm_fits, (block, index))
+    let it = candidate_at _ _ c.args.block c.args.index c.args.rank c.self.view_is c.requires.block c.requires.index c.requires.rank in
+    (search lsm_fits, (it.here, it.within))
 
 pub mend_cut-next-requires : goal.mend_cut-next-requires
 mend_cut-next-requires g c =
     let bs = c.self.inside.lsm in
     let at = c.args.block in
-    let here = subst (λ (p : PartState). at < length p.blocks) (sym c.self.view_is) c.requires.block in
-    let within = subst (λ (p : PartState). c.args.index < length (get_or p.blocks at [])) (sym c.self.view_is) c.requires.index in
-    let item = at_index (get_or bs at []) c.args.index within in
-    let among = sym (subst (λ (p : PartState). slice_get (get_or p.blocks at []) c.args.index ≡ slice_get (candidates_of p) c.args.rank) (sym c.self.view_is) c.requires.rank) ∙ item.1 in
+    let it = candidate_at _ _ at c.args.index c.args.rank c.self.view_is c.requires.block c.requires.index c.requires.rank in
     let only = ap (λ n. n == 1) (c.len-is_only.ensures.len ∙ ap length (sym (get_or_from_slice_get bs at _ [] c.block.ensures.block))) in
-    let can = cut_mendable c.self.inside.k at c.args.index c.args.rank item.0 _ _ bs c.self.inside.pivots.items c.self.invariant.lawful c.self.invariant.pivots_exact here item.1 among c.partner-partner.ensures only in
+    let can = cut_mendable c.self.inside.k at c.args.index c.args.rank it.item _ _ bs c.self.inside.pivots.items c.self.invariant.lawful c.self.invariant.pivots_exact it.here it.found it.among c.partner-partner.ensures only in
     (search lsm_fits, (search pivots_fit, (subst (λ cs. IsCutMendable c.self.inside.k cs at (c.len-is_only.result == 1) c.partner-partner.result c.self.inside.pivots.items) (sym c.remove-item.ensures.rest) can, c.self.invariant.k_in_range)))
 
 pub replace-requires : goal.replace-requires
 replace-requires g c =
-    let bs = c.self.inside.lsm in
-    let at = c.args.block in
-    let here = subst (λ (p : PartState). at < length p.blocks) (sym c.self.view_is) c.requires.block in
-    let within = subst (λ (p : PartState). c.args.index < length (get_or p.blocks at [])) (sym c.self.view_is) c.requires.index in
-    let item = at_index (get_or bs at []) c.args.index within in
-    let among = sym (subst (λ (p : PartState). slice_get (get_or p.blocks at []) c.args.index ≡ slice_get (candidates_of p) c.args.rank) (sym c.self.view_is) c.requires.rank) ∙ item.1 in
+    let it = candidate_at _ _ c.args.block c.args.index c.args.rank c.self.view_is c.requires.block c.requires.index c.requires.rank in
     record {
-      rank = candidate_ranked c.self.inside.k bs c.self.inside.least.ranking.blocks.items c.args.rank item.0 c.self.invariant.ranking_whole among;
+      rank = candidate_ranked c.self.inside.k c.self.inside.lsm c.self.inside.least.ranking.blocks.items c.args.rank it.item c.self.invariant.ranking_whole it.among;
       room = omega (arith, c.self.invariant.ranking_whole, c.self.invariant.k_in_range);
-      block = omega (arith, here, c.blocks-before.ensures, c.self.invariant.levels_in_range.at_most);
+      block = omega (arith, it.here, c.blocks-before.ensures, c.self.invariant.levels_in_range.at_most);
       next = next_small c.self.inside.k c.remove-item.new.self c.mend_cut-next.result c.mend_cut-next.ensures.next (omega (arith, c.blocks-after.ensures, c.self.invariant.levels_in_range.at_most));
     }
 
@@ -50,27 +39,21 @@ pub least-self-inside-requires : goal.least-self-inside-requires
 least-self-inside-requires g c =
     let bs = c.self.inside.lsm in
     let at = c.args.block in
-    let here = subst (λ (p : PartState). at < length p.blocks) (sym c.self.view_is) c.requires.block in
-    let within = subst (λ (p : PartState). c.args.index < length (get_or p.blocks at [])) (sym c.self.view_is) c.requires.index in
-    let item = at_index (get_or bs at []) c.args.index within in
-    let among = sym (subst (λ (p : PartState). slice_get (get_or p.blocks at []) c.args.index ≡ slice_get (candidates_of p) c.args.rank) (sym c.self.view_is) c.requires.rank) ∙ item.1 in
+    let it = candidate_at _ _ at c.args.index c.args.rank c.self.view_is c.requires.block c.requires.index c.requires.rank in
     let only = ap (λ n. n == 1) (c.len-is_only.ensures.len ∙ ap length (sym (get_or_from_slice_get bs at _ [] c.block.ensures.block))) in
-    let mended = ranking_mended c.self.inside.k at c.args.index c.args.rank item.0 _ _ c.mend_cut-next.result bs c.remove-item.new.self c.self.inside.least.ranking.blocks.items c.remove-item.ensures.rest c.self.invariant.lawful c.self.invariant.ranking_exact c.self.invariant.ranking_whole here item.1 among c.partner-partner.ensures only c.mend_cut-next.ensures.next in
-    let lawful = subst IsLsm (sym c.remove-item.ensures.rest) (lawful_cut bs at c.args.index c.self.invariant.lawful within) in
+    let mended = ranking_mended c.self.inside.k at c.args.index c.args.rank it.item _ _ c.mend_cut-next.result bs c.remove-item.new.self c.self.inside.least.ranking.blocks.items c.remove-item.ensures.rest c.self.invariant.lawful c.self.invariant.ranking_exact c.self.invariant.ranking_whole it.here it.found it.among c.partner-partner.ensures only c.mend_cut-next.ensures.next in
+    let lawful = subst IsLsm (sym c.remove-item.ensures.rest) (lawful_cut bs at c.args.index c.self.invariant.lawful it.within) in
     (search lsm_fits, (lawful, (rw c.replace.ensures mended.0, λ some. rw c.replace.ensures (omega (arith, mended.1, some)))))
 
 pub invariant_of-self : goal.invariant_of-self
 invariant_of-self g c =
     let bs = c.self.inside.lsm in
     let at = c.args.block in
-    let here = subst (λ (p : PartState). at < length p.blocks) (sym c.self.view_is) c.requires.block in
-    let within = subst (λ (p : PartState). c.args.index < length (get_or p.blocks at [])) (sym c.self.view_is) c.requires.index in
-    let item = at_index (get_or bs at []) c.args.index within in
-    let among = sym (subst (λ (p : PartState). slice_get (get_or p.blocks at []) c.args.index ≡ slice_get (candidates_of p) c.args.rank) (sym c.self.view_is) c.requires.rank) ∙ item.1 in
+    let it = candidate_at _ _ at c.args.index c.args.rank c.self.view_is c.requires.block c.requires.index c.requires.rank in
     let only = ap (λ n. n == 1) (c.len-is_only.ensures.len ∙ ap length (sym (get_or_from_slice_get bs at _ [] c.block.ensures.block))) in
-    let mended = ranking_mended c.self.inside.k at c.args.index c.args.rank item.0 _ _ c.mend_cut-next.result bs c.remove-item.new.self c.self.inside.least.ranking.blocks.items c.remove-item.ensures.rest c.self.invariant.lawful c.self.invariant.ranking_exact c.self.invariant.ranking_whole here item.1 among c.partner-partner.ensures only c.mend_cut-next.ensures.next in
+    let mended = ranking_mended c.self.inside.k at c.args.index c.args.rank it.item _ _ c.mend_cut-next.result bs c.remove-item.new.self c.self.inside.least.ranking.blocks.items c.remove-item.ensures.rest c.self.invariant.lawful c.self.invariant.ranking_exact c.self.invariant.ranking_whole it.here it.found it.among c.partner-partner.ensures only c.mend_cut-next.ensures.next in
     record {
-      lawful = subst IsLsm (sym c.remove-item.ensures.rest) (lawful_cut bs at c.args.index c.self.invariant.lawful within);
+      lawful = subst IsLsm (sym c.remove-item.ensures.rest) (lawful_cut bs at c.args.index c.self.invariant.lawful it.within);
       pivots_exact = c.mend_cut-next.ensures.pivots;
       ranking_exact = rw c.replace.ensures mended.0;
       ranking_whole = rw c.replace.ensures mended.1;
@@ -89,3 +72,9 @@ partner-partner-requires g c = (search lsm_fits, subst (λ (p : PartState). c.ar
 
 pub block-requires : goal.block-requires
 block-requires g c = (search lsm_fits, subst (λ (p : PartState). c.args.block < length p.blocks) (sym c.self.view_is) c.requires.block)
+
+pub blocks-before-requires : goal.blocks-before-requires
+blocks-before-requires g c = search lsm_fits
+
+pub blocks-after-requires : goal.blocks-after-requires
+blocks-after-requires g c = search lsm_fits
