@@ -15,7 +15,7 @@ use std::hint;
 use std::sync::Wait;
 
 // How many `spin_loop` a member that missed a part makes before its next try, at first and at most.
-const SHORTEST_PAUSE: u32 = 100;
+const SHORTEST_PAUSE: u32 = 400;
 
 const LONGEST_PAUSE: u32 = 3_200;
 
