@@ -7,7 +7,7 @@ use Rattle.klsm_run.specs.declared.item.Item.{Item}
 use Rattle.klsm_run.specs.ItemOrder.{is_smaller}
 use Rattle.klsm_run.specs.Content.{sorted}
 use Rattle.klsm_run.proofs.ContainsLemmas.{contains_sorted}
-use Rattle.klsm_run.proofs.IndexLemmas.{taken_at, slice_get-take}
+use Rattle.klsm_run.proofs.IndexLemmas.{taken_at}
 use Rattle.klsm_run.proofs.LesserLemmas.{less_if_smaller}
 use Rattle.klsm_run.proofs.RankLemmas.{empty_if_no_least}
 use Rattle.klsm_lsm.specs.Lsm.{content}
@@ -39,10 +39,6 @@ candidate_goes (Some x) candidate r tested not_smaller = let is : is_smaller x c
 -- where there is a least item there is a candidate
 pub some_candidate : (k : ℕ) (c : List Item) (y : Item) → slice_get (sorted c) 0 ≡ Some y → 0 < length (least (k + 1) c)
 some_candidate k c y first = omega (arith, slice_get_within (sorted c) 0 y first, length-take (k + 1) (sorted c))
-
--- the least item is the first candidate
-pub least_is_candidate : (k : ℕ) (c : List Item) (y : Item) → slice_get (sorted c) 0 ≡ Some y → slice_get (least (k + 1) c) 0 ≡ Some y
-least_is_candidate k c y first = slice_get-take (k + 1) (sorted c) 0 (omega arith) ∙ first
 
 -- where the candidate goes, and where the least own item does, that is what may be taken
 go_candidate : (k : ℕ) (own shared : List Item) (c x : Item) (index : ℕ) (o : Option Item) → slice_get (sorted own) 0 ≡ o → slice_get (least (k + 1) shared) index ≡ Some c → Some x ≡ unless_smaller c o → MayTake k own shared x

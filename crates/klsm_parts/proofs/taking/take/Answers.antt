@@ -1,11 +1,10 @@
-use Rattle.std.proofs.Common.{◌≡◌, ◌<◌, [], true, None, Some, length, get_or, refl, sym, ap, subst, ◌∙◌, inl, inr}
+use Rattle.std.proofs.Common.{◌≡◌, ◌<◌, [], true, None, length, get_or, refl, sym, ap, subst, ◌∙◌, inl, inr}
 use Rattle.std.specs.List.{Contains, slice_get}
 use Rattle.std.specs.Option.{option_map}
 use Rattle.std.proofs.lemmas.Option.{slice_get_within}
 use Rattle.klsm_parts.specs.declared.ranks.Place.{Place}
 use Rattle.klsm_run.specs.Content.{sorted}
 use Rattle.klsm_lsm.specs.Lsm.{content}
-use Rattle.klsm_parts.specs.Least.{IsLeast}
 use Rattle.klsm_parts.specs.Parts.{PartState, items_in, least_in, candidates_of}
 use Rattle.klsm_parts.specs.Taking.{picks, IsCutFrom}
 use Rattle.klsm_parts.proofs.EventLemmas.{cut_is_taken, not_taken, shared_taken, shared_stays, contains_cut, may_take_sorted, may_find_nothing, take_skips_few}

@@ -1,16 +1,12 @@
-use Rattle.std.proofs.Common.{List, ◌≡◌, ◌+◌, ◌<◌, length, Some, ap, subst, sym, ◌∙◌, arith, [], get_or}
+use Rattle.std.proofs.Common.{◌≡◌, ◌+◌, ◌<◌, length, Some, subst, sym, ◌∙◌, arith, [], get_or}
 use Rattle.std.specs.List.{slice_get}
 use Rattle.std.proofs.lemmas.List.{length-take}
 use Rattle.klsm_run.specs.Content.{sorted}
 use Rattle.klsm_run.proofs.SortedLemmas.{length_sorted}
 use Rattle.klsm_run.proofs.IndexLemmas.{slice_get-take}
-use Rattle.klsm_run.proofs.RankLemmas.{empty_if_no_least}
-use Rattle.klsm_run.specs.declared.item.Item.{Item}
 use Rattle.klsm_lsm.specs.Lsm.{content}
 use Rattle.klsm_parts.specs.Least.{least}
-use Rattle.klsm_parts.specs.LeastPlaces.{IsLeastPlace}
-use Rattle.klsm_parts.specs.Parts.{PartState, candidates_of}
-use Rattle.klsm_parts.proofs.TakeLemmas.{least_is_candidate}
+use Rattle.klsm_parts.specs.Parts.{PartState}
 use Rattle.klsm_parts.proofs.FitLemmas.{lsm_fits}
 use Rattle.klsm_parts.proofs.shared.Shared.place_of_candidate.Goals as goal
 

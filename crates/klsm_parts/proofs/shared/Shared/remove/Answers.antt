@@ -1,4 +1,4 @@
-use Rattle.std.proofs.Common.{◌≡◌, ◌<◌, ◌==◌, [], length, subst, sym, ap, ◌∙◌, List, arith}
+use Rattle.std.proofs.Common.{◌<◌, ◌==◌, [], length, subst, sym, ap, ◌∙◌, List, arith}
 use Rattle.std.proofs.lemmas.Option.{get_or_from_slice_get}
 use Rattle.klsm_run.specs.declared.item.Item.{Item}
 use Rattle.klsm_lsm.specs.Lsm.{IsLsm}
