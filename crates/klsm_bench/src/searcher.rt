@@ -1,7 +1,7 @@
 //! A client that searches an instance by branch and bound, over any queue of open nodes. It makes the
 //! calls of a worker of `klsm_knapsack::solve`, and counts the nodes.
 ghost use Rattle.std.specs.Prelude.{◌<◌, length};
-ghost use Rattle.klsm_knapsack.specs.Nodes.{IsNodeOf};
+ghost use Rattle.klsm_instance.specs.Nodes.{IsNodeOf};
 
 use crate::contenders::Contender;
 use klsm_knapsack::{Instance, Node};

@@ -3,12 +3,12 @@ use Rattle.std.proofs.Common.{ℕ, zero, suc, ◌+◌, ◌^◌, ◌<◌, ◌≤�
 use Rattle.std.specs.List.{AllByRecursion, Contains, flat_map}
 use Rattle.std.proofs.lemmas.List.Elements.{Contains-append_left, Contains-append_right, Contains-append_cases}
 use Rattle.klsm_run.specs.declared.item.Item.{Item}
-use Rattle.klsm_knapsack.specs.Selections.{Problem}
-use Rattle.klsm_knapsack.specs.Nodes.{NoneAbove, level_in, picks_in}
+use Rattle.klsm_instance.specs.Selections.{Problem}
+use Rattle.klsm_instance.specs.Nodes.{NoneAbove, level_in, picks_in}
 use Rattle.klsm_knapsack.specs.Numbers.{value_in}
 use Rattle.klsm_knapsack.specs.Work.{IsNodeItem, Has, Work, IsDone, HasWorked, IsWorkedOff, NothingIsMissed, all_inserted}
-use Rattle.klsm_knapsack.proofs.NodeLemmas.{completes_root}
-use Rattle.klsm_knapsack.proofs.SearchLemmas.{covers_both, covers_more}
+use Rattle.klsm_instance.proofs.NodeLemmas.{completes_root}
+use Rattle.klsm_instance.proofs.SearchLemmas.{covers_both, covers_more}
 
 -- an item of one of the workers' lists
 record One (p : Problem) (works : List Work) (value : ℕ) (list : Work → List Item) (x : Item) : Type 0 where

@@ -15,8 +15,8 @@ use Rattle.klsm_board.proofs.ending.EndLemmas.{place_within}
 use Rattle.klsm_knapsack.specs.declared.common.Common.{Common}
 use Rattle.klsm_knapsack.specs.declared.common.Worker.{Worker}
 use Rattle.klsm_knapsack.specs.declared.errors.Refusal.{Refusal}
-use Rattle.klsm_knapsack.specs.Selections.{Problem}
-use Rattle.klsm_knapsack.specs.Nodes.{level_in, picks_in}
+use Rattle.klsm_instance.specs.Selections.{Problem}
+use Rattle.klsm_instance.specs.Nodes.{level_in, picks_in}
 use Rattle.klsm_knapsack.specs.Watching.{found_by}
 use Rattle.klsm_knapsack.specs.Work.{Has, HasWorked, IsNodeItem}
 use Rattle.klsm_knapsack.specs.Ends.{EndsAnswered, HasEnded, first_refusal}

@@ -5,14 +5,14 @@ use Rattle.std.proofs.lemmas.Bool.{cases_lt}
 use Rattle.std.proofs.lemmas.Option.{slice_get-get_or, get_or_from_slice_get}
 use Rattle.std.proofs.Math.Pow.{shr_mono}
 use Rattle.klsm_run.specs.declared.item.Item.{Item}
-use Rattle.klsm_knapsack.specs.declared.search.Best.{Best}
-use Rattle.klsm_knapsack.specs.Selections.{Problem, IsFeasible, value_of}
-use Rattle.klsm_knapsack.specs.Nodes.{NoneAbove, level_in, picks_in}
-use Rattle.klsm_knapsack.specs.Answers.{IsAnswer, IsBestAnswer}
+use Rattle.klsm_instance.specs.declared.search.Best.{Best}
+use Rattle.klsm_instance.specs.Selections.{Problem, IsFeasible, value_of}
+use Rattle.klsm_instance.specs.Nodes.{NoneAbove, level_in, picks_in}
+use Rattle.klsm_instance.specs.Answers.{IsAnswer, IsBestAnswer}
 use Rattle.klsm_knapsack.specs.Numbers.{value_in}
 use Rattle.klsm_knapsack.specs.Work.{Work, IsNodeItem}
 use Rattle.klsm_knapsack.specs.Workers.{AreFinished, IsSearched}
-use Rattle.klsm_knapsack.proofs.SearchLemmas.{covers_more}
+use Rattle.klsm_instance.proofs.SearchLemmas.{covers_more}
 use Rattle.klsm_knapsack.proofs.CoverageLemmas.{nothing_is_missed}
 
 pub finished_more : (p : Problem) (left : List Item) (n before after : ℕ) (d : Item) → before ≤ after → AreFinished p left n before

@@ -23,7 +23,7 @@ use Rattle.klsm_knapsack.specs.declared.common.Worker.{Worker}
 use Rattle.klsm_knapsack.specs.declared.errors.Refusal.{Refusal}
 use Rattle.klsm_knapsack.specs.declared.errors.Refusal.TheVariants as refusal
 use Rattle.klsm_knapsack.specs.declared.errors.SolveError.TheVariants.{BadThreads, BadK, NoMemory}
-use Rattle.klsm_knapsack.specs.Selections.{Problem}
+use Rattle.klsm_instance.specs.Selections.{Problem}
 use Rattle.klsm_knapsack.specs.Watching.{IsOf, found_by}
 use Rattle.klsm_knapsack.specs.Work.{Has, HasWorked, all_inserted, all_deleted}
 use Rattle.klsm_knapsack.specs.Ends.{End, HasEnded, IsLeastRefusal, first_refusal}

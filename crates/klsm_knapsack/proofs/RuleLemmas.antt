@@ -9,10 +9,10 @@ use native.Mathlib.Decide.{ℕ_discrete}
 use lib.ListN.{get_elem?}
 use Rattle.atomic_table.specs.Table.{State, Me, step, keeps, opening, Allows, Splits, Joins}
 use Rattle.atomic_table.proofs.Lists.{at_set, at_snoc, at_longer, set_here, set_else}
-use Rattle.klsm_knapsack.specs.Selections.{Problem}
+use Rattle.klsm_instance.specs.Selections.{Problem}
 use Rattle.klsm_knapsack.specs.Numbers.{IsIncumbent}
-use Rattle.klsm_knapsack.proofs.BoundLemmas.{all_contained}
-use Rattle.klsm_knapsack.proofs.SearchLemmas.{first_answer}
+use Rattle.klsm_instance.proofs.BoundLemmas.{all_contained}
+use Rattle.klsm_instance.proofs.SearchLemmas.{first_answer}
 use Rattle.klsm_knapsack.specs.declared.rule.View.{View}
 use Rattle.klsm_knapsack.specs.Highest.{nothing_yet, together, WasRaisedBy, IsSeen, IsHighest, finds, raises}
 

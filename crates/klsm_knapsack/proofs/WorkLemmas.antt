@@ -7,12 +7,12 @@ use Rattle.std.proofs.Math.Pow.{shr_mono}
 use Rattle.klsm_run.specs.declared.item.Item.{Item}
 use Rattle.klsm_board.specs.declared.sizes.Sizes.{Sizes}
 use Rattle.klsm_knapsack.specs.declared.common.Worker.{Worker}
-use Rattle.klsm_knapsack.specs.Selections.{Problem}
-use Rattle.klsm_knapsack.specs.Nodes.{level_in, picks_in}
+use Rattle.klsm_instance.specs.Selections.{Problem}
+use Rattle.klsm_instance.specs.Nodes.{level_in, picks_in}
 use Rattle.klsm_knapsack.specs.Numbers.{value_in}
 use Rattle.klsm_knapsack.specs.Work.{Work, Has, IsNodeItem, IsSplit, IsDone, HasWorked}
 use Rattle.klsm_knapsack.specs.Workers.{InsertsNodes, Extends, IsSameWorker}
-use Rattle.klsm_knapsack.proofs.SearchLemmas.{covers_more}
+use Rattle.klsm_instance.proofs.SearchLemmas.{covers_more}
 use Rattle.klsm_knapsack.proofs.CoverageLemmas.{wider}
 
 pub inserts_none : (p : Problem) (xs : List Item) → InsertsNodes p xs xs

@@ -5,7 +5,7 @@ use mathlib.Core.Option.{some}
 use lib.ListN.{get_elem?}
 use Rattle.atomic_table.specs.Table.{State, Me, Step}
 use Rattle.klsm_knapsack.specs.declared.rule.View.{View}
-use Rattle.klsm_knapsack.specs.Selections.{Problem}
+use Rattle.klsm_instance.specs.Selections.{Problem}
 use Rattle.klsm_knapsack.specs.Numbers.{IsIncumbent}
 
 abbrev pub nothing_yet : View

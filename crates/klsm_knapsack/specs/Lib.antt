@@ -1,14 +1,8 @@
 -- The definitions, in the order in which they are best read.
-pub mod Selections  -- selections of things
-pub mod Limits  -- how large a problem may be
-pub mod Nodes  -- nodes of the search, and their bounds
-pub mod Answers  -- what a search answers
 pub mod Numbers  -- the numbers of the incumbent
 pub mod Highest  -- the rule of the incumbent's word
 pub mod Watching  -- what a thread knows of it
 pub mod Work  -- nodes as items, what workers do with them, and that nothing is missed
 pub mod Ends  -- how workers end
 pub mod Workers  -- workers, and how the work of one of them grows
-pub mod Format  -- what the rows of an instance say, and what is wrong with a row
 pub mod Refusals  -- why a search ends without an answer
-pub mod Prepared  -- how an instance is kept; no public contract cites it

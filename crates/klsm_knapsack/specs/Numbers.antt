@@ -1,6 +1,6 @@
 -- The numbers of the incumbent: a value times 2^32, and a selection.
 use Rattle.std.specs.Prelude.{ℕ, ◌≡◌, ◌/◌, ◌%◌, ◌^◌}
-use Rattle.klsm_knapsack.specs.Selections.{Problem, IsFeasible, value_of}
+use Rattle.klsm_instance.specs.Selections.{Problem, IsFeasible, value_of}
 
 abbrev pub value_in : ℕ → ℕ
 value_in n = n / 2 ^ 32

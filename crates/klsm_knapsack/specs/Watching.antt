@@ -2,7 +2,7 @@
 use Rattle.std.specs.Prelude.{ℕ, ◌≡◌, List}
 use Rattle.klsm_knapsack.specs.declared.incumbent.Incumbent.{Incumbent}
 use Rattle.klsm_knapsack.specs.declared.incumbent.Watcher.{Watcher}
-use Rattle.klsm_knapsack.specs.Selections.{Problem}
+use Rattle.klsm_instance.specs.Selections.{Problem}
 
 -- the greatest number that it found there
 abbrev pub found_by : Watcher → ℕ

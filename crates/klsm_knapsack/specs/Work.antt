@@ -2,8 +2,8 @@
 use Rattle.std.specs.Prelude.{ℕ, ◌≡◌, ◌+◌, ◌^◌, ◌<◌, ◌≤◌, ◌⊎◌, List, length}
 use Rattle.std.specs.List.{AllByRecursion, Contains, flat_map}
 use Rattle.klsm_run.specs.declared.item.Item.{Item}
-use Rattle.klsm_knapsack.specs.Selections.{Problem, value_of, weight_of, IsFeasible}
-use Rattle.klsm_knapsack.specs.Nodes.{IsNode, NoneAbove, IsBound, level_in, picks_in}
+use Rattle.klsm_instance.specs.Selections.{Problem, value_of, weight_of, IsFeasible}
+use Rattle.klsm_instance.specs.Nodes.{IsNode, NoneAbove, IsBound, level_in, picks_in}
 use Rattle.klsm_knapsack.specs.Numbers.{value_in}
 
 -- the load stands for a node, and the key is 32,000,000 less its bound

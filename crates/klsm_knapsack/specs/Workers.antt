@@ -9,8 +9,8 @@ use Rattle.klsm_board.specs.Boards.{IsSame, own_steps}
 use Rattle.klsm_board.specs.Boards.{IsOf as IsMemberOf}
 use Rattle.klsm_knapsack.specs.declared.common.Common.{Common}
 use Rattle.klsm_knapsack.specs.declared.common.Worker.{Worker}
-use Rattle.klsm_knapsack.specs.Selections.{Problem}
-use Rattle.klsm_knapsack.specs.Nodes.{NoneAbove, level_in, picks_in}
+use Rattle.klsm_instance.specs.Selections.{Problem}
+use Rattle.klsm_instance.specs.Nodes.{NoneAbove, level_in, picks_in}
 use Rattle.klsm_knapsack.specs.Watching.{IsOf, found_by}
 use Rattle.klsm_knapsack.specs.Work.{Work, Has, HasWorked, IsNodeItem, all_inserted, all_deleted}
 use Rattle.klsm_knapsack.specs.Ends.{EndsAnswered, HasEnded}

@@ -11,8 +11,8 @@ ghost use Rattle.klsm_knapsack.specs.Workers.{HasEndedSo, HasRun, HaveWorked, Is
 use crate::common::{Common, Worker};
 use crate::errors::Refusal;
 use crate::incumbent::{Incumbent, Watcher};
-use crate::instance::Instance;
 use klsm_board::{Gate, Member};
+use klsm_instance::Instance;
 use klsm_parts::random_of;
 use std::alloc::{AllocError, Global};
 use std::sync::Wait;

@@ -1,11 +1,10 @@
 //! After the workers: the nodes that are left are finished.
 ghost use Rattle.std.specs.Prelude.{ℕ, ◌≡◌, ◌+◌, List};
-ghost use Rattle.klsm_knapsack.specs.Answers.{IsAnswer, IsBestAnswer};
+ghost use Rattle.klsm_instance.specs.Answers.{IsAnswer, IsBestAnswer};
 ghost use Rattle.klsm_knapsack.specs.Numbers.{IsIncumbent};
 ghost use Rattle.klsm_knapsack.specs.Workers.{IsSearched};
 
-use crate::instance::Instance;
-use crate::search::Best;
+use klsm_instance::{Best, Instance};
 use klsm_run::Item;
 
 /// The better of the incumbent's last number and the best completions of the nodes left, which are

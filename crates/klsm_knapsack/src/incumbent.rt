@@ -1,9 +1,9 @@
 //! The incumbent, and the seats that watch it.
 ghost use Rattle.std.specs.Prelude.{◌≡◌, []};
 
-use crate::instance::Instance;
 use crate::rule::{Highest, View};
 use atomic_table::{Seat, Table};
+use klsm_instance::Instance;
 use std::alloc::Global;
 
 /// The best selection that any thread found so far, as one word: its value times 2^32, plus its

@@ -1,11 +1,10 @@
 //! Branch and bound for the 0-1 knapsack problem, over the relaxed priority queue.
 //!
-//! A problem has up to 32 things, each of a value and a weight, and a capacity. A selection of
-//! things is a number: thing i is in it where bit i is set. The search goes over nodes, each of
-//! which fixes the choices of the first things. A node that can't be better than the best selection
-//! found so far, the incumbent, is closed; any other has a child that leaves the next thing and, where
-//! that fits, one that takes it. Open nodes lie on a board, so that several workers take them side by
-//! side, each in a thread of its own:
+//! The search goes over nodes, each of which fixes the choices of the first things: `klsm_instance`,
+//! whose names stand here too, has instances, nodes, their bounds and the search in one thread. A node
+//! that can't be better than the best selection found so far, the incumbent, is closed; any other has
+//! a child that leaves the next thing and, where that fits, one that takes it. Open nodes lie on a
+//! board, so that several workers take them side by side, each in a thread of its own:
 //!
 //! ```text
 //! let instance = Instance::read(alloc, text)?;                  // capacity,10 and then value,weight
@@ -14,17 +13,13 @@
 //! ```
 //!
 //! - **The answer is a best selection**, for every number of workers, every k, `idle` and gate, and
-//!   whatever the threads do: clause `best` of `solve`, and that of `solve_in_turn`.
+//!   whatever the threads do: clause `best` of `solve`.
 //! - **A refusal is that of the least numbered worker that met one.** Of a full board clause `refused` of
 //!   `solve` says so; want of memory could also be that of the board itself. The clauses `bad_threads` and
 //!   `bad_k` say when the arguments are refused. No growth stands between the joins and that answer.
-//! - **The bound is exact**, and no completion of a node is above it: clauses `exact` and `sound` of
-//!   `Instance::bound`. An instance keeps the sum and the steepest thing of each suffix, so that a
-//!   bound costs one division beside the sum of what is taken.
 //! - **The incumbent is never lowered.** It is one word of a table of its own, whose rule every step
 //!   keeps: the word is the greatest of the numbers that the seats raised it by, and never below one
 //!   that a seat found there: `Highest`, and clause `rule` of `Incumbent::finish`.
-//! - **A text is read by its rows**, and refused for the first reason that holds: `Instance::read`.
 //!
 //! Why no selection is missed: each worker is done with each node that it deleted, since it closed the
 //! node by a number that it found, or inserted its children; what some worker inserted, some worker
@@ -41,25 +36,14 @@ mod crew;
 mod ending;
 mod errors;
 mod incumbent;
-mod instance;
-mod judge;
 pub mod laws;
-mod node;
-mod reading;
-mod rows;
 mod rule;
-mod search;
 mod solving;
-mod tail;
-mod thing;
 mod watching;
 mod worker;
 
-pub use errors::{ReadError, SolveError};
+pub use errors::SolveError;
 pub use incumbent::{Incumbent, Watcher};
-pub use instance::Instance;
-pub use node::Node;
+pub use klsm_instance::{Best, Instance, Node, ReadError, Thing, solve_in_turn};
 pub use rule::{Highest, View};
-pub use search::{Best, solve_in_turn};
 pub use solving::solve;
-pub use thing::Thing;

@@ -1,6 +1,6 @@
 //! What a seat knows of the incumbent, the rule of its table, and what each step tells.
-use crate::instance::Instance;
 use atomic_table::{Join, Play, Split, TableRule};
+use klsm_instance::Instance;
 use std::collections::LinkedList;
 
 /// What a seat knows. No value of it is made.

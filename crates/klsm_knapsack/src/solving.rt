@@ -2,7 +2,7 @@
 ghost use Rattle.std.specs.Prelude.{All, ◌≡◌, ◌≤◌, ◌<◌, ◌⊎◌, ◌↔◌, IfOk, IfErr, IsErrAnd, length};
 ghost use Rattle.klsm_parts.specs.Limit.{IsLevelCount};
 ghost use Rattle.klsm_board.specs.Boards.{IsCrew, IsOf};
-ghost use Rattle.klsm_knapsack.specs.Answers.{IsBestAnswer};
+ghost use Rattle.klsm_instance.specs.Answers.{IsBestAnswer};
 ghost use Rattle.klsm_knapsack.specs.Refusals.{RefusesSearch, sizes_of};
 
 use crate::common::Common;
@@ -10,9 +10,8 @@ use crate::crew::{dismiss, recruit, search};
 use crate::ending::conclude;
 use crate::errors::SolveError;
 use crate::incumbent::Incumbent;
-use crate::instance::Instance;
-use crate::search::Best;
 use klsm_board::{Board, Gate, MakeError, Member};
+use klsm_instance::{Best, Instance};
 use std::alloc::Global;
 use std::sync::Wait;
 use std::thread::Threads;

@@ -1,14 +1,14 @@
 //! The steps on the incumbent.
 ghost use Rattle.std.specs.Prelude.{ℕ, ◌≡◌, ◌≤◌, ◌<◌, ◌⊎◌, [], ◌∷◌, max, IfOk};
-ghost use Rattle.klsm_knapsack.specs.Selections.{Problem};
+ghost use Rattle.klsm_instance.specs.Selections.{Problem};
 ghost use Rattle.klsm_knapsack.specs.Numbers.{IsIncumbent};
 ghost use Rattle.klsm_knapsack.specs.Highest.{nothing_yet, together, LastSeen};
 ghost use Rattle.klsm_knapsack.specs.Watching.{found_by, raised_by, IsOf, problem_of};
 
 use crate::incumbent::{Incumbent, Watcher};
-use crate::instance::Instance;
 use crate::rule::{Another, Found, Raised, Together};
 use atomic_table::Table;
+use klsm_instance::Instance;
 use std::alloc::{AllocError, Global};
 
 impl Incumbent {

@@ -3,9 +3,9 @@ ghost use Rattle.std.specs.Prelude.{ℕ, ◌≡◌, ◌≤◌, ◌<◌, ◌+◌,
 ghost use Rattle.klsm_run.specs.declared.item.Item.{Item};
 ghost use Rattle.klsm_world.specs.OwnSteps.{inserted, deleted};
 ghost use Rattle.klsm_board.specs.Boards.{own_steps};
-ghost use Rattle.klsm_knapsack.specs.Selections.{value_of, weight_of};
-ghost use Rattle.klsm_knapsack.specs.Limits.{IsInRange};
-ghost use Rattle.klsm_knapsack.specs.Nodes.{IsNodeOf, level_in, picks_in};
+ghost use Rattle.klsm_instance.specs.Selections.{value_of, weight_of};
+ghost use Rattle.klsm_instance.specs.Limits.{IsInRange};
+ghost use Rattle.klsm_instance.specs.Nodes.{IsNodeOf, level_in, picks_in};
 ghost use Rattle.klsm_knapsack.specs.Watching.{problem_of};
 ghost use Rattle.klsm_knapsack.specs.Work.{Has, IsNodeItem, IsSplit, IsDone, HasWorked};
 ghost use Rattle.klsm_knapsack.specs.Ends.{EndsAnswered, EndsRefused};
@@ -13,9 +13,8 @@ ghost use Rattle.klsm_knapsack.specs.Workers.{Extends, HasEndedSo, HasRun, Inser
 
 use crate::common::{Common, Worker};
 use crate::errors::Refusal;
-use crate::instance::Instance;
-use crate::node::{Node, packed};
 use klsm_board::{Gate, InsertError};
+use klsm_instance::{Instance, Node, packed};
 use std::sync::Wait;
 
 impl<const LEVELS: usize> Worker<LEVELS> {

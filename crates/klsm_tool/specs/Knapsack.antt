@@ -3,14 +3,14 @@ use Rattle.std.specs.Prelude.{ℕ, zero, suc, Bool, ◌+◌, ◌/◌, ◌%◌, �
 use Rattle.std.specs.Prelude.{List, [], ◌∷◌, ◌++◌, length, codes, Option}
 use Rattle.std.specs.List.{concat}
 use Rattle.std.specs.Fmt.{decimal}
-use Rattle.klsm_knapsack.specs.declared.errors.ReadError.{ReadError}
-use Rattle.klsm_knapsack.specs.declared.errors.ReadError.TheVariants as read_error
+use Rattle.klsm_instance.specs.declared.errors.ReadError.{ReadError}
+use Rattle.klsm_instance.specs.declared.errors.ReadError.TheVariants as read_error
 use Rattle.klsm_knapsack.specs.declared.errors.SolveError.TheVariants as solve_error
-use Rattle.klsm_knapsack.specs.declared.search.Best.{Best}
-use Rattle.klsm_knapsack.specs.Answers.{IsBestAnswer}
-use Rattle.klsm_knapsack.specs.Format.{IsProblemIn, RefusesInput}
+use Rattle.klsm_instance.specs.declared.search.Best.{Best}
+use Rattle.klsm_instance.specs.Answers.{IsBestAnswer}
+use Rattle.klsm_instance.specs.Format.{IsProblemIn, RefusesInput}
 use Rattle.klsm_knapsack.specs.Refusals.{RefusesSearch}
-use Rattle.klsm_knapsack.specs.Selections.{Problem, weight_of}
+use Rattle.klsm_instance.specs.Selections.{Problem, weight_of}
 use Rattle.klsm_tool.specs.declared.settings.End.{End}
 use Rattle.klsm_tool.specs.declared.settings.End.TheVariants as end
 use Rattle.klsm_tool.specs.declared.settings.Report.{Report}

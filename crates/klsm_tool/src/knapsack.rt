@@ -1,7 +1,7 @@
 //! `klsm knapsack`: a best selection of the things of an instance.
 ghost use Rattle.std.specs.Prelude.{◌≡◌, ◌≤◌, Option, ℕ, List};
-ghost use Rattle.klsm_knapsack.specs.Answers.{IsBestAnswer};
-ghost use Rattle.klsm_knapsack.specs.Format.{IsProblemIn, RefusesInput};
+ghost use Rattle.klsm_instance.specs.Answers.{IsBestAnswer};
+ghost use Rattle.klsm_instance.specs.Format.{IsProblemIn, RefusesInput};
 ghost use Rattle.klsm_tool.specs.Knapsack.{Solves, RefusesIn, WritesBest};
 
 use crate::output::write_last;

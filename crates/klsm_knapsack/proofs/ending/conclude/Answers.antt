@@ -1,6 +1,6 @@
 use Rattle.std.proofs.Common.{get_or, sym, arith}
 use Rattle.klsm_run.specs.declared.item.Item.{Item}
-use Rattle.klsm_knapsack.specs.Nodes.{NoneAbove, level_in, picks_in}
+use Rattle.klsm_instance.specs.Nodes.{NoneAbove, level_in, picks_in}
 use Rattle.klsm_knapsack.proofs.EndLemmas.{finished_more, is_best}
 use Rattle.klsm_knapsack.proofs.ending.conclude.Goals as goal
 use Rattle.klsm_knapsack.proofs.ending.conclude.Goals.{in-Some, in_default}

@@ -1,5 +1,5 @@
 use Rattle.std.proofs.Common.{◌≤◌}
-use Rattle.klsm_knapsack.specs.Answers.{IsAnswer}
+use Rattle.klsm_instance.specs.Answers.{IsAnswer}
 use Rattle.klsm_knapsack.specs.Numbers.{value_in}
 use Rattle.klsm_knapsack.specs.Workers.{AreFinished}
 use Rattle.klsm_knapsack.proofs.ending.conclude.Given as goal

@@ -1,13 +1,13 @@
 use Rattle.std.proofs.Common.{◌≡◌, ◌≤◌, ℕ, arith, rules, sym, subst, ap, ◌∙◌, inl, refl, lit<}
 use Rattle.std.proofs.lemmas.Result.{IfOk-weaker}
 use Rattle.std.proofs.Math.Pow.{shr_mono}
-use Rattle.klsm_knapsack.specs.Selections.{Problem, IsFeasible}
-use Rattle.klsm_knapsack.specs.Nodes.{NoneAbove, level_in, picks_in}
+use Rattle.klsm_instance.specs.Selections.{Problem, IsFeasible}
+use Rattle.klsm_instance.specs.Nodes.{NoneAbove, level_in, picks_in}
 use Rattle.klsm_knapsack.specs.Numbers.{IsIncumbent, value_in}
-use Rattle.klsm_knapsack.proofs.NodeLemmas.{own_feasible}
-use Rattle.klsm_knapsack.proofs.TailLemmas.{value_small}
+use Rattle.klsm_instance.proofs.NodeLemmas.{own_feasible}
+use Rattle.klsm_instance.proofs.TailLemmas.{value_small}
 use Rattle.klsm_knapsack.proofs.WorkLemmas.{inserts_none, extends_none, extends_both, same_both}
-use Rattle.klsm_knapsack.proofs.SearchLemmas.{covers_last, covers_more}
+use Rattle.klsm_instance.proofs.SearchLemmas.{covers_last, covers_more}
 use Rattle.klsm_knapsack.proofs.common.Worker.examine.Goals as goal
 use Rattle.klsm_knapsack.proofs.common.Worker.examine.Goals.{then-node-len-via-then-node-len, then-node-len-via-else-node-len+then-bound_of-found}
 

@@ -1,0 +1,147 @@
+//! Nodes of the search, and the items that they are on a board. A solver over another queue uses
+//! these too.
+ghost use Rattle.std.specs.Prelude.{ℕ, ◌≡◌, ◌+◌, ◌-◌, ◌/◌, ◌%◌, ◌^◌, ◌<◌, ◌≤◌, MatchOption, length};
+ghost use Rattle.klsm_instance.specs.Selections.{weight_of};
+ghost use Rattle.klsm_instance.specs.Limits.{IsInRange};
+ghost use Rattle.klsm_instance.specs.Nodes.{IsNode, IsBound, IsNodeOf, NoneAbove, level_in, picks_in};
+
+use crate::instance::Instance;
+use crate::thing::Thing;
+
+/// A node of the search: the choices of the first `level` things are made.
+#[derive(Clone, Copy, Debug, Drop)]
+pub struct Node {
+    /// How many choices are made.
+    pub level: usize,
+    /// The things taken: thing i where bit i is set.
+    pub picks: u64,
+    /// The value and the weight of these together.
+    pub taken: Thing,
+}
+
+/// The greatest bound that a node may have.
+const GREATEST_BOUND: u64 = 32_000_000;
+
+impl Instance {
+    /// The node at which no choice is made.
+    pub fn root(&self) -> Node
+        ensures node { IsNodeOf self.now result }
+        ensures root { (result.level ≡ 0) × (result.picks ≡ 0) }
+    {
+        Node {
+            level: 0,
+            picks: 0,
+            taken: Thing {
+                value: 0,
+                weight: 0,
+            },
+        }
+    }
+
+    /// The child of a node that leaves the next thing.
+    #[inline]
+    pub fn leaving(&self, node: &Node) -> Node
+        requires node { IsNodeOf self.now node.now }
+        requires free { node.now.level < length self.now.things }
+        ensures node { IsNodeOf self.now result }
+        ensures child { (result.level ≡ node.now.level + 1) × (result.picks ≡ node.now.picks) }
+    {
+        let len = self.len();
+        prove!(node.level < len);
+        Node {
+            level: node.level + 1,
+            picks: node.picks,
+            taken: node.taken,
+        }
+    }
+
+    /// The child of a node that takes the next thing, where that fits.
+    #[inline]
+    pub fn taking(&self, node: &Node) -> Option<Node>
+        requires node { IsNodeOf self.now node.now }
+        requires free { node.now.level < length self.now.things }
+        ensures { MatchOption result
+            (self.now.capacity < weight_of self.now (node.now.picks + 2 ^ node.now.level))
+            (λ child. IsNodeOf self.now child × (child.level ≡ node.now.level + 1)
+            × (child.picks ≡ node.now.picks + 2 ^ node.now.level)) }
+    {
+        let thing = self.thing(node.level);
+        if thing.weight > self.capacity() - node.taken.weight {
+            return None;
+        }
+        Some(Node {
+            level: node.level + 1,
+            picks: node.picks + (1 << node.level),
+            taken: Thing {
+                value: node.taken.value + thing.value,
+                weight: node.taken.weight + thing.weight,
+            },
+        })
+    }
+
+    /// The bound of a node.
+    #[inline]
+    pub fn bound_of(&self, node: &Node) -> u64
+        requires node { IsNodeOf self.now node.now }
+        ensures exact { IsBound self.now node.now.level node.now.picks result }
+        ensures small { result ≤ 32000000 }
+        ensures sound { NoneAbove self.now node.now.level node.now.picks result }
+    {
+        self.bound_with(node.level, node.picks, node.taken)
+    }
+
+    /// The key of a node's item: 32,000,000 less its bound, so that a greater bound comes first.
+    #[inline]
+    pub fn key_of(&self, node: &Node) -> u64
+        requires node { IsNodeOf self.now node.now }
+        ensures { (bound : ℕ) × IsBound self.now node.now.level node.now.picks bound
+            × (result + bound ≡ 32000000) }
+    {
+        let bound = self.bound_of(node);
+        GREATEST_BOUND - bound
+    }
+
+    /// The load of a node's item: its level times 2^32, plus its picks.
+    #[inline]
+    pub fn load_of(&self, node: &Node) -> u64
+        requires node { IsNodeOf self.now node.now }
+        ensures level { level_in result ≡ node.now.level }
+        ensures picks { picks_in result ≡ node.now.picks }
+    {
+        let len = self.len();
+        prove!(len <= 32);
+        packed(node.level as u64, node.picks)
+    }
+
+    /// The node that a load stands for, or none where it stands for no node of this instance.
+    #[inline]
+    pub fn node_of(&self, load: u64) -> Option<Node>
+        ensures { MatchOption result (IsNode self.now (level_in load) (picks_in load) → ⊥)
+            (λ node. IsNodeOf self.now node × (node.level ≡ level_in load)
+            × (node.picks ≡ picks_in load) × IsInRange self.now) }
+    {
+        let level = (load >> 32) as usize;
+        let picks = load % (1 << 32);
+        let taken = self.totals(picks);
+        if level <= self.len() && picks >> level == 0 && taken.weight <= self.capacity() {
+            Some(Node {
+                level,
+                picks,
+                taken,
+            })
+        } else {
+            None
+        }
+    }
+}
+
+/// Two numbers in one, the first in the high half.
+#[inline]
+pub fn packed(high: u64, low: u64) -> u64
+    requires high { high < 2 ^ 32 }
+    requires low { low < 2 ^ 32 }
+    ensures high { result / 2 ^ 32 ≡ high }
+    ensures low { result % 2 ^ 32 ≡ low }
+{
+    (high << 32) + low
+}

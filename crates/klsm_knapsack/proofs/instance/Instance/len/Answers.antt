@@ -1,5 +1,0 @@
-use Rattle.std.proofs.Common.{rules}
-use Rattle.klsm_knapsack.proofs.instance.Instance.len.Goals as goal
-
-pub returns-clause-len : goal.returns-clause-len
-returns-clause-len c = search rules

@@ -1,5 +1,0 @@
-use Rattle.klsm_knapsack.proofs.SearchLemmas.{first_answer}
-use Rattle.klsm_knapsack.proofs.search.solve_in_turn.Goals as goal
-
-pub finish-requires-clause-best : goal.finish-requires-clause-best
-finish-requires-clause-best c = first_answer c.args.instance.now
