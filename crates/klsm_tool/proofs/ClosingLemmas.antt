@@ -9,8 +9,8 @@ use Rattle.csv.specs.Reading.{Reached, default_config, strip_bom}
 use Rattle.klsm_world.specs.declared.step.Entry.{Entry}
 use Rattle.klsm_tool.specs.declared.answer.Line.{Line}
 use Rattle.klsm_tool.specs.declared.output.Output.{Output}
-use Rattle.klsm_tool.specs.declared.settings.End.TheVariants as end
-use Rattle.klsm_tool.specs.declared.settings.Report.{Report}
+use Rattle.klsm_tool.specs.declared.report.End.TheVariants as end
+use Rattle.klsm_tool.specs.declared.report.Report.{Report}
 use Rattle.klsm_tool.specs.declared.stop.Closing.{Closing}
 use Rattle.klsm_tool.specs.declared.stop.Stop.{Stop}
 use Rattle.klsm_tool.specs.declared.stop.Stop.TheVariants as stop

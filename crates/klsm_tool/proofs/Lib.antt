@@ -2,8 +2,6 @@ pub mod AloneLemmas  -- a replay over a board of its own
 pub mod ClosingLemmas
 pub mod KeepingLemmas  -- what one row does to the rows that are kept for the threads
 pub mod LiveItemLemmas  -- what joins and leaves the live items
-pub mod OptionLemmas  -- what the options of a command come to
-pub mod CommandLemmas  -- a command with its subcommands
 pub mod OutputLemmas
 pub mod CrewLemmas  -- one member goes on, and the others stay
 pub mod ShownLemmas  -- what the calls of a member show in the text

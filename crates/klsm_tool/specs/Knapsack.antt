@@ -11,9 +11,9 @@ use Rattle.klsm_instance.specs.Answers.{IsBestAnswer}
 use Rattle.klsm_instance.specs.Format.{IsProblemIn, RefusesInput}
 use Rattle.klsm_knapsack.specs.Refusals.{RefusesSearch}
 use Rattle.klsm_instance.specs.Selections.{Problem, weight_of}
-use Rattle.klsm_tool.specs.declared.settings.End.{End}
-use Rattle.klsm_tool.specs.declared.settings.End.TheVariants as end
-use Rattle.klsm_tool.specs.declared.settings.Report.{Report}
+use Rattle.klsm_tool.specs.declared.report.End.{End}
+use Rattle.klsm_tool.specs.declared.report.End.TheVariants as end
+use Rattle.klsm_tool.specs.declared.report.Report.{Report}
 use Rattle.klsm_tool.specs.AnswerText.{row_text}
 use Rattle.klsm_tool.specs.Replay.{GoesOrFails}
 

@@ -10,8 +10,6 @@ pub mod Replay  -- what `replay_over` promises
 pub mod ThreadRows  -- the rows of a script that is read whole
 pub mod Live  -- what `live_over` promises
 pub mod Knapsack  -- what `knapsack_over` promises
-pub mod Options  -- the options of `replay`, as the parser reads them
-pub mod CommandLine  -- the command line, as its parser reads it
 pub mod Program  -- what `run_words` promises
 pub mod LineText  -- the text of a line that is being made; no public contract cites it
 pub mod Output  -- what writing a line does; no public contract cites it

@@ -3,8 +3,8 @@ use Rattle.std.specs.Prelude.{ℕ, ◌≡◌, ◌≢◌, ◌+◌, ◌⊎◌, Lis
 use Rattle.std.specs.Prelude.{Result, Ok, Err}
 use Rattle.std.specs.Io.KnownBytes.{Appends, Keeps}
 use Rattle.klsm_tool.specs.declared.output.Output.{Output}
-use Rattle.klsm_tool.specs.declared.settings.End.TheVariants as end
-use Rattle.klsm_tool.specs.declared.settings.Report.{Report}
+use Rattle.klsm_tool.specs.declared.report.End.TheVariants as end
+use Rattle.klsm_tool.specs.declared.report.Report.{Report}
 use Rattle.klsm_tool.specs.declared.stop.Stop.{Stop}
 use Rattle.klsm_tool.specs.declared.stop.Stop.TheVariants as stop
 use Rattle.klsm_tool.specs.declared.stop.Closing.{Closing}

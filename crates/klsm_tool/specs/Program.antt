@@ -2,17 +2,14 @@
 use Rattle.std.specs.Prelude.{ℕ, ⊤, ◌≡◌, ◌<◌, ◌⊎◌, List, length, take, Option, Some, None, codes, IsUtf8}
 use Rattle.std.specs.List.{All}
 use Rattle.std.specs.Io.KnownBytes.{Appends}
-use Rattle.clap.specs.declared.error.kind.ErrorKind.{ErrorKind}
-use Rattle.klsm_tool.specs.declared.command_line.Action.{Action}
-use Rattle.klsm_tool.specs.declared.command_line.Action.TheVariants.{Replay, Live, Knapsack}
-use Rattle.klsm_tool.specs.declared.command_line.Fault.{Fault}
-use Rattle.klsm_tool.specs.declared.command_line.Fault.TheVariants.{Said, UnknownPick, NotText, NoMemory}
-use Rattle.klsm_tool.specs.declared.settings.End.{End}
-use Rattle.klsm_tool.specs.declared.settings.End.TheVariants as end
-use Rattle.klsm_tool.specs.declared.settings.Report.{Report}
-use Rattle.klsm_tool.specs.declared.settings.Search.{Search}
-use Rattle.klsm_tool.specs.declared.settings.Settings.{Settings}
-use Rattle.klsm_tool.specs.CommandLine.{HasStatus, IsCommand, action_in, status_of_text, usual_settings}
+use Rattle.klsm_words.specs.declared.command_line.Action.{Action}
+use Rattle.klsm_words.specs.declared.command_line.Action.TheVariants.{Replay, Live, Knapsack}
+use Rattle.klsm_tool.specs.declared.report.End.{End}
+use Rattle.klsm_tool.specs.declared.report.End.TheVariants as end
+use Rattle.klsm_tool.specs.declared.report.Report.{Report}
+use Rattle.klsm_words.specs.declared.settings.Search.{Search}
+use Rattle.klsm_words.specs.declared.settings.Settings.{Settings}
+use Rattle.klsm_words.specs.CommandLine.{HasStatus, IsCommand, action_in, usual_settings}
 use Rattle.klsm_tool.specs.Replay.{ReplaysAlone}
 use Rattle.klsm_tool.specs.Live.{Lives}
 use Rattle.klsm_tool.specs.Knapsack.{Solves}
@@ -25,21 +22,6 @@ status_of end.Full = 3
 status_of end.NoMemory = 3
 status_of end.ReadFault = 4
 status_of end.WriteFault = 4
-
--- why words ask for no run: the parser has a text on them, the word of `--pick` is none that it
--- takes, one of them is not UTF-8, or memory is wanted
-abbrev pub IsFaultIn : List (List ℕ) → Fault → Type 0
-IsFaultIn words (Said text status) = HasStatus words status
-IsFaultIn words UnknownPick = IsCommand words × (action_in words ≡ None)
-IsFaultIn words NotText = ¬ (All IsUtf8 words)
-IsFaultIn words NoMemory = ⊤
-
--- what an error of the parser leads to
-abbrev pub Explains : ErrorKind → Fault → Type 0
-Explains what (Said text status) = status ≡ status_of_text what
-Explains what UnknownPick = ⊥
-Explains what NotText = ⊥
-Explains what NoMemory = ⊤
 
 -- a text goes out and the program ends with its status, or the writer fails before the text's end
 abbrev pub Says : Option (List ℕ) → Option (List ℕ) → List ℕ → ℕ → ℕ → Type 0

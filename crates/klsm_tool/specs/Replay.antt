@@ -8,9 +8,9 @@ use Rattle.klsm_board.specs.Rule.{IsReached}
 use Rattle.klsm_board.specs.Finishing.{AreListsAtEnd}
 use Rattle.klsm_tool.specs.declared.answer.Line.{Line}
 use Rattle.klsm_tool.specs.declared.request.Request.{Request}
-use Rattle.klsm_tool.specs.declared.settings.End.{End}
-use Rattle.klsm_tool.specs.declared.settings.End.TheVariants as end
-use Rattle.klsm_tool.specs.declared.settings.Report.{Report}
+use Rattle.klsm_tool.specs.declared.report.End.{End}
+use Rattle.klsm_tool.specs.declared.report.End.TheVariants as end
+use Rattle.klsm_tool.specs.declared.report.Report.{Report}
 use Rattle.klsm_tool.specs.declared.stop.Stop.{Stop}
 use Rattle.klsm_tool.specs.declared.stop.Stop.TheVariants as stop
 use Rattle.klsm_rows.specs.Rows.{Row, AreFirstRows, AreAllRows}

@@ -12,11 +12,11 @@ use crate::answer::{Answer, Line, Printed};
 use crate::live_items::LiveItems;
 use crate::picking::{ThreadPicker, pickers_of};
 use crate::request::{Operation, Request};
-use crate::settings::Settings;
 use crate::stop::Stop;
 use crate::turns::{delete_by, insert_by};
 use klsm_board::{Board, Member};
 use klsm_run::Item;
+use klsm_words::Settings;
 use std::alloc::{AllocError, Global};
 use std::sync::Wait;
 

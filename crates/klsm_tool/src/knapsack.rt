@@ -5,8 +5,8 @@ ghost use Rattle.klsm_instance.specs.Format.{IsProblemIn, RefusesInput};
 ghost use Rattle.klsm_tool.specs.Knapsack.{Solves, RefusesIn, WritesBest};
 
 use crate::output::write_last;
+use crate::report::{End, Report};
 use crate::selection_text::{refusal_text, selection_text};
-use crate::settings::{End, Report};
 use crate::stop::NO_MEMORY;
 use klsm_board::Gate;
 use klsm_knapsack::{Best, Instance, ReadError, SolveError, solve};

@@ -21,9 +21,8 @@
 //! further row is waited for: `watched` knows how far the whole rows go that were read. A `Stop` is
 //! why no further row is answered, and makes the last line. Where threads run the rows, `thread_rows`
 //! keeps them for their threads, and `live` has a `worker` for each; `progress` tells of a long run.
-//! `knapsack` reads an instance and writes its answer by `selection_text`. `command_line` has the
-//! words, and `options` what they may say: the kit's `clap` parses them, after a look whether they are
-//! text.
+//! `knapsack` reads an instance and writes its answer by `selection_text`. `program` runs what its words
+//! ask for, as `klsm_words` reads them.
 //!
 //! - **The text is that of the definition.** What goes out is the first `written` bytes of the
 //!   answer text of the rows that were read, and all of it unless the writer failed: `Replays`, the
@@ -45,23 +44,21 @@
 
 mod answer;
 mod beside;
-mod command_line;
-mod help;
 mod judge;
 mod knapsack;
 mod line_text;
 mod live;
 mod live_items;
-mod options;
 mod output;
 mod picking;
 mod process_words;
+mod program;
 mod progress;
 mod replay;
+mod report;
 mod request;
 mod script;
 mod selection_text;
-mod settings;
 mod status;
 mod stop;
 mod thread_rows;
@@ -70,10 +67,11 @@ mod turns;
 mod watched;
 mod worker;
 
-pub use command_line::{run_program, run_words};
+pub use klsm_words::{Pick, Settings};
 pub use knapsack::knapsack_over;
 pub use live::live_over;
+pub use program::{run_program, run_words};
 pub use progress::{Progress, Silent, TerminalLine};
 pub use replay::{replay_on, replay_over};
-pub use settings::{End, Pick, Report, Settings};
+pub use report::{End, Report};
 pub use status::Status;

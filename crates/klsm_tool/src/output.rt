@@ -6,7 +6,7 @@ ghost use Rattle.klsm_tool.specs.Output.{Puts, Flushes, Closes, pending, put_cou
 ghost use Rattle.klsm_tool.specs.Replay.{GoesOrFails};
 
 use crate::line_text::LINE_ROOM;
-use crate::settings::{End, Report};
+use crate::report::{End, Report};
 use crate::stop::{Closing, Stop};
 use std::alloc::{AllocError, Global};
 use std::io::Write;

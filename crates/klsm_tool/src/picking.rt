@@ -1,8 +1,8 @@
 //! How the deletions of each thread pick.
 ghost use Rattle.std.specs.Prelude.{◌≡◌, length, IfOk};
 
-use crate::settings::{Pick, Settings};
 use klsm_parts::{First, Last, Picker, Random, random_of};
+use klsm_words::{Pick, Settings};
 use rand_pcg::Pcg32;
 use std::alloc::{AllocError, Global};
 

@@ -4,8 +4,8 @@ ghost use Rattle.klsm_tool.specs.AnswerText.{row_text};
 ghost use Rattle.klsm_tool.specs.LineText.{made};
 
 use crate::line_text::LineText;
+use crate::report::End;
 use crate::request::Refusal;
-use crate::settings::End;
 
 /// Why no further row is answered.
 #[derive(Clone, Copy, PartialEq, Eq)]

@@ -1,6 +1,0 @@
-use Rattle.std.proofs.Common.{[], inr}
-use Rattle.klsm_tool.proofs.command_line.run_program.Goals as goal
-
--- no words could be read
-pub returns-in-Err : goal.returns-in-Err
-returns-in-Err g c = ([], inr (inr (inr c.say.ensures)))

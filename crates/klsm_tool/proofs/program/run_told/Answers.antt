@@ -1,0 +1,93 @@
+use Rattle.std.proofs.Common.{◌≡◌, ◌∙◌, ℕ, zero, suc, List, [], Option, Some, None, ap, codes, arith, refl, sym, subst, inl, inr}
+use Rattle.std.specs.Prelude.{IsUtf8, unwrap_or}
+use Rattle.std.specs.List.{All}
+use Rattle.klsm_words.specs.CommandLine.{HasStatus, IsCommand, action_in, replay_words, usual_settings}
+use Rattle.klsm_words.proofs.ReplayLemmas.{replay_has_no_status, replay_is_text, replay_is_usual}
+use Rattle.klsm_tool.specs.Program.{RefusesBytes, Runs, RunsBy, RunsReplay, Says}
+use Rattle.klsm_words.specs.declared.command_line.Action.{Action}
+use Rattle.klsm_words.specs.declared.command_line.Action.TheVariants.{Replay, Live, Knapsack}
+use Rattle.klsm_words.specs.declared.settings.Settings.{Settings}
+use Rattle.klsm_tool.proofs.program.run_told.Goals as goal
+
+pub returns-in-Err-Said-clause-replays : goal.returns-in-Err-Said-clause-replays
+returns-in-Err-Said-clause-replays g c are = absurd (replay_has_no_status _ c.in-Err-Said.status are (rw c.in-Err-Said.field-0-is at c.in-Err-Said.ensures.fault))
+
+pub returns-in-Err-NotText-clause-replays : goal.returns-in-Err-NotText-clause-replays
+returns-in-Err-NotText-clause-replays g c are = absurd ((rw c.in-Err-NotText.field-0-is at c.in-Err-NotText.ensures.fault) (subst (All IsUtf8) (sym are) replay_is_text))
+
+-- an action is a replay with these settings, or none or another
+abbrev replay_of : Option Action → Option Settings
+replay_of None = None
+replay_of (Some (Replay settings)) = Some settings
+replay_of (Some (Live settings)) = None
+replay_of (Some (Knapsack search)) = None
+
+abbrev settings_count : Option Settings → ℕ
+settings_count None = 0
+settings_count (Some settings) = 1
+
+none_is_not_usual : (asked : Option Action) → replay_of asked ≡ None → asked ≡ Some (Replay usual_settings) → ⊥
+none_is_not_usual asked none is = let same : 0 ≡ 1 = ap settings_count (sym none ∙ ap replay_of is) in omega (arith, same)
+
+by_usual : (settings : Settings) (input before after : Option (List ℕ)) (n : ℕ) → settings ≡ usual_settings → RunsReplay settings input before after n → RunsReplay usual_settings input before after n
+by_usual settings input before after n is runs = subst (λ (s : Settings). RunsReplay s input before after n) is runs
+
+unknown : (asked : Option Action) (input before after : Option (List ℕ)) (n : ℕ) → asked ≡ None → Says before after (codes "refused: pick\n") 2 n → RunsBy asked input before after n
+unknown asked input before after n is says = subst (λ (o : Option Action). RunsBy o input before after n) (sym is) says
+
+pub returns-in-Ok-Replay-clause-replays : goal.returns-in-Ok-Replay-clause-replays
+returns-in-Ok-Replay-clause-replays g c are =
+    let asked = rw c.in-Ok-Replay.field-0-is at c.in-Ok-Replay.ensures.action in
+    let usual = ap (λ (o : Option Action). unwrap_or (replay_of o) usual_settings) (sym asked ∙ replay_is_usual _ are) in
+    inl (by_usual _ _ _ _ c.run_replay.result.code usual c.run_replay.ensures)
+
+pub returns-in-Ok-Live-clause-replays : goal.returns-in-Ok-Live-clause-replays
+returns-in-Ok-Live-clause-replays g c are =
+    let asked = rw c.in-Ok-Live.field-0-is at c.in-Ok-Live.ensures.action in
+    absurd (none_is_not_usual (Some (Live c.in-Ok-Live.settings)) refl (sym asked ∙ replay_is_usual _ are))
+
+pub returns-in-Ok-Knapsack-clause-replays : goal.returns-in-Ok-Knapsack-clause-replays
+returns-in-Ok-Knapsack-clause-replays g c are =
+    let asked = rw c.in-Ok-Knapsack.field-0-is at c.in-Ok-Knapsack.ensures.action in
+    absurd (none_is_not_usual (Some (Knapsack c.in-Ok-Knapsack.search)) refl (sym asked ∙ replay_is_usual _ are))
+
+pub returns-in-Err-UnknownPick-clause-runs : goal.returns-in-Err-UnknownPick-clause-runs
+returns-in-Err-UnknownPick-clause-runs g c =
+    let fault = rw c.in-Err-UnknownPick.field-0-is at c.in-Err-UnknownPick.ensures.fault in
+    inl (fault.0, unknown _ _ _ _ c.say-in-Err-UnknownPick.result.code fault.1 c.say-in-Err-UnknownPick.ensures)
+
+pub returns-in-Err-UnknownPick-clause-replays : goal.returns-in-Err-UnknownPick-clause-replays
+returns-in-Err-UnknownPick-clause-replays g c are =
+    let fault = rw c.in-Err-UnknownPick.field-0-is at c.in-Err-UnknownPick.ensures.fault in
+    absurd (none_is_not_usual None refl (sym fault.1 ∙ replay_is_usual _ are))
+
+-- a command is run, or the words are answered
+runs_command : (words : List (List ℕ)) (action : Action) (input before after : Option (List ℕ)) (n : ℕ) → IsCommand words → action_in words ≡ Some action → RunsBy (Some action) input before after n → Runs words input before after n
+runs_command words action input before after n command asked runs = inl (command, subst (λ (o : Option Action). RunsBy o input before after n) (sym asked) runs)
+
+answers_text : (words : List (List ℕ)) (text : List ℕ) (status : ℕ) (input before after : Option (List ℕ)) (n : ℕ) → HasStatus words status → Says before after text status n → Runs words input before after n
+answers_text words text status input before after n has says = inr (inl (text, status, has, says))
+
+refuses : (words : List (List ℕ)) (input before after : Option (List ℕ)) (n : ℕ) → (All IsUtf8 words → ⊥) → RefusesBytes before after n → Runs words input before after n
+refuses words input before after n none says = inr (inr (inl (none, says)))
+
+pub returns-in-Ok-Replay-clause-runs : goal.returns-in-Ok-Replay-clause-runs
+returns-in-Ok-Replay-clause-runs g c = runs_command _ (Replay c.in-Ok-Replay.settings) _ _ _ c.run_replay.result.code c.in-Ok-Replay.ensures.asked (rw c.in-Ok-Replay.field-0-is at c.in-Ok-Replay.ensures.action) c.run_replay.ensures
+
+pub returns-in-Ok-Live-clause-runs : goal.returns-in-Ok-Live-clause-runs
+returns-in-Ok-Live-clause-runs g c = runs_command _ (Live c.in-Ok-Live.settings) _ _ _ c.run_live.result.code c.in-Ok-Live.ensures.asked (rw c.in-Ok-Live.field-0-is at c.in-Ok-Live.ensures.action) c.run_live.ensures
+
+pub returns-in-Ok-Knapsack-clause-runs : goal.returns-in-Ok-Knapsack-clause-runs
+returns-in-Ok-Knapsack-clause-runs g c = runs_command _ (Knapsack c.in-Ok-Knapsack.search) _ _ _ c.run_knapsack.result.code c.in-Ok-Knapsack.ensures.asked (rw c.in-Ok-Knapsack.field-0-is at c.in-Ok-Knapsack.ensures.action) c.run_knapsack.ensures
+
+pub returns-in-Err-Said-clause-runs : goal.returns-in-Err-Said-clause-runs
+returns-in-Err-Said-clause-runs g c = answers_text _ c.as_bytes.result.now c.in-Err-Said.status _ _ _ c.say.result.code (rw c.in-Err-Said.field-0-is at c.in-Err-Said.ensures.fault) c.say.ensures
+
+pub returns-in-Err-NotText-clause-runs : goal.returns-in-Err-NotText-clause-runs
+returns-in-Err-NotText-clause-runs g c = refuses _ _ _ _ c.refuse_bytes.result.code (rw c.in-Err-NotText.field-0-is at c.in-Err-NotText.ensures.fault) c.refuse_bytes.ensures
+
+pub returns-clause-runs : goal.returns-clause-runs
+returns-clause-runs g c = inr (inr (inr c.say-in-Err-NoMemory.ensures))
+
+pub returns-clause-replays : goal.returns-clause-replays
+returns-clause-replays g c are = inr c.say-in-Err-NoMemory.ensures

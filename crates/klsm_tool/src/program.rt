@@ -1,0 +1,163 @@
+//! The program on its words.
+ghost use Rattle.std.specs.Prelude.{◌≡◌, map};
+ghost use Rattle.klsm_words.specs.CommandLine.{replay_words};
+ghost use Rattle.klsm_words.specs.Options.{AreInRange, IsSearchInRange};
+ghost use Rattle.klsm_tool.specs.Program.{RefusesBytes, Runs, RunsKnapsack, RunsLive, RunsReplay};
+ghost use Rattle.klsm_tool.specs.Program.{RunsReplayOrLacksMemory, RunsSome, Says};
+ghost use Rattle.klsm_tool.specs.Program.{status_of as status_of_end};
+
+use crate::knapsack::knapsack_over;
+use crate::live::{run_script, write_outcome};
+use crate::output::write_text;
+use crate::process_words::process_words;
+use crate::progress::{Progress, Silent};
+use crate::replay::replay_over;
+use crate::report::End;
+use crate::status::Status;
+use crate::stop::NO_MEMORY;
+use klsm_board::Open;
+use klsm_words::{Action, Fault, Search, Settings, USAGE, parse};
+use std::io::{Read, Write};
+use std::rt::Env;
+use std::sync::Wait;
+use std::thread::Threads;
+
+/// Runs the program on the words that its process was given. Of a long run by threads it tells while
+/// it lasts.
+pub fn run_program<P: Env + AllocGlobal + Wait + Threads + Sync, R: Read + Drop, W: Write>(
+    rt: &P,
+    reader: R,
+    writer: &mut W,
+    progress: &impl Progress,
+) -> Status
+    ensures { RunsSome (R.remaining reader) (W.contents writer.old) (W.contents writer.new)
+        result.code }
+{
+    match process_words(rt) {
+        Ok(words) => run_told(rt, words.as_slice(), reader, writer, progress),
+        Err(_) => say(writer, NO_MEMORY, EXHAUSTED),
+    }
+}
+
+/// Runs the program on its words, which are those after its own name, and answers its status:
+/// 0 where all is done, 1 where a row is refused, 2 for a fault of the command line,
+/// 3 where room or memory is wanted, and 4 where reading or writing failed.
+pub fn run_words<R: Read + Drop, W: Write>(
+    rt: &(impl AllocGlobal + Wait + Threads + Sync),
+    words: &[Vec<u8>],
+    reader: R,
+    writer: &mut W,
+) -> Status
+    ensures runs { Runs (map (λ word. word.items) words.now) (R.remaining reader)
+        (W.contents writer.old) (W.contents writer.new) result.code }
+    ensures replays { map (λ word. word.items) words.now ≡ replay_words
+        → RunsReplayOrLacksMemory (R.remaining reader)
+        (W.contents writer.old) (W.contents writer.new) result.code }
+{
+    run_told(rt, words, reader, writer, &Silent)
+}
+
+// The same, and tells of a long run.
+fn run_told<R: Read + Drop, W: Write>(
+    rt: &(impl AllocGlobal + Wait + Threads + Sync),
+    words: &[Vec<u8>],
+    reader: R,
+    writer: &mut W,
+    progress: &impl Progress,
+) -> Status
+    ensures runs { Runs (map (λ word. word.items) words.now) (R.remaining reader)
+        (W.contents writer.old) (W.contents writer.new) result.code }
+    ensures replays { map (λ word. word.items) words.now ≡ replay_words
+        → RunsReplayOrLacksMemory (R.remaining reader)
+        (W.contents writer.old) (W.contents writer.new) result.code }
+{
+    match parse(rt.alloc(), words) {
+        Ok(Action::Replay(settings)) => run_replay(rt, reader, writer, &settings),
+        Ok(Action::Live(settings)) => run_live(rt, reader, writer, &settings, progress),
+        Ok(Action::Knapsack(search)) => run_knapsack(rt, reader, writer, &search),
+        Err(Fault::Said { text, status }) => say(writer, text.as_bytes(), status),
+        Err(Fault::UnknownPick) => say(writer, UNKNOWN_PICK, USAGE),
+        Err(Fault::NotText) => refuse_bytes(writer),
+        Err(Fault::NoMemory) => say(writer, NO_MEMORY, EXHAUSTED),
+    }
+}
+
+fn run_replay<R: Read + Drop, W: Write>(
+    rt: &(impl AllocGlobal + Wait),
+    reader: R,
+    writer: &mut W,
+    settings: &Settings,
+) -> Status
+    requires { AreInRange settings.now }
+    ensures { RunsReplay settings.now (R.remaining reader) (W.contents writer.old)
+        (W.contents writer.new) result.code }
+{
+    status_of(replay_over(rt, reader, writer, settings).end)
+}
+
+fn run_live<R: Read + Drop, W: Write>(
+    rt: &(impl AllocGlobal + Wait + Threads + Sync),
+    reader: R,
+    writer: &mut W,
+    settings: &Settings,
+    progress: &impl Progress,
+) -> Status
+    requires { AreInRange settings.now }
+    ensures { RunsLive settings.now (R.remaining reader) (W.contents writer.old)
+        (W.contents writer.new) result.code }
+{
+    let outcome = run_script(rt, reader, settings, &Open, progress);
+    progress.ended();
+    status_of(write_outcome(writer, outcome).end)
+}
+
+fn run_knapsack<R: Read + Drop, W: Write>(
+    rt: &(impl AllocGlobal + Wait + Threads + Sync),
+    reader: R,
+    writer: &mut W,
+    search: &Search,
+) -> Status
+    requires { IsSearchInRange search.now }
+    ensures { RunsKnapsack search.now (R.remaining reader) (W.contents writer.old)
+        (W.contents writer.new) result.code }
+{
+    let Search { threads, k, idle } = *search;
+    status_of(knapsack_over(rt, reader, writer, threads, k, idle, &Open).end)
+}
+
+fn refuse_bytes<W: Write>(writer: &mut W) -> Status
+    ensures { RefusesBytes (W.contents writer.old) (W.contents writer.new) result.code }
+{
+    say(writer, NOT_TEXT, USAGE)
+}
+
+fn say<W: Write>(writer: &mut W, text: &[u8], status: u8) -> Status
+    ensures { Says (W.contents writer.old) (W.contents writer.new) text.now status result.code }
+{
+    if write_text(writer, text) < text.len() {
+        Status::new(FAULT)
+    } else {
+        Status::new(status)
+    }
+}
+
+fn status_of(end: End) -> Status
+    ensures { result.code ≡ status_of_end end }
+{
+    Status::new(match end {
+        End::Done => 0,
+        End::Refused => REFUSED,
+        End::Full | End::NoMemory => EXHAUSTED,
+        End::ReadFault | End::WriteFault => FAULT,
+    })
+}
+
+const REFUSED: u8 = 1;
+
+const EXHAUSTED: u8 = 3;
+
+const FAULT: u8 = 4;
+
+const NOT_TEXT: &[u8] = b"error: a word is not UTF-8\n\nFor more information, try '--help'.\n";
+
+const UNKNOWN_PICK: &[u8] = b"refused: pick\n";

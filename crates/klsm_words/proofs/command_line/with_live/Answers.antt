@@ -1,0 +1,5 @@
+use Rattle.klsm_words.proofs.CommandLemmas.{with_one_more}
+use Rattle.klsm_words.proofs.command_line.with_live.Goals as goal
+
+pub returns : goal.returns
+returns c = with_one_more _ _ _ _ c.subcommand.result c.subcommand.ensures c.in_ok-live.ensures.local c.in_ok-with_replay.ensures c.in_ok-live.ensures.app

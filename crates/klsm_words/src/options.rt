@@ -1,0 +1,185 @@
+//! The options of the commands.
+ghost use Rattle.std.specs.Prelude.{◌≡◌, Some, None, IfOk, IfSome, false};
+ghost use Rattle.clap.specs.Words.{app_of, found_of, rows_of, rule_of};
+ghost use Rattle.clap.specs.declared.builder.command.Command.TheViews.{out-Command as fields_of};
+ghost use Rattle.klsm_words.specs.Options.{AreInRange, number_at, option_rule, pick_at, pick_of};
+ghost use Rattle.klsm_words.specs.Options.{IsSearchInRange, search_at, settings_at};
+ghost use Rattle.klsm_words.specs.Options.{with_options as with_options_of};
+ghost use Rattle.klsm_words.specs.Options.{with_search_options as with_search_options_of};
+ghost use Rattle.klsm_words.specs.Options.{with_pick as with_pick_of};
+ghost use Rattle.klsm_words.specs.Options.{with_threads as with_threads_of};
+
+use crate::settings::{Pick, Search, Settings};
+use clap::builder::ValueParser;
+use clap::{Arg, ArgMatches, Command, value_parser};
+use std::alloc::{AllocError, Global};
+
+/// A command over scripts, with its options.
+pub(crate) fn with_options<'a>(
+    alloc: Global,
+    command: Command<'a>,
+) -> Result<Command<'a>, AllocError>
+    ensures app { IfOk result (λ with. app_of with ≡ with_options_of (app_of command.entry)) }
+    ensures local { (fields_of command.entry).has_globals ≡ false
+        → IfOk result (λ with. (fields_of with).has_globals ≡ false) }
+{
+    let seed = number(alloc, SEED, "1", SEED_HELP, value_parser!(u64));
+    with_pick(alloc, command)?.arg(seed)
+}
+
+// All but the last of them.
+fn with_pick<'a>(alloc: Global, command: Command<'a>) -> Result<Command<'a>, AllocError>
+    ensures app { IfOk result (λ with. app_of with ≡ with_pick_of (app_of command.entry)) }
+    ensures local { (fields_of command.entry).has_globals ≡ false
+        → IfOk result (λ with. (fields_of with).has_globals ≡ false) }
+{
+    let pick = option(alloc, PICK, "first", "PICK", PICK_HELP);
+    with_threads(alloc, command, THREADS_HELP, K_HELP)?.arg(pick)
+}
+
+/// A command over instances, with its options.
+pub(crate) fn with_search_options<'a>(
+    alloc: Global,
+    command: Command<'a>,
+) -> Result<Command<'a>, AllocError>
+    ensures app { IfOk result (λ with.
+        app_of with ≡ with_search_options_of (app_of command.entry)) }
+    ensures local { (fields_of command.entry).has_globals ≡ false
+        → IfOk result (λ with. (fields_of with).has_globals ≡ false) }
+{
+    let up_to_a_million = value_parser!(u64).range(0..=1_000_000);
+    let idle = number(alloc, IDLE, "64", IDLE_HELP, up_to_a_million);
+    with_threads(alloc, command, WORKERS_HELP, NODES_HELP)?.arg(idle)
+}
+
+// With the options that every command has: how many threads there are, and how many items each keeps
+// for itself.
+fn with_threads<'a>(
+    alloc: Global,
+    command: Command<'a>,
+    threads_help: &'a str,
+    k_help: &'a str,
+) -> Result<Command<'a>, AllocError>
+    ensures app { IfOk result (λ with. app_of with ≡ with_threads_of (app_of command.entry)) }
+    ensures local { (fields_of command.entry).has_globals ≡ false
+        → IfOk result (λ with. (fields_of with).has_globals ≡ false) }
+{
+    let one_to_16 = value_parser!(u64).range(1..=16);
+    let up_to_64 = value_parser!(u64).range(0..=64);
+    let threads = number(alloc, THREADS, "1", threads_help, one_to_16);
+    let k = number(alloc, K, "64", k_help, up_to_64);
+    command.arg(threads)?.arg(k)
+}
+
+// An option whose value is a number that the parser takes.
+fn number<'a>(
+    alloc: Global,
+    name: &'a str,
+    default: &'a str,
+    help: &'a str,
+    parser: ValueParser<'a>,
+) -> Arg<'a>
+    ensures rule { rule_of result
+        ≡ option_rule name.entry.now default.entry.now (Some parser.entry) }
+    ensures local { result.global ≡ false }
+{
+    option(alloc, name, default, "N", help).value_parser(parser)
+}
+
+fn option<'a>(
+    alloc: Global,
+    name: &'a str,
+    default: &'a str,
+    value: &'a str,
+    help: &'a str,
+) -> Arg<'a>
+    ensures rule { rule_of result ≡ option_rule name.entry.now default.entry.now None }
+    ensures local { result.global ≡ false }
+{
+    Arg::new(alloc, name)
+        .long(name)
+        .value_name(value)
+        .default_value(default)
+        .help(help)
+}
+
+/// The settings that the options come to, or `None` where the word of `--pick` is no pick.
+pub(crate) fn settings_of(options: &ArgMatches) -> Option<Settings>
+    ensures settings { result ≡ settings_at (rows_of (found_of options.now)) }
+    ensures range { IfSome result AreInRange }
+{
+    let pick = pick_in(options)?;
+    Some(Settings {
+        threads: number_in(options, THREADS, 1, 16) as usize,
+        k: number_in(options, K, 0, 64) as usize,
+        pick,
+        seed: number_in(options, SEED, 0, u64::MAX),
+    })
+}
+
+/// The settings of a search that the options come to.
+pub(crate) fn search_of(options: &ArgMatches) -> Search
+    ensures search { result ≡ search_at (rows_of (found_of options.now)) }
+    ensures range { IsSearchInRange result }
+{
+    let threads = number_in(options, THREADS, 1, 16);
+    let k = number_in(options, K, 0, 64);
+    let idle = number_in(options, IDLE, 0, 1_000_000);
+    Search {
+        threads: threads as usize,
+        k: k as usize,
+        idle: idle as u32,
+    }
+}
+
+// The number of an option. The parser takes none outside the range.
+fn number_in(options: &ArgMatches, name: &str, least: u64, most: u64) -> u64
+    ensures { result ≡ number_at (rows_of (found_of options.now)) name.now least most }
+{
+    options
+        .get_one::<u64>(name)
+        .unwrap_or(0)
+        .max(least)
+        .min(most)
+}
+
+fn pick_in(options: &ArgMatches) -> Option<Pick>
+    ensures { result ≡ pick_at (rows_of (found_of options.now)) }
+{
+    pick_named(options.get_str(PICK)?)
+}
+
+fn pick_named(word: &str) -> Option<Pick>
+    ensures { result ≡ pick_of word.now }
+{
+    match word {
+        "first" => Some(Pick::First),
+        "last" => Some(Pick::Last),
+        "random" => Some(Pick::Random),
+        _ => None,
+    }
+}
+
+const THREADS: &str = "threads";
+
+const K: &str = "k";
+
+const PICK: &str = "pick";
+
+const SEED: &str = "seed";
+
+const IDLE: &str = "idle";
+
+const THREADS_HELP: &str = "How many threads the rows may name, 1 to 16";
+
+const K_HELP: &str = "How many items a thread keeps for itself, 0 to 64";
+
+const SEED_HELP: &str = "What the random picks follow from";
+
+const WORKERS_HELP: &str = "How many workers search, 1 to 16, each in a thread of its own";
+
+const NODES_HELP: &str = "How many nodes a worker keeps for itself, 0 to 64";
+
+const IDLE_HELP: &str = "After how many answers 'nothing' in a row a worker ends, 0 to 1000000";
+
+const PICK_HELP: &str = "Which candidate a deletion takes: first, last or random";

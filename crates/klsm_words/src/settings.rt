@@ -1,0 +1,36 @@
+//! How a script is run, and how an instance is solved.
+
+/// Which candidate of the shared part a deletion takes.
+#[derive(Clone, Copy, Debug, PartialEq, Eq)]
+pub enum Pick {
+    /// The least.
+    First,
+    /// The greatest.
+    Last,
+    /// One drawn at random.
+    Random,
+}
+
+/// How a script is run.
+#[derive(Clone, Copy, Debug, PartialEq, Eq)]
+pub struct Settings {
+    /// How many threads the rows may name, 1 to 16.
+    pub threads: usize,
+    /// How many items a thread keeps for itself, at most 64.
+    pub k: usize,
+    /// How deletions pick a candidate.
+    pub pick: Pick,
+    /// The seed of thread 0's random picks. Each further thread has a seed that is greater by one.
+    pub seed: u64,
+}
+
+/// How an instance is solved.
+#[derive(Clone, Copy, Debug, PartialEq, Eq)]
+pub struct Search {
+    /// How many workers there are, 1 to 16.
+    pub threads: usize,
+    /// How many nodes a worker keeps for itself, at most 64.
+    pub k: usize,
+    /// After how many answers "nothing" in a row a worker ends.
+    pub idle: u32,
+}
