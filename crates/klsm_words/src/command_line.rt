@@ -20,7 +20,7 @@ use std::str;
 pub const USAGE: u8 = 2;
 
 /// What the words ask for.
-#[derive(Clone, Copy)]
+#[derive(Clone, Copy, Debug, PartialEq, Eq)]
 pub enum Action {
     /// A script is answered row by row.
     Replay(Settings),
@@ -31,7 +31,7 @@ pub enum Action {
 }
 
 /// Why the words ask for no run.
-#[derive(Drop)]
+#[derive(Debug, Drop)]
 pub enum Fault {
     /// This text of the parser answers them, and the program ends with this status.
     Said {
