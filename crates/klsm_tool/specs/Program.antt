@@ -1,5 +1,5 @@
 -- What the program does on its words.
-use Rattle.std.specs.Prelude.{ℕ, ⊤, ◌≡◌, ◌<◌, ◌⊎◌, List, length, take, Option, Some, None, codes, IsUtf8}
+use Rattle.std.specs.Prelude.{ℕ, ◌≡◌, ◌<◌, ◌⊎◌, List, length, take, Option, Some, None, codes, IsUtf8}
 use Rattle.std.specs.List.{All}
 use Rattle.std.specs.Io.KnownBytes.{Appends}
 use Rattle.klsm_words.specs.declared.command_line.Action.{Action}

@@ -6,7 +6,6 @@ use Rattle.clap.specs.Words.{IsAmong, Kinds}
 use Rattle.clap.specs.declared.error.kind.ErrorKind.{ErrorKind}
 use Rattle.clap.proofs.OnLiterals.{clap_on_literals}
 use Rattle.klsm_words.specs.CommandLine.{HasStatus, action_in, found_in, replay_words, usual_settings}
-use Rattle.klsm_words.specs.declared.command_line.Action.{Action}
 use Rattle.klsm_words.specs.declared.command_line.Action.TheVariants.{Replay}
 
 -- the words that ask for a replay are text, and the parser finds nothing in them

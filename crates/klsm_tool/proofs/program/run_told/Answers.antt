@@ -1,7 +1,7 @@
-use Rattle.std.proofs.Common.{◌≡◌, ◌∙◌, ℕ, zero, suc, List, [], Option, Some, None, ap, codes, arith, refl, sym, subst, inl, inr}
+use Rattle.std.proofs.Common.{◌≡◌, ◌∙◌, ℕ, List, Option, Some, None, ap, codes, arith, refl, sym, subst, inl, inr}
 use Rattle.std.specs.Prelude.{IsUtf8, unwrap_or}
 use Rattle.std.specs.List.{All}
-use Rattle.klsm_words.specs.CommandLine.{HasStatus, IsCommand, action_in, replay_words, usual_settings}
+use Rattle.klsm_words.specs.CommandLine.{HasStatus, IsCommand, action_in, usual_settings}
 use Rattle.klsm_words.proofs.ReplayLemmas.{replay_has_no_status, replay_is_text, replay_is_usual}
 use Rattle.klsm_tool.specs.Program.{RefusesBytes, Runs, RunsBy, RunsReplay, Says}
 use Rattle.klsm_words.specs.declared.command_line.Action.{Action}
