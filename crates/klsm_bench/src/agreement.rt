@@ -6,7 +6,7 @@ use crate::instances::Kind;
 use crate::searches::search_all;
 use crate::trio::Trio;
 use crate::workloads::{Workload, fill};
-use klsm_knapsack::solve_in_turn;
+use klsm_instance::solve_in_turn;
 use klsm_parts::First;
 use rand_core::SeedableRng;
 use rand_pcg::Pcg32;

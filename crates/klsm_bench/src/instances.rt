@@ -1,6 +1,6 @@
 //! Instances of the knapsack problem on which solvers are compared, drawn from a seed.
 
-use klsm_knapsack::Instance;
+use klsm_instance::Instance;
 use rand_core::{Rng, SeedableRng};
 use rand_pcg::Pcg32;
 use std::alloc::{AllocError, Global};

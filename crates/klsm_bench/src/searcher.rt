@@ -4,7 +4,7 @@ ghost use Rattle.std.specs.Prelude.{◌<◌, length};
 ghost use Rattle.klsm_instance.specs.Nodes.{IsNodeOf};
 
 use crate::contenders::Contender;
-use klsm_knapsack::{Instance, Node};
+use klsm_instance::{Instance, Node};
 use std::sync::atomic::{AtomicU64, Ordering};
 
 /// One thread of a search.

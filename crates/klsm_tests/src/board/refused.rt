@@ -59,7 +59,7 @@ fn insert(crew: &mut Crew<21>, owner: u32, key: u64) -> Option<bool> {
 const EACH: u64 = 250;
 
 // How many they insert together.
-const ALL: usize = 500;
+const ALL: usize = 2 * EACH as usize;
 
 // The key of a member's item of this number. Keys rise and fall, and each is one of both members.
 fn key_of(number: u64) -> u64 {

@@ -1,4 +1,4 @@
-use Rattle.std.proofs.Common.{refl}
+use Rattle.std.proofs.Common.{refl, rules}
 use Rattle.klsm_run.specs.declared.item.Item.{Item}
 use Rattle.klsm_knapsack.specs.Work.{IsNodeItem}
 use Rattle.klsm_knapsack.proofs.common.Worker.insert.Goals as goal
@@ -21,3 +21,6 @@ returns-in-Err-Full-clause-same g c = record { member = c.in-Err-Full.ensures.sa
 
 pub returns-in-Err-NoMemory-clause-same : goal.returns-in-Err-NoMemory-clause-same
 returns-in-Err-NoMemory-clause-same g c = record { member = c.in-Err-NoMemory.ensures.same; watcher = refl }
+
+pub returns-in-Err-NoMemory-clause-refused : goal.returns-in-Err-NoMemory-clause-refused
+returns-in-Err-NoMemory-clause-refused g c = search rules

@@ -1,0 +1,5 @@
+use Rattle.std.proofs.Common.{rules}
+use Rattle.klsm_tool.proofs.beside.Beside.answer.Goals as goal
+
+pub returns-in-Delete-clause-ok : goal.returns-in-Delete-clause-ok
+returns-in-Delete-clause-ok g c = search rules
