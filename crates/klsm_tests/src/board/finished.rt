@@ -22,7 +22,10 @@ fn after<const LEVELS: usize>(
     requires { IsLevelCount LEVELS }
 {
     let mut crew = Crew::new(alloc, threads, k, quota).ok()?;
-    all_go(rt, &mut crew, true, steps).then_some(crew)
+    if !all_go(rt, &mut crew, true, steps) {
+        return None;
+    }
+    Some(crew)
 }
 
 // The board and the members that come back, in the order given, where it is not finished for this
@@ -30,6 +33,18 @@ fn after<const LEVELS: usize>(
 fn refused(alloc: Global, crew: Crew<21>, cause: FinishError, numbers: &[u32]) -> Option<Crew<21>> {
     let (why, crew) = crew.finish(alloc).err()?;
     (why == cause && crew.are(numbers)).then_some(crew)
+}
+
+// The same, after those that were away have come back, and the others gone.
+fn refused_then_relieved(
+    alloc: Global,
+    crew: Crew<21>,
+    cause: FinishError,
+    numbers: &[u32],
+) -> Option<Crew<21>> {
+    let mut crew = refused(alloc, crew, cause, numbers)?;
+    crew.relieve();
+    Some(crew)
 }
 
 // The account. Where its growth is refused, all is as it was, and the board is finished again.
@@ -40,12 +55,21 @@ fn account_of<const LEVELS: usize>(
 ) -> Option<Account> {
     match crew.finish(alloc) {
         Ok(account) => Some(account),
-        Err((why, crew)) => {
-            let as_it_was = why == FinishError::NoMemory && crew.are(numbers);
-            let again = crew.finish(alloc).ok();
-            if as_it_was { again } else { None }
-        }
+        Err((FinishError::NoMemory, crew)) => finished_again(alloc, crew, numbers),
+        Err(_) => None,
     }
+}
+
+// Finishes the board if these members came back.
+fn finished_again<const LEVELS: usize>(
+    alloc: Global,
+    crew: Crew<LEVELS>,
+    numbers: &[u32],
+) -> Option<Account> {
+    if !crew.are(numbers) {
+        return None;
+    }
+    crew.finish(alloc).ok()
 }
 
 // Whether these numbers of items were inserted and deleted, and these items are left.
@@ -72,14 +96,10 @@ const TWO_MEMBERS: &[Step] = &[
 fn all_but_some(alloc: Global, crew: Crew<21>) -> Option<Crew<21>> {
     let mut crew = crew;
     crew.leave()?;
-    let mut crew = refused(alloc, crew, FinishError::Missing(1), &[0])?;
-    crew.relieve();
-    let mut crew = refused(alloc, crew, FinishError::Missing(0), &[1])?;
-    crew.relieve();
+    let crew = refused_then_relieved(alloc, crew, FinishError::Missing(1), &[0])?;
+    let mut crew = refused_then_relieved(alloc, crew, FinishError::Missing(0), &[1])?;
     crew.leave()?;
-    let mut crew = refused(alloc, crew, FinishError::Missing(0), &[])?;
-    crew.relieve();
-    Some(crew)
+    refused_then_relieved(alloc, crew, FinishError::Missing(0), &[])
 }
 
 fn two_members_come_back(rt: &impl Wait, alloc: Global) -> Option<bool> {

@@ -32,6 +32,11 @@ fn all_counts(crew: &Crew<21>) -> Option<[(u64, u64); 2]> {
     Some([crew.counts(0)?, crew.counts(1)?])
 }
 
+// What can be seen of the board and of both.
+fn state(crew: &mut Crew<21>) -> Option<([Sight; 3], [(u64, u64); 2])> {
+    Some((sights(crew)?, all_counts(crew)?))
+}
+
 // A board of two members. Where a growth is refused, it is made again.
 fn board_of_two(alloc: Global, k: usize) -> Option<Crew<21>> {
     match Crew::new(alloc, 2, k, 1000) {
@@ -42,17 +47,22 @@ fn board_of_two(alloc: Global, k: usize) -> Option<Crew<21>> {
 
 // A member inserts a key. Where a growth is refused, nothing changes, and it inserts it again.
 fn insert(crew: &mut Crew<21>, owner: u32, key: u64) -> Option<bool> {
-    let before = (sights(crew)?, all_counts(crew)?);
+    let before = state(crew)?;
     let member = owner as usize;
     let number = crew.counts(member)?.0;
-    let mut answer = crew.try_insert(member, key, number.saturating_add(1))?;
-    if answer == Err(TryInsertError::NoMemory) {
-        if (sights(crew)?, all_counts(crew)?) != before {
-            return Some(false);
+    let load = number.saturating_add(1);
+    let stamp = Stamp { owner, number };
+    match crew.try_insert(member, key, load)? {
+        Err(TryInsertError::NoMemory) => {
+            Some(state(crew)? == before && inserts(crew, member, key, load, stamp)?)
         }
-        answer = crew.try_insert(member, key, number.saturating_add(1))?;
+        answer => Some(answer == Ok(stamp)),
     }
-    Some(answer == Ok(Stamp { owner, number }))
+}
+
+// Whether a member inserts a key, and the item gets this stamp.
+fn inserts(crew: &mut Crew<21>, member: usize, key: u64, load: u64, stamp: Stamp) -> Option<bool> {
+    Some(crew.try_insert(member, key, load)? == Ok(stamp))
 }
 
 // How many items each of the two members inserts.
@@ -102,11 +112,11 @@ fn each_is_deleted(crew: &mut Crew<21>) -> Option<bool> {
 
 // Whether they do, and both find nothing then.
 fn delete_all(crew: &mut Crew<21>) -> Option<bool> {
-    Some(
-        each_is_deleted(crew)?
-            && crew.try_delete_min(0, &mut First)? == Ok(None)
-            && crew.try_delete_min(1, &mut First)? == Ok(None),
-    )
+    Some(each_is_deleted(crew)? && finds_nothing(crew, 0)? && finds_nothing(crew, 1)?)
+}
+
+fn finds_nothing(crew: &mut Crew<21>, member: usize) -> Option<bool> {
+    Some(crew.try_delete_min(member, &mut First)? == Ok(None))
 }
 
 // Whether all insertions go through, at the second try where a growth is refused, and then all

@@ -90,15 +90,19 @@ fn all_items(alloc: Global) -> Option<Vec<Item>> {
     Some(items)
 }
 
-// What all members delete, ascending.
-fn all_deleted(alloc: Global, k: usize) -> Option<Vec<Item>> {
-    let mut crew = Crew::new(alloc, MEMBERS as usize, k, EACH).ok()?;
+// Each member inserts its items.
+fn insert_all(crew: &mut Crew<21>) -> Option<()> {
     for number in 0..EACH {
-        insert_round(&mut crew, number)?;
+        insert_round(crew, number)?;
     }
+    Some(())
+}
+
+// What all members delete, ascending.
+fn all_deleted(alloc: Global, crew: &mut Crew<21>) -> Option<Vec<Item>> {
     let mut deleted = Vec::new(alloc);
     for _ in 0..EACH {
-        delete_round(&mut crew, &mut deleted)?;
+        delete_round(crew, &mut deleted)?;
     }
     deleted.sort_unstable();
     Some(deleted)
@@ -106,7 +110,9 @@ fn all_deleted(alloc: Global, k: usize) -> Option<Vec<Item>> {
 
 // Whether they delete what they insert.
 fn find_all_once(alloc: Global, k: usize) -> Option<bool> {
-    Some(all_deleted(alloc, k)?.as_slice() == all_items(alloc)?.as_slice())
+    let mut crew = Crew::new(alloc, MEMBERS as usize, k, EACH).ok()?;
+    insert_all(&mut crew)?;
+    Some(all_deleted(alloc, &mut crew)?.as_slice() == all_items(alloc)?.as_slice())
 }
 
 #[test]

@@ -40,14 +40,16 @@ fn text_of_33(alloc: Global, last: &[u8]) -> Result<Vec<u8>, AllocError> {
     Ok(text)
 }
 
+fn refusal_of_33(alloc: Global, last: &[u8]) -> Result<Option<ReadError>, AllocError> {
+    let text = text_of_33(alloc, last)?;
+    Ok(refusal(alloc, text.as_slice()))
+}
+
 #[test]
 fn at_most_32_things(rt: HostRuntime) -> Result<(), AllocError> {
-    let many = text_of_33(rt.alloc(), b"1,1\n")?;
-    assert!(rt; refusal(rt.alloc(), many.as_slice()) == Some(ReadError::TooMany));
-    let short = text_of_33(rt.alloc(), b"1")?;
-    assert!(rt; refusal(rt.alloc(), short.as_slice()) == Some(ReadError::BadRow(34)));
-    let whole = text_of_33(rt.alloc(), b"")?;
-    assert!(rt; refusal(rt.alloc(), whole.as_slice()) == None);
+    assert!(rt; refusal_of_33(rt.alloc(), b"1,1\n")? == Some(ReadError::TooMany));
+    assert!(rt; refusal_of_33(rt.alloc(), b"1")? == Some(ReadError::BadRow(34)));
+    assert!(rt; refusal_of_33(rt.alloc(), b"")? == None);
     Ok(())
 }
 
