@@ -8,12 +8,13 @@ use Rattle.klsm_board.specs.Boards.{own_steps}
 use Rattle.klsm_board.specs.Rule.{IsReached}
 use Rattle.klsm_board.specs.Finishing.{AreListsAtEnd, lists_of}
 use Rattle.klsm_board.proofs.table.MakeLemmas.{fresh_is_reached}
-use Rattle.klsm_tool.specs.declared.report.End.{End}
-use Rattle.klsm_tool.specs.declared.report.End.TheVariants as end
-use Rattle.klsm_tool.specs.declared.report.Report.{Report}
+use Rattle.klsm_text.specs.declared.report.End.{End}
+use Rattle.klsm_text.specs.declared.report.End.TheVariants as end
+use Rattle.klsm_text.specs.declared.report.Report.{Report}
 use Rattle.klsm_tool.specs.Crews.{AreMembers, lists_in, steps_in}
 use Rattle.klsm_tool.specs.Shown.{shown_in}
-use Rattle.klsm_tool.specs.Replay.{GoesOrFails, ReplaysAlone, ReplaysToTheEnd, sizes_of}
+use Rattle.klsm_text.specs.Reports.{GoesOrFails}
+use Rattle.klsm_tool.specs.Replay.{ReplaysAlone, ReplaysToTheEnd, sizes_of}
 use Rattle.klsm_tool.proofs.ClosingLemmas.{replays_nothing}
 use Rattle.klsm_tool.proofs.CrewLemmas.{crew_lists, crew_reached}
 

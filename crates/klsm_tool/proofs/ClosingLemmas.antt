@@ -7,20 +7,21 @@ use Rattle.csv.specs.declared.parser.State.TheVariants as state
 use Rattle.csv.specs.declared.parser.Config.{Config}
 use Rattle.csv.specs.Reading.{Reached, default_config, strip_bom}
 use Rattle.klsm_world.specs.declared.step.Entry.{Entry}
-use Rattle.klsm_tool.specs.declared.answer.Line.{Line}
-use Rattle.klsm_tool.specs.declared.output.Output.{Output}
-use Rattle.klsm_tool.specs.declared.report.End.TheVariants as end
-use Rattle.klsm_tool.specs.declared.report.Report.{Report}
-use Rattle.klsm_tool.specs.declared.stop.Closing.{Closing}
-use Rattle.klsm_tool.specs.declared.stop.Stop.{Stop}
-use Rattle.klsm_tool.specs.declared.stop.Stop.TheVariants as stop
+use Rattle.klsm_text.specs.declared.answer.Line.{Line}
+use Rattle.klsm_text.specs.declared.output.Output.{Output}
+use Rattle.klsm_text.specs.declared.report.End.TheVariants as end
+use Rattle.klsm_text.specs.declared.report.Report.{Report}
+use Rattle.klsm_text.specs.declared.stop.Closing.{Closing}
+use Rattle.klsm_text.specs.declared.stop.Stop.{Stop}
+use Rattle.klsm_text.specs.declared.stop.Stop.TheVariants as stop
 use Rattle.klsm_rows.specs.Rows.{Row, AreFirstRows, AreAllRows}
-use Rattle.klsm_tool.specs.AnswerText.{closing_text, greatest_skip, lines_text}
-use Rattle.klsm_tool.specs.Output.{Closes, pending}
+use Rattle.klsm_text.specs.AnswerText.{closing_text, greatest_skip, lines_text}
+use Rattle.klsm_text.specs.Output.{Closes, pending}
 use Rattle.klsm_tool.specs.Progress.{HasStopped, IsCutOff, IsTold, IsToldUntil}
 use Rattle.klsm_tool.specs.Shown.{AreShown}
-use Rattle.klsm_tool.specs.Replay.{Answered, AreShownUntil, GoesOrFails, GoesOut, Replays, Stopped, end_of}
-use Rattle.klsm_tool.proofs.OutputLemmas.{appends_more, appends_none, goes_after}
+use Rattle.klsm_tool.specs.Replay.{Answered, AreShownUntil, GoesOut, Replays, Stopped}
+use Rattle.klsm_text.specs.Reports.{GoesOrFails, end_of}
+use Rattle.klsm_text.proofs.OutputLemmas.{appends_more, appends_none, goes_after}
 
 reached_front : (config : Config) (from after : State) (text rest : List ℕ) (rows : List Row) (row : Row) → Reached config from text (rows ++ row ∷ []) after rest → (between : State) × (left : List ℕ) × Reached config from text rows between left
 unfolding Reached

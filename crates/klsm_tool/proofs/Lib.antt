@@ -1,12 +1,10 @@
 pub mod AloneLemmas  -- a replay over a board of its own
 pub mod ClosingLemmas
-pub mod KeepingLemmas  -- what one row does to the rows that are kept for the threads
+pub mod NotRunLemmas  -- scripts that are not run
 pub mod LiveItemLemmas  -- what joins and leaves the live items
-pub mod OutputLemmas
 pub mod CrewLemmas  -- one member goes on, and the others stay
 pub mod ShownLemmas  -- what the calls of a member show in the text
 pub mod ReplayLemmas
-pub mod ScriptLemmas
 pub mod TellingLemmas
 pub mod WorkLemmas  -- what a worker's rows are answered with
 pub mod TotalLemmas  -- the totals of a script that was run

@@ -12,10 +12,10 @@ use Rattle.klsm_board.specs.Boards.{IsCrew, IsOf, own_steps}
 use Rattle.klsm_board.specs.Finishing.{AreListsAtEnd}
 use Rattle.klsm_board.specs.Rule.{IsReached}
 use Rattle.klsm_board.proofs.ending.EndLemmas.{each_of}
-use Rattle.klsm_tool.specs.declared.stop.Stop.{Stop}
-use Rattle.klsm_tool.specs.declared.stop.Stop.TheVariants as stop
-use Rattle.klsm_tool.specs.declared.stop.Closing.{Closing}
-use Rattle.klsm_tool.specs.declared.totals.Totals.{Totals}
+use Rattle.klsm_text.specs.declared.stop.Stop.{Stop}
+use Rattle.klsm_text.specs.declared.stop.Stop.TheVariants as stop
+use Rattle.klsm_text.specs.declared.stop.Closing.{Closing}
+use Rattle.klsm_text.specs.declared.totals.Totals.{Totals}
 use Rattle.klsm_tool.specs.declared.worker.GaveUp.{GaveUp}
 use Rattle.klsm_tool.specs.declared.worker.Worker.{Worker}
 use Rattle.klsm_tool.specs.Crews.{AreMembers, lists_in, steps_in}
@@ -23,7 +23,8 @@ use Rattle.klsm_tool.specs.Live.{GaveUpAt, GivesUpFirst, HasNoTotals, RunsAll, R
 use Rattle.klsm_tool.specs.Replay.{sizes_of}
 use Rattle.klsm_rows.specs.Rows.{AreAllRows, Row}
 use Rattle.klsm_tool.specs.Shown.{shown_in}
-use Rattle.klsm_tool.specs.ThreadRows.{AreAccepted, AreAnswers, Asked, asked_of}
+use Rattle.klsm_text.specs.ThreadRows.{AreAccepted, Asked, asked_of}
+use Rattle.klsm_tool.specs.Turns.{AreAnswers}
 use Rattle.klsm_tool.specs.Working.{AreAccounted, HasRun, HasRunAt, IsReady, IsReadyAt, Works, gave_up_at, ready, steps_at}
 use Rattle.klsm_tool.proofs.ClosingLemmas.{all_are_first}
 use Rattle.klsm_tool.proofs.TotalLemmas.{adds_up, insertions_are}

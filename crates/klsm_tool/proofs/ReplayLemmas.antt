@@ -13,26 +13,28 @@ use Rattle.klsm_run.proofs.RankLemmas.{count_sorted}
 use Rattle.klsm_run.proofs.WithoutLemmas.{sorted_without}
 use Rattle.klsm_world.specs.declared.step.Entry.{Entry}
 use Rattle.klsm_world.proofs.hands.HandLemmas.{choice_hit, choice_miss}
-use Rattle.klsm_tool.specs.declared.answer.Line.{Line}
-use Rattle.klsm_tool.specs.declared.answer.Printed.{Printed}
-use Rattle.klsm_tool.specs.declared.answer.Answer.{Answer}
-use Rattle.klsm_tool.specs.declared.answer.Answer.TheVariants.{Inserted, Deleted, Nothing}
-use Rattle.klsm_tool.specs.declared.request.Request.{Request}
-use Rattle.klsm_tool.specs.declared.request.Refusal.{Refusal}
-use Rattle.klsm_tool.specs.declared.request.Refusal.TheVariants as refusal
-use Rattle.klsm_tool.specs.declared.stop.Stop.{Stop}
-use Rattle.klsm_tool.specs.declared.stop.Stop.TheVariants as stop
-use Rattle.klsm_tool.specs.declared.watched.Watched.{Watched}
+use Rattle.klsm_text.specs.declared.answer.Line.{Line}
+use Rattle.klsm_text.specs.declared.answer.Printed.{Printed}
+use Rattle.klsm_text.specs.declared.answer.Answer.{Answer}
+use Rattle.klsm_text.specs.declared.answer.Answer.TheVariants.{Inserted, Deleted, Nothing}
+use Rattle.klsm_text.specs.declared.request.Request.{Request}
+use Rattle.klsm_text.specs.declared.request.Refusal.{Refusal}
+use Rattle.klsm_text.specs.declared.request.Refusal.TheVariants as refusal
+use Rattle.klsm_text.specs.declared.stop.Stop.{Stop}
+use Rattle.klsm_text.specs.declared.stop.Stop.TheVariants as stop
+use Rattle.klsm_text.specs.declared.watched.Watched.{Watched}
 use Rattle.klsm_rows.specs.Rows.{Row}
-use Rattle.klsm_tool.specs.Script.{request_of, request_after, row_limit}
-use Rattle.klsm_tool.specs.AnswerText.{greatest_skip, live, live_after, skip_of}
+use Rattle.klsm_text.specs.Script.{request_of, request_after, row_limit}
+use Rattle.klsm_text.specs.AnswerText.{greatest_skip, live, live_after, skip_of}
 use Rattle.klsm_tool.specs.Answering.{Answers}
 use Rattle.klsm_tool.specs.Crews.{AreFew, Goes, steps_in}
 use Rattle.klsm_tool.specs.Shown.{AreShown, answers_of, shown_in}
 use Rattle.klsm_tool.specs.Turns.{GivesUp}
 use Rattle.klsm_tool.specs.Replay.{Stopped}
-use Rattle.klsm_tool.specs.Progress.{HasRead, ReadStops, Stands, StopsBefore, left_within}
+use Rattle.klsm_text.specs.Reading.{HasRead, ReadStops, left_within}
+use Rattle.klsm_tool.specs.Progress.{Stands, StopsBefore}
 use Rattle.klsm_rows.proofs.RowLemmas.{first_rows}
+use Rattle.klsm_text.proofs.ScriptLemmas.{judged}
 
 -- where no row could be read, no further row is answered
 pub read_stops : (failed : Bool) (threads k : ℕ) (lists : List (List Entry)) (input : Option (List ℕ)) (rows : List Row) (why : Stop) → ReadStops failed input rows why → Stopped threads k lists input rows why × (why ≢ stop.WriteFault)
@@ -42,10 +44,6 @@ read_stops failed threads k lists input rows stop.Full h = absurd h
 read_stops failed threads k lists input rows stop.NoMemory h = (h.0, λ e. cc)
 read_stops failed threads k lists input rows stop.ReadFault h = (h.0, λ e. cc)
 read_stops failed threads k lists input rows stop.WriteFault h = absurd h
-
--- below the limit a row is judged by its fields
-pub judged : (threads : ℕ) (rows : List Row) (row : Row) → length rows < row_limit → request_after threads rows row ≡ request_of threads row
-judged threads rows row below = let other : eqb (length rows) row_limit ≡ false = grind (arith, nat_tests) in rw other refl
 
 -- an answer does the same to contents of one ascending list
 live_alike : (c d : List Item) (answer : Answer) → sorted c ≡ sorted d → sorted (live_after c answer) ≡ sorted (live_after d answer)

@@ -17,7 +17,7 @@ use Rattle.klsm_board.proofs.calls.EventLemmas.{events}
 use Rattle.klsm_board.proofs.calls.AddLemmas.{both_quiet}
 use Rattle.klsm_board.proofs.calls.AddedLemmas.{puts_events, flushes_events, refused_in_time_events}
 use Rattle.klsm_board.proofs.calls.DeletedLemmas.{takes_events, spied_events, nothing_events}
-use Rattle.klsm_tool.specs.declared.answer.Answer.TheVariants.{Inserted, Deleted, Nothing}
+use Rattle.klsm_text.specs.declared.answer.Answer.TheVariants.{Inserted, Deleted, Nothing}
 use Rattle.klsm_tool.specs.Shown.{shown, shown_in}
 
 -- events more show answers more

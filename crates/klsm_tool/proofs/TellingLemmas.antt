@@ -6,19 +6,21 @@ use Rattle.std.proofs.lemmas.List.{append-nil, append_assoc, length-append}
 use Rattle.csv.specs.declared.reader.Reader.{Reader}
 use Rattle.klsm_run.specs.declared.item.Item.{Item}
 use Rattle.klsm_world.specs.declared.step.Entry.{Entry}
-use Rattle.klsm_tool.specs.declared.answer.Line.{Line}
-use Rattle.klsm_tool.specs.declared.answer.Printed.{Printed}
-use Rattle.klsm_tool.specs.declared.output.Output.{Output}
-use Rattle.klsm_tool.specs.declared.stop.Stop.{Stop}
-use Rattle.klsm_tool.specs.declared.stop.Stop.TheVariants as stop
-use Rattle.klsm_tool.specs.declared.watched.Watched.{Watched}
+use Rattle.klsm_text.specs.declared.answer.Line.{Line}
+use Rattle.klsm_text.specs.declared.answer.Printed.{Printed}
+use Rattle.klsm_text.specs.declared.output.Output.{Output}
+use Rattle.klsm_text.specs.declared.stop.Stop.{Stop}
+use Rattle.klsm_text.specs.declared.stop.Stop.TheVariants as stop
+use Rattle.klsm_text.specs.declared.watched.Watched.{Watched}
 use Rattle.klsm_rows.specs.Rows.{Row}
-use Rattle.klsm_tool.specs.AnswerText.{answer_text, lines_text, live, skip_of}
+use Rattle.klsm_text.specs.AnswerText.{answer_text, lines_text, live, skip_of}
 use Rattle.klsm_tool.specs.Shown.{AreShown}
-use Rattle.klsm_tool.specs.Output.{Adds, Flushes, Puts, pending}
-use Rattle.klsm_tool.specs.Progress.{HasRead, HasStopped, IsCutOff, IsTold, IsToldUntil, Stands, StopsBefore, left_within}
-use Rattle.klsm_tool.specs.Replay.{Answered, AreShownUntil, IsCut}
-use Rattle.klsm_tool.proofs.OutputLemmas.{appends_more, appends_none, cut_after}
+use Rattle.klsm_text.specs.Output.{Adds, Flushes, Puts, pending}
+use Rattle.klsm_text.specs.Reading.{HasRead, left_within}
+use Rattle.klsm_tool.specs.Progress.{HasStopped, IsCutOff, IsTold, IsToldUntil, Stands, StopsBefore}
+use Rattle.klsm_tool.specs.Replay.{Answered, AreShownUntil}
+use Rattle.klsm_text.specs.Reports.{IsCut}
+use Rattle.klsm_text.proofs.OutputLemmas.{appends_more, appends_none, cut_after}
 use Rattle.klsm_rows.proofs.RowLemmas.{first_rows}
 
 -- as many rows as lines

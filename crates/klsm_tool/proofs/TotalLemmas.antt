@@ -15,19 +15,20 @@ use Rattle.klsm_world.proofs.theorems.RunLemmas.{schedules_keep_lawful}
 use Rattle.klsm_board.specs.declared.sizes.Sizes.{Sizes}
 use Rattle.klsm_board.specs.Rule.{limits_of}
 use Rattle.klsm_board.specs.Finishing.{AreListsAtEnd}
-use Rattle.klsm_tool.specs.declared.answer.Answer.{Answer}
-use Rattle.klsm_tool.specs.declared.answer.Answer.TheVariants.{Inserted, Deleted, Nothing}
-use Rattle.klsm_tool.specs.declared.request.Operation.{Operation}
-use Rattle.klsm_tool.specs.declared.request.Operation.TheVariants.{Insert, Delete}
-use Rattle.klsm_tool.specs.declared.request.Refusal.{Refusal}
-use Rattle.klsm_tool.specs.declared.request.Refusal.TheVariants as refusal
-use Rattle.klsm_tool.specs.declared.request.Request.{Request}
+use Rattle.klsm_text.specs.declared.answer.Answer.{Answer}
+use Rattle.klsm_text.specs.declared.answer.Answer.TheVariants.{Inserted, Deleted, Nothing}
+use Rattle.klsm_text.specs.declared.request.Operation.{Operation}
+use Rattle.klsm_text.specs.declared.request.Operation.TheVariants.{Insert, Delete}
+use Rattle.klsm_text.specs.declared.request.Refusal.{Refusal}
+use Rattle.klsm_text.specs.declared.request.Refusal.TheVariants as refusal
+use Rattle.klsm_text.specs.declared.request.Request.{Request}
 use Rattle.klsm_rows.specs.Rows.{Row}
-use Rattle.klsm_tool.specs.Script.{asked, asked_below, request_after, request_of, row_limit}
+use Rattle.klsm_text.specs.Script.{asked, asked_below, request_after, request_of, row_limit}
 use Rattle.klsm_tool.specs.Crews.{steps_in}
 use Rattle.klsm_tool.specs.Shown.{shown, shown_in}
 use Rattle.klsm_tool.specs.Turns.{IsAnswer}
-use Rattle.klsm_tool.specs.ThreadRows.{AreAccepted, AreAnswers, Asked, asked_of, asks, insertion_rows, insertions_at, insertions_in, insertions_of}
+use Rattle.klsm_text.specs.ThreadRows.{AreAccepted, Asked, asked_of, asks, insertion_rows, insertions_at, insertions_in, insertions_of}
+use Rattle.klsm_tool.specs.Turns.{AreAnswers}
 
 -- ---- one thread
 

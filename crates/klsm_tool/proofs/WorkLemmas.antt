@@ -2,13 +2,14 @@
 use Rattle.std.proofs.Common.{◌≡◌, ℕ, zero, suc, ◌+◌, ◌<◌, ◌≤◌, List, [], ◌∷◌, ◌++◌, length, map, take, drop, get_or, refl, sym, ap, ◌∙◌, subst, arith}
 use Rattle.std.proofs.lemmas.List.{length-map, map_more, take_all}
 use Rattle.klsm_world.specs.declared.step.Entry.{Entry}
-use Rattle.klsm_tool.specs.declared.answer.Answer.{Answer}
-use Rattle.klsm_tool.specs.declared.stop.Stop.{Stop}
-use Rattle.klsm_tool.specs.declared.thread_rows.ThreadRow.{ThreadRow}
-use Rattle.klsm_tool.specs.Keeping.{asked_in, operation_in}
+use Rattle.klsm_text.specs.declared.answer.Answer.{Answer}
+use Rattle.klsm_text.specs.declared.stop.Stop.{Stop}
+use Rattle.klsm_text.specs.declared.thread_rows.ThreadRow.{ThreadRow}
+use Rattle.klsm_text.specs.Keeping.{asked_in, operation_in}
 use Rattle.klsm_tool.specs.Live.{GaveUpAt}
 use Rattle.klsm_tool.specs.Shown.{shown_in}
-use Rattle.klsm_tool.specs.ThreadRows.{AreAnswers, Asked}
+use Rattle.klsm_tool.specs.Turns.{AreAnswers}
+use Rattle.klsm_text.specs.ThreadRows.{Asked}
 use Rattle.klsm_tool.specs.Turns.{GivesUp, IsAnswer}
 
 -- one answer more

@@ -3,10 +3,10 @@ use Rattle.std.specs.Prelude.{ℕ, ◌≡◌, List, [], ◌∷◌, length, max}
 use Rattle.klsm_run.specs.declared.item.Item.{Item}
 use Rattle.klsm_run.specs.Content.{sorted}
 use Rattle.klsm_world.specs.declared.step.Entry.{Entry}
-use Rattle.klsm_tool.specs.declared.answer.Printed.{Printed}
+use Rattle.klsm_text.specs.declared.answer.Printed.{Printed}
 use Rattle.klsm_tool.specs.declared.beside.Beside.{Beside}
-use Rattle.klsm_tool.specs.declared.request.Request.{Request}
-use Rattle.klsm_tool.specs.AnswerText.{live_after, skip_of}
+use Rattle.klsm_text.specs.declared.request.Request.{Request}
+use Rattle.klsm_text.specs.AnswerText.{live_after, skip_of}
 use Rattle.klsm_tool.specs.Crews.{Goes}
 use Rattle.klsm_tool.specs.LiveItems.{live_content}
 use Rattle.klsm_tool.specs.Turns.{IsAnswer}

@@ -6,7 +6,7 @@ use Rattle.klsm_world.specs.declared.step.Entry.{Entry}
 use Rattle.klsm_board.specs.declared.board.Board.{Board}
 use Rattle.klsm_board.specs.declared.board.Member.{Member}
 use Rattle.klsm_board.specs.Boards.{IsOf, own_steps}
-use Rattle.klsm_tool.specs.declared.answer.Answer.{Answer}
+use Rattle.klsm_text.specs.declared.answer.Answer.{Answer}
 use Rattle.klsm_tool.specs.Shown.{shown_in}
 
 module _ {CAP LEVELS : ℕ} where

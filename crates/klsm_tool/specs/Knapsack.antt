@@ -1,8 +1,5 @@
 -- What `knapsack_over` promises.
-use Rattle.std.specs.Prelude.{ℕ, zero, suc, Bool, ◌+◌, ◌/◌, ◌%◌, ◌==◌, ◌⊎◌, true, false}
-use Rattle.std.specs.Prelude.{List, [], ◌∷◌, ◌++◌, length, codes, Option}
-use Rattle.std.specs.List.{concat}
-use Rattle.std.specs.Fmt.{decimal}
+use Rattle.std.specs.Prelude.{ℕ, ◌⊎◌, List, codes, Option}
 use Rattle.klsm_instance.specs.declared.errors.ReadError.{ReadError}
 use Rattle.klsm_instance.specs.declared.errors.ReadError.TheVariants as read_error
 use Rattle.klsm_knapsack.specs.declared.errors.SolveError.TheVariants as solve_error
@@ -10,43 +7,14 @@ use Rattle.klsm_instance.specs.declared.search.Best.{Best}
 use Rattle.klsm_instance.specs.Answers.{IsBestAnswer}
 use Rattle.klsm_instance.specs.Format.{IsProblemIn, RefusesInput}
 use Rattle.klsm_knapsack.specs.Refusals.{RefusesSearch}
-use Rattle.klsm_instance.specs.Selections.{Problem, weight_of}
-use Rattle.klsm_tool.specs.declared.report.End.{End}
-use Rattle.klsm_tool.specs.declared.report.End.TheVariants as end
-use Rattle.klsm_tool.specs.declared.report.Report.{Report}
-use Rattle.klsm_tool.specs.AnswerText.{row_text}
-use Rattle.klsm_tool.specs.Replay.{GoesOrFails}
+use Rattle.klsm_instance.specs.Selections.{Problem}
+use Rattle.klsm_text.specs.declared.report.End.{End}
+use Rattle.klsm_text.specs.declared.report.End.TheVariants as end
+use Rattle.klsm_text.specs.declared.report.Report.{Report}
+use Rattle.klsm_text.specs.SelectionText.{best_text, read_text}
+use Rattle.klsm_text.specs.Reports.{GoesOrFails}
 
--- a thing's number behind a space, where it is selected
-abbrev pub pick_text : ℕ → Bool → List ℕ
-pick_text number true = codes " " ++ decimal number
-pick_text number false = []
-
--- the numbers of the things selected, of so many that are counted from a number on
-abbrev pub picks_text : ℕ → ℕ → ℕ → List ℕ
-picks_text zero number selection = []
-picks_text (suc count) number selection =
-    pick_text number (selection % 2 == 1) ++ picks_text count (number + 1) (selection / 2)
-
-abbrev pub head_of : ℕ → ℕ → List ℕ
-head_of value weight =
-    concat (codes "value " ∷ decimal value ∷ codes " weight " ∷ decimal weight ∷ codes " picks" ∷ [])
-
--- the line of a selection
-abbrev pub best_text : Problem → Best → List ℕ
-best_text p best =
-    head_of best.value (weight_of p best.picks) ++ picks_text (length p.things) 0 best.picks
-    ++ codes "\n"
-
--- the line of an instance that is not read
-abbrev pub read_text : ReadError → List ℕ
-read_text (read_error.BadRow row) = row_text row (codes "fields")
-read_text read_error.TooMany = row_text 34 (codes "items")
-read_text (read_error.BadNumber row) = row_text row (codes "number")
-read_text (read_error.OutOfRange row) = row_text row (codes "range")
-read_text read_error.ReadFault = codes "read fault\n"
-read_text read_error.NoMemory = codes "no memory\n"
-
+-- how a run ends whose instance is not read
 abbrev pub read_end : ReadError → End
 read_end (read_error.BadRow row) = end.Refused
 read_end read_error.TooMany = end.Refused

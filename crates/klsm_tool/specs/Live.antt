@@ -6,26 +6,23 @@ use Rattle.klsm_world.specs.declared.step.Entry.{Entry}
 use Rattle.klsm_world.specs.Account.{account}
 use Rattle.klsm_board.specs.Rule.{IsReached}
 use Rattle.klsm_board.specs.Finishing.{AreListsAtEnd}
-use Rattle.klsm_tool.specs.declared.report.End.{End}
-use Rattle.klsm_tool.specs.declared.report.End.TheVariants as end
-use Rattle.klsm_tool.specs.declared.report.Report.{Report}
-use Rattle.klsm_tool.specs.declared.stop.Stop.{Stop}
-use Rattle.klsm_tool.specs.declared.stop.Stop.TheVariants as stop
-use Rattle.klsm_tool.specs.declared.stop.Closing.{Closing}
-use Rattle.klsm_tool.specs.declared.totals.Totals.{Totals}
+use Rattle.klsm_text.specs.declared.report.End.{End}
+use Rattle.klsm_text.specs.declared.report.End.TheVariants as end
+use Rattle.klsm_text.specs.declared.report.Report.{Report}
+use Rattle.klsm_text.specs.declared.stop.Stop.{Stop}
+use Rattle.klsm_text.specs.declared.stop.Stop.TheVariants as stop
+use Rattle.klsm_text.specs.declared.stop.Closing.{Closing}
+use Rattle.klsm_text.specs.declared.totals.Totals.{Totals}
 use Rattle.klsm_rows.specs.Rows.{Row, AreFirstRows, AreAllRows}
-use Rattle.klsm_tool.specs.AnswerText.{closing_text}
+use Rattle.klsm_text.specs.AnswerText.{closing_text}
+use Rattle.klsm_text.specs.TotalsText.{totals_text}
 use Rattle.klsm_tool.specs.Shown.{shown_in}
 use Rattle.klsm_tool.specs.Crews.{steps_in}
 use Rattle.klsm_tool.specs.Turns.{GivesUp}
-use Rattle.klsm_tool.specs.Replay.{GoesOrFails, end_of, sizes_of}
-use Rattle.klsm_tool.specs.ThreadRows.{AreAccepted, AreAnswers, Asked, StopsReading, asked_of, insertion_rows}
-
--- the line of a script that was run
-abbrev pub totals_text : Totals → List ℕ
-totals_text totals =
-    concat (codes "inserted " ∷ decimal totals.inserted ∷ codes " deleted " ∷ decimal totals.deleted
-    ∷ codes " left " ∷ decimal totals.left ∷ codes "\n" ∷ [])
+use Rattle.klsm_text.specs.Reports.{GoesOrFails, end_of}
+use Rattle.klsm_tool.specs.Replay.{sizes_of}
+use Rattle.klsm_text.specs.ThreadRows.{AreAccepted, Asked, StopsReading, asked_of, insertion_rows}
+use Rattle.klsm_tool.specs.Turns.{AreAnswers}
 
 -- a thread's list answers what it was asked for up to a row of this number, at which it gave up
 pub record GaveUpAt (k t : ℕ) (asked : List Asked) (es : List Entry) (number : ℕ) (why : Stop)

@@ -4,9 +4,9 @@ use Rattle.std.specs.List.{All}
 use Rattle.std.specs.Io.KnownBytes.{Appends}
 use Rattle.klsm_words.specs.declared.command_line.Action.{Action}
 use Rattle.klsm_words.specs.declared.command_line.Action.TheVariants.{Replay, Live, Knapsack}
-use Rattle.klsm_tool.specs.declared.report.End.{End}
-use Rattle.klsm_tool.specs.declared.report.End.TheVariants as end
-use Rattle.klsm_tool.specs.declared.report.Report.{Report}
+use Rattle.klsm_text.specs.declared.report.End.{End}
+use Rattle.klsm_text.specs.declared.report.End.TheVariants as end
+use Rattle.klsm_text.specs.declared.report.Report.{Report}
 use Rattle.klsm_words.specs.declared.settings.Search.{Search}
 use Rattle.klsm_words.specs.declared.settings.Settings.{Settings}
 use Rattle.klsm_words.specs.CommandLine.{HasStatus, IsCommand, action_in, usual_settings}

@@ -1,37 +1,21 @@
 -- How far a replay has come. Rows and lines are listed the latest first.
-use Rattle.std.specs.Prelude.{ℕ, Bool, true, ◌≡◌, ◌≢◌, ◌+◌, ◌<◌, List, ◌++◌, length, take}
-use Rattle.std.specs.Prelude.{Option}
+use Rattle.std.specs.Prelude.{ℕ, ◌≡◌, ◌≢◌, ◌+◌, ◌<◌, List, ◌++◌, length, take, Option}
 use Rattle.std.specs.Io.KnownBytes.{Appends}
 use Rattle.csv.specs.declared.reader.Reader.{Reader}
 use Rattle.klsm_run.specs.declared.item.Item.{Item}
 use Rattle.klsm_world.specs.declared.step.Entry.{Entry}
 use Rattle.klsm_run.specs.Content.{sorted}
-use Rattle.klsm_tool.specs.declared.answer.Line.{Line}
-use Rattle.klsm_tool.specs.declared.output.Output.{Output}
-use Rattle.klsm_tool.specs.declared.stop.Stop.{Stop}
-use Rattle.klsm_tool.specs.declared.stop.Stop.TheVariants as stop
-use Rattle.klsm_tool.specs.declared.watched.Watched.{Watched}
-use Rattle.klsm_rows.specs.Rows.{Row, AreFirstRows, AreAllRows, HasRead as HasReadRows}
-use Rattle.klsm_tool.specs.AnswerText.{live, lines_text, greatest_skip}
+use Rattle.klsm_text.specs.declared.answer.Line.{Line}
+use Rattle.klsm_text.specs.declared.output.Output.{Output}
+use Rattle.klsm_text.specs.declared.stop.Stop.{Stop}
+use Rattle.klsm_text.specs.declared.stop.Stop.TheVariants as stop
+use Rattle.klsm_text.specs.declared.watched.Watched.{Watched}
+use Rattle.klsm_rows.specs.Rows.{Row}
+use Rattle.klsm_text.specs.Reading.{HasRead}
+use Rattle.klsm_text.specs.AnswerText.{live, lines_text, greatest_skip}
 use Rattle.klsm_tool.specs.Replay.{Answered, AreShownUntil, Stopped}
 use Rattle.klsm_tool.specs.Shown.{AreShown}
-use Rattle.klsm_tool.specs.Output.{pending}
-
--- what is known of the bytes that a watched reader has left: that of the reader within
-abbrev pub left_within : {R : Type 0} → (R → Option (List ℕ)) → Watched R → Option (List ℕ)
-left_within rem watched = rem watched.inner
-
--- the rows are the first of the input, and the reader of them stands behind them
-abbrev pub HasRead : {R : Type 0} → (R → Option (List ℕ)) → Option (List ℕ) → List Row
-    → Reader (Watched R) → Type 0
-HasRead rem input rows reader = HasReadRows (left_within rem) input rows reader
-
--- why no row could be read: the input is at its end, or the reader has failed
-abbrev pub ReadStops : Bool → Option (List ℕ) → List Row → Stop → Type 0
-ReadStops failed input rows stop.AtEnd = AreAllRows input rows
-ReadStops failed input rows stop.NoMemory = AreFirstRows input rows × (failed ≡ true)
-ReadStops failed input rows stop.ReadFault = AreFirstRows input rows × (failed ≡ true)
-ReadStops failed input rows why = ⊥
+use Rattle.klsm_text.specs.Output.{pending}
 
 -- all lines went out, but for what is pending
 pub record IsTold (before now : Option (List ℕ)) (lines : List Line) (output : Output) : Type 0 where

@@ -6,16 +6,17 @@ use Rattle.klsm_world.specs.declared.step.Entry.{Entry}
 use Rattle.klsm_board.specs.declared.sizes.Sizes.{Sizes}
 use Rattle.klsm_board.specs.Rule.{IsReached}
 use Rattle.klsm_board.specs.Finishing.{AreListsAtEnd}
-use Rattle.klsm_tool.specs.declared.answer.Line.{Line}
-use Rattle.klsm_tool.specs.declared.request.Request.{Request}
-use Rattle.klsm_tool.specs.declared.report.End.{End}
-use Rattle.klsm_tool.specs.declared.report.End.TheVariants as end
-use Rattle.klsm_tool.specs.declared.report.Report.{Report}
-use Rattle.klsm_tool.specs.declared.stop.Stop.{Stop}
-use Rattle.klsm_tool.specs.declared.stop.Stop.TheVariants as stop
+use Rattle.klsm_text.specs.declared.answer.Line.{Line}
+use Rattle.klsm_text.specs.declared.request.Request.{Request}
+use Rattle.klsm_text.specs.declared.report.End.{End}
+use Rattle.klsm_text.specs.declared.report.End.TheVariants as end
+use Rattle.klsm_text.specs.declared.report.Report.{Report}
+use Rattle.klsm_text.specs.declared.stop.Stop.{Stop}
+use Rattle.klsm_text.specs.declared.stop.Stop.TheVariants as stop
 use Rattle.klsm_rows.specs.Rows.{Row, AreFirstRows, AreAllRows}
-use Rattle.klsm_tool.specs.Script.{request_after}
-use Rattle.klsm_tool.specs.AnswerText.{text_of}
+use Rattle.klsm_text.specs.Script.{request_after}
+use Rattle.klsm_text.specs.Reports.{GoesOrFails, end_of}
+use Rattle.klsm_text.specs.AnswerText.{text_of}
 use Rattle.klsm_tool.specs.Shown.{AreShown}
 use Rattle.klsm_tool.specs.Crews.{steps_in}
 use Rattle.klsm_tool.specs.Turns.{EndsFull, IsAnswer}
@@ -58,25 +59,6 @@ Stopped threads k lists input rows stop.Full =
 Stopped threads k lists input rows stop.NoMemory = AreFirstRows input rows
 Stopped threads k lists input rows stop.ReadFault = AreFirstRows input rows
 Stopped threads k lists input rows stop.WriteFault = AreFirstRows input rows
-
-abbrev pub end_of : Stop → End
-end_of stop.AtEnd = end.Done
-end_of (stop.Refused why) = end.Refused
-end_of stop.Full = end.Full
-end_of stop.NoMemory = end.NoMemory
-end_of stop.ReadFault = end.ReadFault
-end_of stop.WriteFault = end.WriteFault
-
--- a front of the text went out, but not all of it
-abbrev pub IsCut : Option (List ℕ) → Option (List ℕ) → List ℕ → ℕ → ℕ → Type 0
-IsCut before after text written written' =
-    (n : ℕ) × (n < length text) × Appends before after (take n text) × (written' ≡ written + n)
-
--- the whole text went out and the run ends so, or the writer failed before its end
-abbrev pub GoesOrFails : Option (List ℕ) → Option (List ℕ) → List ℕ → ℕ → ℕ → End → End → Type 0
-GoesOrFails before after text written written' good result =
-    ((result ≡ good) × Appends before after text × (written' ≡ written + length text))
-    ⊎ ((result ≡ end.WriteFault) × IsCut before after text written written')
 
 -- the first `written` bytes of a text went out, and all of it unless the writer failed
 pub record GoesOut (before after : Option (List ℕ)) (text : List ℕ) (why : Stop) (report : Report)

@@ -5,9 +5,9 @@ use Rattle.klsm_world.specs.declared.step.Event.{Event}
 use Rattle.klsm_world.specs.declared.step.Event.TheVariants as event
 use Rattle.klsm_world.specs.declared.step.Entry.{Entry}
 use Rattle.klsm_world.specs.OwnSteps.{event_at}
-use Rattle.klsm_tool.specs.declared.answer.Answer.{Answer}
-use Rattle.klsm_tool.specs.declared.answer.Answer.TheVariants.{Inserted, Deleted, Nothing}
-use Rattle.klsm_tool.specs.declared.answer.Line.{Line}
+use Rattle.klsm_text.specs.declared.answer.Answer.{Answer}
+use Rattle.klsm_text.specs.declared.answer.Answer.TheVariants.{Inserted, Deleted, Nothing}
+use Rattle.klsm_text.specs.declared.answer.Line.{Line}
 
 -- the answer that an event is; spying is none
 abbrev pub shown : Event → List Answer

@@ -1,14 +1,15 @@
 -- What a member may answer to a row, and why it may not.
-use Rattle.std.specs.Prelude.{ℕ, ⊤, ◌≡◌, List}
+use Rattle.std.specs.Prelude.{ℕ, ⊤, ◌≡◌, List, [], ◌∷◌}
 use Rattle.klsm_world.specs.declared.step.Entry.{Entry}
 use Rattle.klsm_board.specs.Inserting.{RefusesInsertInTime}
 use Rattle.klsm_board.specs.declared.errors.InsertError.TheVariants as insert
-use Rattle.klsm_tool.specs.declared.answer.Answer.{Answer}
-use Rattle.klsm_tool.specs.declared.answer.Answer.TheVariants.{Inserted, Deleted, Nothing}
-use Rattle.klsm_tool.specs.declared.request.Operation.{Operation}
-use Rattle.klsm_tool.specs.declared.request.Operation.TheVariants.{Insert, Delete}
-use Rattle.klsm_tool.specs.declared.stop.Stop.{Stop}
-use Rattle.klsm_tool.specs.declared.stop.Stop.TheVariants as stop
+use Rattle.klsm_text.specs.declared.answer.Answer.{Answer}
+use Rattle.klsm_text.specs.declared.answer.Answer.TheVariants.{Inserted, Deleted, Nothing}
+use Rattle.klsm_text.specs.declared.request.Operation.{Operation}
+use Rattle.klsm_text.specs.declared.request.Operation.TheVariants.{Insert, Delete}
+use Rattle.klsm_text.specs.declared.stop.Stop.{Stop}
+use Rattle.klsm_text.specs.declared.stop.Stop.TheVariants as stop
+use Rattle.klsm_text.specs.ThreadRows.{Asked}
 
 -- an item, or nothing
 abbrev pub IsDeletion : Answer → Type 0
@@ -26,6 +27,14 @@ IsInsertion key load Nothing = ⊥
 abbrev pub IsAnswer : Operation → Answer → Type 0
 IsAnswer (Insert key load) answer = IsInsertion key load answer
 IsAnswer Delete answer = IsDeletion answer
+
+-- the answers are those to what a thread is asked for, one by one
+abbrev pub AreAnswers : List Asked → List Answer → Type 0
+AreAnswers [] [] = Unit {0}
+AreAnswers [] (answer ∷ answers) = ⊥
+AreAnswers (asked ∷ more) [] = ⊥
+AreAnswers (asked ∷ more) (answer ∷ answers) =
+    IsAnswer asked.operation answer × AreAnswers more answers
 
 -- a list of own steps ends with an insertion for which the shared part had no room
 abbrev pub EndsFull : ℕ → ℕ → ℕ → List Entry → Type 0

@@ -7,11 +7,12 @@ use Rattle.klsm_board.specs.declared.board.Member.{Member}
 use Rattle.klsm_board.specs.Boards.{IsOf, own_steps}
 use Rattle.klsm_board.specs.declared.sizes.Sizes.{Sizes}
 use Rattle.klsm_board.specs.Finishing.{AreListsAtEnd}
-use Rattle.klsm_tool.specs.declared.totals.Totals.{Totals}
+use Rattle.klsm_text.specs.declared.totals.Totals.{Totals}
 use Rattle.klsm_tool.specs.declared.worker.GaveUp.{GaveUp}
 use Rattle.klsm_tool.specs.declared.worker.Worker.{Worker}
 use Rattle.klsm_tool.specs.Shown.{shown_in}
-use Rattle.klsm_tool.specs.ThreadRows.{AreAnswers, Asked}
+use Rattle.klsm_tool.specs.Turns.{AreAnswers}
+use Rattle.klsm_text.specs.ThreadRows.{Asked}
 use Rattle.klsm_tool.specs.Live.{GaveUpAt}
 
 -- a list answers all that the thread was asked for, or up to where the thread gave up

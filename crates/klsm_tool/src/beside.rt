@@ -2,20 +2,18 @@
 ghost use Rattle.std.specs.Prelude.{◌≡◌, ◌<◌, [], ◌∷◌, length, max, IfOk, IfErr};
 ghost use Rattle.klsm_run.specs.Content.{sorted};
 ghost use Rattle.klsm_world.specs.OwnSteps.{inserted};
-ghost use Rattle.klsm_tool.specs.AnswerText.{live_after, skip_of};
+ghost use Rattle.klsm_text.specs.AnswerText.{live_after, skip_of};
 ghost use Rattle.klsm_tool.specs.Crews.{AreMembers, Goes, lists_in, steps_in};
 ghost use Rattle.klsm_tool.specs.Answering.{Answers, picker_count, live_beside};
 ghost use Rattle.klsm_tool.specs.Turns.{GivesUp, IsDeletion};
-ghost use Rattle.klsm_tool.specs.declared.answer.Answer.TheVariants.{Inserted};
+ghost use Rattle.klsm_text.specs.declared.answer.Answer.TheVariants.{Inserted};
 
-use crate::answer::{Answer, Line, Printed};
 use crate::live_items::LiveItems;
 use crate::picking::{ThreadPicker, pickers_of};
-use crate::request::{Operation, Request};
-use crate::stop::Stop;
 use crate::turns::{delete_by, insert_by};
 use klsm_board::{Board, Member};
 use klsm_run::Item;
+use klsm_text::{Answer, Line, Operation, Printed, Request, Stop};
 use klsm_words::Settings;
 use std::alloc::{AllocError, Global};
 use std::sync::Wait;

@@ -4,12 +4,9 @@ ghost use Rattle.klsm_instance.specs.Answers.{IsBestAnswer};
 ghost use Rattle.klsm_instance.specs.Format.{IsProblemIn, RefusesInput};
 ghost use Rattle.klsm_tool.specs.Knapsack.{Solves, RefusesIn, WritesBest};
 
-use crate::output::write_last;
-use crate::report::{End, Report};
-use crate::selection_text::{refusal_text, selection_text};
-use crate::stop::NO_MEMORY;
 use klsm_board::Gate;
 use klsm_knapsack::{Best, Instance, ReadError, SolveError, solve};
+use klsm_text::{End, NO_MEMORY, Report, refusal_text, selection_text, write_last};
 use std::alloc::Global;
 use std::io::{Read, Write};
 use std::sync::Wait;

@@ -15,14 +15,11 @@
 //! A board of the caller's own, and its members, go to `replay_on`. `live_over` runs a script's rows in
 //! threads, and `knapsack_over` solves an instance.
 //!
-//! `script` reads a row into a record that is used again, `judge` says what the row asks for or
-//! what is wrong with it, `beside` lets the member of its thread answer and counts the skip among
-//! `live_items`, and `output` keeps the line, a `LineText`, which goes out with others before a
-//! further row is waited for: `watched` knows how far the whole rows go that were read. A `Stop` is
-//! why no further row is answered, and makes the last line. Where threads run the rows, `thread_rows`
-//! keeps them for their threads, and `live` has a `worker` for each; `progress` tells of a long run.
-//! `knapsack` reads an instance and writes its answer by `selection_text`. `program` runs what its words
-//! ask for, as `klsm_words` reads them.
+//! Rows are read and judged by `klsm_text`, which also makes the lines and sends them. `replay` reads
+//! a row, `beside` lets the member of its thread answer and counts the skip among `live_items`, and
+//! the line goes out with others before a further row is waited for. Where threads run the rows,
+//! `live` has a `worker` for each. `knapsack` reads an instance and writes its answer. `program` runs
+//! what its words ask for, as `klsm_words` reads them.
 //!
 //! - **The text is that of the definition.** What goes out is the first `written` bytes of the
 //!   answer text of the rows that were read, and all of it unless the writer failed: `Replays`, the
@@ -42,36 +39,22 @@
 //!   the printed bound.
 #![tactic(auto)]
 
-mod answer;
 mod beside;
-mod judge;
 mod knapsack;
-mod line_text;
 mod live;
 mod live_items;
-mod output;
 mod picking;
 mod process_words;
 mod program;
-mod progress;
 mod replay;
-mod report;
-mod request;
-mod script;
-mod selection_text;
 mod status;
-mod stop;
-mod thread_rows;
-mod totals;
 mod turns;
-mod watched;
 mod worker;
 
+pub use klsm_text::{End, Progress, Report, Silent, TerminalLine};
 pub use klsm_words::{Pick, Settings};
 pub use knapsack::knapsack_over;
 pub use live::live_over;
 pub use program::{run_program, run_words};
-pub use progress::{Progress, Silent, TerminalLine};
 pub use replay::{replay_on, replay_over};
-pub use report::{End, Report};
 pub use status::Status;

@@ -2,26 +2,23 @@
 ghost use Rattle.std.specs.Prelude.{◌≡◌, ◌<◌, ◌≤◌, ℕ, List, length, map, slice_index_or};
 ghost use Rattle.std.specs.Prelude.{Option, Some, None, IfErr, IfOk, IfSome};
 ghost use Rattle.klsm_rows.specs.Rows.{Row, AreAllRows};
-ghost use Rattle.klsm_tool.specs.Script.{row_limit};
-ghost use Rattle.klsm_tool.specs.Replay.{GoesOrFails};
+ghost use Rattle.klsm_text.specs.Script.{row_limit};
+ghost use Rattle.klsm_text.specs.Reports.{GoesOrFails};
 ghost use Rattle.klsm_tool.specs.Crews.{AreMembers, lists_in};
-ghost use Rattle.klsm_tool.specs.ThreadRows.{AreAccepted};
-ghost use Rattle.klsm_tool.specs.Keeping.{AreKept, kept_for};
+ghost use Rattle.klsm_text.specs.ThreadRows.{AreAccepted};
+ghost use Rattle.klsm_text.specs.Keeping.{AreKept, kept_for};
 ghost use Rattle.klsm_tool.specs.Working.{AreAccounted, HasRunAt, IsReadyAt, gave_up_at, ready};
 ghost use Rattle.klsm_tool.specs.Live.{Lives, RunsScript, outcome_end, outcome_text};
 ghost use Rattle.klsm_tool.specs.declared.worker.Worker.{Worker};
 ghost use Rattle.klsm_board.specs.declared.board.Member.{Member};
 
-use crate::output::write_last;
 use crate::picking::ThreadPicker;
-use crate::progress::{Progress, Silent};
-use crate::report::{End, Report};
-use crate::script::Script;
-use crate::stop::{Closing, Stop};
-use crate::thread_rows::{ThreadRow, keep_rows, no_rows};
-use crate::totals::Totals;
 use crate::worker::{GaveUp, Worker};
 use klsm_board::{Board, Gate, Member};
+use klsm_text::{
+    Closing, End, Progress, Report, Script, Silent, Stop, ThreadRow, Totals, keep_rows, no_rows,
+    write_last,
+};
 use klsm_words::Settings;
 use std::alloc::{AllocError, Global};
 use std::io::{Read, Write};

@@ -8,14 +8,11 @@ ghost use Rattle.klsm_tool.specs.Program.{status_of as status_of_end};
 
 use crate::knapsack::knapsack_over;
 use crate::live::{run_script, write_outcome};
-use crate::output::write_text;
 use crate::process_words::process_words;
-use crate::progress::{Progress, Silent};
 use crate::replay::replay_over;
-use crate::report::End;
 use crate::status::Status;
-use crate::stop::NO_MEMORY;
 use klsm_board::Open;
+use klsm_text::{End, NO_MEMORY, Progress, Silent, write_text};
 use klsm_words::{Action, Fault, Search, Settings, USAGE, parse};
 use std::io::{Read, Write};
 use std::rt::Env;

@@ -5,27 +5,24 @@ ghost use Rattle.std.specs.List.{All};
 ghost use Rattle.klsm_run.specs.declared.item.Item.{Item};
 ghost use Rattle.klsm_world.specs.declared.step.Entry.{Entry};
 ghost use Rattle.klsm_board.specs.Boards.{IsCrew, IsOf};
-ghost use Rattle.klsm_tool.specs.Output.{pending, put_count};
-ghost use Rattle.klsm_tool.specs.AnswerText.{live, skip_of};
-ghost use Rattle.klsm_tool.specs.declared.answer.Line.{Line};
-ghost use Rattle.klsm_tool.specs.declared.stop.Stop.TheVariants as stop;
+ghost use Rattle.klsm_text.specs.Output.{pending, put_count};
+ghost use Rattle.klsm_text.specs.AnswerText.{live, skip_of};
+ghost use Rattle.klsm_text.specs.declared.answer.Line.{Line};
+ghost use Rattle.klsm_text.specs.declared.stop.Stop.TheVariants as stop;
 ghost use Rattle.klsm_rows.specs.Rows.{Row};
-ghost use Rattle.klsm_tool.specs.Script.{row_limit};
+ghost use Rattle.klsm_text.specs.Script.{row_limit};
 ghost use Rattle.klsm_tool.specs.Crews.{AreFew, AreMembers, lists_in};
 ghost use Rattle.klsm_tool.specs.Answering.{live_beside, picker_count};
-ghost use Rattle.klsm_tool.specs.Progress.{HasRead, HasStopped, IsCutOff, IsTold, Stands};
+ghost use Rattle.klsm_text.specs.Reading.{HasRead};
+ghost use Rattle.klsm_tool.specs.Progress.{HasStopped, IsCutOff, IsTold, Stands};
 ghost use Rattle.klsm_tool.specs.Progress.{StopsBefore};
 ghost use Rattle.klsm_tool.specs.Replay.{Replays, ReplaysAlone, sizes_of};
 
-use crate::answer::Printed;
 use crate::beside::Beside;
-use crate::judge::request_of;
-use crate::output::{Output, write_last};
-use crate::report::{End, Report};
-use crate::request::Refusal;
-use crate::script::Script;
-use crate::stop::{Closing, NO_MEMORY, Stop};
 use klsm_board::{Board, Member};
+use klsm_text::{
+    Closing, End, NO_MEMORY, Output, Printed, Refusal, Report, Script, Stop, request_of, write_last,
+};
 use klsm_words::Settings;
 use std::alloc::{AllocError, Global};
 use std::io::{Read, Write};

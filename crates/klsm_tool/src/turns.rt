@@ -3,16 +3,15 @@ ghost use Rattle.std.specs.Prelude.{◌≡◌, ◌<◌, ◌++◌, ◌∷◌, [],
 ghost use Rattle.klsm_run.specs.declared.item.Item.{Item};
 ghost use Rattle.klsm_world.specs.OwnSteps.{inserted};
 ghost use Rattle.klsm_board.specs.Boards.{IsOf, IsSame, own_steps};
-ghost use Rattle.klsm_tool.specs.declared.answer.Answer.TheVariants.{Inserted};
+ghost use Rattle.klsm_text.specs.declared.answer.Answer.TheVariants.{Inserted};
 ghost use Rattle.klsm_tool.specs.Crews.{AreMembers, Goes, lists_in, steps_in};
 ghost use Rattle.klsm_tool.specs.Shown.{shown_in};
 ghost use Rattle.klsm_tool.specs.Turns.{GivesUp, IsDeletion};
 
-use crate::answer::Answer;
-use crate::stop::Stop;
 use klsm_board::{Board, InsertError, Member};
 use klsm_parts::Picker;
 use klsm_run::Item;
+use klsm_text::{Answer, Stop};
 use std::sync::Wait;
 
 /// An insertion, whose item is answered.

@@ -4,17 +4,13 @@ ghost use Rattle.klsm_world.specs.OwnSteps.{inserted};
 ghost use Rattle.klsm_board.specs.Boards.{IsOf, IsSame, own_steps};
 ghost use Rattle.klsm_tool.specs.Shown.{shown_in};
 ghost use Rattle.klsm_tool.specs.Turns.{GivesUp, IsAnswer};
-ghost use Rattle.klsm_tool.specs.Keeping.{asked_in};
+ghost use Rattle.klsm_text.specs.Keeping.{asked_in};
 ghost use Rattle.klsm_tool.specs.Working.{HasRun, IsReady, Works};
 
-use crate::answer::Answer;
 use crate::picking::ThreadPicker;
-use crate::progress::{Pace, Progress};
-use crate::request::Operation;
-use crate::stop::Stop;
-use crate::thread_rows::ThreadRow;
 use crate::turns::{delete, insert};
 use klsm_board::{Board, Member};
+use klsm_text::{Answer, Operation, Pace, Progress, Stop, ThreadRow};
 use std::sync::Wait;
 
 /// A member, and at which row it gave up, if it did.

@@ -1,7 +1,7 @@
 use Rattle.std.proofs.Common.{◌≡◌, ◌<◌, ◌∙◌, ℕ, List, [], map, length, slice_index_or, ap, arith, sym, subst, Vec, Global}
 use Rattle.std.proofs.lemmas.List.{get_or-map, length-map}
-use Rattle.klsm_tool.specs.declared.thread_rows.ThreadRow.{ThreadRow}
-use Rattle.klsm_tool.specs.Keeping.{asked_in, kept_for}
+use Rattle.klsm_text.specs.declared.thread_rows.ThreadRow.{ThreadRow}
+use Rattle.klsm_text.specs.Keeping.{asked_in, kept_for}
 use Rattle.klsm_tool.specs.Working.{HasRun, IsReadyAt}
 use Rattle.klsm_tool.proofs.live.run_at.Goals as goal
 

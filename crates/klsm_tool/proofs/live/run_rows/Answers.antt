@@ -1,15 +1,15 @@
 use Rattle.std.proofs.Common.{◌≡◌, ◌<◌, ◌∙◌, ℕ, List, map, length, drop, slice_index_or, Option, Some, None, refl, sym, ap, subst, arith}
 use Rattle.std.proofs.lemmas.List.{length-map}
 use Rattle.klsm_board.specs.declared.board.Member.{Member}
-use Rattle.klsm_tool.specs.declared.stop.Stop.{Stop}
-use Rattle.klsm_tool.specs.declared.stop.Stop.TheVariants as stop
+use Rattle.klsm_text.specs.declared.stop.Stop.{Stop}
+use Rattle.klsm_text.specs.declared.stop.Stop.TheVariants as stop
 use Rattle.klsm_tool.specs.declared.worker.Worker.{Worker}
-use Rattle.klsm_tool.specs.Keeping.{kept_for}
-use Rattle.klsm_tool.specs.ThreadRows.{asked_of}
+use Rattle.klsm_text.specs.Keeping.{kept_for}
+use Rattle.klsm_text.specs.ThreadRows.{asked_of}
 use Rattle.klsm_tool.specs.Live.{HasNoTotals}
 use Rattle.klsm_tool.specs.Working.{HasRunAt, IsReadyAt, gave_up_at, ready}
 use Rattle.klsm_tool.proofs.CrewLemmas.{written_back}
-use Rattle.klsm_tool.proofs.KeepingLemmas.{no_memory_at_first}
+use Rattle.klsm_tool.proofs.NotRunLemmas.{no_memory_at_first}
 use Rattle.klsm_tool.proofs.PlaceLemmas.{all_back, crew_ready, finished, one_gave_up}
 use Rattle.klsm_tool.proofs.live.run_rows.Goals as goal
 

@@ -1,13 +1,14 @@
 use Rattle.std.proofs.Common.{rules, ◌≡◌, ◌≢◌, ◌∙◌, List, [], map, length, drop, sym, ap, arith, subst, Vec, Global}
 use Rattle.std.proofs.lemmas.List.{length-map}
-use Rattle.klsm_tool.specs.declared.stop.Stop.TheVariants as stop
-use Rattle.klsm_tool.specs.declared.thread_rows.ThreadRow.{ThreadRow}
-use Rattle.klsm_tool.specs.Keeping.{AreKept}
+use Rattle.klsm_text.specs.declared.stop.Stop.TheVariants as stop
+use Rattle.klsm_text.specs.declared.thread_rows.ThreadRow.{ThreadRow}
+use Rattle.klsm_text.specs.Keeping.{AreKept}
 use Rattle.klsm_tool.specs.Live.{HasNoTotals}
-use Rattle.klsm_tool.specs.Script.{row_limit}
-use Rattle.klsm_tool.specs.ThreadRows.{StopsReading}
+use Rattle.klsm_text.specs.Script.{row_limit}
+use Rattle.klsm_text.specs.ThreadRows.{StopsReading}
 use Rattle.klsm_tool.proofs.CrewLemmas.{written_back}
-use Rattle.klsm_tool.proofs.KeepingLemmas.{few_kept, no_memory_at_first, not_run}
+use Rattle.klsm_text.proofs.KeepingLemmas.{few_kept}
+use Rattle.klsm_tool.proofs.NotRunLemmas.{no_memory_at_first, not_run}
 use Rattle.klsm_tool.proofs.live.run_script.Goals as goal
 
 abbrev kept_lists : List (Vec ThreadRow Global) → List (List ThreadRow)

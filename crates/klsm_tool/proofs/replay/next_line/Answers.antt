@@ -2,7 +2,7 @@ use Rattle.std.proofs.Common.{arith, ap, sym, ◌∙◌}
 use Rattle.csv.specs.Records.{fields_of}
 use Rattle.klsm_tool.specs.Answering.{live_beside}
 use Rattle.klsm_tool.specs.Crews.{lists_in, steps_in}
-use Rattle.klsm_tool.specs.Script.{request_of}
+use Rattle.klsm_text.specs.Script.{request_of}
 use Rattle.klsm_tool.proofs.ReplayLemmas.{refused, row_after, few_after}
 use Rattle.klsm_tool.proofs.ShownLemmas.{inserted_within}
 use Rattle.klsm_tool.proofs.replay.next_line.Goals as goal

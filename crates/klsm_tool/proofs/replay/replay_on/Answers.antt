@@ -4,7 +4,7 @@ use Rattle.klsm_tool.specs.Crews.{lists_in}
 use Rattle.klsm_run.specs.Content.{sorted}
 use Rattle.klsm_tool.specs.Progress.{IsTold, Stands}
 use Rattle.klsm_tool.proofs.CrewLemmas.{new_crew, new_crew_shows_none}
-use Rattle.klsm_tool.proofs.OutputLemmas.{appends_nothing}
+use Rattle.klsm_text.proofs.OutputLemmas.{appends_nothing}
 use Rattle.klsm_tool.proofs.ClosingLemmas.{replays, replays_nothing}
 use Rattle.klsm_tool.proofs.replay.replay_on.Goals as goal
 

@@ -3,7 +3,7 @@ use Rattle.std.specs.List.{All}
 use Rattle.klsm_board.specs.declared.board.Member.{Member}
 use Rattle.klsm_board.specs.Boards.{IsOf}
 use Rattle.klsm_board.specs.Finishing.{AreListsAtEnd, lists_of}
-use Rattle.klsm_tool.specs.declared.report.End.TheVariants as end
+use Rattle.klsm_text.specs.declared.report.End.TheVariants as end
 use Rattle.klsm_tool.proofs.AloneLemmas.{alone, alone_without, not_done}
 use Rattle.klsm_tool.proofs.CrewLemmas.{crew_all, written_back}
 use Rattle.klsm_tool.proofs.replay.replay_over.Goals as goal

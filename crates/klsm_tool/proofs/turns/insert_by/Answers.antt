@@ -1,6 +1,6 @@
 use Rattle.std.proofs.Common.{rules, arith, ap, sym, append-nil, length, ◌∙◌, [], ◌∷◌}
 use Rattle.klsm_world.specs.OwnSteps.{inserted}
-use Rattle.klsm_tool.specs.declared.answer.Answer.TheVariants.{Inserted}
+use Rattle.klsm_text.specs.declared.answer.Answer.TheVariants.{Inserted}
 use Rattle.klsm_tool.proofs.CrewLemmas.{ok_then, err_then, is_of, crew_kept, list_of_member, goes_on_by, gives_up_by}
 use Rattle.klsm_tool.proofs.turns.insert_by.Goals as goal
 

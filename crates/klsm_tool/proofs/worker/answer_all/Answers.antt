@@ -1,8 +1,8 @@
 use Rattle.std.proofs.Common.{◌≡◌, ◌∙◌, [], false, get_or, take, refl, subst, sym, ap, arith}
 use Rattle.std.proofs.lemmas.List.{take_all}
 use Rattle.klsm_board.specs.Boards.{own_steps}
-use Rattle.klsm_tool.specs.declared.thread_rows.ThreadRow.{ThreadRow}
-use Rattle.klsm_tool.specs.ThreadRows.{AreAnswers}
+use Rattle.klsm_text.specs.declared.thread_rows.ThreadRow.{ThreadRow}
+use Rattle.klsm_tool.specs.Turns.{AreAnswers}
 use Rattle.klsm_tool.specs.Turns.{GivesUp, IsAnswer}
 use Rattle.klsm_tool.proofs.ShownLemmas.{inserted_within}
 use Rattle.klsm_tool.proofs.WorkLemmas.{row_answered, row_given_up, so_many}

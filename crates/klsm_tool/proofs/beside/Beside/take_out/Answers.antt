@@ -1,7 +1,7 @@
 use Rattle.std.proofs.Common.{◌∙◌, ap, sym, rules}
 use Rattle.klsm_run.specs.Content.{sorted}
 use Rattle.klsm_run.proofs.WithoutLemmas.{sorted_without}
-use Rattle.klsm_tool.specs.AnswerText.{live_after}
+use Rattle.klsm_text.specs.AnswerText.{live_after}
 use Rattle.klsm_tool.specs.Answering.{live_beside}
 use Rattle.klsm_tool.proofs.beside.Beside.take_out.Goals as goal
 

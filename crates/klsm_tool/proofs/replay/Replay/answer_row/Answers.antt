@@ -1,7 +1,7 @@
 use Rattle.std.proofs.Common.{arith, ◌∙◌}
 use Rattle.std.proofs.lemmas.Result.{err_from_is_err_and}
 use Rattle.klsm_tool.specs.Crews.{lists_in}
-use Rattle.klsm_tool.proofs.OutputLemmas.{puts_at_most}
+use Rattle.klsm_text.proofs.OutputLemmas.{puts_at_most}
 use Rattle.klsm_tool.proofs.TellingLemmas.{stops_told, stops_cut, line_put}
 use Rattle.klsm_tool.proofs.replay.Replay.answer_row.Goals as goal
 

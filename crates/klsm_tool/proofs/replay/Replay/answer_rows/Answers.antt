@@ -1,7 +1,7 @@
 use Rattle.std.proofs.Common.{◌≡◌, ℕ, ◌+◌, ◌<◌, [], ◌∷◌, refl, ap, sym, length, subst, arith}
 use Rattle.klsm_tool.specs.Answering.{live_beside}
 use Rattle.klsm_tool.specs.Crews.{lists_in}
-use Rattle.klsm_tool.specs.Script.{row_limit}
+use Rattle.klsm_text.specs.Script.{row_limit}
 use Rattle.klsm_tool.specs.Progress.{HasStopped, Stands}
 use Rattle.klsm_tool.proofs.replay.Replay.answer_rows.Goals as goal
 

@@ -1,9 +1,9 @@
 use Rattle.std.proofs.Common.{◌≡◌, ℕ, ◌*◌, ◌≤◌, List, [], length, Option}
-use Rattle.klsm_tool.specs.declared.answer.Line.{Line}
+use Rattle.klsm_text.specs.declared.answer.Line.{Line}
 use Rattle.klsm_tool.specs.Answering.{live_beside, picker_count}
 use Rattle.klsm_tool.specs.Crews.{AreFew, AreMembers, lists_in}
 use Rattle.klsm_rows.specs.Rows.{Row}
-use Rattle.klsm_tool.specs.Output.{put_count}
+use Rattle.klsm_text.specs.Output.{put_count}
 use Rattle.klsm_tool.specs.Progress.{IsTold, Stands}
 use Rattle.klsm_tool.proofs.replay.Replay.answer_rows.Given as goal
 

@@ -1,0 +1,31 @@
+use Rattle.std.proofs.Common.{◌≡◌, ◌∙◌, ◌<◌, ◌∷◌, length, sym, subst, arith}
+use Rattle.csv.specs.Records.{fields_of}
+use Rattle.klsm_text.specs.Script.{row_limit}
+use Rattle.klsm_text.specs.ThreadRows.{StopsReading}
+use Rattle.klsm_text.proofs.KeepingLemmas.{beyond, ended, stops_reading}
+use Rattle.klsm_text.proofs.thread_rows.keep_rows.Goals.{in-Ok, in-Err-advance}
+use Rattle.klsm_text.proofs.thread_rows.keep_rows.Goals as goal
+
+pub returns-in-Err : goal.returns-in-Err
+returns-in-Err g c = λ threads input read kept.
+    let k = c.loop-number.invariant threads input read kept in
+    let below : length k.0 < row_limit = omega (arith, k.1, c.loop-number-test.true) in
+    let stops = c.in-Err.ensures threads input k.0 k.2 k.3 below (omega (arith, k.1)) k.4 in
+    ended threads _ input k.0 _ _ k.3 (subst (StopsReading threads input k.0) (sym c.at.ensures.stop) stops.0) (λ end. stops.1 (sym c.at.ensures.stop ∙ end)) (omega (arith, below)) (c.at.ensures.row ∙ omega (arith, k.1))
+
+pub loop-number-preserved : goal.loop-number-preserved
+loop-number-preserved g c = λ threads input read kept.
+    let k = c.loop-number.invariant threads input read kept in
+    let below : length k.0 < row_limit = omega (arith, k.1, c.loop-number-test.true) in
+    let next = c.in_default.ensures threads input k.0 k.2 k.3 below (omega (arith, k.1)) k.4 in
+    (next.0 ∷ k.0, omega (arith, k.1), next.1, next.2, next.3)
+
+pub returns : goal.returns
+returns g c = λ threads input read kept.
+    let k = c.loop-number.invariant threads input read kept in
+    let all : length k.0 ≡ row_limit = omega (arith, k.1, c.loop-number-test.false) in
+    let stops : StopsReading threads input k.0 c.match-advance.stop = elim c.match-advance.branch [
+      | in-Ok w ↦ subst (StopsReading threads input k.0) (sym w.stop-is) (beyond g.R.Read.remaining threads input k.0 c.advance.new.self.rows (fields_of c.advance.new.self.row) all (w.in-Ok.ensures input k.0 k.2))
+      | in-Err-advance w ↦ subst (StopsReading threads input k.0) (sym w.stop-is) (stops_reading _ threads input k.0 w.in-Err-advance.stop (w.in-Err-advance.ensures input k.0 k.2))
+    ] in
+    ended threads _ input k.0 _ _ k.3 (subst (StopsReading threads input k.0) (sym c.at-2.ensures.stop) stops) (λ end. k.4) (omega (arith, all)) (c.at-2.ensures.row ∙ omega (arith, all))

@@ -1,0 +1,23 @@
+-- How far the reading of a script has come. Rows are listed the latest first.
+use Rattle.std.specs.Prelude.{ℕ, Bool, true, ◌≡◌, List, Option}
+use Rattle.csv.specs.declared.reader.Reader.{Reader}
+use Rattle.klsm_rows.specs.Rows.{Row, AreFirstRows, AreAllRows, HasRead as HasReadRows}
+use Rattle.klsm_text.specs.declared.stop.Stop.{Stop}
+use Rattle.klsm_text.specs.declared.stop.Stop.TheVariants as stop
+use Rattle.klsm_text.specs.declared.watched.Watched.{Watched}
+
+-- what is known of the bytes that a watched reader has left: that of the reader within
+abbrev pub left_within : {R : Type 0} → (R → Option (List ℕ)) → Watched R → Option (List ℕ)
+left_within rem watched = rem watched.inner
+
+-- the rows are the first of the input, and the reader of them stands behind them
+abbrev pub HasRead : {R : Type 0} → (R → Option (List ℕ)) → Option (List ℕ) → List Row
+    → Reader (Watched R) → Type 0
+HasRead rem input rows reader = HasReadRows (left_within rem) input rows reader
+
+-- why no row could be read: the input is at its end, or the reader has failed
+abbrev pub ReadStops : Bool → Option (List ℕ) → List Row → Stop → Type 0
+ReadStops failed input rows stop.AtEnd = AreAllRows input rows
+ReadStops failed input rows stop.NoMemory = AreFirstRows input rows × (failed ≡ true)
+ReadStops failed input rows stop.ReadFault = AreFirstRows input rows × (failed ≡ true)
+ReadStops failed input rows why = ⊥

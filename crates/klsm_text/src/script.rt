@@ -1,0 +1,53 @@
+//! The rows of a script, read one at a time.
+ghost use Rattle.std.specs.Prelude.{ℕ, List, [], ◌∷◌, Option, MatchResult};
+ghost use Rattle.csv.specs.Reading.{has_failed};
+ghost use Rattle.csv.specs.Records.{fields_of};
+ghost use Rattle.klsm_rows.specs.Rows.{Row};
+ghost use Rattle.klsm_text.specs.Reading.{HasRead, ReadStops};
+
+use crate::stop::Stop;
+use crate::watched::Watched;
+use csv::{ByteRecord, Reader};
+use klsm_rows::{RowFault, read_row, rows_of};
+use std::alloc::Global;
+use std::io::Read;
+
+/// A script that is read row by row, each into the same record.
+#[derive(Drop)]
+pub struct Script<R> {
+    rows: Reader<Watched<R>>,
+    pub row: ByteRecord,
+}
+
+impl<R: Read + Drop> Script<R> {
+    pub fn new(alloc: Global, reader: R) -> Self
+        ensures { HasRead R.remaining (R.remaining reader) [] result.rows }
+    {
+        Script {
+            rows: rows_of(alloc, Watched::new(reader)),
+            row: ByteRecord::new(alloc),
+        }
+    }
+
+    /// Whether the next row may have to be waited for: none that is known to be whole was read
+    /// ahead.
+    pub fn may_wait(&self) -> bool {
+        self.rows.position().byte() >= self.rows.get_ref().whole_rows_end()
+    }
+
+    /// Reads the next row into `row`, and answers why not where there is none.
+    pub fn advance(&mut self) -> Result<(), Stop>
+        ensures { (input : Option (List ℕ)) (rows : List Row)
+            → HasRead R.remaining input rows self.old.rows
+            → MatchResult result
+            (λ _. HasRead R.remaining input (fields_of self.new.row ∷ rows) self.new.rows)
+            (ReadStops (has_failed self.new.rows) input rows) }
+    {
+        match read_row(&mut self.rows, &mut self.row) {
+            Ok(true) => Ok(()),
+            Ok(false) => Err(Stop::AtEnd),
+            Err(RowFault::NoMemory) => Err(Stop::NoMemory),
+            Err(RowFault::ReadFault) => Err(Stop::ReadFault),
+        }
+    }
+}

@@ -1,5 +1,0 @@
-use Rattle.std.proofs.Common.{rules}
-use Rattle.klsm_tool.proofs.judge.judge_insertion.Goals as goal
-
-pub returns : goal.returns
-returns c = search rules
