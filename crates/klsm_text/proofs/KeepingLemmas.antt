@@ -6,21 +6,19 @@ use Rattle.std.proofs.lemmas.Bool.Decides.{nat_tests}
 use Rattle.std.proofs.lemmas.List.{get_or-set_same, get_or-set_other, map-append}
 use mathlib.Core.Logic.{dite}
 use native.Mathlib.Decide.{ℕ_discrete}
-use Rattle.csv.specs.declared.reader.Reader.{Reader}
 use Rattle.klsm_text.specs.declared.request.Refusal.{Refusal}
 use Rattle.klsm_text.specs.declared.request.Refusal.TheVariants as refusal
 use Rattle.klsm_text.specs.declared.request.Request.{Request}
 use Rattle.klsm_text.specs.declared.stop.Stop.{Stop}
 use Rattle.klsm_text.specs.declared.stop.Stop.TheVariants as stop
 use Rattle.klsm_text.specs.declared.thread_rows.ThreadRow.{ThreadRow}
-use Rattle.klsm_text.specs.declared.watched.Watched.{Watched}
+use Rattle.klsm_text.specs.declared.script.Script.{Script}
 use Rattle.klsm_rows.specs.Rows.{Row}
 use Rattle.klsm_text.specs.Script.{request_of, request_after, row_limit}
-use Rattle.klsm_text.specs.Reading.{HasRead, ReadStops, left_within}
+use Rattle.klsm_text.specs.Reading.{HasRead, ReadStops}
 use Rattle.klsm_text.specs.Keeping.{AreKept, HasEnded, KeepsOn, KeepsOne, asked_in, kept_for}
 use Rattle.klsm_text.specs.ThreadRows.{AreAccepted, Asked, StopsReading, asked_of, asks}
-use Rattle.klsm_rows.proofs.RowLemmas.{first_rows}
-use Rattle.klsm_text.proofs.ScriptLemmas.{judged}
+use Rattle.klsm_text.proofs.ScriptLemmas.{first_read, judged}
 
 -- a choice between two numbers that are one, or that differ
 choice_hit : {X : Type 0} (p q : ℕ) (x y : X) → p ≡ q → cond (eqb p q) x y ≡ x
@@ -66,23 +64,23 @@ kept_next threads number rows row request lists lists' number_is asks_for kept o
       ∙ ap (λ z. asked_of threads t rows ++ z) (ap (λ n. asks t n (Ok request)) number_is ∙ ap (asks t (length rows + 1)) (sym asks_for)));
 }
 
-pub row_kept : {R : Type 0} (rem : R → Option (List ℕ)) (threads many number : ℕ) (input : Option (List ℕ)) (rows : List Row) (a b : Reader (Watched R)) (row : Row) (request : Request) (lists lists' : List (List ThreadRow)) (result : Result (Unit {0}) Stop)
+pub row_kept : {R : Type 0} (rem : R → Option (List ℕ)) (threads many number : ℕ) (input : Option (List ℕ)) (rows : List Row) (a b : Script R) (row : Row) (request : Request) (lists lists' : List (List ThreadRow)) (result : Result (Unit {0}) Stop)
     → length lists ≡ many → HasRead rem input rows a → AreAccepted threads rows → length rows < row_limit → number ≡ length rows + 1 → AreKept threads rows lists → HasRead rem input (row ∷ rows) b → request_of many row ≡ Ok request
     → IfOk result (λ _. KeepsOne number request lists lists') → IfErr result (λ why. why ≡ stop.NoMemory) → KeepsOn rem threads input rows lists' b result
 row_kept rem threads many number input rows a b row request lists lists' (Ok done) so_many was accepted below number_is kept read asks_for one memory =
     let asks : request_of threads row ≡ Ok request = ap (λ n. request_of n row) (sym kept.many ∙ so_many) ∙ asks_for in
     (row, read, ((request, judged threads rows row below ∙ asks), accepted), kept_next threads number rows row request lists lists' number_is asks kept one)
 row_kept rem threads many number input rows a b row request lists lists' (Err why) so_many was accepted below number_is kept read asks_for one memory = (
-  subst (StopsReading threads input rows) (sym memory) (first_rows (left_within rem) input rows a was),
+  subst (StopsReading threads input rows) (sym memory) (first_read rem input rows a was),
   λ end. absurd (let bad : stop.NoMemory ≡ stop.AtEnd = sym memory ∙ end in cc),
 )
 
 -- a row that is read and refused
-pub row_refused : {R : Type 0} (rem : R → Option (List ℕ)) (threads : ℕ) (input : Option (List ℕ)) (rows : List Row) (b : Reader (Watched R)) (row : Row) (why : Refusal) (many : ℕ) (before lists : List (List ThreadRow)) → length before ≡ many → AreKept threads rows before → length rows < row_limit → HasRead rem input (row ∷ rows) b → request_of many row ≡ Err why
+pub row_refused : {R : Type 0} (rem : R → Option (List ℕ)) (threads : ℕ) (input : Option (List ℕ)) (rows : List Row) (b : Script R) (row : Row) (why : Refusal) (many : ℕ) (before lists : List (List ThreadRow)) → length before ≡ many → AreKept threads rows before → length rows < row_limit → HasRead rem input (row ∷ rows) b → request_of many row ≡ Err why
     → KeepsOn rem threads input rows lists b (Err (stop.Refused why))
 row_refused rem threads input rows b row why many before lists so_many kept below read asks_for =
     let asks : request_of threads row ≡ Err why = ap (λ n. request_of n row) (sym kept.many ∙ so_many) ∙ asks_for in
-    ((row, first_rows (left_within rem) input (row ∷ rows) b read, judged threads rows row below ∙ asks), λ end. absurd (let bad : stop.Refused why ≡ stop.AtEnd = end in cc))
+    ((row, first_read rem input (row ∷ rows) b read, judged threads rows row below ∙ asks), λ end. absurd (let bad : stop.Refused why ≡ stop.AtEnd = end in cc))
 
 -- no row is read
 pub stops_reading : (failed : Bool) (threads : ℕ) (input : Option (List ℕ)) (rows : List Row) (why : Stop) → ReadStops failed input rows why → StopsReading threads input rows why
@@ -94,15 +92,15 @@ stops_reading failed threads input rows stop.ReadFault h = h.0
 stops_reading failed threads input rows stop.WriteFault h = absurd h
 
 -- no row is read, and none is kept
-pub row_stops : {R : Type 0} (rem : R → Option (List ℕ)) (failed : Bool) (threads : ℕ) (input : Option (List ℕ)) (rows : List Row) (b : Reader (Watched R)) (why : Stop) (lists : List (List ThreadRow)) → AreKept threads rows lists → ReadStops failed input rows why → KeepsOn rem threads input rows lists b (Err why)
+pub row_stops : {R : Type 0} (rem : R → Option (List ℕ)) (failed : Bool) (threads : ℕ) (input : Option (List ℕ)) (rows : List Row) (b : Script R) (why : Stop) (lists : List (List ThreadRow)) → AreKept threads rows lists → ReadStops failed input rows why → KeepsOn rem threads input rows lists b (Err why)
 row_stops rem failed threads input rows b why lists kept stops = (stops_reading failed threads input rows why stops, λ end. kept)
 
 -- one row too many
-pub beyond : {R : Type 0} (rem : R → Option (List ℕ)) (threads : ℕ) (input : Option (List ℕ)) (rows : List Row) (b : Reader (Watched R)) (row : Row) → length rows ≡ row_limit → HasRead rem input (row ∷ rows) b → StopsReading threads input rows (stop.Refused refusal.Rows)
+pub beyond : {R : Type 0} (rem : R → Option (List ℕ)) (threads : ℕ) (input : Option (List ℕ)) (rows : List Row) (b : Script R) (row : Row) → length rows ≡ row_limit → HasRead rem input (row ∷ rows) b → StopsReading threads input rows (stop.Refused refusal.Rows)
 beyond rem threads input rows b row all read =
     let at_limit : eqb (length rows) row_limit ≡ true = grind (arith, nat_tests) in
     let refuses : request_after threads rows row ≡ Err refusal.Rows = rw at_limit refl in
-    (row, first_rows (left_within rem) input (row ∷ rows) b read, refuses)
+    (row, first_read rem input (row ∷ rows) b read, refuses)
 
 -- as many rows are asked for as there are at most
 pub asked_few : (threads t : ℕ) (rows : List Row) → length (asked_of threads t rows) ≤ length rows

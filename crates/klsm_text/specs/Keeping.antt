@@ -1,14 +1,13 @@
 -- How far the reading of a whole script has come.
 use Rattle.std.specs.Prelude.{ℕ, ◌≡◌, ◌+◌, ◌<◌, ◌≤◌, List, [], ◌∷◌, ◌++◌, length, map, slice_index_or}
 use Rattle.std.specs.Prelude.{if◌then◌else◌, Option, Result, Ok, Err}
-use Rattle.csv.specs.declared.reader.Reader.{Reader}
 use Rattle.klsm_text.specs.declared.request.Operation.{Operation}
 use Rattle.klsm_text.specs.declared.request.Operation.TheVariants.{Insert, Delete}
 use Rattle.klsm_text.specs.declared.request.Request.{Request}
 use Rattle.klsm_text.specs.declared.stop.Stop.{Stop}
 use Rattle.klsm_text.specs.declared.stop.Stop.TheVariants as stop
 use Rattle.klsm_text.specs.declared.thread_rows.ThreadRow.{ThreadRow}
-use Rattle.klsm_text.specs.declared.watched.Watched.{Watched}
+use Rattle.klsm_text.specs.declared.script.Script.{Script}
 use Rattle.klsm_rows.specs.Rows.{Row}
 use Rattle.klsm_text.specs.Script.{row_limit}
 use Rattle.klsm_text.specs.Reading.{HasRead}
@@ -38,11 +37,11 @@ pub record KeepsOne (number : ℕ) (request : Request) (lists lists' : List (Lis
 
 -- the next row is kept, or there is a reason why not
 abbrev pub KeepsOn : {R : Type 0} → (R → Option (List ℕ)) → ℕ → Option (List ℕ) → List Row
-    → List (List ThreadRow) → Reader (Watched R) → Result (Unit {0}) Stop → Type 0
-KeepsOn rem threads input rows lists reader (Ok done) =
-    (row : Row) × HasRead rem input (row ∷ rows) reader × AreAccepted threads (row ∷ rows)
+    → List (List ThreadRow) → Script R → Result (Unit {0}) Stop → Type 0
+KeepsOn rem threads input rows lists script (Ok done) =
+    (row : Row) × HasRead rem input (row ∷ rows) script × AreAccepted threads (row ∷ rows)
     × AreKept threads (row ∷ rows) lists
-KeepsOn rem threads input rows lists reader (Err why) =
+KeepsOn rem threads input rows lists script (Err why) =
     StopsReading threads input rows why × (why ≡ stop.AtEnd → AreKept threads rows lists)
 
 -- no further row is kept, and this is the number of the next one

@@ -1,7 +1,8 @@
 -- How far the reading of a script has come. Rows are listed the latest first.
 use Rattle.std.specs.Prelude.{ℕ, Bool, true, ◌≡◌, List, Option}
-use Rattle.csv.specs.declared.reader.Reader.{Reader}
+use Rattle.csv.specs.Reading.{has_failed}
 use Rattle.klsm_rows.specs.Rows.{Row, AreFirstRows, AreAllRows, HasRead as HasReadRows}
+use Rattle.klsm_text.specs.declared.script.Script.{Script}
 use Rattle.klsm_text.specs.declared.stop.Stop.{Stop}
 use Rattle.klsm_text.specs.declared.stop.Stop.TheVariants as stop
 use Rattle.klsm_text.specs.declared.watched.Watched.{Watched}
@@ -10,10 +11,14 @@ use Rattle.klsm_text.specs.declared.watched.Watched.{Watched}
 abbrev pub left_within : {R : Type 0} → (R → Option (List ℕ)) → Watched R → Option (List ℕ)
 left_within rem watched = rem watched.inner
 
--- the rows are the first of the input, and the reader of them stands behind them
-abbrev pub HasRead : {R : Type 0} → (R → Option (List ℕ)) → Option (List ℕ) → List Row
-    → Reader (Watched R) → Type 0
-HasRead rem input rows reader = HasReadRows (left_within rem) input rows reader
+-- the rows are the first of the input, and the script stands behind them
+abbrev pub HasRead : {R : Type 0} → (R → Option (List ℕ)) → Option (List ℕ) → List Row → Script R
+    → Type 0
+HasRead rem input rows script = HasReadRows (left_within rem) input rows script.rows
+
+-- whether the reader of the script has failed
+abbrev pub reader_failed : {R : Type 0} → Script R → Bool
+reader_failed script = has_failed script.rows
 
 -- why no row could be read: the input is at its end, or the reader has failed
 abbrev pub ReadStops : Bool → Option (List ℕ) → List Row → Stop → Type 0

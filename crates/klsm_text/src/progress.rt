@@ -130,6 +130,7 @@ pub struct Pace {
 }
 
 impl Pace {
+    /// No row yet.
     pub fn new() -> Self {
         Pace { left: STRIDE }
     }

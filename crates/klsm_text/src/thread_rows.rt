@@ -87,7 +87,7 @@ pub fn keep_rows<R: Read + Drop>(
 ) -> Closing
     requires { length lists.old ≤ 16 }
     ensures { (threads : ℕ) (input : Option (List ℕ))
-        → HasRead R.remaining input [] script.old.rows
+        → HasRead R.remaining input [] script.old
         → AreKept threads [] (map (λ list. list.items) lists.old)
         → HasEnded threads input (map (λ list. list.items) lists.new) result.row result.stop }
 {
@@ -113,11 +113,11 @@ fn keep_row<R: Read + Drop>(
 ) -> Result<(), Stop>
     requires { length lists.old ≤ 16 }
     ensures { (threads : ℕ) (input : Option (List ℕ)) (rows : List Row)
-        → HasRead R.remaining input rows script.old.rows → AreAccepted threads rows
+        → HasRead R.remaining input rows script.old → AreAccepted threads rows
         → length rows < row_limit → number ≡ length rows + 1
         → AreKept threads rows (map (λ list. list.items) lists.old)
         → KeepsOn R.remaining threads input rows (map (λ list. list.items) lists.new)
-        script.new.rows result }
+        script.new result }
 {
     script.advance()?;
     match request_of(&script.row, lists.len()) {

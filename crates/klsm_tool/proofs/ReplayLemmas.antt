@@ -5,7 +5,6 @@ use Rattle.std.specs.List.{count_by}
 use Rattle.std.specs.Result.{MatchResult}
 use mathlib.Core.Logic.{dite}
 use native.Mathlib.Decide.{ℕ_discrete}
-use Rattle.csv.specs.declared.reader.Reader.{Reader}
 use Rattle.klsm_run.specs.declared.item.Item.{Item}
 use Rattle.klsm_run.specs.ItemOrder.{is_smaller}
 use Rattle.klsm_run.specs.Content.{placed, sorted, without}
@@ -22,7 +21,7 @@ use Rattle.klsm_text.specs.declared.request.Refusal.{Refusal}
 use Rattle.klsm_text.specs.declared.request.Refusal.TheVariants as refusal
 use Rattle.klsm_text.specs.declared.stop.Stop.{Stop}
 use Rattle.klsm_text.specs.declared.stop.Stop.TheVariants as stop
-use Rattle.klsm_text.specs.declared.watched.Watched.{Watched}
+use Rattle.klsm_text.specs.declared.script.Script.{Script}
 use Rattle.klsm_rows.specs.Rows.{Row}
 use Rattle.klsm_text.specs.Script.{request_of, request_after, row_limit}
 use Rattle.klsm_text.specs.AnswerText.{greatest_skip, live, live_after, skip_of}
@@ -31,10 +30,9 @@ use Rattle.klsm_tool.specs.Crews.{AreFew, Goes, steps_in}
 use Rattle.klsm_tool.specs.Shown.{AreShown, answers_of, shown_in}
 use Rattle.klsm_tool.specs.Turns.{GivesUp}
 use Rattle.klsm_tool.specs.Replay.{Stopped}
-use Rattle.klsm_text.specs.Reading.{HasRead, ReadStops, left_within}
+use Rattle.klsm_text.specs.Reading.{HasRead, ReadStops}
 use Rattle.klsm_tool.specs.Progress.{Stands, StopsBefore}
-use Rattle.klsm_rows.proofs.RowLemmas.{first_rows}
-use Rattle.klsm_text.proofs.ScriptLemmas.{judged}
+use Rattle.klsm_text.proofs.ScriptLemmas.{first_read, judged}
 
 -- where no row could be read, no further row is answered
 pub read_stops : (failed : Bool) (threads k : ℕ) (lists : List (List Entry)) (input : Option (List ℕ)) (rows : List Row) (why : Stop) → ReadStops failed input rows why → Stopped threads k lists input rows why × (why ≢ stop.WriteFault)
@@ -87,7 +85,7 @@ pub few_same : (threads n : ℕ) (lists : List (List Entry)) → AreFew threads 
 few_same threads n lists few u below = omega (arith, few u below)
 
 -- a row that was read and answered
-pub next_stands : {R : Type 0} (rem : R → Option (List ℕ)) (threads : ℕ) (lists lists' : List (List Entry)) (input : Option (List ℕ)) (rows : List Row) (lines : List Line) (a b : Reader (Watched R)) (items items' : List Item) (most most' : ℕ) (row : Row) (request : Request) (printed : Printed)
+pub next_stands : {R : Type 0} (rem : R → Option (List ℕ)) (threads : ℕ) (lists lists' : List (List Entry)) (input : Option (List ℕ)) (rows : List Row) (lines : List Line) (a b : Script R) (items items' : List Item) (most most' : ℕ) (row : Row) (request : Request) (printed : Printed)
     → Stands rem threads lists input rows lines a items most → length rows < row_limit → HasRead rem input (row ∷ rows) b → request_of threads row ≡ Ok request
     → Answers request lists lists' items items' most most' printed
     → (row : Row) × Stands rem threads lists' input (row ∷ rows) (printed.line ∷ lines) b items' most' × (printed.skip ≡ skip_of (live lines) printed.line.answer)
@@ -105,17 +103,17 @@ next_stands rem threads lists lists' input rows lines a b items items' most most
     )
 
 -- a row that was read and refused
-pub refused : {R : Type 0} (rem : R → Option (List ℕ)) (threads k : ℕ) (lists : List (List Entry)) (input : Option (List ℕ)) (rows : List Row) (lines : List Line) (a b : Reader (Watched R)) (items : List Item) (most : ℕ) (row : Row) (why : Refusal)
+pub refused : {R : Type 0} (rem : R → Option (List ℕ)) (threads k : ℕ) (lists : List (List Entry)) (input : Option (List ℕ)) (rows : List Row) (lines : List Line) (a b : Script R) (items : List Item) (most : ℕ) (row : Row) (why : Refusal)
     → Stands rem threads lists input rows lines a items most → length rows < row_limit → HasRead rem input (row ∷ rows) b → request_of threads row ≡ Err why → StopsBefore threads k lists input rows lines most (stop.Refused why)
 refused rem threads k lists input rows lines a b items most row why now below read asks = record {
-  stopped = (row, first_rows (left_within rem) input (row ∷ rows) b read, judged threads rows row below ∙ asks);
+  stopped = (row, first_read rem input (row ∷ rows) b read, judged threads rows row below ∙ asks);
   shown = now.shown;
   most_is = now.most_is;
   other = λ e. cc;
 }
 
 -- a row that was read and is not answered
-pub given_up : {R : Type 0} (rem : R → Option (List ℕ)) (threads k : ℕ) (lists lists' : List (List Entry)) (input : Option (List ℕ)) (rows : List Row) (lines : List Line) (a b : Reader (Watched R)) (items : List Item) (most most' : ℕ) (row : Row) (request : Request) (why : Stop)
+pub given_up : {R : Type 0} (rem : R → Option (List ℕ)) (threads k : ℕ) (lists lists' : List (List Entry)) (input : Option (List ℕ)) (rows : List Row) (lines : List Line) (a b : Script R) (items : List Item) (most most' : ℕ) (row : Row) (request : Request) (why : Stop)
     → Stands rem threads lists input rows lines a items most → length rows < row_limit → HasRead rem input (row ∷ rows) b → request_of threads row ≡ Ok request
     → Goes request.thread lists lists' [] → most' ≡ most → GivesUp 21 k request.thread (steps_in lists' request.thread) why → StopsBefore threads k lists' input rows lines most' why
 given_up rem threads k lists lists' input rows lines a b items most most' row request why now below read asks goes same gives = record {
@@ -128,13 +126,13 @@ given_up rem threads k lists lists' input rows lines a b items most most' row re
     by_cause : (why : Stop) → GivesUp 21 k request.thread (steps_in lists' request.thread) why → Stopped threads k lists' input rows why
     by_cause stop.AtEnd h = absurd h
     by_cause (stop.Refused refusal) h = absurd h
-    by_cause stop.Full h = (row, request, first_rows (left_within rem) input (row ∷ rows) b read, judged threads rows row below ∙ asks, h)
-    by_cause stop.NoMemory h = first_rows (left_within rem) input rows a now.read
+    by_cause stop.Full h = (row, request, first_read rem input (row ∷ rows) b read, judged threads rows row below ∙ asks, h)
+    by_cause stop.NoMemory h = first_read rem input rows a now.read
     by_cause stop.ReadFault h = absurd h
     by_cause stop.WriteFault h = absurd h
 
 -- a row that was read, by how its thread's member answers
-pub row_after : {R : Type 0} (rem : R → Option (List ℕ)) (threads k : ℕ) (lists lists' : List (List Entry)) (input : Option (List ℕ)) (rows : List Row) (lines : List Line) (a b : Reader (Watched R)) (items items' : List Item) (most most' : ℕ) (row : Row) (request : Request) (result : Result Printed Stop)
+pub row_after : {R : Type 0} (rem : R → Option (List ℕ)) (threads k : ℕ) (lists lists' : List (List Entry)) (input : Option (List ℕ)) (rows : List Row) (lines : List Line) (a b : Script R) (items items' : List Item) (most most' : ℕ) (row : Row) (request : Request) (result : Result Printed Stop)
     → Stands rem threads lists input rows lines a items most → length rows < row_limit → HasRead rem input (row ∷ rows) b → request_of threads row ≡ Ok request
     → IfOk result (Answers request lists lists' items items' most most') → IfErr result (λ why. Goes request.thread lists lists' [] × (most' ≡ most) × GivesUp 21 k request.thread (steps_in lists' request.thread) why)
     → MatchResult result (λ printed. (row : Row) × Stands rem threads lists' input (row ∷ rows) (printed.line ∷ lines) b items' most' × (printed.skip ≡ skip_of (live lines) printed.line.answer)) (StopsBefore threads k lists' input rows lines most')
@@ -151,9 +149,9 @@ few_after threads k n lists lists' items items' most most' request (Ok printed) 
 few_after threads k n lists lists' items items' most most' request (Err why) few ok err = few_next threads request.thread n lists lists' [] (omega arith) few err.0
 
 -- a row beyond the limit is refused for that
-pub too_many : {R : Type 0} (rem : R → Option (List ℕ)) (threads k : ℕ) (lists : List (List Entry)) (input : Option (List ℕ)) (rows : List Row) (b : Reader (Watched R)) (row : Row)
+pub too_many : {R : Type 0} (rem : R → Option (List ℕ)) (threads k : ℕ) (lists : List (List Entry)) (input : Option (List ℕ)) (rows : List Row) (b : Script R) (row : Row)
     → length rows ≡ row_limit → HasRead rem input (row ∷ rows) b → Stopped threads k lists input rows (stop.Refused refusal.Rows) × (stop.Refused refusal.Rows ≢ stop.WriteFault)
 too_many rem threads k lists input rows b row all read =
     let beyond : eqb (length rows) row_limit ≡ true = grind (arith, nat_tests) in
     let asks : request_after threads rows row ≡ Err refusal.Rows = rw beyond refl in
-    ((row, first_rows (left_within rem) input (row ∷ rows) b read, asks), λ e. cc)
+    ((row, first_read rem input (row ∷ rows) b read, asks), λ e. cc)

@@ -3,7 +3,6 @@ use Rattle.std.proofs.Common.{◌≡◌, ◌≢◌, ℕ, ◌+◌, List, [], ◌�
 use Rattle.std.specs.Result.{MatchResult}
 use Rattle.std.specs.Io.KnownBytes.{Appends, Keeps}
 use Rattle.std.proofs.lemmas.List.{append-nil, append_assoc, length-append}
-use Rattle.csv.specs.declared.reader.Reader.{Reader}
 use Rattle.klsm_run.specs.declared.item.Item.{Item}
 use Rattle.klsm_world.specs.declared.step.Entry.{Entry}
 use Rattle.klsm_text.specs.declared.answer.Line.{Line}
@@ -11,17 +10,17 @@ use Rattle.klsm_text.specs.declared.answer.Printed.{Printed}
 use Rattle.klsm_text.specs.declared.output.Output.{Output}
 use Rattle.klsm_text.specs.declared.stop.Stop.{Stop}
 use Rattle.klsm_text.specs.declared.stop.Stop.TheVariants as stop
-use Rattle.klsm_text.specs.declared.watched.Watched.{Watched}
+use Rattle.klsm_text.specs.declared.script.Script.{Script}
 use Rattle.klsm_rows.specs.Rows.{Row}
 use Rattle.klsm_text.specs.AnswerText.{answer_text, lines_text, live, skip_of}
 use Rattle.klsm_tool.specs.Shown.{AreShown}
 use Rattle.klsm_text.specs.Output.{Adds, Flushes, Puts, pending}
-use Rattle.klsm_text.specs.Reading.{HasRead, left_within}
+use Rattle.klsm_text.specs.Reading.{HasRead}
 use Rattle.klsm_tool.specs.Progress.{HasStopped, IsCutOff, IsTold, IsToldUntil, Stands, StopsBefore}
 use Rattle.klsm_tool.specs.Replay.{Answered, AreShownUntil}
 use Rattle.klsm_text.specs.Reports.{IsCut}
+use Rattle.klsm_text.proofs.ScriptLemmas.{first_read}
 use Rattle.klsm_text.proofs.OutputLemmas.{appends_more, appends_none, cut_after}
-use Rattle.klsm_rows.proofs.RowLemmas.{first_rows}
 
 -- as many rows as lines
 answered_lengths : (threads : ℕ) (rows : List Row) (lines : List Line) → Answered threads rows lines → length rows ≡ length lines
@@ -62,14 +61,14 @@ stops_told threads k lists input before now rows lines most output why answered 
 }
 
 -- no further row is answered, since the lines were cut off
-pub stops_cut : {R : Type 0} (rem : R → Option (List ℕ)) (threads k : ℕ) (lists : List (List Entry)) (input before now : Option (List ℕ)) (rows : List Row) (lines : List Line) (reader : Reader (Watched R)) (number most : ℕ) (output : Output)
+pub stops_cut : {R : Type 0} (rem : R → Option (List ℕ)) (threads k : ℕ) (lists : List (List Entry)) (input before now : Option (List ℕ)) (rows : List Row) (lines : List Line) (reader : Script R) (number most : ℕ) (output : Output)
     → Answered threads rows lines → AreShown threads lists lines → HasRead rem input rows reader → IsCutOff before now lines output.written → HasStopped threads k lists input before now number most output stop.WriteFault
 stops_cut rem threads k lists input before now rows lines reader number most output answered shown read cut = record {
   rows = rows;
   lines = lines;
   answered = answered;
   shown = shown;
-  stopped = first_rows (left_within rem) input rows reader read;
+  stopped = first_read rem input rows reader read;
   told = cut;
   number_is = λ other. absurd (other refl);
   most_is = λ e. cc;
@@ -112,7 +111,7 @@ told_flushed before now after lines output output' (Err why) told failed =
     (failed.0, cut_next before now after lines lines [] output output'.written (append-nil (lines_text lines)) told (subst (λ (text : List ℕ). IsCut now after text output.written output'.written) (sym (append-nil (pending output))) failed.1))
 
 -- the line of a row that was answered is put
-pub line_put : {R : Type 0} (rem : R → Option (List ℕ)) (threads k : ℕ) (lists lists' : List (List Entry)) (input before now after : Option (List ℕ)) (rows : List Row) (lines : List Line) (a b : Reader (Watched R)) (items items' : List Item) (most most' : ℕ) (output output' : Output) (row : Row) (printed : Printed) (result : Result (Unit {0}) Stop)
+pub line_put : {R : Type 0} (rem : R → Option (List ℕ)) (threads k : ℕ) (lists lists' : List (List Entry)) (input before now after : Option (List ℕ)) (rows : List Row) (lines : List Line) (a b : Script R) (items items' : List Item) (most most' : ℕ) (output output' : Output) (row : Row) (printed : Printed) (result : Result (Unit {0}) Stop)
     → Stands rem threads lists input rows lines a items most → Stands rem threads lists' input (row ∷ rows) (printed.line ∷ lines) b items' most' → printed.skip ≡ skip_of (live lines) printed.line.answer → IsTold before now lines output
     → Puts now after (answer_text printed.line.thread printed.line.answer printed.skip) output output' result
     → MatchResult result (λ _. (row : Row) × (line : Line) × Stands rem threads lists' input (row ∷ rows) (line ∷ lines) b items' most' × IsTold before after (line ∷ lines) output')
@@ -124,7 +123,7 @@ line_put rem threads k lists lists' input before now after rows lines a b items 
   lines = lines;
   answered = was.answered;
   shown = inr (printed.line, is.shown);
-  stopped = first_rows (left_within rem) input rows a was.read;
+  stopped = first_read rem input rows a was.read;
   told = told_same before now after lines output output' told puts.0 puts.1 puts.2;
   number_is = λ _. omega (arith, answered_lengths threads rows lines was.answered);
   most_is = λ e. cc;

@@ -1,7 +1,6 @@
 -- How far a replay has come. Rows and lines are listed the latest first.
 use Rattle.std.specs.Prelude.{ℕ, ◌≡◌, ◌≢◌, ◌+◌, ◌<◌, List, ◌++◌, length, take, Option}
 use Rattle.std.specs.Io.KnownBytes.{Appends}
-use Rattle.csv.specs.declared.reader.Reader.{Reader}
 use Rattle.klsm_run.specs.declared.item.Item.{Item}
 use Rattle.klsm_world.specs.declared.step.Entry.{Entry}
 use Rattle.klsm_run.specs.Content.{sorted}
@@ -9,7 +8,7 @@ use Rattle.klsm_text.specs.declared.answer.Line.{Line}
 use Rattle.klsm_text.specs.declared.output.Output.{Output}
 use Rattle.klsm_text.specs.declared.stop.Stop.{Stop}
 use Rattle.klsm_text.specs.declared.stop.Stop.TheVariants as stop
-use Rattle.klsm_text.specs.declared.watched.Watched.{Watched}
+use Rattle.klsm_text.specs.declared.script.Script.{Script}
 use Rattle.klsm_rows.specs.Rows.{Row}
 use Rattle.klsm_text.specs.Reading.{HasRead}
 use Rattle.klsm_text.specs.AnswerText.{live, lines_text, greatest_skip}
@@ -32,10 +31,10 @@ pub record IsCutOff (before now : Option (List ℕ)) (lines : List Line) (writte
 -- the rows that were read are answered, and what is kept beside the board is that of their lines
 pub record Stands {R : Type 0} (rem : R → Option (List ℕ)) (threads : ℕ)
     (lists : List (List Entry)) (input : Option (List ℕ)) (rows : List Row) (lines : List Line)
-    (reader : Reader (Watched R)) (items : List Item) (most : ℕ) : Type 0 where
+    (script : Script R) (items : List Item) (most : ℕ) : Type 0 where
   pub answered : Answered threads rows lines
   pub shown : AreShown threads lists lines
-  pub read : HasRead rem input rows reader
+  pub read : HasRead rem input rows script
   pub items_are : sorted items ≡ sorted (live lines)
   pub most_is : most ≡ greatest_skip lines
 

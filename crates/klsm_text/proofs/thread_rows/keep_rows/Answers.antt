@@ -25,7 +25,7 @@ returns g c = λ threads input read kept.
     let k = c.loop-number.invariant threads input read kept in
     let all : length k.0 ≡ row_limit = omega (arith, k.1, c.loop-number-test.false) in
     let stops : StopsReading threads input k.0 c.match-advance.stop = elim c.match-advance.branch [
-      | in-Ok w ↦ subst (StopsReading threads input k.0) (sym w.stop-is) (beyond g.R.Read.remaining threads input k.0 c.advance.new.self.rows (fields_of c.advance.new.self.row) all (w.in-Ok.ensures input k.0 k.2))
+      | in-Ok w ↦ subst (StopsReading threads input k.0) (sym w.stop-is) (beyond g.R.Read.remaining threads input k.0 c.advance.new.self (fields_of c.advance.new.self.row) all (w.in-Ok.ensures input k.0 k.2))
       | in-Err-advance w ↦ subst (StopsReading threads input k.0) (sym w.stop-is) (stops_reading _ threads input k.0 w.in-Err-advance.stop (w.in-Err-advance.ensures input k.0 k.2))
     ] in
     ended threads _ input k.0 _ _ k.3 (subst (StopsReading threads input k.0) (sym c.at-2.ensures.stop) stops) (λ end. k.4) (omega (arith, all)) (c.at-2.ensures.row ∙ omega (arith, all))

@@ -23,11 +23,11 @@ returns-in-Ok-clause-few g c = λ n few.
 pub returns-in-Ok-clause-step : goal.returns-in-Ok-clause-step
 returns-in-Ok-clause-step g c = λ input rows lines now below.
     let asks = ap (λ n. request_of n (fields_of c.advance.new.self.row)) (sym c.threads.ensures.threads) ∙ (sym c.request_of.ensures.request ∙ c.in-Ok.is) in
-    row_after g.R.Read.remaining c.args.board.now.sizes.threads c.args.board.now.sizes.k (lists_in c.args.members.now) (lists_in c.answer.new.members) input rows lines c.args.script.now.rows c.advance.new.self.rows (live_beside c.args.beside.now) (live_beside c.answer.new.self) c.args.beside.now.most c.answer.new.self.most (fields_of c.advance.new.self.row) c.in-Ok.request c.answer.result
+    row_after g.R.Read.remaining c.args.board.now.sizes.threads c.args.board.now.sizes.k (lists_in c.args.members.now) (lists_in c.answer.new.members) input rows lines c.args.script.now c.advance.new.self (live_beside c.args.beside.now) (live_beside c.answer.new.self) c.args.beside.now.most c.answer.new.self.most (fields_of c.advance.new.self.row) c.in-Ok.request c.answer.result
     now below (c.in_ok-advance.ensures input rows now.read) asks c.answer.ensures.ok c.answer.ensures.refused
 
 pub returns-in-Err-clause-step : goal.returns-in-Err-clause-step
 returns-in-Err-clause-step g c = λ input rows lines now below.
     let asks = ap (λ n. request_of n (fields_of c.advance.new.self.row)) (sym c.threads.ensures.threads) ∙ (sym c.request_of.ensures.request ∙ c.in-Err.is) in
-    refused g.R.Read.remaining c.args.board.now.sizes.threads c.args.board.now.sizes.k (lists_in c.args.members.now) input rows lines c.args.script.now.rows c.advance.new.self.rows (live_beside c.args.beside.now) c.args.beside.now.most (fields_of c.advance.new.self.row) c.in-Err.why
+    refused g.R.Read.remaining c.args.board.now.sizes.threads c.args.board.now.sizes.k (lists_in c.args.members.now) input rows lines c.args.script.now c.advance.new.self (live_beside c.args.beside.now) c.args.beside.now.most (fields_of c.advance.new.self.row) c.in-Err.why
     now below (c.in_ok-advance.ensures input rows now.read) asks

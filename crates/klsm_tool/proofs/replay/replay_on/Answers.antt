@@ -27,7 +27,7 @@ answer_rows-closing-requires-clause-few g c t below = let none = ap (λ z. lengt
 pub returns-clause-replays : goal.returns-clause-replays
 returns-clause-replays g c =
     let e = c.answer_rows-closing.ensures in let threads = c.args.settings.now.threads in let k = c.args.settings.now.k in
-    let stands : Stands {R = g.row.R.Denot} g.R.Read.remaining threads (lists_in c.args.members.now) (g.R.Read.remaining c.args.reader) [] [] c.in-Ok.replay.script.rows (live_beside c.in-Ok.replay.beside) c.in-Ok.replay.beside.most = record {
+    let stands : Stands {R = g.row.R.Denot} g.R.Read.remaining threads (lists_in c.args.members.now) (g.R.Read.remaining c.args.reader) [] [] c.in-Ok.replay.script (live_beside c.in-Ok.replay.beside) c.in-Ok.replay.beside.most = record {
       answered = tt;
       shown = λ t below. sym (new_crew_shows_none c.args.members.now t c.requires.crew);
       read = c.in-Ok.ensures.read;
