@@ -1,5 +1,5 @@
 -- What a replay promises.
-use Rattle.std.specs.Prelude.{ℕ, ◌≡◌, ◌+◌, ◌*◌, ◌<◌, ◌≤◌, ◌≢◌, ◌⊎◌, List, [], ◌∷◌, length, take, Option}
+use Rattle.std.specs.Prelude.{ℕ, ◌≡◌, ◌*◌, ◌<◌, ◌≤◌, ◌≢◌, ◌⊎◌, List, [], ◌∷◌, length, take, Option}
 use Rattle.std.specs.Prelude.{Ok, Err, codes}
 use Rattle.std.specs.Io.KnownBytes.{Appends}
 use Rattle.klsm_world.specs.declared.step.Entry.{Entry}
@@ -8,7 +8,6 @@ use Rattle.klsm_board.specs.Rule.{IsReached}
 use Rattle.klsm_board.specs.Finishing.{AreListsAtEnd}
 use Rattle.klsm_text.specs.declared.answer.Line.{Line}
 use Rattle.klsm_text.specs.declared.request.Request.{Request}
-use Rattle.klsm_text.specs.declared.report.End.{End}
 use Rattle.klsm_text.specs.declared.report.End.TheVariants as end
 use Rattle.klsm_text.specs.declared.report.Report.{Report}
 use Rattle.klsm_text.specs.declared.stop.Stop.{Stop}
