@@ -22,10 +22,7 @@ fn after<const LEVELS: usize>(
     requires { IsLevelCount LEVELS }
 {
     let mut crew = Crew::new(alloc, threads, k, quota).ok()?;
-    if !all_go(rt, &mut crew, true, steps) {
-        return None;
-    }
-    Some(crew)
+    all_go(rt, &mut crew, true, steps).then_some(crew)
 }
 
 // The board and the members that come back, in the order given, where it is not finished for this

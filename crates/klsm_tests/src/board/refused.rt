@@ -50,19 +50,18 @@ fn insert(crew: &mut Crew<21>, owner: u32, key: u64) -> Option<bool> {
     let before = state(crew)?;
     let member = owner as usize;
     let number = crew.counts(member)?.0;
-    let load = number.saturating_add(1);
-    let stamp = Stamp { owner, number };
-    match crew.try_insert(member, key, load)? {
+    match crew.try_insert(member, key, number.saturating_add(1))? {
         Err(TryInsertError::NoMemory) => {
-            Some(state(crew)? == before && inserts(crew, member, key, load, stamp)?)
+            Some(state(crew)? == before && inserts(crew, owner, key, number)?)
         }
-        answer => Some(answer == Ok(stamp)),
+        answer => Some(answer == Ok(Stamp { owner, number })),
     }
 }
 
-// Whether a member inserts a key, and the item gets this stamp.
-fn inserts(crew: &mut Crew<21>, member: usize, key: u64, load: u64, stamp: Stamp) -> Option<bool> {
-    Some(crew.try_insert(member, key, load)? == Ok(stamp))
+// Whether a member that has inserted so many items inserts a key, and the item gets that number.
+fn inserts(crew: &mut Crew<21>, owner: u32, key: u64, number: u64) -> Option<bool> {
+    let answer = crew.try_insert(owner as usize, key, number.saturating_add(1))?;
+    Some(answer == Ok(Stamp { owner, number }))
 }
 
 // How many items each of the two members inserts.
