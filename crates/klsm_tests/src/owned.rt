@@ -79,6 +79,11 @@ pub(crate) fn are_of(items: &[Item], keys: &[u64]) -> bool {
     items.len() == keys.len()
 }
 
+/// Whether both are the same items. Each comparison of slices takes longer to prove than a call.
+pub(crate) fn same_items(items: &[Item], others: &[Item]) -> bool {
+    items == others
+}
+
 /// Whether a run has these keys.
 pub(crate) fn has_keys<R: Run>(run: &R, keys: &[u64]) -> bool {
     are_of(run.as_slice(), keys)

@@ -4,42 +4,39 @@ ghost use Rattle.std.specs.Prelude.{◌≡◌, ◌+◌, ◌<◌, ◌≤◌, leng
 ghost use Rattle.std.specs.List.{AllByRecursion};
 
 use super::owned::{has_keys, heap_run_of, run_of};
-use klsm_run::{HeapRun, Run, RunError};
+use klsm_run::{HeapRun, Run};
 use klsm_testing::Rationed;
-use std::alloc::Global;
-
-type RationedRun<'a> = HeapRun<&'a Rationed<Global>>;
+use std::alloc::{Allocator, Global};
 
 // The capacity and the level of a run. `None` where it has other keys than these, or none.
-fn shape_of(run: &RationedRun, keys: &[u64]) -> Option<(usize, usize)> {
+fn shape_of<R: Run>(run: &R, keys: &[u64]) -> Option<(usize, usize)> {
     if run.is_empty() || !has_keys(run, keys) {
         return None;
     }
     Some((run.capacity(), run.level()))
 }
 
-// The shape of a copy with so many growths granted.
-fn copied(heap: &Rationed<Global>, keys: &[u64], growths: u64) -> Option<(usize, usize)>
+// The shape of a copy.
+fn copied<A: Allocator + Copy>(alloc: A, keys: &[u64]) -> Option<(usize, usize)>
     requires { length keys.now ≤ 64 }
 {
-    heap.allow(growths);
-    shape_of(&HeapRun::copy_of(heap, &run_of(0, keys)).ok()?, keys)
+    shape_of(&HeapRun::copy_of(alloc, &run_of(0, keys)).ok()?, keys)
 }
 
 // The shape of a copy with room for 9.
-fn copied_for_nine(heap: &Rationed<Global>, keys: &[u64], growths: u64) -> Option<(usize, usize)>
+fn copied_for_nine<A: Allocator + Copy>(alloc: A, keys: &[u64]) -> Option<(usize, usize)>
     requires { length keys.now ≤ 9 }
 {
-    heap.allow(growths);
-    shape_of(&HeapRun::copy_of_for(heap, &run_of(0, keys), 9).ok()?, keys)
+    shape_of(
+        &HeapRun::copy_of_for(alloc, &run_of(0, keys), 9).ok()?,
+        keys,
+    )
 }
 
 // The shape of the merge of the items 1 and 3 with the item 2.
-fn merged(heap: &Rationed<Global>, growths: u64) -> Option<(usize, usize)> {
-    heap.allow(2);
-    let run = heap_run_of(heap, 0, &[1, 3])?;
-    let other = heap_run_of(heap, 1, &[2])?;
-    heap.allow(growths);
+fn merged<A: Allocator + Copy>(alloc: A) -> Option<(usize, usize)> {
+    let run = heap_run_of(alloc, 0, &[1, 3])?;
+    let other = heap_run_of(alloc, 1, &[2])?;
     shape_of(&run.merge(&other).ok()?, &[1, 2, 3])
 }
 
@@ -48,10 +45,12 @@ fn merged(heap: &Rationed<Global>, growths: u64) -> Option<(usize, usize)> {
 fn are_copied(heap: &Rationed<Global>, keys: &[u64], capacity: usize, level: usize) -> bool
     requires { length keys.now ≤ 9 }
 {
-    copied(heap, keys, 0).is_none()
-        && copied(heap, keys, 1) == Some((capacity, level))
-        && copied_for_nine(heap, keys, 0).is_none()
-        && copied_for_nine(heap, keys, 1) == Some((16, level))
+    heap.allow(0);
+    let are_refused = copied(heap, keys).is_none() && copied_for_nine(heap, keys).is_none();
+    heap.allow(1);
+    let is_copied = copied(heap, keys) == Some((capacity, level));
+    heap.allow(1);
+    are_refused && is_copied && copied_for_nine(heap, keys) == Some((16, level))
 }
 
 #[test]
@@ -61,8 +60,11 @@ fn copies_and_merges(rt: HostRuntime) {
     for (count, capacity, level) in [(1, 1, 0), (2, 2, 1), (3, 4, 2), (4, 4, 2), (5, 8, 3)] {
         assert!(rt; are_copied(&heap, &keys[..count], capacity, level));
     }
-    assert!(rt; merged(&heap, 0).is_none());
-    assert!(rt; merged(&heap, 1) == Some((4, 2)));
+    // Each of the two runs takes a growth, and their merge takes one.
+    heap.allow(2);
+    assert!(rt; merged(&heap).is_none());
+    heap.allow(3);
+    assert!(rt; merged(&heap) == Some((4, 2)));
 }
 
 // Merges two runs to 1, 2 and 3, takes the least item out, and puts the item 4 of a third one in.
@@ -83,14 +85,11 @@ fn unites<R: Run>(one: &R, two: &R, three: &R, capacity: usize) -> Option<bool>
     Some(merged && least.key == 1 && has_keys(&run, &[2, 3, 4]) && run.capacity() == capacity)
 }
 
-// On the heap, where no growth is granted but that of the merge.
-fn heap_runs_unite(heap: &Rationed<Global>) -> Option<bool> {
-    heap.allow(3);
-    let one = heap_run_of(heap, 0, &[3, 1])?;
-    let two = heap_run_of(heap, 1, &[2])?;
-    let three = heap_run_of(heap, 2, &[4])?;
-    heap.allow(1);
-    Some(unites(&one, &two, &three, 4)? && !heap.has_refused())
+fn heap_runs_unite<A: Allocator + Copy>(alloc: A) -> Option<bool> {
+    let one = heap_run_of(alloc, 0, &[3, 1])?;
+    let two = heap_run_of(alloc, 1, &[2])?;
+    let three = heap_run_of(alloc, 2, &[4])?;
+    unites(&one, &two, &three, 4)
 }
 
 fn fixed_runs_unite() -> Option<bool> {
@@ -100,6 +99,8 @@ fn fixed_runs_unite() -> Option<bool> {
 #[test]
 fn removals_and_unions_in_place(rt: HostRuntime) {
     let heap = Rationed::new(rt.alloc());
-    assert!(rt; heap_runs_unite(&heap) == Some(true));
+    // Each of the three runs takes a growth, and the merge takes the last one.
+    heap.allow(4);
+    assert!(rt; heap_runs_unite(&heap) == Some(true) && !heap.has_refused());
     assert!(rt; fixed_runs_unite() == Some(true));
 }

@@ -4,6 +4,7 @@
 mod plain;
 mod proposed;
 
+use crate::owned::same_items;
 use klsm_run::Item;
 use klsm_world::{Step, StepError, Trace, World, WorldError, run};
 use plain::Plain;
@@ -75,8 +76,8 @@ fn run_same(alloc: Global, both: &Both) -> Option<bool> {
 }
 
 fn tells_same(trace: &Trace, plain: &Plain) -> bool {
-    trace.inserted.as_slice() == plain.inserted.as_slice()
-        && trace.deleted.as_slice() == plain.deleted.as_slice()
+    same_items(trace.inserted.as_slice(), plain.inserted.as_slice())
+        && same_items(trace.deleted.as_slice(), plain.deleted.as_slice())
         && trace.most == plain.most
 }
 

@@ -1,6 +1,7 @@
 //! Schedules written out, with what they answer.
 
 use super::steps::{Moved, Name, Row, item, step_of, steps_of};
+use crate::owned::same_items;
 use klsm_run::Item;
 use klsm_world::{StepError, Trace, WorldError, run};
 use std::alloc::Global;
@@ -54,10 +55,10 @@ fn refusals(rt: HostRuntime) {
 
 // Whether a trace has these items inserted, deleted and left, and this greatest skip.
 fn tells(trace: &Trace, inserted: &[Item], deleted: &[Item], most: usize, live: &[Item]) -> bool {
-    trace.inserted.as_slice() == inserted
-        && trace.deleted.as_slice() == deleted
+    same_items(trace.inserted.as_slice(), inserted)
+        && same_items(trace.deleted.as_slice(), deleted)
         && trace.most == most
-        && trace.live.as_slice() == live
+        && same_items(trace.live.as_slice(), live)
 }
 
 // A thread may answer nothing while another's part has an item.
