@@ -97,26 +97,27 @@ fn goes<const LEVELS: usize>(
     crew: &mut Crew<LEVELS>,
     waits: bool,
     step: Step,
-) -> Option<bool> {
-    Some(match step {
+) -> bool {
+    match step {
         Step::Inserts((key, owner, number)) => {
-            insert(rt, crew, waits, owner, key)? == Ok(Stamp { owner, number })
+            insert(rt, crew, waits, owner, key) == Some(Ok(Stamp { owner, number }))
         }
-        Step::IsRefused(member, key, why) => insert(rt, crew, waits, member, key)? == Err(why),
-        Step::Deletes(member, name) => delete(rt, crew, waits, member)? == Ok(name.map(item)),
-        Step::Misses(member, busy) => delete(rt, crew, waits, member)? == Err(busy),
+        Step::IsRefused(member, key, why) => {
+            insert(rt, crew, waits, member, key) == Some(Err(why))
+        }
+        Step::Deletes(member, name) => {
+            delete(rt, crew, waits, member) == Some(Ok(name.map(item)))
+        }
+        Step::Misses(member, busy) => delete(rt, crew, waits, member) == Some(Err(busy)),
         Step::Holds(member, lock, len, least) => {
-            crew.try_hold(lock)? == Ok(()) && crew.holds(member, lock, len, least.map(item))
+            crew.try_hold(lock) == Some(Ok(())) && crew.holds(member, lock, len, least.map(item))
         }
-        Step::CannotHold(lock, why) => crew.try_hold(lock)? == Err(why),
-        Step::PutsBack => {
-            crew.put_back()?;
-            true
-        }
+        Step::CannotHold(lock, why) => crew.try_hold(lock) == Some(Err(why)),
+        Step::PutsBack => crew.put_back().is_some(),
         Step::Counts(member, inserted, deleted) => {
-            crew.counts(member as usize)? == (inserted, deleted)
+            crew.counts(member as usize) == Some((inserted, deleted))
         }
-    })
+    }
 }
 
 /// Whether each step goes as it has to.
@@ -127,7 +128,7 @@ pub(super) fn all_go<const LEVELS: usize>(
     steps: &[Step],
 ) -> bool {
     for step in steps {
-        if goes(rt, crew, waits, *step) != Some(true) {
+        if !goes(rt, crew, waits, *step) {
             return false;
         }
     }

@@ -109,10 +109,16 @@ fn all_deleted(alloc: Global, crew: &mut Crew<21>) -> Option<Vec<Item>> {
 }
 
 // Whether they delete what they insert.
+fn delete_all(alloc: Global, crew: &mut Crew<21>) -> Option<bool> {
+    insert_all(crew)?;
+    let deleted = all_deleted(alloc, crew)?;
+    Some(deleted.as_slice() == all_items(alloc)?.as_slice())
+}
+
+// The same on a new board.
 fn find_all_once(alloc: Global, k: usize) -> Option<bool> {
     let mut crew = Crew::new(alloc, MEMBERS as usize, k, EACH).ok()?;
-    insert_all(&mut crew)?;
-    Some(all_deleted(alloc, &mut crew)?.as_slice() == all_items(alloc)?.as_slice())
+    delete_all(alloc, &mut crew)
 }
 
 #[test]

@@ -307,12 +307,10 @@ fn tells_all(account: Account, inserted: Vec<Item>, deleted: Vec<Item>) -> Optio
     Some((account.inserted, account.deleted) == noted && found == inserted)
 }
 
-// What is found once all threads of a team have ended.
-fn run_team<R: Threads + Wait + Sync>(rt: &R, alloc: Global, team: &Team) -> Option<Found> {
-    let quota = u64::from(team.calls);
-    let mut crew = Crew::new(alloc, team.threads, team.k, quota).ok()?;
-    let members = crew.take_members(alloc);
-    let workers = run_all(rt, alloc, &crew.board, members, team)?;
+// What is found once these workers are back.
+fn found_by(alloc: Global, crew: Crew<21>, workers: Vec<Worker>) -> Option<Found>
+    requires { All (λ worker. IsOf worker.member crew.board) workers.items }
+{
     let found = Found {
         crew,
         inserted: Vec::new(alloc),
@@ -321,6 +319,15 @@ fn run_team<R: Threads + Wait + Sync>(rt: &R, alloc: Global, team: &Team) -> Opt
     let mut ended = Ended { found, workers };
     ended.take_all_back()?;
     Some(ended.found)
+}
+
+// What is found once all threads of a team have ended.
+fn run_team<R: Threads + Wait + Sync>(rt: &R, alloc: Global, team: &Team) -> Option<Found> {
+    let quota = u64::from(team.calls);
+    let mut crew = Crew::new(alloc, team.threads, team.k, quota).ok()?;
+    let members = crew.take_members(alloc);
+    let workers = run_all(rt, alloc, &crew.board, members, team)?;
+    found_by(alloc, crew, workers)
 }
 
 // Whether each item was inserted once, and deleted once by a thread or by some member afterwards,

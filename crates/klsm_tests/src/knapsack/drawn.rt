@@ -49,25 +49,34 @@ fn best_value(instance: &Instance) -> u64 {
     best
 }
 
-// Whether all searches of a drawn instance give a selection of the best value.
-fn agree(rt: &(impl Threads + Wait + Sync), alloc: Global, seed: u64) -> Option<bool> {
-    let text = drawn(alloc, seed)?;
-    let instance = Instance::read(alloc, text.as_slice()).ok()?;
-    let best = best_value(&instance);
-    let in_turn = solve_in_turn(&instance);
-    let mut all = in_turn.value == best && value_of(&instance, in_turn.picks) == Some(best);
+// Whether a selection has the best value, and it is told.
+fn is_best(instance: &Instance, best: u64, value: u64, picks: u64) -> bool {
+    value == best && value_of(instance, picks) == Some(best)
+}
+
+// Whether all searches of an instance give a selection of the best value.
+fn agree(rt: &(impl Threads + Wait + Sync), alloc: Global, instance: &Instance) -> Option<bool> {
+    let best = best_value(instance);
+    let in_turn = solve_in_turn(instance);
+    let mut all = is_best(instance, best, in_turn.value, in_turn.picks);
     for threads in [1, 2, 4] {
         for k in [0, 1, 16] {
-            let found = solve::<21>(rt, alloc, &instance, threads, k, 4, &Open).ok()?;
-            all &= found.value == best && value_of(&instance, found.picks) == Some(best);
+            let found = solve::<21>(rt, alloc, instance, threads, k, 4, &Open).ok()?;
+            all &= is_best(instance, best, found.value, found.picks);
         }
     }
     Some(all)
 }
 
+// The same of a drawn one.
+fn agree_on_drawn(rt: &(impl Threads + Wait + Sync), alloc: Global, seed: u64) -> Option<bool> {
+    let text = drawn(alloc, seed)?;
+    agree(rt, alloc, &Instance::read(alloc, text.as_slice()).ok()?)
+}
+
 #[test]
 fn searches_agree_with_a_plain_loop(rt: HostRuntime) {
     for seed in 0..200 {
-        assert!(rt; agree(&rt, rt.alloc(), seed) == Some(true));
+        assert!(rt; agree_on_drawn(&rt, rt.alloc(), seed) == Some(true));
     }
 }
