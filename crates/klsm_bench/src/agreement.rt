@@ -2,15 +2,15 @@
 
 use crate::contenders::{Contender, Heap};
 use crate::crew::{OnBoard, board_of_one};
-use crate::instances::Kind;
+use crate::instances::{KINDS, Kind};
 use crate::searches::search_all;
 use crate::trio::Trio;
-use crate::workloads::{Workload, fill};
+use crate::workloads::{WORKLOADS, Workload, fill};
 use klsm_instance::solve_in_turn;
 use klsm_parts::First;
 use rand_core::SeedableRng;
 use rand_pcg::Pcg32;
-use std::alloc::Global;
+use std::alloc::{AllocError, Global};
 use std::io;
 use std::sync::Wait;
 use std::thread::Threads;
@@ -25,41 +25,42 @@ const THINGS: usize = 14;
 pub(crate) fn print<R: Print + Clock + AllocGlobal + Threads + Wait + Sync>(
     rt: &R,
 ) -> io::Result<()> {
-    for workload in Workload::all() {
-        for k in [8, 64, 128] {
-            let agreement = agree(rt.alloc(), workload, &mut Trio::new(rt.alloc(), k));
-            print_row(rt, workload, k, agreement)?;
-        }
+    for workload in WORKLOADS {
+        print_queues(rt, *workload)?;
     }
-    for workload in Workload::all() {
-        let agreement = board_agrees(rt, rt.alloc(), workload, 64);
-        print_board(rt, workload, agreement)?;
+    for workload in WORKLOADS {
+        let agreement = board_agrees(rt, rt.alloc(), *workload, 64);
+        print_board(rt, *workload, agreement)?;
     }
-    for kind in Kind::all() {
-        let agreement = searches_agree(rt, kind)?;
-        print_searches(rt, kind, agreement)?;
+    for kind in KINDS {
+        let agreement = searches_agree(rt, *kind)?;
+        print_searches(rt, *kind, agreement)?;
+    }
+    Ok(())
+}
+
+fn print_queues<R: Print + AllocGlobal>(rt: &R, workload: Workload) -> io::Result<()> {
+    for k in [8, 64, 128] {
+        let agreement = agree(rt.alloc(), workload, &mut Trio::new(rt.alloc(), k));
+        print_row(rt, workload, k, agreement)?;
     }
     Ok(())
 }
 
 fn print_board<R: Print>(rt: &R, workload: Workload, agreement: Option<bool>) -> io::Result<()> {
-    let Some(in_order) = agreement else {
-        return println!(rt; "{} k 64: no memory", workload.name());
-    };
-    println!(rt;
-        "{} k 64: a board of one member gives the heap's keys: {in_order}",
-        workload.name()
-    )
+    print!(rt; "{} k 64: ", workload.name())?;
+    match agreement {
+        Some(in_order) => println!(rt; "a board of one member gives the heap's keys: {in_order}"),
+        None => println!(rt; "no memory"),
+    }
 }
 
 fn print_searches<R: Print>(rt: &R, kind: Kind, agreement: Option<bool>) -> io::Result<()> {
-    let Some(all_best) = agreement else {
-        return println!(rt; "{}: no memory", kind.name());
-    };
-    println!(rt;
-        "{} {THINGS} things: all searches find a best selection: {all_best}",
-        kind.name()
-    )
+    print!(rt; "{} {THINGS} things: ", kind.name())?;
+    match agreement {
+        Some(all_best) => println!(rt; "all searches find a best selection: {all_best}"),
+        None => println!(rt; "no memory"),
+    }
 }
 
 // Whether the searches of an instance, by one thread and by two, find the value that a search depth first finds.
@@ -76,14 +77,7 @@ fn searches_agree<R: Clock + AllocGlobal + Threads + Wait + Sync>(
         let Some(searches) = search_all(rt, &instance, threads)? else {
             return Ok(None);
         };
-        for search in [
-            searches.heap,
-            searches.locked,
-            searches.board,
-            searches.solve,
-        ] {
-            all_best = all_best && search.value == best;
-        }
+        all_best = all_best && searches.all_find(best);
     }
     Ok(Some(all_best))
 }
@@ -101,28 +95,38 @@ fn print_row<R: Print>(
     k: usize,
     agreement: Option<Agreement>,
 ) -> io::Result<()> {
-    let Some(Agreement { in_order, as_many }) = agreement else {
-        return println!(rt; "{} k {k}: no memory", workload.name());
-    };
-    println!(rt;
-        "{} k {k}: first gives the heap's keys: {in_order}, random gives as many: {as_many}",
-        workload.name()
-    )
+    print!(rt; "{} k {k}: ", workload.name())?;
+    match agreement {
+        Some(Agreement { in_order, as_many }) => println!(rt;
+            "first gives the heap's keys: {in_order}, random gives as many: {as_many}"
+        ),
+        None => println!(rt; "no memory"),
+    }
+}
+
+// The keys that are inserted at first, and those of the workload.
+#[derive(Drop)]
+struct Keys {
+    first: Vec<u64>,
+    then: Vec<u64>,
+}
+
+impl Keys {
+    fn new(alloc: Global, workload: Workload) -> Result<Self, AllocError> {
+        let mut draws = Pcg32::seed_from_u64(42);
+        Ok(Keys {
+            first: workload.keys(alloc, &mut draws, 0, 500)?,
+            then: workload.keys(alloc, &mut draws, 500, 1_000)?,
+        })
+    }
 }
 
 // Fills all three, and then takes everything out again.
 fn agree(alloc: Global, workload: Workload, trio: &mut Trio) -> Option<Agreement> {
-    let mut draws = Pcg32::seed_from_u64(42);
-    let first = workload.keys(alloc, &mut draws, 0, 500).ok()?;
-    let then = workload.keys(alloc, &mut draws, 500, 1_000).ok()?;
-    let heap = keys_of(workload, &mut trio.heap, first.as_slice(), then.as_slice())?;
-    let least = keys_of(workload, &mut trio.first, first.as_slice(), then.as_slice())?;
-    let random = keys_of(
-        workload,
-        &mut trio.random,
-        first.as_slice(),
-        then.as_slice(),
-    )?;
+    let keys = Keys::new(alloc, workload).ok()?;
+    let heap = deleted_from(workload, &mut trio.heap, &keys)?;
+    let least = deleted_from(workload, &mut trio.first, &keys)?;
+    let random = deleted_from(workload, &mut trio.random, &keys)?;
     Some(Agreement {
         in_order: least == heap,
         as_many: random.count == heap.count,
@@ -131,22 +135,9 @@ fn agree(alloc: Global, workload: Workload, trio: &mut Trio) -> Option<Agreement
 
 // Whether the keys of a board of one member are those of a heap in their order.
 fn board_agrees<R: Wait>(rt: &R, alloc: Global, workload: Workload, k: usize) -> Option<bool> {
-    let Some((board, member)) = board_of_one(alloc, k) else {
-        return None;
-    };
-    let mut on_board = OnBoard {
-        rt,
-        board: &board,
-        member,
-        picker: First,
-    };
-    let mut draws = Pcg32::seed_from_u64(42);
-    let first = workload.keys(alloc, &mut draws, 0, 500).ok()?;
-    let then = workload.keys(alloc, &mut draws, 500, 1_000).ok()?;
-    let mut heap = Heap::new(alloc);
-    let exact = keys_of(workload, &mut heap, first.as_slice(), then.as_slice())?;
-    let least = keys_of(workload, &mut on_board, first.as_slice(), then.as_slice())?;
-    Some(least == exact)
+    let keys = Keys::new(alloc, workload).ok()?;
+    let exact = deleted_from(workload, &mut Heap::new(alloc), &keys)?;
+    Some(deleted_from_board(rt, alloc, workload, k, &keys)? == exact)
 }
 
 // What a contender gave: a sum that depends on the order of the keys, and how many keys came in all.
@@ -156,16 +147,15 @@ struct Deleted {
     count: u64,
 }
 
-fn keys_of<C: Contender>(
+fn deleted_from<C: Contender>(
     workload: Workload,
     contender: &mut C,
-    first: &[u64],
-    then: &[u64],
+    keys: &Keys,
 ) -> Option<Deleted> {
-    fill(contender, first)?;
-    let mut sum = workload.run(contender, then)?;
+    fill(contender, keys.first.as_slice())?;
+    let mut sum = workload.run(contender, keys.then.as_slice())?;
     let mut count = 0u64;
-    for _ in 0..=first.len() {
+    for _ in 0..=keys.first.len() {
         let Some(item) = contender.delete() else {
             break;
         };
@@ -173,4 +163,24 @@ fn keys_of<C: Contender>(
         count = count.wrapping_add(1);
     }
     Some(Deleted { sum, count })
+}
+
+// The same of a board of one member.
+fn deleted_from_board<R: Wait>(
+    rt: &R,
+    alloc: Global,
+    workload: Workload,
+    k: usize,
+    keys: &Keys,
+) -> Option<Deleted> {
+    let Some((board, member)) = board_of_one(alloc, k) else {
+        return None;
+    };
+    let mut on_board = OnBoard {
+        rt,
+        board: &board,
+        member,
+        picker: First,
+    };
+    deleted_from(workload, &mut on_board, keys)
 }

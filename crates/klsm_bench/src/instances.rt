@@ -19,6 +19,9 @@ pub(crate) enum Kind {
     Circle,
 }
 
+/// All of them.
+pub(crate) const KINDS: &[Kind] = &[Kind::Uncorrelated, Kind::Weakly, Kind::Circle];
+
 // A thing, by falling value for its weight.
 #[derive(Clone, Copy, PartialEq, Eq, PartialOrd, Ord)]
 struct Drawn {
@@ -28,11 +31,6 @@ struct Drawn {
 }
 
 impl Kind {
-    /// All of them.
-    pub(crate) fn all() -> [Kind; 3] {
-        [Kind::Uncorrelated, Kind::Weakly, Kind::Circle]
-    }
-
     /// Its name in the output.
     pub(crate) fn name(self) -> &'static str {
         match self {

@@ -24,20 +24,30 @@ mod worker;
 mod workloads;
 
 use std::process::ExitCode;
+use std::sync::Wait;
+use std::thread::Threads;
+use std::time::Clock;
 use std::{env, io};
 
 fn main(rt: HostRuntime) -> io::Result<ExitCode> {
     let mut words = env::args(&rt)?;
     let _path = words.next();
-    let Some(word) = words.next() else {
-        agreement::print(&rt)?;
-        return Ok(ExitCode::SUCCESS);
-    };
-    match word.as_str() {
-        "times" => times::print(&rt)?,
-        "threads" => threads::print(&rt)?,
-        "nodes" => nodes::print(&rt)?,
-        _ => {
+    match words.next() {
+        Some(word) => print(&rt, Some(word.as_str())),
+        None => print(&rt, None),
+    }
+}
+
+fn print<R: Print + Clock + AllocGlobal + Threads + Wait + Sync>(
+    rt: &R,
+    word: Option<&str>,
+) -> io::Result<ExitCode> {
+    match word {
+        None => agreement::print(rt)?,
+        Some("times") => times::print(rt)?,
+        Some("threads") => threads::print(rt)?,
+        Some("nodes") => nodes::print(rt)?,
+        Some(_) => {
             println!(rt; "words: none, times, threads, or nodes")?;
             return Ok(ExitCode::FAILURE);
         }

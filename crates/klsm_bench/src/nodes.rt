@@ -1,7 +1,7 @@
 //! The measurements of branch and bound: nodes of a search over a heap and over a board.
 ghost use Rattle.std.specs.Prelude.{◌<◌};
 
-use crate::instances::Kind;
+use crate::instances::{KINDS, Kind};
 use crate::rounds::ROUNDS;
 use crate::searches::{Search, Searches, search_all};
 use std::io;
@@ -13,7 +13,7 @@ use std::time::Clock;
 const INSTANCES: u64 = 10;
 
 // Whether the things are sorted, and how many there are: where they are not, few things are many nodes.
-const SETS: [(bool, usize); 3] = [(true, 28), (true, 32), (false, 20)];
+const SETS: &[(bool, usize)] = &[(true, 28), (true, 32), (false, 20)];
 
 /// Prints a line for each kind of instance, number of things and number of threads.
 pub(crate) fn print<R: Print + Clock + AllocGlobal + Threads + Wait + Sync>(
@@ -25,10 +25,10 @@ pub(crate) fn print<R: Print + Clock + AllocGlobal + Threads + Wait + Sync>(
     println!(rt;
         "kind order things threads heap-nodes heap locked-nodes locked board-nodes board solve-us"
     )?;
-    for kind in Kind::all() {
+    for kind in KINDS {
         for (is_sorted, things) in SETS {
             for threads in [1, 2, 4] {
-                print_set(rt, kind, is_sorted, things, threads)?;
+                print_set(rt, *kind, *is_sorted, *things, threads)?;
             }
         }
     }
@@ -81,10 +81,16 @@ fn print_set<R: Print + Clock + AllocGlobal + Threads + Wait + Sync>(
     threads: usize,
 ) -> io::Result<()> {
     let order = if is_sorted { "sorted" } else { "drawn" };
-    let Some(rounds) = search_set(rt, kind, is_sorted, things, threads)? else {
-        return println!(rt; "{} {order} {things}: no memory", kind.name());
-    };
-    print!(rt; "{} {order} {things} {threads}", kind.name())?;
+    let rounds = search_set(rt, kind, is_sorted, things, threads)?;
+    print!(rt; "{} {order} {things}", kind.name())?;
+    match rounds {
+        Some(rounds) => print_rounds(rt, threads, rounds),
+        None => println!(rt; ": no memory"),
+    }
+}
+
+fn print_rounds<R: Print>(rt: &R, threads: usize, rounds: Rounds) -> io::Result<()> {
+    print!(rt; " {threads}")?;
     print_search(rt, median(rounds.heap))?;
     print_search(rt, median(rounds.locked))?;
     print_search(rt, median(rounds.board))?;

@@ -60,11 +60,21 @@ fn time_own<R: Clock + AllocGlobal + Wait>(rt: &R, k: usize) -> io::Result<Optio
         member,
         picker: First,
     };
+    Ok(Some(time_beside_queue(rt, &mut on_board, k)?))
+}
+
+fn time_beside_queue<B: Contender, R: Clock + AllocGlobal>(
+    rt: &R,
+    on_board: &mut B,
+    k: usize,
+) -> io::Result<Own>
+    requires { k ≤ 128 }
+{
     let mut queue = WithPicker {
         queue: Queue::new(rt.alloc(), k),
         picker: First,
     };
-    Ok(Some(time_rounds(rt, &mut queue, &mut on_board, k)?))
+    time_rounds(rt, &mut queue, on_board, k)
 }
 
 fn time_rounds<Q: Contender, B: Contender, R: Clock + AllocGlobal>(

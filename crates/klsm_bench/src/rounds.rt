@@ -50,19 +50,27 @@ impl Rounds {
     ) -> io::Result<Option<()>>
         requires { round < 5 }
     {
-        let Some(heap) = time_of(rt, &mut trio.heap, calls)? else {
-            return Ok(None);
-        };
-        let Some(first) = time_of(rt, &mut trio.first, calls)? else {
-            return Ok(None);
-        };
-        let Some(random) = time_of(rt, &mut trio.random, calls)? else {
-            return Ok(None);
-        };
+        let heap = time_of(rt, &mut trio.heap, calls)?;
+        let first = time_of(rt, &mut trio.first, calls)?;
+        let random = time_of(rt, &mut trio.random, calls)?;
+        Ok(self.add_times(round, heap, first, random))
+    }
+
+    // Adds times to those of a round, where there are all three.
+    fn add_times(
+        &mut self,
+        round: usize,
+        heap: Option<u128>,
+        first: Option<u128>,
+        random: Option<u128>,
+    ) -> Option<()>
+        requires { round < 5 }
+    {
+        let (heap, first, random) = (heap?, first?, random?);
         self.heap[round] = self.heap[round].saturating_add(heap);
         self.first[round] = self.first[round].saturating_add(first);
         self.random[round] = self.random[round].saturating_add(random);
-        Ok(Some(()))
+        Some(())
     }
 
     /// Prints the medians, in tenths of nanoseconds for each of so many operations.

@@ -1,9 +1,11 @@
 //! The searches of one instance by each contender, one after another.
+ghost use Rattle.std.specs.Prelude.{All};
+ghost use Rattle.klsm_board.specs.Boards.{IsOf};
 
 use crate::contenders::{Contender, Heap};
 use crate::crew::{all_in_turn, all_on_board, board_of};
 use crate::searcher::Searcher;
-use klsm_board::Open;
+use klsm_board::{Board, Member, Open};
 use klsm_instance::Instance;
 use klsm_knapsack::solve;
 use klsm_parts::Random;
@@ -72,6 +74,16 @@ pub(crate) struct Searches {
     pub(crate) solve: Search,
 }
 
+impl Searches {
+    /// Whether each of them found this value.
+    pub(crate) fn all_find(self, value: u64) -> bool {
+        self.heap.value == value
+            && self.locked.value == value
+            && self.board.value == value
+            && self.solve.value == value
+    }
+}
+
 /// Searches an instance by each contender. `None` where one of them had no room.
 pub(crate) fn search_all<R: Clock + AllocGlobal + Threads + Wait + Sync>(
     rt: &R,
@@ -116,10 +128,21 @@ fn search_in_turn<R: Clock + AllocGlobal + Threads + Wait + Sync>(
     let incumbent = AtomicU64::new(0);
     let start = Instant::now(rt)?;
     let heap = Mutex::new(Heap::new(rt.alloc()));
-    let crew = all_in_turn(rt, rt.alloc(), &heap, threads)?;
-    let nodes = nodes_of_all(rt, searchers_of(rt.alloc(), crew, instance, &incumbent)?)?;
+    let nodes = nodes_in_turn(rt, &heap, threads, instance, &incumbent)?;
     let time = start.elapsed(rt)?.as_nanos();
     Ok(found(nodes, time, &incumbent))
+}
+
+// How many nodes the threads over a heap examine.
+fn nodes_in_turn<R: AllocGlobal + Threads + Wait + Sync>(
+    rt: &R,
+    heap: &Mutex<Heap>,
+    threads: usize,
+    instance: &Instance,
+    incumbent: &AtomicU64,
+) -> io::Result<Option<u64>> {
+    let crew = all_in_turn(rt, rt.alloc(), heap, threads)?;
+    nodes_of_all(rt, searchers_of(rt.alloc(), crew, instance, incumbent)?)
 }
 
 fn search_board<R: Clock + AllocGlobal + Threads + Wait + Sync>(
@@ -132,10 +155,23 @@ fn search_board<R: Clock + AllocGlobal + Threads + Wait + Sync>(
     let Some((board, members)) = board_of(rt.alloc(), threads, K) else {
         return Ok(None);
     };
-    let crew = all_on_board::<R, Random<Pcg32>>(rt, rt.alloc(), &board, members)?;
-    let nodes = nodes_of_all(rt, searchers_of(rt.alloc(), crew, instance, &incumbent)?)?;
+    let nodes = nodes_on_board(rt, &board, members, instance, &incumbent)?;
     let time = start.elapsed(rt)?.as_nanos();
     Ok(found(nodes, time, &incumbent))
+}
+
+// How many nodes the members of a board examine.
+fn nodes_on_board<R: AllocGlobal + Threads + Wait + Sync>(
+    rt: &R,
+    board: &Board<64, 21>,
+    members: Vec<Member<64, 21>>,
+    instance: &Instance,
+    incumbent: &AtomicU64,
+) -> io::Result<Option<u64>>
+    requires { All (λ member. IsOf member board.now) members.items }
+{
+    let crew = all_on_board::<R, Random<Pcg32>>(rt, rt.alloc(), board, members)?;
+    nodes_of_all(rt, searchers_of(rt.alloc(), crew, instance, incumbent)?)
 }
 
 fn search_by_solve<R: Clock + AllocGlobal + Threads + Wait + Sync>(

@@ -1,11 +1,14 @@
 //! The measurements of several threads.
+ghost use Rattle.std.specs.Prelude.{All};
+ghost use Rattle.klsm_board.specs.Boards.{IsOf};
 
 use crate::contenders::{Contender, Heap};
-use crate::crew::{all_in_turn, all_on_board, board_of};
+use crate::crew::{InTurn, all_in_turn, all_on_board, board_of};
 use crate::own;
 use crate::rounds::{ROUNDS, per_operation};
 use crate::worker::{Worker, time_of_all};
 use crate::workloads::Workload;
+use klsm_board::{Board, Member};
 use klsm_parts::First;
 use std::alloc::{AllocError, Global};
 use std::io;
@@ -27,15 +30,22 @@ pub(crate) fn print<R: Print + Clock + AllocGlobal + Threads + Wait + Sync>(
         "medians of five, in tenths of nanoseconds an operation of all threads together:"
     )?;
     println!(rt; "workload items threads heap board")?;
-    for workload in [Workload::Uniform, Workload::Hold] {
-        for items in [1_000, 100_000] {
-            for threads in [1, 2, 4] {
-                print_threads(rt, workload, items, threads)?;
-            }
-        }
-    }
+    print_workload(rt, Workload::Uniform)?;
+    print_workload(rt, Workload::Hold)?;
     println!(rt; "calls k queue board")?;
     own::print(rt, K)
+}
+
+fn print_workload<R: Print + Clock + AllocGlobal + Threads + Wait + Sync>(
+    rt: &R,
+    workload: Workload,
+) -> io::Result<()> {
+    for items in [1_000, 100_000] {
+        for threads in [1, 2, 4] {
+            print_threads(rt, workload, items, threads)?;
+        }
+    }
+    Ok(())
 }
 
 fn print_threads<R: Print + Clock + AllocGlobal + Threads + Wait + Sync>(
@@ -44,13 +54,17 @@ fn print_threads<R: Print + Clock + AllocGlobal + Threads + Wait + Sync>(
     items: usize,
     threads: usize,
 ) -> io::Result<()> {
-    let Some(times) = time_threads(rt, workload, items, threads)? else {
-        return println!(rt; "{} {items} {threads}: no room", workload.name());
-    };
-    let operations = PAIRS.wrapping_mul(2).wrapping_mul(threads);
+    let times = time_threads(rt, workload, items, threads)?;
+    print!(rt; "{} {items} {threads}", workload.name())?;
+    match times {
+        Some(times) => print_times(rt, times, PAIRS.wrapping_mul(2).wrapping_mul(threads)),
+        None => println!(rt; ": no room"),
+    }
+}
+
+fn print_times<R: Print>(rt: &R, times: Times, operations: usize) -> io::Result<()> {
     println!(rt;
-        "{} {items} {threads} {} {}",
-        workload.name(),
+        " {} {}",
         per_operation(times.heap, operations),
         per_operation(times.board, operations)
     )
@@ -64,14 +78,41 @@ fn time_threads<R: Clock + AllocGlobal + Threads + Wait + Sync>(
     items: usize,
     threads: usize,
 ) -> io::Result<Option<Times>> {
-    let heap = Mutex::new(Heap::new(rt.alloc()));
-    let in_turn = workers_of(rt.alloc(), all_in_turn(rt, rt.alloc(), &heap, threads)?)?;
     let Some((board, members)) = board_of(rt.alloc(), threads, K) else {
         return Ok(None);
     };
-    let crew = all_on_board::<R, First>(rt, rt.alloc(), &board, members)?;
-    let on_board = workers_of(rt.alloc(), crew)?;
-    time_both(rt, workload, items / threads.max(1), in_turn, on_board)
+    let heap = Mutex::new(Heap::new(rt.alloc()));
+    let in_turn = all_in_turn(rt, rt.alloc(), &heap, threads)?;
+    time_crews(
+        rt,
+        workload,
+        items / threads.max(1),
+        in_turn,
+        &board,
+        members,
+    )
+}
+
+// Measures threads that use a heap, and the members of a board.
+fn time_crews<R: Clock + AllocGlobal + Threads + Wait + Sync>(
+    rt: &R,
+    workload: Workload,
+    share: usize,
+    in_turn: Vec<InTurn<R>>,
+    board: &Board<64, 21>,
+    members: Vec<Member<64, 21>>,
+) -> io::Result<Option<Times>>
+    requires { All (λ member. IsOf member board.now) members.items }
+{
+    let in_turn = workers_of(rt.alloc(), in_turn)?;
+    let on_board = all_on_board::<R, First>(rt, rt.alloc(), board, members)?;
+    time_both(
+        rt,
+        workload,
+        share,
+        in_turn,
+        workers_of(rt.alloc(), on_board)?,
+    )
 }
 
 // A worker for each of these contenders.
@@ -113,12 +154,10 @@ fn time_both<
     };
     let mut is_done = heap_has_room && board_has_room;
     for round in 0..ROUNDS {
-        draw_all(rt.alloc(), workload, &mut heap)?;
-        draw_all(rt.alloc(), workload, &mut board)?;
-        let (after, time) = time_of_all(rt, heap, workload)?;
+        let (after, time) = time_round(rt, workload, heap)?;
         heap = after;
         times.heap[round] = time;
-        let (after, time) = time_of_all(rt, board, workload)?;
+        let (after, time) = time_round(rt, workload, board)?;
         board = after;
         times.board[round] = time;
         is_done = is_done && all_done(&heap) && all_done(&board);
@@ -139,6 +178,16 @@ fn fill_all<C: Contender>(
         }
     }
     Ok(true)
+}
+
+// The workers after a round, and its nanoseconds.
+fn time_round<C: Contender + Send + Drop, R: Clock + AllocGlobal + Threads + Sync>(
+    rt: &R,
+    workload: Workload,
+    mut workers: Vec<Worker<C>>,
+) -> io::Result<(Vec<Worker<C>>, u128)> {
+    draw_all(rt.alloc(), workload, &mut workers)?;
+    time_of_all(rt, workers, workload)
 }
 
 // Draws keys for the next round of all workers.

@@ -3,7 +3,7 @@ ghost use Rattle.std.specs.Prelude.{◌≤◌, ◌<◌};
 
 use crate::rounds::{Calls, ROUNDS, Rounds};
 use crate::trio::Trio;
-use crate::workloads::Workload;
+use crate::workloads::{WORKLOADS, Workload};
 use rand_core::SeedableRng;
 use rand_pcg::Pcg32;
 use std::alloc::Global;
@@ -21,18 +21,31 @@ const FILLINGS: usize = 500;
 pub(crate) fn print<R: Print + Clock + AllocGlobal>(rt: &R) -> io::Result<()> {
     println!(rt; "medians of five, in tenths of nanoseconds an operation:")?;
     println!(rt; "workload items k heap first random")?;
+    print_all(rt, &mut Bench::new(rt.alloc(), 8))
+}
+
+fn print_all<R: Print + Clock + AllocGlobal>(rt: &R, bench: &mut Bench) -> io::Result<()> {
     for items in [1_000, 100_000, 1_000_000] {
-        for workload in Workload::all() {
-            for k in [8, 64, 128] {
-                print_workload(rt, workload, items, k)?;
-            }
-        }
+        print_workloads(rt, bench, items)?;
     }
     for items in [1_000, 100_000, 1_000_000] {
-        print_insertions(rt, items, 64)?;
+        print_insertions(rt, bench, items, 64)?;
     }
     for k in [8, 64, 128] {
-        print_own(rt, k)?;
+        print_own(rt, bench, k)?;
+    }
+    Ok(())
+}
+
+fn print_workloads<R: Print + Clock + AllocGlobal>(
+    rt: &R,
+    bench: &mut Bench,
+    items: usize,
+) -> io::Result<()> {
+    for workload in WORKLOADS {
+        for k in [8, 64, 128] {
+            print_workload(rt, bench, *workload, items, k)?;
+        }
     }
     Ok(())
 }
@@ -53,6 +66,21 @@ impl Bench {
             trio: Trio::new(alloc, k),
             draws: Pcg32::seed_from_u64(42),
         }
+    }
+
+    // Empty ones of this k, and the same keys again.
+    fn renew(&mut self, alloc: Global, k: usize)
+        requires { k ≤ 128 }
+    {
+        self.empty(alloc, k);
+        self.draws = Pcg32::seed_from_u64(42);
+    }
+
+    // Empty ones of this k. The keys go on.
+    fn empty(&mut self, alloc: Global, k: usize)
+        requires { k ≤ 128 }
+    {
+        self.trio = Trio::new(alloc, k);
     }
 
     // Adds to a round the times of the insertions of so many keys. Whether there was room for all.
@@ -106,26 +134,25 @@ fn print_timed<R: Print>(
 
 fn print_workload<R: Print + Clock + AllocGlobal>(
     rt: &R,
+    bench: &mut Bench,
     workload: Workload,
     items: usize,
     k: usize,
 ) -> io::Result<()>
     requires { k ≤ 128 }
 {
-    let rounds = time_workload(rt, workload, items, k)?;
+    bench.renew(rt.alloc(), k);
+    let rounds = time_workload(rt, bench, workload, items)?;
     print_timed(rt, workload.name(), items, k, 2 * PAIRS, rounds)
 }
 
 // Fills all three, and measures a workload on them. `None` where one of them had no room.
 fn time_workload<R: Clock + AllocGlobal>(
     rt: &R,
+    bench: &mut Bench,
     workload: Workload,
     items: usize,
-    k: usize,
-) -> io::Result<Option<Rounds>>
-    requires { k ≤ 128 }
-{
-    let mut bench = Bench::new(rt.alloc(), k);
+) -> io::Result<Option<Rounds>> {
     let mut untimed = Rounds::new();
     bench.time_fill(rt, &mut untimed, 0, workload, items)?;
     let mut rounds = Rounds::new();
@@ -140,27 +167,29 @@ fn time_workload<R: Clock + AllocGlobal>(
 
 fn print_insertions<R: Print + Clock + AllocGlobal>(
     rt: &R,
+    bench: &mut Bench,
     items: usize,
     k: usize,
 ) -> io::Result<()>
     requires { k ≤ 128 }
 {
-    let rounds = time_insertions(rt, items, k)?;
+    bench.renew(rt.alloc(), k);
+    let rounds = time_insertions(rt, bench, items, k)?;
     print_timed(rt, "insertions", items, k, items, rounds)
 }
 
 // Measures insertions into empty ones. `None` where one of them had no room.
 fn time_insertions<R: Clock + AllocGlobal>(
     rt: &R,
+    bench: &mut Bench,
     items: usize,
     k: usize,
 ) -> io::Result<Option<Rounds>>
     requires { k ≤ 128 }
 {
-    let mut bench = Bench::new(rt.alloc(), k);
     let mut rounds = Rounds::new();
     for round in 0..ROUNDS {
-        bench.trio = Trio::new(rt.alloc(), k);
+        bench.empty(rt.alloc(), k);
         if !bench.time_fill(rt, &mut rounds, round, Workload::Uniform, items)? {
             return Ok(None);
         }
@@ -169,10 +198,11 @@ fn time_insertions<R: Clock + AllocGlobal>(
 }
 
 // Prints what insertions into an own part cost that has room for them, and the deletions of its items.
-fn print_own<R: Print + Clock + AllocGlobal>(rt: &R, k: usize) -> io::Result<()>
+fn print_own<R: Print + Clock + AllocGlobal>(rt: &R, bench: &mut Bench, k: usize) -> io::Result<()>
     requires { k ≤ 128 }
 {
-    let own = time_own(rt, k)?;
+    bench.renew(rt.alloc(), k);
+    let own = time_own(rt, bench, k)?;
     own.inserted
         .print(rt, "own-insertions", k, k, FILLINGS * k)?;
     own.deleted.print(rt, "own-deletions", k, k, FILLINGS * k)
@@ -186,10 +216,7 @@ struct Own {
 }
 
 // Measures them.
-fn time_own<R: Clock + AllocGlobal>(rt: &R, k: usize) -> io::Result<Own>
-    requires { k ≤ 128 }
-{
-    let mut bench = Bench::new(rt.alloc(), k);
+fn time_own<R: Clock + AllocGlobal>(rt: &R, bench: &mut Bench, k: usize) -> io::Result<Own> {
     let mut inserted = Rounds::new();
     let mut deleted = Rounds::new();
     for round in 0..ROUNDS {

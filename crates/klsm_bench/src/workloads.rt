@@ -16,12 +16,10 @@ pub(crate) enum Workload {
     Ascending,
 }
 
-impl Workload {
-    /// All of them.
-    pub(crate) fn all() -> [Workload; 3] {
-        [Workload::Uniform, Workload::Hold, Workload::Ascending]
-    }
+/// All of them.
+pub(crate) const WORKLOADS: &[Workload] = &[Workload::Uniform, Workload::Hold, Workload::Ascending];
 
+impl Workload {
     /// Its name in the output.
     pub(crate) fn name(self) -> &'static str {
         match self {
