@@ -34,3 +34,6 @@ loop-part-preserved g c =
         room = next.room;
       },
     )
+
+pub unreachable-unreachable : goal.unreachable-unreachable
+unreachable-unreachable g c = c.unreachable.type_inv

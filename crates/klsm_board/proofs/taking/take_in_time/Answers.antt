@@ -22,3 +22,6 @@ returns-in-Ok-clause-took g c hand stood =
       took.1,
       taken_after c.args.part (Acquired c.args.part took.0) (mine c.args.seat.now.me.0) (mine c.loop.seat.me.0) (mine c.take_now.new.seat.me.0) inv.misses took.2,
     )
+
+pub unreachable-unreachable : goal.unreachable-unreachable
+unreachable-unreachable g c = c.unreachable.type_inv

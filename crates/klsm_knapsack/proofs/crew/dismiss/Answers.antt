@@ -29,3 +29,6 @@ loop-worker-init g c = record {
   found = λ k d lt. absurd (omega (arith, lt));
   refused = refl;
 }
+
+pub unreachable-unreachable : goal.unreachable-unreachable
+unreachable-unreachable g c = c.unreachable.type_inv

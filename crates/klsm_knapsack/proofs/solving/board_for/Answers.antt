@@ -9,3 +9,6 @@ returns-in-Err-BadThreads-clause-bad_threads g c = search rules
 
 pub returns-in-Err-BadThreads-clause-bad_k : goal.returns-in-Err-BadThreads-clause-bad_k
 returns-in-Err-BadThreads-clause-bad_k g c = search rules
+
+pub unreachable-unreachable : goal.unreachable-unreachable
+unreachable-unreachable g c = c.unreachable.type_inv

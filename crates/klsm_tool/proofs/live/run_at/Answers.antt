@@ -20,3 +20,6 @@ returns g c =
     let there = subst (IsReadyAt c.args.board.now c.args.index) (sym c.in-Some.ensures.value) c.requires.ready in
     subst (λ t. HasRun c.args.board.now t (kept_for (map (λ list. list.items) c.args.rows.now) c.args.index) c.run.result) there.number
     (subst (λ asked. HasRun c.args.board.now c.in-Some.worker.member.number asked c.run.result) same c.run.ensures)
+
+pub unreachable-unreachable : goal.unreachable-unreachable
+unreachable-unreachable g c = c.unreachable.type_inv

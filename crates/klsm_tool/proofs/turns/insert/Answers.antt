@@ -22,3 +22,6 @@ returns-in-Err-NoMemory-clause-refused g c =
     let me = c.args.member.now in let spent : Type 0 = length (inserted (own_steps me)) ≡ me.sizes.quota in
     let told = subst (RefusesInsertInTime spent g.row.LEVELS me.sizes.k me.number (own_steps me) (own_steps c.insert.new.self)) c.in-Err-NoMemory.field-0-is c.in-Err-NoMemory.ensures.refused.1 in
     (refusal_shows g.row.LEVELS me.sizes.k me.number (own_steps me) (own_steps c.insert.new.self) insert.NoMemory told, tt)
+
+pub unreachable-unreachable : goal.unreachable-unreachable
+unreachable-unreachable g c = c.unreachable.type_inv

@@ -24,3 +24,6 @@ returns-in-Err-NoMemory-clause-same g c = record { member = c.in-Err-NoMemory.en
 
 pub returns-in-Err-NoMemory-clause-refused : goal.returns-in-Err-NoMemory-clause-refused
 returns-in-Err-NoMemory-clause-refused g c = search rules
+
+pub unreachable-unreachable : goal.unreachable-unreachable
+unreachable-unreachable g c = c.unreachable.type_inv

@@ -46,3 +46,6 @@ loop-preserved g c =
       at_work = turned.goes_on;
       inserts = inserts_both _ _ _ _ inv.inserts turned.inserts;
     }
+
+pub unreachable-unreachable : goal.unreachable-unreachable
+unreachable-unreachable g c = c.unreachable.type_inv
