@@ -1,32 +1,41 @@
 //! Runs each script and each instance of the folder that it is started in, `data`, through the program,
 //! and compares the answer with the text beside it. Where there are words beside it too, they are
 //! those of the program; otherwise it is a replay.
+//!
+//! Then it is the program itself, on a script with a row that is refused: it ends with status 1.
 #![tactic(auto)]
 
-use klsm_tool::run_words;
+use klsm_tool::{Status, TerminalLine, run_program, run_words};
 use std::alloc::AllocError;
 use std::fs::{Files, read, read_dir};
 use std::io;
-use std::io::ErrorKind;
-use std::process::ExitCode;
+use std::io::{ErrorKind, IsTerminal};
 use std::sync::Wait;
 use std::thread::Threads;
 
-fn main(rt: HostRuntime) -> io::Result<ExitCode> {
+fn main(rt: HostRuntime) -> Status {
+    // Where a file cannot be read the line below is missing, and that is what the gate compares.
+    let _ = compare(&rt);
+    let progress = TerminalLine::new(&rt, rt.stderr().is_terminal());
+    run_program(&rt, rt.reader(), &mut io::writer(&rt), &progress)
+}
+
+/// Tells how many examples agree, or which is the first that does not.
+fn compare<R: Files + AllocGlobal + Wait + Threads + Sync + Print + Clone>(
+    rt: &R,
+) -> io::Result<()> {
     let mut agreeing = 0u32;
-    for entry in read_dir(&rt, ".")? {
+    for entry in read_dir(rt, ".")? {
         let entry = entry?;
         let Some(stem) = entry.file_name().strip_suffix(".csv") else {
             continue;
         };
-        if !agrees(&rt, stem)? {
-            println!(rt; "{stem} is answered otherwise")?;
-            return Ok(ExitCode::FAILURE);
+        if !agrees(rt, stem)? {
+            return println!(rt; "{stem} is answered otherwise");
         }
         agreeing = agreeing.saturating_add(1);
     }
-    println!(rt; "{agreeing} examples agree")?;
-    Ok(ExitCode::SUCCESS)
+    println!(rt; "{agreeing} examples agree")
 }
 
 /// Whether the program answers the input of this name as the text beside it says, and with its

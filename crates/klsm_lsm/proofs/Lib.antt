@@ -5,6 +5,7 @@ pub mod ContentLemmas
 pub mod CutLemmas
 pub mod FallLemmas
 pub mod FewLemmas
+pub mod FitLemmas
 pub mod GapLemmas
 pub mod InsertLemmas
 pub mod JoinLemmas

@@ -1,9 +1,10 @@
 -- The order of the candidates, kept as the block of each. No public contract cites it.
-use Rattle.std.specs.Prelude.{ℕ, ◌≡◌, ◌+◌, ◌-◌, ◌≤◌, List, [], ◌∷◌, ◌++◌, length, map, max, remove, nat_lt, Bool, true, if◌then◌else◌, Option, Some, None, slice_get, slice_set, slice_index_or}
+use Rattle.std.specs.Prelude.{ℕ, ◌≡◌, ◌+◌, ◌-◌, ◌≤◌, ◌<◌, List, [], ◌∷◌, ◌++◌, length, map, max, min, remove, nat_lt, Bool, true, if◌then◌else◌, Option, Some, None, slice_get, slice_set, slice_index_or}
 use Rattle.std.specs.List.{Contains}
 use Rattle.klsm_run.specs.declared.item.Item.{Item}
-use Rattle.klsm_run.specs.Content.{sorted}
-use Rattle.klsm_lsm.specs.Lsm.{content}
+use Rattle.klsm_run.specs.Content.{sorted, IsAscending, ShareNone}
+use Rattle.klsm_lsm.specs.Limit.{IsLevelCount}
+use Rattle.klsm_lsm.specs.Lsm.{content, IsLsm}
 use Rattle.klsm_lsm.specs.Places.{united}
 use Rattle.klsm_parts.specs.Pivots.{ArePivots}
 
@@ -49,3 +50,26 @@ pub record IsMerging (blocks : List (List Item)) (run : List Item) (first count 
   pub marks : ArePivots (length order) (run ∷ blocks) (of_run ∷ pivots)
   pub old_marks : ArePivots (length order - of_run) blocks pivots
   pub ranking : AreInBlocks (united blocks first count run) (sorted (run ++ content blocks)) order
+
+-- what has to stand before one item more is ranked, where `old_order` is the ranking of the LSM
+pub record CanRankNext (level_count : ℕ) (blocks : List (List Item)) (run : List Item) (old_order : List ℕ) (first count : ℕ) (order pivots : List ℕ) (of_run : ℕ) : Type 0 where
+  pub levels : IsLevelCount level_count
+  pub lawful : IsLsm blocks
+  pub ranking : IsRanking blocks old_order
+  pub known : length old_order < length (content blocks) → length order < length old_order
+  pub ascending : IsAscending (sorted (run ++ content blocks))
+  pub run_ascending : IsAscending run
+  pub within : first + count ≤ length blocks
+  pub merging : IsMerging blocks run first count order pivots of_run
+  pub more : length order < length run + length (content blocks)
+  pub room : length order < 129
+
+-- and before all of a run's items are
+pub record CanMerge (level_count : ℕ) (blocks : List (List Item)) (run : List Item) (old_order : List ℕ) (k : ℕ) : Type 0 where
+  pub levels : IsLevelCount level_count
+  pub lawful : IsLsm blocks
+  pub ranking : IsRanking blocks old_order
+  pub whole : length old_order ≡ min (k + 1) (length (content blocks))
+  pub k_in_range : k ≤ 128
+  pub some : 0 < length run
+  pub apart : ShareNone (content blocks) run

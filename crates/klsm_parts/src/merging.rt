@@ -7,7 +7,7 @@ ghost use Rattle.klsm_lsm.specs.Limit.{IsLevelCount};
 ghost use Rattle.klsm_lsm.specs.Adding.{add};
 ghost use Rattle.klsm_lsm.specs.Places.{united};
 ghost use Rattle.klsm_parts.specs.Pivots.{ArePivots};
-ghost use Rattle.klsm_parts.specs.Ranking.{IsRanking, IsMerging, place_after_add};
+ghost use Rattle.klsm_parts.specs.Ranking.{CanMerge, CanRankNext, IsRanking, IsMerging, place_after_add};
 
 use crate::ranking::Ranking;
 use crate::ranks::{comes_before, none_of};
@@ -35,13 +35,7 @@ pub(crate) fn merged<B: Run, R: Run, const LEVELS: usize>(
     run: &R,
     k: usize,
 ) -> Merging<LEVELS>
-    requires levels { IsLevelCount LEVELS }
-    requires lawful { IsLsm lsm.now }
-    requires ranking { IsRanking lsm.now ranking.now.blocks.items }
-    requires whole { length ranking.now.blocks.items ≡ min (k + 1) (length (content lsm.now)) }
-    requires k { k ≤ 128 }
-    requires some { 0 < length (R.items run.now) }
-    requires apart { ShareNone (content lsm.now) (R.items run.now) }
+    requires { CanMerge LEVELS lsm.now (R.items run.now) ranking.now.blocks.items k }
     ensures adds { add lsm.now (R.items run.now)
         ≡ united lsm.now result.cascade.first result.cascade.count (R.items run.now) }
     ensures within { result.cascade.first + result.cascade.count ≤ length lsm.now }
@@ -68,20 +62,9 @@ impl<const LEVELS: usize> Merging<LEVELS> {
     // Ranks one item more.
     #[inline]
     fn rank_next<B: Run, R: Run>(&mut self, ranking: &Ranking, lsm: &Lsm<B, LEVELS>, run: &R)
-        requires levels { IsLevelCount LEVELS }
-        requires lawful { IsLsm lsm.now }
-        requires ranking { IsRanking lsm.now ranking.now.blocks.items }
-        requires known { length ranking.now.blocks.items < length (content lsm.now)
-            → length self.old.ranking.blocks.items < length ranking.now.blocks.items }
-        requires ascending { IsAscending (sorted (R.items run.now ++ content lsm.now)) }
-        requires run_ascending { IsAscending (R.items run.now) }
-        requires within { self.old.cascade.first + self.old.cascade.count ≤ length lsm.now }
-        requires merging { IsMerging lsm.now (R.items run.now) self.old.cascade.first
-            self.old.cascade.count self.old.ranking.blocks.items self.old.pivots.items
-            self.old.of_run }
-        requires more { length self.old.ranking.blocks.items
-            < length (R.items run.now) + length (content lsm.now) }
-        requires room { length self.old.ranking.blocks.items < 129 }
+        requires { CanRankNext LEVELS lsm.now (R.items run.now) ranking.now.blocks.items
+            self.old.cascade.first self.old.cascade.count self.old.ranking.blocks.items
+            self.old.pivots.items self.old.of_run }
         ensures same { self.new.cascade ≡ self.old.cascade }
         ensures merging { IsMerging lsm.now (R.items run.now) self.old.cascade.first
             self.old.cascade.count self.new.ranking.blocks.items self.new.pivots.items

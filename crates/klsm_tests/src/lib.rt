@@ -33,6 +33,8 @@ mod printed;
 #[cfg(test)]
 mod program;
 #[cfg(test)]
+mod rationed;
+#[cfg(test)]
 mod runs;
 #[cfg(test)]
 mod world;

@@ -4,8 +4,8 @@ ghost use Rattle.std.specs.Prelude.{◌≡◌, ◌+◌, ◌<◌, ◌≤◌, leng
 ghost use Rattle.std.specs.List.{AllByRecursion};
 
 use super::owned::{has_keys, heap_run_of, run_of};
+use crate::rationed::Rationed;
 use klsm_run::{HeapRun, Run};
-use klsm_testing::Rationed;
 use std::alloc::{Allocator, Global};
 
 // The capacity and the level of a run. `None` where it has other keys than these, or none.

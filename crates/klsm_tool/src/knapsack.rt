@@ -2,7 +2,7 @@
 ghost use Rattle.std.specs.Prelude.{◌≡◌, ◌≤◌, Option, ℕ, List};
 ghost use Rattle.klsm_instance.specs.Answers.{IsBestAnswer};
 ghost use Rattle.klsm_instance.specs.Format.{IsProblemIn, RefusesInput};
-ghost use Rattle.klsm_tool.specs.Knapsack.{Solves, RefusesIn, WritesBest};
+ghost use Rattle.klsm_tool.specs.Knapsack.{Solves, SolvesProblem, RefusesIn, WritesBest};
 
 use klsm_board::Gate;
 use klsm_knapsack::{Best, Instance, ReadError, SolveError, solve};
@@ -33,12 +33,30 @@ pub fn knapsack_over<P: AllocGlobal + Wait + Threads + Sync, R: Read + Drop, W: 
     ensures { Solves threads k (R.remaining reader) (W.contents writer.old)
         (W.contents writer.new) result }
 {
-    let instance = match Instance::read(rt.alloc(), reader) {
-        Ok(instance) => instance,
-        Err(why) => return refuse(writer, why),
-    };
-    match solve::<21>(rt, rt.alloc(), &instance, threads, k, idle, gate) {
-        Ok(best) => write_selection(rt.alloc(), writer, &instance, &best),
+    match Instance::read(rt.alloc(), reader) {
+        Ok(instance) => solve_read(rt, writer, &instance, threads, k, idle, gate),
+        Err(why) => refuse(writer, why),
+    }
+}
+
+// Solves an instance, and writes a best selection or why there is none.
+fn solve_read<P: AllocGlobal + Wait + Threads + Sync, W: Write>(
+    rt: &P,
+    writer: &mut W,
+    instance: &Instance,
+    threads: usize,
+    k: usize,
+    idle: u32,
+    gate: &impl Gate,
+) -> Report
+    requires some_thread { 1 ≤ threads }
+    requires threads { threads ≤ 16 }
+    requires k { k ≤ 64 }
+    ensures { SolvesProblem threads k instance.now (W.contents writer.old) (W.contents writer.new)
+        result }
+{
+    match solve::<21>(rt, rt.alloc(), instance, threads, k, idle, gate) {
+        Ok(best) => write_selection(rt.alloc(), writer, instance, &best),
         Err(SolveError::Full) => write_last(writer, FULL, 0, End::Full),
         Err(_) => write_last(writer, NO_MEMORY, 0, End::NoMemory),
     }

@@ -1,12 +1,12 @@
 //! `klsm live`: each thread's rows in a thread of its own.
-ghost use Rattle.std.specs.Prelude.{◌≡◌, ◌<◌, ◌≤◌, ℕ, List, length, map, slice_index_or};
+ghost use Rattle.std.specs.Prelude.{◌≡◌, ◌<◌, ◌≤◌, ℕ, List, [], length, map, slice_index_or};
 ghost use Rattle.std.specs.Prelude.{Option, Some, None, IfErr, IfOk, IfSome};
 ghost use Rattle.klsm_rows.specs.Rows.{Row, AreAllRows};
 ghost use Rattle.klsm_text.specs.Script.{row_limit};
 ghost use Rattle.klsm_text.specs.Reports.{GoesOrFails};
 ghost use Rattle.klsm_tool.specs.Crews.{AreMembers, lists_in};
 ghost use Rattle.klsm_text.specs.ThreadRows.{AreAccepted};
-ghost use Rattle.klsm_text.specs.Keeping.{AreKept, kept_for};
+ghost use Rattle.klsm_text.specs.Keeping.{AreKept, HasEnded, kept_for};
 ghost use Rattle.klsm_tool.specs.Working.{AreAccounted, HasRunAt, IsReadyAt, gave_up_at, ready};
 ghost use Rattle.klsm_tool.specs.Live.{Lives, RunsScript, outcome_end, outcome_text};
 ghost use Rattle.klsm_tool.specs.declared.worker.Worker.{Worker};
@@ -79,12 +79,27 @@ pub(crate) fn run_script<P: AllocGlobal + Wait + Threads + Sync, R: Read + Drop>
     let Ok(mut rows) = no_rows(rt.alloc(), settings.threads) else {
         return Err(Closing::at(Stop::NoMemory, 1));
     };
-    let mut script = Script::new(rt.alloc(), reader);
-    let closing = keep_rows(&mut script, rows.as_mut_slice(), progress);
+    let closing = read_rows(rt.alloc(), reader, rows.as_mut_slice(), progress);
     if closing.stop != Stop::AtEnd {
         return Err(closing);
     }
     run_rows(rt, rows.as_slice(), settings, gate, progress)
+}
+
+// Reads a whole script, and keeps each row for its thread.
+fn read_rows<R: Read + Drop>(
+    alloc: Global,
+    reader: R,
+    lists: &mut [Vec<ThreadRow>],
+    progress: &impl Progress,
+) -> Closing
+    requires { length lists.old ≤ 16 }
+    ensures { (threads : ℕ) → AreKept threads [] (map (λ list. list.items) lists.old)
+        → HasEnded threads (R.remaining reader) (map (λ list. list.items) lists.new)
+        result.row result.stop }
+{
+    let mut script = Script::new(alloc, reader);
+    keep_rows(&mut script, lists, progress)
 }
 
 // Runs the rows of all threads over a new board.

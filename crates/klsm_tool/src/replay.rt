@@ -108,11 +108,10 @@ impl<R: Read + Drop> Replay<R> {
         ensures written { IfOk result (λ replay. replay.output.written ≡ 0) }
         ensures empty { IfOk result (λ replay. pending replay.output ≡ []) }
     {
-        let script = Script::new(alloc, reader);
         let beside = Beside::new(alloc, settings)?;
         let output = Output::new(alloc)?;
         Ok(Replay {
-            script,
+            script: Script::new(alloc, reader),
             beside,
             output,
         })

@@ -23,8 +23,7 @@ pub(crate) fn with_options<'a>(
     ensures local { (fields_of command.entry).has_globals ≡ false
         → IfOk result (λ with. (fields_of with).has_globals ≡ false) }
 {
-    let seed = number(alloc, SEED, "1", SEED_HELP, value_parser!(u64));
-    with_pick(alloc, command)?.arg(seed)
+    with_pick(alloc, command)?.arg(number(alloc, SEED, "1", SEED_HELP, value_parser!(u64)))
 }
 
 // All but the last of them.
@@ -33,8 +32,8 @@ fn with_pick<'a>(alloc: Global, command: Command<'a>) -> Result<Command<'a>, All
     ensures local { (fields_of command.entry).has_globals ≡ false
         → IfOk result (λ with. (fields_of with).has_globals ≡ false) }
 {
-    let pick = option(alloc, PICK, "first", "PICK", PICK_HELP);
-    with_threads(alloc, command, THREADS_HELP, K_HELP)?.arg(pick)
+    let command = with_threads(alloc, command, THREADS_HELP, K_HELP)?;
+    command.arg(option(alloc, PICK, "first", "PICK", PICK_HELP))
 }
 
 /// A command over instances, with its options.
@@ -47,9 +46,9 @@ pub(crate) fn with_search_options<'a>(
     ensures local { (fields_of command.entry).has_globals ≡ false
         → IfOk result (λ with. (fields_of with).has_globals ≡ false) }
 {
+    let command = with_threads(alloc, command, WORKERS_HELP, NODES_HELP)?;
     let up_to_a_million = value_parser!(u64).range(0..=1_000_000);
-    let idle = number(alloc, IDLE, "64", IDLE_HELP, up_to_a_million);
-    with_threads(alloc, command, WORKERS_HELP, NODES_HELP)?.arg(idle)
+    command.arg(number(alloc, IDLE, "64", IDLE_HELP, up_to_a_million))
 }
 
 // With the options that every command has: how many threads there are, and how many items each keeps
@@ -65,10 +64,9 @@ fn with_threads<'a>(
         → IfOk result (λ with. (fields_of with).has_globals ≡ false) }
 {
     let one_to_16 = value_parser!(u64).range(1..=16);
+    let command = command.arg(number(alloc, THREADS, "1", threads_help, one_to_16))?;
     let up_to_64 = value_parser!(u64).range(0..=64);
-    let threads = number(alloc, THREADS, "1", threads_help, one_to_16);
-    let k = number(alloc, K, "64", k_help, up_to_64);
-    command.arg(threads)?.arg(k)
+    command.arg(number(alloc, K, "64", k_help, up_to_64))
 }
 
 // An option whose value is a number that the parser takes.

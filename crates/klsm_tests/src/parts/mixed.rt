@@ -3,8 +3,8 @@
 ghost use Rattle.std.specs.Prelude.{◌≤◌};
 
 use super::both::{Both, Pick, both_at, delete, delete_by, insert};
+use crate::rationed::Rationed;
 use klsm_parts::Random;
-use klsm_testing::Rationed;
 use rand_core::{Rng, SeedableRng};
 use rand_pcg::Pcg32;
 use std::alloc::Global;

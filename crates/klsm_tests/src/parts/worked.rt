@@ -2,10 +2,10 @@
 
 use super::both::{Both, Pick, both_at, delete, insert_all, item};
 use super::spied::own_part;
+use crate::rationed::Rationed;
 use klsm_lsm::LsmError;
 use klsm_parts::{Local, Part, Queue, Shared, flush};
 use klsm_run::Item;
-use klsm_testing::Rationed;
 use std::alloc::Global;
 
 // Whether deletions answer these in turn.

@@ -32,8 +32,24 @@ rank_next-requires g c =
     let within = subst (λ (cascade : Cascade). cascade.first + cascade.count ≤ length c.args.lsm.now) (sym c.loop.invariant.same) c.cascade.ensures.within in
     let more : length c.loop.merging.ranking.blocks.items < length run + length (content c.args.lsm.now) =
     omega (arith, c.loop.invariant.len, c.loop-test.true, c.min-most.ensures, c.saturating_add.ensures, c.len.ensures.len, c.len-2.ensures.len) in
-    let room : length c.loop.merging.ranking.blocks.items < 129 = omega (arith, c.loop.invariant.len, c.loop-test.true, c.min-most.ensures, c.requires.k) in
-    (search, (search, (c.requires.levels, (c.requires.lawful, (c.requires.ranking, (known, (ascending, (c.len.ensures.ascending, (within, (c.loop.invariant.merging, (more, room)))))))))))
+    let room : length c.loop.merging.ranking.blocks.items < 129 = omega (arith, c.loop.invariant.len, c.loop-test.true, c.min-most.ensures, c.requires.k_in_range) in (
+      search,
+      (
+        search,
+        record {
+          levels = c.requires.levels;
+          lawful = c.requires.lawful;
+          ranking = c.requires.ranking;
+          known = known;
+          ascending = ascending;
+          run_ascending = c.len.ensures.ascending;
+          within = within;
+          merging = c.loop.invariant.merging;
+          more = more;
+          room = room;
+        },
+      ),
+    )
 
 pub returns-clause-adds : goal.returns-clause-adds
 returns-clause-adds g c =
@@ -47,7 +63,7 @@ pub returns-clause-merging : goal.returns-clause-merging
 returns-clause-merging g c = c.loop.invariant.merging
 
 pub returns-clause-whole : goal.returns-clause-whole
-returns-clause-whole g c = omega (arith, c.loop.invariant.len, c.loop-test.false, c.loop.auto.counter-end, c.min-most.ensures, c.saturating_add.ensures, c.len.ensures.len, c.len-2.ensures.len, c.requires.k)
+returns-clause-whole g c = omega (arith, c.loop.invariant.len, c.loop-test.false, c.loop.auto.counter-end, c.min-most.ensures, c.saturating_add.ensures, c.len.ensures.len, c.len-2.ensures.len, c.requires.k_in_range)
 
 pub returns-clause-lawful : goal.returns-clause-lawful
 returns-clause-lawful g c = added_lawful c.args.lsm.now (g.R.Run.items c.args.run.now) c.level.result c.requires.lawful c.level.ensures.block c.requires.apart

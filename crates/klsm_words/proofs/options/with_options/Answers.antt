@@ -5,8 +5,8 @@ use Rattle.klsm_words.proofs.options.with_options.Goals as goal
 
 pub returns-clause-app : goal.returns-clause-app
 returns-clause-app c =
-    added_last _ _ _ _ c.arg.result c.arg.ensures c.number-seed.ensures.local c.in_ok-with_pick.ensures.app
-    (c.number-seed.ensures.rule ∙ ap (λ p. option_rule (codes "seed") (codes "1") (Some p)) c.value_parser.ensures)
+    added_last _ _ _ _ c.arg.result c.arg.ensures c.number.ensures.local c.in_ok-with_pick.ensures.app
+    (c.number.ensures.rule ∙ ap (λ p. option_rule (codes "seed") (codes "1") (Some p)) c.value_parser.ensures)
 
 pub returns-clause-local : goal.returns-clause-local
-returns-clause-local c none = last_none_global _ _ c.arg.result c.arg.ensures c.number-seed.ensures.local (c.in_ok-with_pick.ensures.local none)
+returns-clause-local c none = last_none_global _ _ c.arg.result c.arg.ensures c.number.ensures.local (c.in_ok-with_pick.ensures.local none)

@@ -6,8 +6,8 @@ use Rattle.klsm_words.proofs.options.with_search_options.Goals as goal
 pub returns-clause-app : goal.returns-clause-app
 returns-clause-app c =
     let up_to_a_million = narrowed (pos 0) (pos 1000000) _ _ _ _ c.value_parser.ensures c.new.ensures.start c.new.ensures.end c.range-up_to_a_million.ensures in
-    added_last _ _ _ _ c.arg.result c.arg.ensures c.number-idle.ensures.local c.in_ok-with_threads.ensures.app
-    (c.number-idle.ensures.rule ∙ ap (λ p. option_rule (codes "idle") (codes "64") (Some p)) up_to_a_million)
+    added_last _ _ _ _ c.arg.result c.arg.ensures c.number.ensures.local c.in_ok-command.ensures.app
+    (c.number.ensures.rule ∙ ap (λ p. option_rule (codes "idle") (codes "64") (Some p)) up_to_a_million)
 
 pub returns-clause-local : goal.returns-clause-local
-returns-clause-local c none = last_none_global _ _ c.arg.result c.arg.ensures c.number-idle.ensures.local (c.in_ok-with_threads.ensures.local none)
+returns-clause-local c none = last_none_global _ _ c.arg.result c.arg.ensures c.number.ensures.local (c.in_ok-command.ensures.local none)

@@ -1,15 +1,16 @@
-use Rattle.std.proofs.Common.{rules, ◌<◌, length, ap, ◌∙◌, arith, refl}
+use Rattle.std.proofs.Common.{◌<◌, length, ap, ◌∙◌, arith, refl}
 use Rattle.std.proofs.lemmas.List.{length-map}
 use Rattle.klsm_lsm.specs.Limit.{limit_of}
 use Rattle.klsm_lsm.specs.Slots.{blocks_in}
 use Rattle.klsm_lsm.proofs.InsertLemmas.{free_level, can_carry, insert_stored, inserted}
 use Rattle.klsm_lsm.proofs.StoredLemmas.{slots_back, view_back, few_blocks, shown}
+use Rattle.klsm_lsm.proofs.FitLemmas.{store_fits}
 use Rattle.klsm_lsm.proofs.fixed.Lsm+FixedRun+CAP+LEVELS.insert.Goals as goal
 
 pub put_last-requires : goal.put_last-requires
 put_last-requires g c =
     let less : c.self.inside.len < limit_of g.row.LEVELS g.row.CAP = omega (arith, c.if-self-limit.false, c.limit.ensures) in
-    (search rules, (search, (c.requires.capacity, (rw length-map at c.self.invariant.within, (free_level _ _ _ _ _ c.self.invariant less, ((tt, tt), c.requires.capacity.some_room))))))
+    (search store_fits, (search, (c.requires.capacity, (rw length-map at c.self.invariant.within, (free_level _ _ _ _ _ c.self.invariant less, ((tt, tt), c.requires.capacity.some_room))))))
 
 pub carry-requires : goal.carry-requires
 carry-requires g c =
@@ -53,7 +54,7 @@ pub slice_bounds-put_last-end : goal.slice_bounds-put_last-end
 slice_bounds-put_last-end g c = refl
 
 pub as_mut_slice-requires : goal.as_mut_slice-requires
-as_mut_slice-requires g c = search rules
+as_mut_slice-requires g c = search store_fits
 
 pub overflow_add-self : goal.overflow_add-self
 overflow_add-self g c = omega (arith, c.carry.ensures.within, few_blocks c.self.invariant, c.self.invariant.stored.within.levels_in_range.at_most)

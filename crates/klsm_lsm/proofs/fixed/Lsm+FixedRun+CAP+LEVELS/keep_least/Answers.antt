@@ -6,6 +6,7 @@ use Rattle.klsm_lsm.proofs.InsertLemmas.{kept_stored}
 use Rattle.klsm_lsm.proofs.RemovingLemmas.{block_in_place}
 use Rattle.klsm_lsm.proofs.SlotLemmas.{block_in_slot, refill_same}
 use Rattle.klsm_lsm.proofs.StoredLemmas.{count_blocks, last_put, slotted}
+use Rattle.klsm_lsm.proofs.FitLemmas.{store_fits}
 use Rattle.klsm_lsm.proofs.fixed.Lsm+FixedRun+CAP+LEVELS.keep_least.Goals as goal
 
 pub invariant_of-self : goal.invariant_of-self
@@ -24,7 +25,7 @@ invariant_of-self g c =
     (slotted _ _ _ _ _ _ left (rw (length-map, back, length-set) some) (kept_stored _ _ _ _ _ _ _ c.self.invariant c.self.view_is c.requires.only c.requires.some c.requires.within))
 
 pub as_mut_slice-requires : goal.as_mut_slice-requires
-as_mut_slice-requires g c = search rules
+as_mut_slice-requires g c = search store_fits
 
 pub offset_bounds-0 : goal.offset_bounds-0
 offset_bounds-0 g c = search rules

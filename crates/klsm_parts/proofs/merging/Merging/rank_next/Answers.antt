@@ -91,3 +91,18 @@ returns-in-Some-clause-merging g c =
     let here : slice_get (get_or bs b []) (get_or ps b 0) ≡ Some x = rw (← c.as_slice.ensures.value) known.1 in
     rw (c.push-else-run_comes_first.ensures, c.place_after.ensures, marked_in_place ps c.as_mut_slice.result.now b c.as_mut_slice.ensures.value)
     (merging_of_block bs run first count order ps q b x c.requires.lawful c.requires.ascending c.requires.run_ascending c.requires.within c.requires.merging known.0 there here later)
+
+pub overflow_sub-rank : goal.overflow_sub-rank
+overflow_sub-rank g c = omega (arith, c.len.ensures, c.requires.merging.of_run_few)
+
+pub push-requires-clause-room : goal.push-requires-clause-room
+push-requires-clause-room g c = c.requires.room
+
+pub overflow_add-self : goal.overflow_add-self
+overflow_add-self g c = omega (arith, c.requires.merging.of_run_few, c.requires.room)
+
+pub unreachable-unreachable : goal.unreachable-unreachable
+unreachable-unreachable g c = c.unreachable.type_inv
+
+pub push-requires-else-run_comes_first-clause-room : goal.push-requires-else-run_comes_first-clause-room
+push-requires-else-run_comes_first-clause-room g c = c.requires.room

@@ -17,8 +17,21 @@ use Rattle.klsm_parts.proofs.shared.Shared.absorb_copy.Goals as goal
 
 pub merged-merged-requires : goal.merged-merged-requires
 merged-merged-requires g c =
-    let apart = subst (λ (p : PartState). ShareNone (content p.blocks) (g.R.Run.items c.args.run.now)) (sym c.self.view_is) c.requires.apart in
-    (search lsm_fits, (search merging_fits, (c.self.invariant.levels_in_range, (c.self.invariant.lawful, (c.self.invariant.ranking_exact, (c.self.invariant.ranking_whole, (c.self.invariant.k_in_range, (c.requires.some, apart))))))))
+    let apart = subst (λ (p : PartState). ShareNone (content p.blocks) (g.R.Run.items c.args.run.now)) (sym c.self.view_is) c.requires.apart in (
+      search lsm_fits,
+      (
+        search merging_fits,
+        record {
+          levels = c.self.invariant.levels_in_range;
+          lawful = c.self.invariant.lawful;
+          ranking = c.self.invariant.ranking_exact;
+          whole = c.self.invariant.ranking_whole;
+          k_in_range = c.self.invariant.k_in_range;
+          some = c.requires.some;
+          apart = apart;
+        },
+      ),
+    )
 
 pub absorb_copy-requires : goal.absorb_copy-requires
 absorb_copy-requires g c =

@@ -29,11 +29,11 @@ use types.Logic.{sem}
 use types.ByLocal.{alloc_all, pass_all, free_all, look_at, get, through, sets, lands_as}
 use types.Kit.{‵, raw, prop, ◌⊛◌, later, given, ◌$◌, ◌∵◌, !, qed, move, keep, use1, group, split, split3, join, learn, fsplit, fjoin, feq_i, regoal, suffices, await, done}
 use types.Run.{stop, fld, addr, no_more, and_then, of_opd, unit_lit, returns, enter}
-use Rattle.klsm_testing.specs.contracts.rationed.Rationed as R
-use Rattle.klsm_testing.specs.contracts.rationed.RationedAllocator.deallocate as F
-use Rattle.klsm_testing.specs.contracts.rationed.RationedAllocator.deallocate.Key as key
-use Rattle.klsm_testing.proofs.rationed.RationedAllocator.deallocate.Statement.{statement}
-use Rattle.klsm_testing.proofs.rationed.RationedAllocator.deallocate.Code as code
+use Rattle.klsm_tests.specs.contracts.rationed.Rationed as R
+use Rattle.klsm_tests.specs.contracts.rationed.RationedAllocator.deallocate as F
+use Rattle.klsm_tests.specs.contracts.rationed.RationedAllocator.deallocate.Key as key
+use Rattle.klsm_tests.proofs.rationed.RationedAllocator.deallocate.Statement.{statement}
+use Rattle.klsm_tests.proofs.rationed.RationedAllocator.deallocate.Code as code
 
 pub deallocate_spec : {M : Type 1} → statement M
 deallocate_spec 𝓤 𝓛 𝓜 𝓡 wired Y L g d d' met _ =

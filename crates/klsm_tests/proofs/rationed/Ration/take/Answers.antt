@@ -1,5 +1,5 @@
 use Rattle.std.proofs.Common.{rules}
-use Rattle.klsm_testing.proofs.rationed.Ration.take.Goals as goal
+use Rattle.klsm_tests.proofs.rationed.Ration.take.Goals as goal
 
 pub returns-clause-left : goal.returns-clause-left
 returns-clause-left c = search rules

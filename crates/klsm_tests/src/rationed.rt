@@ -1,8 +1,24 @@
-//! The allocator, and its count of the growths that are still granted.
+//! An allocator that grants a set number of growths.
+//!
+//! A test that refuses each growth of a call in turn allows none, then one, and so on, until a call
+//! was refused nothing:
+//!
+//! ```text
+//! let heap = Rationed::new(rt.alloc());
+//! for grants in 0..u64::MAX {
+//!     heap.allow(grants);
+//!     let outcome = call(&heap);
+//!     if !heap.has_refused() {
+//!         break;
+//!     }
+//!     // The outcome is a refusal, and nothing has changed.
+//! }
+//! ```
 ghost use Rattle.std.specs.Prelude.{◌≡◌, ◌-◌, ◌<◌, ◌↔◌, false, IsTrue};
 
 use std::alloc::{AllocError, Allocator};
 use std::cell::Cell;
+use std::test::Fail;
 
 /// Grants a set number of the growths asked of it, and refuses those after it. It passes what it
 /// grants on to `inner`.
@@ -10,7 +26,7 @@ use std::cell::Cell;
 /// Each block made counts as one growth: the first of a collection, and each move to another block,
 /// a smaller one included.
 #[derive(Drop)]
-pub struct Rationed<B: Allocator> {
+pub(crate) struct Rationed<B: Allocator> {
     inner: B,
     ration: Cell<Ration>,
 }
@@ -91,4 +107,24 @@ fn grant(cell: &Cell<Ration>) -> bool {
     let granted = ration.take();
     cell.set(ration);
     granted
+}
+
+#[test]
+fn grants_run_out(rt: HostRuntime) -> Result<(), Fail> {
+    let heap = Rationed::new(rt.alloc());
+    heap.allow(0);
+    assert!(rt; Vec::<u64, _>::with_capacity(&heap, 4).is_err());
+    assert!(rt; heap.has_refused());
+    heap.allow(1);
+    let mut numbers = Vec::with_capacity(&heap, 1)?;
+    numbers.push(7)?;
+    assert!(rt; !heap.has_refused());
+    assert!(rt; numbers.push(8).is_err());
+    assert!(rt; heap.has_refused());
+    heap.allow(u64::MAX);
+    numbers.push(8)?;
+    assert!(rt; Vec::<u64, _>::with_capacity(&heap, 4).is_ok());
+    assert!(rt; !heap.has_refused());
+    assert_eq!(rt; numbers.as_slice(), [7, 8].as_slice());
+    Ok(())
 }
