@@ -21,30 +21,22 @@ const FILLINGS: usize = 500;
 pub(crate) fn print<R: Print + Clock + AllocGlobal>(rt: &R) -> io::Result<()> {
     println!(rt; "medians of five, in tenths of nanoseconds an operation:")?;
     println!(rt; "workload items k heap first random")?;
-    print_all(rt, &mut Bench::new(rt.alloc(), 8))
-}
-
-fn print_all<R: Print + Clock + AllocGlobal>(rt: &R, bench: &mut Bench) -> io::Result<()> {
     for items in [1_000, 100_000, 1_000_000] {
-        print_workloads(rt, bench, items)?;
+        print_workloads(rt, items)?;
     }
     for items in [1_000, 100_000, 1_000_000] {
-        print_insertions(rt, bench, items, 64)?;
+        print_insertions(rt, items, 64)?;
     }
     for k in [8, 64, 128] {
-        print_own(rt, bench, k)?;
+        print_own(rt, k)?;
     }
     Ok(())
 }
 
-fn print_workloads<R: Print + Clock + AllocGlobal>(
-    rt: &R,
-    bench: &mut Bench,
-    items: usize,
-) -> io::Result<()> {
+fn print_workloads<R: Print + Clock + AllocGlobal>(rt: &R, items: usize) -> io::Result<()> {
     for workload in WORKLOADS {
         for k in [8, 64, 128] {
-            print_workload(rt, bench, *workload, items, k)?;
+            print_workload(rt, *workload, items, k)?;
         }
     }
     Ok(())
@@ -66,14 +58,6 @@ impl Bench {
             trio: Trio::new(alloc, k),
             draws: Pcg32::seed_from_u64(42),
         }
-    }
-
-    // Empty ones of this k, and the same keys again.
-    fn renew(&mut self, alloc: Global, k: usize)
-        requires { k ≤ 128 }
-    {
-        self.empty(alloc, k);
-        self.draws = Pcg32::seed_from_u64(42);
     }
 
     // Empty ones of this k. The keys go on.
@@ -134,15 +118,13 @@ fn print_timed<R: Print>(
 
 fn print_workload<R: Print + Clock + AllocGlobal>(
     rt: &R,
-    bench: &mut Bench,
     workload: Workload,
     items: usize,
     k: usize,
 ) -> io::Result<()>
     requires { k ≤ 128 }
 {
-    bench.renew(rt.alloc(), k);
-    let rounds = time_workload(rt, bench, workload, items)?;
+    let rounds = time_workload(rt, &mut Bench::new(rt.alloc(), k), workload, items)?;
     print_timed(rt, workload.name(), items, k, 2 * PAIRS, rounds)
 }
 
@@ -167,14 +149,12 @@ fn time_workload<R: Clock + AllocGlobal>(
 
 fn print_insertions<R: Print + Clock + AllocGlobal>(
     rt: &R,
-    bench: &mut Bench,
     items: usize,
     k: usize,
 ) -> io::Result<()>
     requires { k ≤ 128 }
 {
-    bench.renew(rt.alloc(), k);
-    let rounds = time_insertions(rt, bench, items, k)?;
+    let rounds = time_insertions(rt, &mut Bench::new(rt.alloc(), k), items, k)?;
     print_timed(rt, "insertions", items, k, items, rounds)
 }
 
@@ -198,11 +178,10 @@ fn time_insertions<R: Clock + AllocGlobal>(
 }
 
 // Prints what insertions into an own part cost that has room for them, and the deletions of its items.
-fn print_own<R: Print + Clock + AllocGlobal>(rt: &R, bench: &mut Bench, k: usize) -> io::Result<()>
+fn print_own<R: Print + Clock + AllocGlobal>(rt: &R, k: usize) -> io::Result<()>
     requires { k ≤ 128 }
 {
-    bench.renew(rt.alloc(), k);
-    let own = time_own(rt, bench, k)?;
+    let own = time_own(rt, &mut Bench::new(rt.alloc(), k), k)?;
     own.inserted
         .print(rt, "own-insertions", k, k, FILLINGS * k)?;
     own.deleted.print(rt, "own-deletions", k, k, FILLINGS * k)
