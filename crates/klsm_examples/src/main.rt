@@ -14,8 +14,10 @@ use std::sync::Wait;
 use std::thread::Threads;
 
 fn main(rt: HostRuntime) -> Status {
-    // Where a file cannot be read the line below is missing, and that is what the gate compares.
-    let _ = compare(&rt);
+    // The gate compares what is written here too, so what went wrong is told, and needs no status.
+    if let Err(error) = compare(&rt) {
+        let _ = println!(rt; "{error}");
+    }
     let progress = TerminalLine::new(&rt, rt.stderr().is_terminal());
     run_program(&rt, rt.reader(), &mut io::writer(&rt), &progress)
 }
