@@ -3,11 +3,11 @@
 use crate::contenders::{Contender, Heap};
 use crate::crew::{OnBoard, board_of_one};
 use crate::instances::{KINDS, Kind};
+use crate::pair::Pair;
 use crate::searches::search_all;
-use crate::trio::Trio;
 use crate::workloads::{WORKLOADS, Workload, fill};
 use klsm_instance::solve_in_turn;
-use klsm_parts::First;
+use klsm_parts::{First, Picker, random_of};
 use rand_core::SeedableRng;
 use rand_pcg::Pcg32;
 use std::alloc::{AllocError, Global};
@@ -19,9 +19,9 @@ use std::time::Clock;
 // How many things the instances have on which searches are compared.
 const THINGS: usize = 14;
 
-/// Prints, for each workload and several k, whether the queue with the least candidate gives what the heap gives, and whether
-/// the other one gives as many. Then it prints whether a board of one member gives what the heap gives, and whether all
-/// searches of an instance find what a search without a queue finds.
+/// Prints, for each workload and several k, whether the queue gives what the heap gives. Then it prints whether a board of one
+/// member gives that too, with each of two pickers, and whether all searches of an instance find what a search without a queue
+/// finds.
 pub(crate) fn print<R: Print + Clock + AllocGlobal + Threads + Wait + Sync>(
     rt: &R,
 ) -> io::Result<()> {
@@ -29,8 +29,7 @@ pub(crate) fn print<R: Print + Clock + AllocGlobal + Threads + Wait + Sync>(
         print_queues(rt, *workload)?;
     }
     for workload in WORKLOADS {
-        let agreement = board_agrees(rt, rt.alloc(), *workload, 64);
-        print_board(rt, *workload, agreement)?;
+        print_boards(rt, *workload)?;
     }
     for kind in KINDS {
         let agreement = searches_agree(rt, *kind)?;
@@ -41,16 +40,42 @@ pub(crate) fn print<R: Print + Clock + AllocGlobal + Threads + Wait + Sync>(
 
 fn print_queues<R: Print + AllocGlobal>(rt: &R, workload: Workload) -> io::Result<()> {
     for k in [8, 64, 128] {
-        let agreement = agree(rt.alloc(), workload, &mut Trio::new(rt.alloc(), k));
-        print_row(rt, workload, k, agreement)?;
+        let agreement = queue_agrees(rt.alloc(), workload, &mut Pair::new(rt.alloc(), k));
+        print_row(rt, workload, k, "the queue", agreement)?;
     }
     Ok(())
 }
 
-fn print_board<R: Print>(rt: &R, workload: Workload, agreement: Option<bool>) -> io::Result<()> {
-    print!(rt; "{} k 64: ", workload.name())?;
+// With one member each deletion is exact, whatever the picker.
+fn print_boards<R: Print + AllocGlobal + Wait>(rt: &R, workload: Workload) -> io::Result<()> {
+    let least = board_agrees(rt, rt.alloc(), workload, 64, First);
+    print_row(
+        rt,
+        workload,
+        64,
+        "a board of one member that picks the least candidate",
+        least,
+    )?;
+    let random = board_agrees(rt, rt.alloc(), workload, 64, random_of(1));
+    print_row(
+        rt,
+        workload,
+        64,
+        "a board of one member that picks at random",
+        random,
+    )
+}
+
+fn print_row<R: Print>(
+    rt: &R,
+    workload: Workload,
+    k: usize,
+    name: &str,
+    agreement: Option<bool>,
+) -> io::Result<()> {
+    print!(rt; "{} k {k}: ", workload.name())?;
     match agreement {
-        Some(in_order) => println!(rt; "a board of one member gives the heap's keys: {in_order}"),
+        Some(agrees) => println!(rt; "{name} gives the heap's keys: {agrees}"),
         None => println!(rt; "no memory"),
     }
 }
@@ -82,28 +107,6 @@ fn searches_agree<R: Clock + AllocGlobal + Threads + Wait + Sync>(
     Ok(Some(all_best))
 }
 
-// Whether the keys of one are those of the heap in their order, and the other gives as many.
-#[derive(Clone, Copy)]
-struct Agreement {
-    in_order: bool,
-    as_many: bool,
-}
-
-fn print_row<R: Print>(
-    rt: &R,
-    workload: Workload,
-    k: usize,
-    agreement: Option<Agreement>,
-) -> io::Result<()> {
-    print!(rt; "{} k {k}: ", workload.name())?;
-    match agreement {
-        Some(Agreement { in_order, as_many }) => println!(rt;
-            "first gives the heap's keys: {in_order}, random gives as many: {as_many}"
-        ),
-        None => println!(rt; "no memory"),
-    }
-}
-
 // The keys that are inserted at first, and those of the workload.
 #[derive(Drop)]
 struct Keys {
@@ -121,23 +124,24 @@ impl Keys {
     }
 }
 
-// Fills all three, and then takes everything out again.
-fn agree(alloc: Global, workload: Workload, trio: &mut Trio) -> Option<Agreement> {
+// Whether the keys of the queue are those of the heap in their order. Both are filled, and then everything is taken out again.
+fn queue_agrees(alloc: Global, workload: Workload, pair: &mut Pair) -> Option<bool> {
     let keys = Keys::new(alloc, workload).ok()?;
-    let heap = deleted_from(workload, &mut trio.heap, &keys)?;
-    let least = deleted_from(workload, &mut trio.first, &keys)?;
-    let random = deleted_from(workload, &mut trio.random, &keys)?;
-    Some(Agreement {
-        in_order: least == heap,
-        as_many: random.count == heap.count,
-    })
+    let exact = deleted_from(workload, &mut pair.heap, &keys)?;
+    Some(deleted_from(workload, &mut pair.queue, &keys)? == exact)
 }
 
 // Whether the keys of a board of one member are those of a heap in their order.
-fn board_agrees<R: Wait>(rt: &R, alloc: Global, workload: Workload, k: usize) -> Option<bool> {
+fn board_agrees<R: Wait, P: Picker + Drop>(
+    rt: &R,
+    alloc: Global,
+    workload: Workload,
+    k: usize,
+    picker: P,
+) -> Option<bool> {
     let keys = Keys::new(alloc, workload).ok()?;
     let exact = deleted_from(workload, &mut Heap::new(alloc), &keys)?;
-    Some(deleted_from_board(rt, alloc, workload, k, &keys)? == exact)
+    Some(deleted_from_board(rt, alloc, workload, k, picker, &keys)? == exact)
 }
 
 // What a contender gave: a sum that depends on the order of the keys, and how many keys came in all.
@@ -166,11 +170,12 @@ fn deleted_from<C: Contender>(
 }
 
 // The same of a board of one member.
-fn deleted_from_board<R: Wait>(
+fn deleted_from_board<R: Wait, P: Picker + Drop>(
     rt: &R,
     alloc: Global,
     workload: Workload,
     k: usize,
+    picker: P,
     keys: &Keys,
 ) -> Option<Deleted> {
     let Some((board, member)) = board_of_one(alloc, k) else {
@@ -180,7 +185,7 @@ fn deleted_from_board<R: Wait>(
         rt,
         board: &board,
         member,
-        picker: First,
+        picker,
     };
     deleted_from(workload, &mut on_board, keys)
 }

@@ -1,6 +1,6 @@
-//! What is measured: the queue for one thread, with any picker, and a binary heap of the same items.
+//! What is measured: the queue for one thread, and a binary heap of the same items.
 
-use klsm_parts::{Picker, Queue};
+use klsm_parts::Queue;
 use klsm_run::{Item, Stamp};
 use std::alloc::Global;
 use std::cmp::Reverse;
@@ -50,20 +50,13 @@ impl Contender for Heap {
     }
 }
 
-/// The queue for one thread, with a picker.
-#[derive(Drop)]
-pub(crate) struct WithPicker<P> {
-    pub(crate) queue: Queue<128, 21>,
-    pub(crate) picker: P,
-}
-
-impl<P: Picker> Contender for WithPicker<P> {
+impl Contender for Queue<128, 21> {
     fn insert(&mut self, key: u64, load: u64) -> Option<()> {
-        self.queue.insert(key, load).ok()?;
+        Queue::insert(self, key, load).ok()?;
         Some(())
     }
 
     fn delete(&mut self) -> Option<Item> {
-        self.queue.delete_min(&mut self.picker)
+        self.delete_min()
     }
 }

@@ -1,11 +1,11 @@
 //! Measures the queue for one thread, and the board, beside the kit's binary heap.
 //!
-//! With the word `times`, each workload is run on a heap, on a queue with the picker of the least candidate, and on one with
-//! a picker of random candidates, one after another in each of five rounds. It prints the medians, in tenths of nanoseconds
-//! an operation; so it does for insertions alone, and for own parts that are filled and emptied. With the word `threads` it
-//! does so for a heap behind a lock and a board, each used by one, two and four threads, and then for an own part with its
-//! lock and without. With the word `nodes` it searches instances of the knapsack problem, by one client over a heap, a heap
-//! behind a lock and a board, and by `solve`. Without words it makes small runs, and prints what does not depend on time.
+//! With the word `times`, each workload is run on a heap and on a queue for one thread, one after the other in each of five
+//! rounds. It prints the medians, in tenths of nanoseconds an operation; so it does for insertions alone, and for own parts
+//! that are filled and emptied. With the word `threads` it does so for a heap behind a lock and a board, each used by one, two
+//! and four threads, and then for an own part with its lock and without. With the word `nodes` it searches instances of the
+//! knapsack problem, by one client over a heap, a heap behind a lock and a board, and by `solve`. Without words it makes small
+//! runs, and prints what does not depend on time.
 #![tactic(auto)]
 
 mod agreement;
@@ -14,12 +14,12 @@ mod crew;
 mod instances;
 mod nodes;
 mod own;
+mod pair;
 mod rounds;
 mod searcher;
 mod searches;
 mod threads;
 mod times;
-mod trio;
 mod worker;
 mod workloads;
 

@@ -1,7 +1,7 @@
 //! What the locks of a board cost a member that meets no other.
 ghost use Rattle.std.specs.Prelude.{◌<◌, ◌≤◌};
 
-use crate::contenders::{Contender, WithPicker};
+use crate::contenders::Contender;
 use crate::crew::{OnBoard, board_of_one};
 use crate::rounds::{Calls, ROUNDS, per_operation, time_of};
 use crate::workloads::Workload;
@@ -70,10 +70,7 @@ fn time_beside_queue<B: Contender, R: Clock + AllocGlobal>(
 ) -> io::Result<Own>
     requires { k ≤ 128 }
 {
-    let mut queue = WithPicker {
-        queue: Queue::new(rt.alloc(), k),
-        picker: First,
-    };
+    let mut queue: Queue<128, 21> = Queue::new(rt.alloc(), k);
     time_rounds(rt, &mut queue, on_board, k)
 }
 

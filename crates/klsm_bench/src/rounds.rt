@@ -1,8 +1,8 @@
-//! How long sequences of calls take, for each of the three and in each round.
+//! How long sequences of calls take, on the heap and on the queue, in each round.
 ghost use Rattle.std.specs.Prelude.{◌<◌};
 
 use crate::contenders::Contender;
-use crate::trio::Trio;
+use crate::pair::Pair;
 use crate::workloads::{Workload, drain, fill};
 use std::io;
 use std::time::{Clock, Instant};
@@ -10,12 +10,11 @@ use std::time::{Clock, Instant};
 /// How often each is measured.
 pub(crate) const ROUNDS: usize = 5;
 
-/// Nanoseconds of each round, on the heap and on the queues with either picker.
+/// Nanoseconds of each round, on the heap and on the queue.
 #[derive(Clone, Copy)]
 pub(crate) struct Rounds {
     heap: [u128; ROUNDS],
-    first: [u128; ROUNDS],
-    random: [u128; ROUNDS],
+    queue: [u128; ROUNDS],
 }
 
 /// What is timed.
@@ -34,42 +33,33 @@ impl Rounds {
     pub(crate) fn new() -> Self {
         Rounds {
             heap: [0; ROUNDS],
-            first: [0; ROUNDS],
-            random: [0; ROUNDS],
+            queue: [0; ROUNDS],
         }
     }
 
-    /// Makes the calls on all three, one after another, and adds their times to those of a round. `None` where one of them
-    /// had no room.
+    /// Makes the calls on both, one after the other, and adds their times to those of a round. `None` where one of them had no
+    /// room.
     pub(crate) fn add<R: Clock>(
         &mut self,
         rt: &R,
         round: usize,
-        trio: &mut Trio,
+        pair: &mut Pair,
         calls: Calls,
     ) -> io::Result<Option<()>>
         requires { round < 5 }
     {
-        let heap = time_of(rt, &mut trio.heap, calls)?;
-        let first = time_of(rt, &mut trio.first, calls)?;
-        let random = time_of(rt, &mut trio.random, calls)?;
-        Ok(self.add_times(round, heap, first, random))
+        let heap = time_of(rt, &mut pair.heap, calls)?;
+        let queue = time_of(rt, &mut pair.queue, calls)?;
+        Ok(self.add_times(round, heap, queue))
     }
 
-    // Adds times to those of a round, where there are all three.
-    fn add_times(
-        &mut self,
-        round: usize,
-        heap: Option<u128>,
-        first: Option<u128>,
-        random: Option<u128>,
-    ) -> Option<()>
+    // Adds times to those of a round, where there are both.
+    fn add_times(&mut self, round: usize, heap: Option<u128>, queue: Option<u128>) -> Option<()>
         requires { round < 5 }
     {
-        let (heap, first, random) = (heap?, first?, random?);
+        let (heap, queue) = (heap?, queue?);
         self.heap[round] = self.heap[round].saturating_add(heap);
-        self.first[round] = self.first[round].saturating_add(first);
-        self.random[round] = self.random[round].saturating_add(random);
+        self.queue[round] = self.queue[round].saturating_add(queue);
         Some(())
     }
 
@@ -83,10 +73,9 @@ impl Rounds {
         operations: usize,
     ) -> io::Result<()> {
         println!(rt;
-            "{name} {items} {k} {} {} {}",
+            "{name} {items} {k} {} {}",
             per_operation(self.heap, operations),
-            per_operation(self.first, operations),
-            per_operation(self.random, operations)
+            per_operation(self.queue, operations)
         )
     }
 }

@@ -1,8 +1,8 @@
 //! The run that measures.
 ghost use Rattle.std.specs.Prelude.{◌≤◌, ◌<◌};
 
+use crate::pair::Pair;
 use crate::rounds::{Calls, ROUNDS, Rounds};
-use crate::trio::Trio;
 use crate::workloads::{WORKLOADS, Workload};
 use rand_core::SeedableRng;
 use rand_pcg::Pcg32;
@@ -20,7 +20,7 @@ const FILLINGS: usize = 500;
 /// emptied.
 pub(crate) fn print<R: Print + Clock + AllocGlobal>(rt: &R) -> io::Result<()> {
     println!(rt; "medians of five, in tenths of nanoseconds an operation:")?;
-    println!(rt; "workload items k heap first random")?;
+    println!(rt; "workload items k heap queue")?;
     for items in [1_000, 100_000, 1_000_000] {
         print_workloads(rt, items)?;
     }
@@ -42,10 +42,10 @@ fn print_workloads<R: Print + Clock + AllocGlobal>(rt: &R, items: usize) -> io::
     Ok(())
 }
 
-// The three that are measured, and the generator of their keys.
+// The two that are measured, and the generator of their keys.
 #[derive(Drop)]
 struct Bench {
-    trio: Trio,
+    pair: Pair,
     draws: Pcg32,
 }
 
@@ -55,7 +55,7 @@ impl Bench {
         requires { k ≤ 128 }
     {
         Bench {
-            trio: Trio::new(alloc, k),
+            pair: Pair::new(alloc, k),
             draws: Pcg32::seed_from_u64(42),
         }
     }
@@ -64,7 +64,7 @@ impl Bench {
     fn empty(&mut self, alloc: Global, k: usize)
         requires { k ≤ 128 }
     {
-        self.trio = Trio::new(alloc, k);
+        self.pair = Pair::new(alloc, k);
     }
 
     // Adds to a round the times of the insertions of so many keys. Whether there was room for all.
@@ -79,7 +79,7 @@ impl Bench {
         requires { round < 5 }
     {
         let keys = workload.keys(rt.alloc(), &mut self.draws, 0, items)?;
-        let answer = rounds.add(rt, round, &mut self.trio, Calls::Fill(keys.as_slice()))?;
+        let answer = rounds.add(rt, round, &mut self.pair, Calls::Fill(keys.as_slice()))?;
         Ok(answer.is_some())
     }
 
@@ -96,12 +96,12 @@ impl Bench {
     {
         let keys = workload.keys(rt.alloc(), &mut self.draws, before, PAIRS)?;
         let calls = Calls::Run(workload, keys.as_slice());
-        let answer = rounds.add(rt, round, &mut self.trio, calls)?;
+        let answer = rounds.add(rt, round, &mut self.pair, calls)?;
         Ok(answer.is_some())
     }
 }
 
-// Prints the medians, or that one of the three had no room.
+// Prints the medians, or that one of the two had no room.
 fn print_timed<R: Print>(
     rt: &R,
     name: &str,
@@ -128,7 +128,7 @@ fn print_workload<R: Print + Clock + AllocGlobal>(
     print_timed(rt, workload.name(), items, k, 2 * PAIRS, rounds)
 }
 
-// Fills all three, and measures a workload on them. `None` where one of them had no room.
+// Fills both, and measures a workload on them. `None` where one of them had no room.
 fn time_workload<R: Clock + AllocGlobal>(
     rt: &R,
     bench: &mut Bench,
@@ -201,7 +201,7 @@ fn time_own<R: Clock + AllocGlobal>(rt: &R, bench: &mut Bench, k: usize) -> io::
     for round in 0..ROUNDS {
         for _ in 0..FILLINGS {
             bench.time_fill(rt, &mut inserted, round, Workload::Uniform, k)?;
-            deleted.add(rt, round, &mut bench.trio, Calls::Drain(k))?;
+            deleted.add(rt, round, &mut bench.pair, Calls::Drain(k))?;
         }
     }
     Ok(Own { inserted, deleted })

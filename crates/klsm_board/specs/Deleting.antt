@@ -1,16 +1,16 @@
 -- What a deletion adds to its member's list.
-use Rattle.std.specs.Prelude.{◌≡◌, ℕ, zero, suc, ◌+◌, ◌-◌, ◌<◌, ◌⊎◌, if◌then◌else◌, ltb, List, [], ◌∷◌, ◌++◌}
+use Rattle.std.specs.Prelude.{◌≡◌, ℕ, zero, suc, ◌+◌, ◌-◌, ◌<◌, ◌⊎◌, if◌then◌else◌, ltb, List, [], ◌∷◌, ◌++◌, Option, MatchOption, IsSomeAnd}
 use Rattle.klsm_run.specs.declared.item.Item.{Item}
 use Rattle.klsm_parts.specs.Least.{IsLeast}
-use Rattle.klsm_parts.specs.Events.{MayTake, MaySpy}
-use Rattle.klsm_world.specs.declared.step.Event.TheVariants.{Take, Nothing, Spy}
+use Rattle.klsm_parts.specs.Events.{MayTake, MayTakeEarly, MaySpy}
+use Rattle.klsm_world.specs.declared.step.Event.TheVariants.{Take, Early, Nothing, Spy}
 use Rattle.klsm_world.specs.declared.step.Entry.{Entry}
 use Rattle.klsm_world.specs.declared.step.Entry.TheVariants.{Acquired, Committed, Released, Missed}
 use Rattle.klsm_world.specs.OwnSteps.{own_part}
-use Rattle.klsm_world.specs.OwnListLaws.{SkipsFew, LeavesFew}
+use Rattle.klsm_world.specs.OwnListLaws.{SkipsFew, SkipsFewBy, KeepsOwnOrder, KeepsOwnOrderBy, LeavesFew}
 use Rattle.klsm_board.specs.declared.sizes.Sizes.{Sizes}
 use Rattle.klsm_board.specs.Rule.{limits_of}
-use Rattle.klsm_board.specs.Entries.{both_released}
+use Rattle.klsm_board.specs.Entries.{own_taken, both_taken, both_released}
 use Rattle.klsm_board.specs.declared.errors.Busy.{Busy}
 use Rattle.klsm_board.specs.Inserting.{MissesOwn, MissesShared}
 use Rattle.klsm_board.specs.Choosing.{Chooses}
@@ -46,14 +46,26 @@ pub record SpiesAfter (threads t : ℕ) (es es' : List Entry) (moved : List Item
   pub spies : Spies (victim_of threads t (suc passed)) (es ++ added) es' moved
 
 -- From the list `taken`, with both parts in hand: the item was taken out of one of them. It skips at
--- most T·k items.
+-- most T·k items, and none of the two parts that the thread inserted.
 pub record TakesOut (m : Sizes) (t : ℕ) (own shared : List Item) (taken es' : List Entry) (x : Item) : Type 0 where
-  pub may : MayTake m.k own shared x
+  pub may : MayTake m.k t own shared x
   pub skips : SkipsFew (limits_of m) t taken x
+  pub keeps : KeepsOwnOrder (limits_of m) t taken x
   pub steps : es' ≡ taken ++ Committed (Take x) ∷ both_released t
 
+-- From the list `taken`, with the own part in hand: the least own item was deleted, as its key is
+-- below the front that was read. In the worlds of that front it skips at most (T-1)·k items, and none
+-- of the two parts that the thread inserted.
+pub record TakesEarly (m : Sizes) (t : ℕ) (own : List Item) (taken es' : List Entry) (x : Item) : Type 0 where
+  pub front : ℕ
+  pub may : MayTakeEarly own x front
+  pub skips : SkipsFewBy front (limits_of m) t taken x
+  pub keeps : KeepsOwnOrderBy front (limits_of m) t taken x
+  pub steps : es' ≡ taken ++ Committed (Early x front) ∷ Released (own_part t) ∷ []
+
 -- Both parts were found empty. Some victims were passed by, items moved from the next one's part,
--- and the least of them was taken. It skips at most T·k items.
+-- and the least of them was taken. It skips at most T·k items, and none of the two parts that the
+-- thread inserted.
 pub record TakesSpied (m : Sizes) (t : ℕ) (own shared : List Item) (taken es' : List Entry) (x : Item) : Type 0 where
   pub own_empty : own ≡ []
   pub shared_empty : shared ≡ []
@@ -62,6 +74,7 @@ pub record TakesSpied (m : Sizes) (t : ℕ) (own shared : List Item) (taken es' 
   pub spied : List Entry
   pub spies : SpiesAfter m.threads t taken spied moved
   pub skips : SkipsFew (limits_of m) t spied x
+  pub keeps : KeepsOwnOrder (limits_of m) t spied x
   pub steps : es' ≡ spied ++ Committed (Take x) ∷ both_released t
 
 -- Both parts were found empty, and all victims were passed by. At most (T-1)·k items live.
@@ -77,8 +90,20 @@ pub record FindsNothing (m : Sizes) (t : ℕ) (own shared : List Item) (taken es
 -- to `after`.
 abbrev pub Deletes : {P : Type 0} → (P → ℕ → ℕ → P → Type 0) → P → P → Sizes → ℕ → List Item → List Item → List Entry → List Entry → Item → Type 0
 Deletes may_pick before after m t own shared taken es' x =
-    (TakesOut m t own shared taken es' x × Chooses may_pick before after m.k own shared x)
+    (TakesOut m t own shared taken es' x × Chooses may_pick before after m.k t own shared x)
     ⊎ (TakesSpied m t own shared taken es' x × (after ≡ before))
+
+-- A deletion answered, after these tries in vain of its locks. It deleted the least own item by
+-- the front, with the own part in hand alone, and did not ask the picker. Or it took both parts.
+abbrev pub AnswersDeletion : {P : Type 0} → (P → ℕ → ℕ → P → Type 0) → P → P → Sizes → ℕ → List ℕ → List ℕ → List Entry → List Entry → Option Item → Type 0
+AnswersDeletion may_pick before after m t own_misses shared_misses es es' answer = (own : List Item)
+    × ((IsSomeAnd answer (λ x. TakesEarly m t own (own_taken t own_misses own es) es' x)
+    × (after ≡ before))
+    ⊎ ((shared : List Item) × MatchOption answer
+    (FindsNothing m t own shared (both_taken t own_misses shared_misses own shared es) es'
+    × (after ≡ before))
+    (Deletes may_pick before after m t own shared
+    (both_taken t own_misses shared_misses own shared es) es')))
 
 -- A lock was not free: the own one, or the shared one, and then the own part was given back.
 abbrev pub MissesDeletion : ℕ → List Entry → List Entry → Busy → Type 0

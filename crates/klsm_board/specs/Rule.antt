@@ -1,6 +1,6 @@
 -- The rule of the board's table: its words, what is at home in its slots, and what its seats know
 -- are a world to which some schedule of legal steps leads.
-use Rattle.std.specs.Prelude.{◌≡◌, ℕ, zero, suc, ◌+◌, ◌*◌, ◌<◌, ◌≤◌, ◌==◌, if◌then◌else◌, length, slice_index, List, [], ◌∷◌, map, Some, None, Option}
+use Rattle.std.specs.Prelude.{◌≡◌, ◌≢◌, ℕ, zero, suc, ◌+◌, ◌*◌, ◌<◌, ◌≤◌, ◌==◌, if◌then◌else◌, length, slice_index, List, [], ◌∷◌, map, Some, None, Option}
 use mathlib.Core.Option.{none, some}
 use mathlib.Core.Option.{Option as Maybe}
 use lib.ListN.{get_elem?}
@@ -28,7 +28,7 @@ view os = record { lists = os }
 abbrev pub limits_of : Sizes → Limits
 limits_of m = record { threads = m.threads; k = m.k }
 
--- the word of the table that is the lock of a part
+-- the word of the table that is the lock of a part; behind them comes the front word
 abbrev pub place : ℕ → ℕ
 place p = p * 16
 
@@ -37,9 +37,13 @@ abbrev pub locks_from : ℕ → ℕ → List ℕ → List ℕ
 locks_from p zero ws = []
 locks_from p (suc n) ws = slice_index ws (place p) ∷ locks_from (suc p) n ws
 
--- the words of the world, out of the words of the table
+-- the lock words of the world, out of the words of the table
 abbrev pub lock_words : Sizes → List ℕ → List ℕ
 lock_words m ws = locks_from 0 (m.threads + 1) ws
+
+-- the front word, which comes behind them
+abbrev pub front_word : Sizes → List ℕ → ℕ
+front_word m ws = slice_index ws (place (m.threads + 1))
 
 -- empty lists for n threads from t on
 abbrev pub fresh : ℕ → ℕ → List Own
@@ -65,16 +69,18 @@ module _ {S : Type 0} (content : S → List Item) where
   content_at none = None
   content_at (some y) = Some (content y)
 
-  -- a world, out of its words, the slots and the lists
-  abbrev pub world_of : List ℕ → List (Maybe S) → List (List Entry) → World
-  world_of ws os ls = record { words = ws; homes = map content_at os; lists = ls }
+  -- a world, out of its lock words, its front word, the slots and the lists
+  abbrev pub world_of : List ℕ → ℕ → List (Maybe S) → List (List Entry) → World
+  world_of ws front os ls = record { words = ws; front = front; homes = map content_at os; lists = ls }
 
 pub record Ruled {S : Type 0} (content : S → List Item) (suits : ℕ → ℕ → S → Type 0) (m : Sizes) (s : State S View) : Type 0 where
   pub lists : List (List Entry)
   pub schedule : List WorldStep
-  pub wide : length s.words ≡ place (m.threads + 1)
+  pub wide : length s.words ≡ place (m.threads + 2)
+  -- a word that is no lock and not the front stays 0
+  pub between : (i : ℕ) → ((p : ℕ) → i ≢ place p) → slice_index s.words i ≡ 0
   -- the schedule leads to this world
-  pub leads : Leads (limits_of m) schedule (world_of content (lock_words m s.words) s.homes lists)
+  pub leads : Leads (limits_of m) schedule (world_of content (lock_words m s.words) (front_word m s.words) s.homes lists)
   -- the views have the world's lists, and together each of them once
   pub dealt : (j : ℕ) (v : View) → get_elem? s.views j ≡ some v
       → (i : ℕ) (o : Own) → get_elem? v.lists i ≡ some o
@@ -96,6 +102,6 @@ pub record IsReached (m : Sizes) (t : ℕ) (es : List Entry) : Type 0 where
   pub list_is : steps_of world t ≡ es
   pub thread : t < m.threads
 
--- a lock, in its place, and a slot for each part
+-- a lock, in its place, and a slot for each part, and the front word
 abbrev pub IsSized : TableId → Sizes → Type 0
-IsSized z m = (z.words ≡ place (m.threads + 1)) × (z.slots ≡ m.threads + 1) × (m.threads ≤ 16)
+IsSized z m = (z.words ≡ place (m.threads + 2)) × (z.slots ≡ m.threads + 1) × (m.threads ≤ 16)

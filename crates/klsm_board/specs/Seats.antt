@@ -1,11 +1,13 @@
 -- What a member's seat has between two of its steps.
-use Rattle.std.specs.Prelude.{◌≡◌, ℕ, ◌<◌, ⊤, List, [], ◌∷◌, length}
+use Rattle.std.specs.Prelude.{◌≡◌, ◌≢◌, ℕ, ◌<◌, ⊤, List, [], ◌∷◌, length}
 use Rattle.atomic_table.specs.Table.{Me}
 use Rattle.atomic_table.specs.Seated.{TableId}
 use Rattle.klsm_run.specs.declared.item.Item.{Item}
+use Rattle.klsm_parts.specs.Events.{front_of}
 use Rattle.klsm_world.specs.declared.step.Event.{Event}
+use Rattle.klsm_world.specs.declared.step.Event.TheVariants.{Put, Flush, Take, Early, Nothing, Spy}
 use Rattle.klsm_world.specs.declared.step.Entry.{Entry}
-use Rattle.klsm_world.specs.OwnSteps.{Hand, own_part, shared_part, hand_of, after_event, inserted, inserted_by}
+use Rattle.klsm_world.specs.OwnSteps.{Hand, own_part, shared_part, content_in, hand_of, after_event, inserted, inserted_by}
 use Rattle.klsm_world.specs.LegalSteps.{MayCommit}
 use Rattle.klsm_board.specs.declared.sizes.Sizes.{Sizes}
 use Rattle.klsm_board.specs.declared.rule.View.{View}
@@ -70,6 +72,30 @@ module _ {S : Type 0} (content : S → List Item) (suits : ℕ → ℕ → S →
     pub content_is : content slot ≡ own
     pub suits_there : suits m.k (own_part t) slot
     pub vacant_is : is_vacant vacant
+
+-- an event that a release commits: it leaves the shared part as it is, and so the front, and names no
+-- front. A Take does where its item is an own one
+abbrev pub LeavesShared : ℕ → Hand → Event → Type 0
+LeavesShared t hand (Put x) = ⊤
+LeavesShared t hand (Flush x moved) = ⊥
+LeavesShared t hand (Take x) =
+    content_in (after_event t hand (Take x)) shared_part ≡ content_in hand shared_part
+LeavesShared t hand (Early x front) = ⊥
+LeavesShared t hand Nothing = ⊤
+LeavesShared t hand (Spy victim moved) = ⊤
+
+-- an event that a store of the front commits, and the front that it leaves: a Flush, and a Take of a
+-- shared item
+abbrev pub SetsFront : ℕ → Hand → Event → ℕ → Type 0
+SetsFront t hand (Put x) front = ⊥
+SetsFront t hand (Flush x moved) front =
+    front ≡ front_of (content_in (after_event t hand (Flush x moved)) shared_part)
+SetsFront t hand (Take x) front =
+    (content_in (after_event t hand (Take x)) shared_part ≢ content_in hand shared_part)
+    × (front ≡ front_of (content_in (after_event t hand (Take x)) shared_part))
+SetsFront t hand (Early x least) front = ⊥
+SetsFront t hand Nothing front = ⊥
+SetsFront t hand (Spy victim moved) front = ⊥
 
 -- where an event inserts an item, the quota has room for it
 abbrev pub HasRoom : ℕ → List Entry → Event → Type 0

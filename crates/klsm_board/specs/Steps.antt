@@ -1,8 +1,9 @@
--- What each step on a lock tells.
-use Rattle.std.specs.Prelude.{◌≡◌, ℕ, ◌-◌, ◌≤◌, ◌==◌, List, [], ◌∷◌, ◌++◌, MatchBool}
+-- What each step on a lock or on the front tells.
+use Rattle.std.specs.Prelude.{◌≡◌, ℕ, ◌-◌, ◌≤◌, ◌==◌, ltb, List, [], ◌∷◌, ◌++◌, MatchBool}
 use Rattle.atomic_table.specs.Table.{Me, Step, step, rest}
 use Rattle.klsm_run.specs.declared.item.Item.{Item}
 use Rattle.klsm_world.specs.declared.step.Event.{Event}
+use Rattle.klsm_world.specs.declared.step.Event.TheVariants.{Early}
 use Rattle.klsm_world.specs.declared.step.Entry.{Entry}
 use Rattle.klsm_world.specs.declared.step.Entry.TheVariants.{Acquired, Committed, Released, Missed}
 use Rattle.klsm_board.specs.declared.sizes.Sizes.{Sizes}
@@ -59,6 +60,17 @@ module _ {S : Type 0} where
   committed fits m t st me n me' = (e : Event) × fits e
       × (me' ≡ (gain (gain me.0 (Committed e)) (Released st.word), rest me.1))
       × is_reached m t me'
+
+  -- some event that fits was committed by a store of the front
+  abbrev pub set_front : (Event → Type 0) → Sizes → ℕ → Step S → Me S View → ℕ → Me S View → Type 0
+  set_front fits m t st me n me' = (e : Event) × fits e × (me' ≡ (gain me.0 (Committed e), me.1)) × is_reached m t me'
+
+  -- the front was loaded: an item whose key is below it was deleted by it
+  abbrev pub looked : Item → Sizes → ℕ → Step S → Me S View → ℕ → Me S View → Type 0
+  looked x m t st me n me' =
+      MatchBool (ltb x.key n)
+      ((me' ≡ (gain me.0 (Committed (Early x n)), me.1)) × is_reached m t me')
+      (me' ≡ me)
 
 -- the first list, and the others
 abbrev pub others : List Own → List Own

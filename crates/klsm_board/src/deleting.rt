@@ -1,31 +1,34 @@
-//! Deletion. It takes effect where the shared lock is given back.
-ghost use Rattle.std.specs.Prelude.{◌≡◌, ◌≤◌, ◌++◌, ℕ, List, [], ◌∷◌, IfOk, IfErr, MatchOption};
+//! Deletion. It takes effect where the front is looked at, where it is set, or where the shared lock is
+//! given back.
+ghost use Rattle.std.specs.Prelude.{◌≡◌, ◌≢◌, ◌≤◌, ◌++◌, ℕ, List, [], ◌∷◌, length, IfOk, IfErr, MatchOption};
 ghost use Rattle.klsm_run.specs.declared.item.Item.{Item};
 ghost use Rattle.klsm_run.specs.Content.{ShareNone};
-ghost use Rattle.klsm_parts.specs.Events.{MayTake, MayFindNothing, own_after_take, shared_after_take};
+ghost use Rattle.klsm_parts.specs.Events.{MayTake, MayFindNothing, own_after_take, shared_after_take, front_of};
 ghost use Rattle.klsm_world.specs.declared.step.Event.TheVariants.{Take};
 ghost use Rattle.klsm_world.specs.declared.step.Entry.TheVariants.{Committed};
-ghost use Rattle.klsm_world.specs.OwnListLaws.{SkipsFew};
+ghost use Rattle.klsm_world.specs.OwnSteps.{shared_part, hand_of};
+ghost use Rattle.klsm_world.specs.OwnListLaws.{SkipsFew, KeepsOwnOrder};
 ghost use Rattle.klsm_board.specs.Rule.{limits_of};
 ghost use Rattle.klsm_board.specs.Steps.{mine};
-ghost use Rattle.klsm_board.specs.Seats.{Carries, Stands, Has, CarriedOut, HasRoom, IsSeatOf, both_in_hand};
-ghost use Rattle.klsm_board.specs.Entries.{both_taken, both_released};
+ghost use Rattle.klsm_board.specs.Seats.{Carries, Stands, Has, CarriedOut, HasRoom, LeavesShared, SetsFront, IsSeatOf, both_in_hand};
+ghost use Rattle.klsm_board.specs.Entries.{both_released};
 ghost use Rattle.klsm_board.specs.Choosing.{Chooses};
-ghost use Rattle.klsm_board.specs.Deleting.{Deletes, FindsNothing, MissesDeletion};
+ghost use Rattle.klsm_board.specs.Deleting.{AnswersDeletion, Deletes, FindsNothing, MissesDeletion};
 
+use crate::early::delete_early;
 use crate::errors::Busy;
 use crate::lending::{lend_shared, return_shared};
 use crate::rule::{Locks, MemberSeat};
 use crate::slot::PartSlot;
 use crate::spying::search_victims;
-use crate::steps::{commit_event, give_part};
+use crate::steps::{commit_by_front, commit_event, give_part};
 use crate::taking::{take_in_time, take_now};
 use klsm_parts::Picker;
 use klsm_run::Item;
 use klsm_world::Event;
 use std::sync::Wait;
 
-/// Deletes an item, if its two locks are free.
+/// Deletes an item, if the locks that it needs are free.
 pub(crate) fn delete_now<S: PartSlot, P: Picker>(
     table: &Locks<S>,
     seat: &mut MemberSeat<S>,
@@ -39,17 +42,15 @@ pub(crate) fn delete_now<S: PartSlot, P: Picker>(
     requires stands { Stands S.content S.suits table.now.key thread [] seat.old.me }
     ensures same { seat.new.table_id ≡ seat.old.table_id }
     ensures has { Has S.content S.suits table.now.key thread [] seat.new.me }
-    ensures ok { IfOk result (λ answer. (own : List Item) × (shared : List Item)
-        × MatchOption answer
-        (FindsNothing table.now.key thread own shared
-        (both_taken thread [] [] own shared (mine seat.old.me.0)) (mine seat.new.me.0)
-        × (picker.new ≡ picker.old))
-        (Deletes P.may_pick picker.old picker.new table.now.key thread own shared
-        (both_taken thread [] [] own shared (mine seat.old.me.0)) (mine seat.new.me.0))) }
+    ensures ok { IfOk result (λ answer. AnswersDeletion P.may_pick picker.old picker.new
+        table.now.key thread [] [] (mine seat.old.me.0) (mine seat.new.me.0) answer) }
     ensures busy { IfErr result (λ busy. (picker.new ≡ picker.old)
         × MissesDeletion thread (mine seat.old.me.0) (mine seat.new.me.0) busy) }
 {
     take_now(table, seat, thread + 1, thread)?;
+    if let Some(item) = delete_early(table, seat, thread, threads) {
+        return Ok(Some(item));
+    }
     if let Err(busy) = take_now(table, seat, 0, thread) {
         give_part(table, seat, thread + 1, thread);
         return Err(busy);
@@ -57,7 +58,7 @@ pub(crate) fn delete_now<S: PartSlot, P: Picker>(
     Ok(delete_taken(table, seat, thread, threads, picker))
 }
 
-/// Deletes an item, and waits for its two locks.
+/// Deletes an item, and waits for the locks that it needs.
 pub(crate) fn delete_in_time<S: PartSlot, P: Picker>(
     rt: &impl Wait,
     table: &Locks<S>,
@@ -73,17 +74,13 @@ pub(crate) fn delete_in_time<S: PartSlot, P: Picker>(
     ensures same { seat.new.table_id ≡ seat.old.table_id }
     ensures has { Has S.content S.suits table.now.key thread [] seat.new.me }
     ensures ok { (own_misses : List ℕ) × (shared_misses : List ℕ)
-        × (own : List Item) × (shared : List Item)
-        × MatchOption result
-        (FindsNothing table.now.key thread own shared
-        (both_taken thread own_misses shared_misses own shared (mine seat.old.me.0))
-        (mine seat.new.me.0)
-        × (picker.new ≡ picker.old))
-        (Deletes P.may_pick picker.old picker.new table.now.key thread own shared
-        (both_taken thread own_misses shared_misses own shared (mine seat.old.me.0))
-        (mine seat.new.me.0)) }
+        × AnswersDeletion P.may_pick picker.old picker.new table.now.key thread own_misses
+        shared_misses (mine seat.old.me.0) (mine seat.new.me.0) result }
 {
     take_in_time(rt, table, seat, thread + 1, thread);
+    if let Some(item) = delete_early(table, seat, thread, threads) {
+        return Some(item);
+    }
     take_in_time(rt, table, seat, 0, thread);
     delete_taken(table, seat, thread, threads, picker)
 }
@@ -112,11 +109,11 @@ fn delete_taken<S: PartSlot, P: Picker>(
         (Deletes P.may_pick picker.old picker.new table.now.key thread own shared
         (mine seat.old.me.0) (mine seat.new.me.0)) }
 {
-    if let Some(item) = take_both_out(table, seat, thread, picker) {
+    if let Some(item) = take_both_out(table, seat, thread, threads, picker) {
         return Some(item);
     }
     if search_victims(table, seat, thread, threads) {
-        return take_both_out(table, seat, thread, picker);
+        return take_both_out(table, seat, thread, threads, picker);
     }
     give_committed(table, seat, thread, &Event::Nothing);
     None
@@ -128,10 +125,12 @@ fn take_both_out<S: PartSlot, P: Picker>(
     table: &Locks<S>,
     seat: &mut MemberSeat<S>,
     thread: usize,
+    threads: usize,
     picker: &mut P,
 ) -> Option<Item>
     requires sized { S.is_sized }
     requires seat { IsSeatOf seat.old.table_id table.now.table_id table.now.key thread }
+    requires threads { threads ≡ table.now.key.threads }
     requires has { (own : List Item) × (shared : List Item)
         × Has S.content S.suits table.now.key thread (both_in_hand thread own shared) seat.old.me }
     ensures same { seat.new.table_id ≡ seat.old.table_id }
@@ -142,19 +141,50 @@ fn take_both_out<S: PartSlot, P: Picker>(
         × Has S.content S.suits table.now.key thread (both_in_hand thread own shared) seat.new.me
         × (mine seat.new.me.0 ≡ mine seat.old.me.0) × (picker.new ≡ picker.old))
         (λ item. Has S.content S.suits table.now.key thread [] seat.new.me
-        × MayTake table.now.key.k own shared item
-        × Chooses P.may_pick picker.old picker.new table.now.key.k own shared item
+        × MayTake table.now.key.k thread own shared item
+        × Chooses P.may_pick picker.old picker.new table.now.key.k thread own shared item
         × SkipsFew (limits_of table.now.key) thread (mine seat.old.me.0) item
+        × KeepsOwnOrder (limits_of table.now.key) thread (mine seat.old.me.0) item
         × (mine seat.new.me.0
         ≡ mine seat.old.me.0 ++ Committed (Take item) ∷ both_released thread)) }
 {
-    let item = take_out(table, seat, thread, picker)?;
-    give_committed(table, seat, thread, &Event::Take(item));
+    let (item, front) = take_out(table, seat, thread, picker)?;
+    match front {
+        Some(front) => give_by_front(table, seat, threads, thread, front, &Event::Take(item)),
+        None => give_committed(table, seat, thread, &Event::Take(item)),
+    }
     Some(item)
 }
 
-// Commits an event that inserts nothing and was carried out in the two parts in hand, and gives them
+// Commits an event that was carried out in the two parts in hand by setting the front, and gives them
 // back.
+fn give_by_front<S: PartSlot>(
+    table: &Locks<S>,
+    seat: &mut MemberSeat<S>,
+    threads: usize,
+    thread: usize,
+    front: u64,
+    event: &Event,
+)
+    requires seat { IsSeatOf seat.old.table_id table.now.table_id table.now.key thread }
+    requires threads { threads ≡ table.now.key.threads }
+    requires room { HasRoom table.now.key.quota (mine seat.old.me.0) event.now }
+    requires sets { SetsFront thread (hand_of thread (mine seat.old.me.0)) event.now front }
+    requires out { (own : List Item) × (shared : List Item)
+        × CarriedOut S.content S.suits table.now.key thread event.now
+        (both_in_hand thread own shared) seat.old.me }
+    ensures same { seat.new.table_id ≡ seat.old.table_id }
+    ensures has { Has S.content S.suits table.now.key thread [] seat.new.me }
+    ensures list { mine seat.new.me.0
+        ≡ mine seat.old.me.0 ++ Committed event.now ∷ both_released thread }
+{
+    commit_by_front(table, seat, threads, thread, front, event);
+    give_part(table, seat, 0, thread);
+    give_part(table, seat, thread + 1, thread);
+}
+
+// Commits an event that inserts nothing, leaves the shared part and was carried out in the two parts in
+// hand, and gives them back.
 fn give_committed<S: PartSlot>(
     table: &Locks<S>,
     seat: &mut MemberSeat<S>,
@@ -163,6 +193,7 @@ fn give_committed<S: PartSlot>(
 )
     requires seat { IsSeatOf seat.old.table_id table.now.table_id table.now.key thread }
     requires room { HasRoom table.now.key.quota (mine seat.old.me.0) event.now }
+    requires leaves { LeavesShared thread (hand_of thread (mine seat.old.me.0)) event.now }
     requires out { (own : List Item) × (shared : List Item)
         × CarriedOut S.content S.suits table.now.key thread event.now
         (both_in_hand thread own shared) seat.old.me }
@@ -175,13 +206,14 @@ fn give_committed<S: PartSlot>(
     give_part(table, seat, thread + 1, thread);
 }
 
-// Takes an item out of the two parts that the seat carries.
+// Takes an item out of the two parts that the seat carries, and answers it with the front of what the
+// shared part then has, where it is from there.
 fn take_out<S: PartSlot, P: Picker>(
     table: &Locks<S>,
     seat: &mut MemberSeat<S>,
     thread: usize,
     picker: &mut P,
-) -> Option<Item>
+) -> Option<(Item, Option<u64>)>
     requires sized { S.is_sized }
     requires seat { IsSeatOf seat.old.table_id table.now.table_id table.now.key thread }
     requires carries { (own : List Item) × (shared : List Item)
@@ -198,13 +230,32 @@ fn take_out<S: PartSlot, P: Picker>(
         × Carries S.content S.suits table.now.key thread (both_in_hand thread own shared)
         seat.new.me
         × (picker.new ≡ picker.old))
-        (λ item. MayTake table.now.key.k own shared item
+        (λ taken. MayTake table.now.key.k thread own shared taken.0
         × Carries S.content S.suits table.now.key thread (both_in_hand thread
-        (own_after_take own item) (shared_after_take own shared item)) seat.new.me
-        × Chooses P.may_pick picker.old picker.new table.now.key.k own shared item) }
+        (own_after_take own taken.0) (shared_after_take own shared taken.0)) seat.new.me
+        × Chooses P.may_pick picker.old picker.new table.now.key.k thread own shared taken.0
+        × MatchOption taken.1 (shared_after_take own shared taken.0 ≡ shared)
+        (λ front. (shared_after_take own shared taken.0 ≢ shared)
+        × (front ≡ front_of (shared_after_take own shared taken.0)))) }
 {
     let mut shared = lend_shared(table, seat, thread);
-    let answer = seat.slot_mut(table, thread + 1).take(&mut shared, picker);
+    let count = shared.len();
+    let answer = seat
+        .slot_mut(table, thread + 1)
+        .take(thread as u32, &mut shared, picker);
+    let front = front_if_changed(&shared, count);
     return_shared(table, seat, thread, shared);
-    answer
+    Some((answer?, front))
+}
+
+// The front of a shared part which has no longer so many items.
+fn front_if_changed<S: PartSlot>(shared: &S, count: usize) -> Option<u64>
+    requires { (k : ℕ) × S.suits k shared_part shared.now }
+    ensures { MatchOption result (length (S.content shared.now) ≡ count)
+        (λ front. (length (S.content shared.now) ≢ count) × (front ≡ front_of (S.content shared.now))) }
+{
+    if shared.len() == count {
+        return None;
+    }
+    Some(shared.front())
 }

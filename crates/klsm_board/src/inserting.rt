@@ -1,12 +1,12 @@
-//! Insertion. It takes effect where the lock of the part taken last is given back: that of the own
-//! part, or that of the shared one, where items move there.
-ghost use Rattle.std.specs.Prelude.{◌≡◌, ◌<◌, ◌≤◌, ◌+◌, ℕ, List, [], ◌∷◌, ◌++◌, length, IfErr, OnOk, OnErr, MatchBool};
+//! Insertion. It takes effect where the own lock is given back or, where items move to the shared part,
+//! where the front is set.
+ghost use Rattle.std.specs.Prelude.{◌≡◌, ◌<◌, ◌≤◌, ◌+◌, ℕ, List, [], ◌∷◌, ◌++◌, length, IfErr, IfOk, OnOk, OnErr, MatchBool};
 ghost use Rattle.std.specs.List.{Contains};
 ghost use Rattle.klsm_run.specs.declared.item.Item.{Item};
 ghost use Rattle.klsm_run.specs.Capacity.{heap_room};
 ghost use Rattle.klsm_run.specs.Content.{ShareNone};
 ghost use Rattle.klsm_parts.specs.Limit.{limit_of};
-ghost use Rattle.klsm_parts.specs.Events.{MayPut, MayFlush, own_after_put, own_after_flush, shared_after_flush};
+ghost use Rattle.klsm_parts.specs.Events.{MayPut, MayFlush, own_after_put, own_after_flush, shared_after_flush, front_of};
 ghost use Rattle.klsm_world.specs.declared.step.Event.TheVariants.{Put, Flush};
 ghost use Rattle.klsm_world.specs.declared.step.Entry.TheVariants.{Committed, Released};
 ghost use Rattle.klsm_world.specs.OwnSteps.{own_part, inserted, deleted};
@@ -20,7 +20,7 @@ use crate::errors::{InsertError, TryInsertError};
 use crate::lending::{lend_shared, return_shared};
 use crate::rule::{Locks, MemberSeat};
 use crate::slot::PartSlot;
-use crate::steps::{commit_event, commit_moving, give_part};
+use crate::steps::{commit_event, commit_moving_by_front, give_part};
 use crate::taking::{take_in_time, take_now};
 use klsm_parts::LsmError;
 use klsm_run::Item;
@@ -32,10 +32,12 @@ pub(crate) fn insert_now<S: PartSlot>(
     table: &Locks<S>,
     seat: &mut MemberSeat<S>,
     thread: usize,
+    threads: usize,
     item: Item,
 ) -> Result<(), TryInsertError>
     requires sized { S.is_sized }
     requires seat { IsSeatOf seat.old.table_id table.now.table_id table.now.key thread }
+    requires threads { threads ≡ table.now.key.threads }
     requires stamp { BearsStamp thread (length (inserted (mine seat.old.me.0))) item }
     requires room { length (inserted (mine seat.old.me.0)) < table.now.key.quota }
     requires stands { Stands S.content S.suits table.now.key thread [] seat.old.me }
@@ -56,7 +58,7 @@ pub(crate) fn insert_now<S: PartSlot>(
         give_part(table, seat, thread + 1, thread);
         return Err(TryInsertError::Busy(busy));
     }
-    match flush_both(table, seat, thread, item) {
+    match flush_both(table, seat, thread, threads, item) {
         Ok(()) => Ok(()),
         Err(LsmError::Full) => Err(TryInsertError::Full),
         Err(LsmError::NoMemory) => Err(TryInsertError::NoMemory),
@@ -69,10 +71,12 @@ pub(crate) fn insert_in_time<S: PartSlot>(
     table: &Locks<S>,
     seat: &mut MemberSeat<S>,
     thread: usize,
+    threads: usize,
     item: Item,
 ) -> Result<(), InsertError>
     requires sized { S.is_sized }
     requires seat { IsSeatOf seat.old.table_id table.now.table_id table.now.key thread }
+    requires threads { threads ≡ table.now.key.threads }
     requires stamp { BearsStamp thread (length (inserted (mine seat.old.me.0))) item }
     requires room { length (inserted (mine seat.old.me.0)) < table.now.key.quota }
     requires stands { Stands S.content S.suits table.now.key thread [] seat.old.me }
@@ -89,7 +93,7 @@ pub(crate) fn insert_in_time<S: PartSlot>(
         return Ok(());
     }
     take_in_time(rt, table, seat, 0, thread);
-    match flush_both(table, seat, thread, item) {
+    match flush_both(table, seat, thread, threads, item) {
         Ok(()) => Ok(()),
         Err(LsmError::Full) => Err(InsertError::Full),
         Err(LsmError::NoMemory) => Err(InsertError::NoMemory),
@@ -159,10 +163,12 @@ fn flush_both<S: PartSlot>(
     table: &Locks<S>,
     seat: &mut MemberSeat<S>,
     thread: usize,
+    threads: usize,
     item: Item,
 ) -> Result<(), LsmError>
     requires sized { S.is_sized }
     requires seat { IsSeatOf seat.old.table_id table.now.table_id table.now.key thread }
+    requires threads { threads ≡ table.now.key.threads }
     requires stamp { BearsStamp thread (length (inserted (mine seat.old.me.0))) item }
     requires room { length (inserted (mine seat.old.me.0)) < table.now.key.quota }
     requires has { (own : List Item) × (shared : List Item)
@@ -183,8 +189,9 @@ fn flush_both<S: PartSlot>(
         → LacksRoom S.levels table.now.key.k shared) }
 {
     match flush_in(table, seat, thread, item) {
-        Ok(()) => {
-            commit_moving(table, seat, 0, thread, &item);
+        Ok(front) => {
+            commit_moving_by_front(table, seat, threads, thread, front, &item);
+            give_part(table, seat, 0, thread);
             give_part(table, seat, thread + 1, thread);
             Ok(())
         }
@@ -197,13 +204,13 @@ fn flush_both<S: PartSlot>(
 }
 
 // Moves what has to move from the own part, which is full, to the shared one, and puts the item into
-// the own part. The seat carries both.
+// the own part. The seat carries both. It answers the front of what the shared part then has.
 fn flush_in<S: PartSlot>(
     table: &Locks<S>,
     seat: &mut MemberSeat<S>,
     thread: usize,
     item: Item,
-) -> Result<(), LsmError>
+) -> Result<u64, LsmError>
     requires sized { S.is_sized }
     requires seat { IsSeatOf seat.old.table_id table.now.table_id table.now.key thread }
     requires carries { (own : List Item) × (shared : List Item)
@@ -213,13 +220,14 @@ fn flush_in<S: PartSlot>(
         × (¬ Contains own item) × ¬ Contains shared item }
     ensures same { (seat.new.table_id ≡ seat.old.table_id) × (seat.new.id ≡ seat.old.id)
         × (seat.new.me.0 ≡ seat.old.me.0) }
-    ensures done { OnOk result ((own : List Item) → (shared : List Item)
+    ensures done { IfOk result (λ front. (own : List Item) → (shared : List Item)
         → Carries S.content S.suits table.now.key thread (both_in_hand thread own shared)
         seat.old.me
         → (moved : List Item) × MayFlush table.now.key.k own item moved
         × Carries S.content S.suits table.now.key thread (both_in_hand thread
         (own_after_flush own item moved) (shared_after_flush shared moved)) seat.new.me
-        × (length shared + length moved ≤ limit_of S.levels heap_room)) }
+        × (length shared + length moved ≤ limit_of S.levels heap_room)
+        × (front ≡ front_of (shared_after_flush shared moved))) }
     ensures unchanged { OnErr result ((own : List Item) → (shared : List Item)
         → Carries S.content S.suits table.now.key thread (both_in_hand thread own shared)
         seat.old.me
@@ -233,6 +241,10 @@ fn flush_in<S: PartSlot>(
 {
     let mut shared = lend_shared(table, seat, thread);
     let answer = seat.slot_mut(table, thread + 1).flush(&mut shared, item);
+    let front = shared.front();
     return_shared(table, seat, thread, shared);
-    answer
+    match answer {
+        Ok(()) => Ok(front),
+        Err(why) => Err(why),
+    }
 }

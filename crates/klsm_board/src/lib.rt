@@ -3,9 +3,12 @@
 //!
 //! Each member has an own part, of at most k items, and all share one part more. An insertion takes
 //! the member's own lock alone, and the shared one only where the own part is full. A deletion takes
-//! both, and gives the least own item or one of the k+1 least shared ones, whichever is smaller;
-//! where both parts are empty it spies items from another member's part. So members seldom meet, and
-//! in return a deletion may skip as many as T·k smaller items.
+//! the own lock too, and then looks at one word, the front, which has the key of the least shared
+//! item. Where the least own key is below it, that item goes, and no other lock is taken. Else the
+//! deletion takes the shared lock as well, and gives the least own item or one of the k+1 least
+//! shared ones, whichever is smaller, but passes over none that the member itself inserted. Where
+//! both parts are empty it spies items from another member's part. So members seldom meet, and in
+//! return a deletion may skip as many as T·k smaller items.
 //!
 //! ```text
 //! let (board, mut members) = Board::<64, 21>::new(alloc, 4, 16, 1 << 40)?;
@@ -25,19 +28,22 @@
 //! parts it took and what it found there, what it committed, what it gave back. The contract of each
 //! call says which entries the call adds.
 //!
-//! - **The board is a world.** Whatever the threads do, the lock words, the parts that are free and
-//!   the members' lists are a world to which some schedule of legal steps leads, as `klsm_world` has
+//! - **The board is a world.** Whatever the threads do, the lock words, the front word, the parts that
+//!   are free and the members' lists are a world to which some schedule of legal steps leads, as `klsm_world` has
 //!   them. That is the invariant of the table that all members step on (`rule`), and each atomic step
 //!   keeps it. A member's share of it, that its list is that of such a world, is clause `rule` of
 //!   `Member::number` and `Held::number`.
 //! - **The bound, call by call.** Each deletion's list, just before its commit, tells that at most T·k
-//!   of all live items are smaller, those in parts that others hold included; and where the answer is
-//!   `None`, that at most (T-1)·k live: `TakesOut` and `FindsNothing` in `Member::try_delete_min` and
-//!   `Member::delete_min`.
+//!   of all live items are smaller, those in parts that others hold included; where it went by the
+//!   front, at most (T-1)·k in the worlds of that front; and where the answer is `None`, that at most
+//!   (T-1)·k live: `TakesOut`, `TakesSpied`, `TakesEarly` and `FindsNothing` in `Member::try_delete_min`
+//!   and `Member::delete_min`.
+//! - **A member's own order is kept.** No deletion skips an item that its member inserted and that lies
+//!   in its own part or in the shared one: `keeps` of the same records.
 //! - **Nothing is lost.** Once all members are back, `finish` tells how many items were inserted and
 //!   deleted, and which are left: each item inserted is one of these two, once (`each_once`).
-//! - **Each answer is an event.** An item is answered where its `Take` was committed, and a stamp where
-//!   its `Put` or `Flush` was: clauses `ok` and `adds`.
+//! - **Each answer is an event.** An item is answered where its `Take` or `Early` was committed, and a
+//!   stamp where its `Put` or `Flush` was: clauses `ok` and `adds`.
 //! - **A refusal changes no part**, and its cause holds: clauses `refused` and `busy`.
 //! - **A call that may wait** promises the same, less the refusal for a lock that is held. Nothing is
 //!   promised of how long it waits.
@@ -48,14 +54,15 @@
 //! docs/ARCHITECTURE.md, "How a locked call becomes steps of a schedule".
 //!
 //! The files, from the atomic steps up: `rule` and `plays` (what always holds, and what a step tells),
-//! `steps` (acquire, release, commit), `slot` (what is done to the parts), `lending`, `taking` (one try, or as
-//! many as it needs), `inserting`, `spying`, `deleting`, and the public calls in `making`, `member`,
-//! `held` and `finishing`. `gate` is for programs that run members in threads.
+//! `steps` (acquire, release, the two commits, the look at the front), `slot` (what is done to the parts),
+//! `lending`, `taking` (one try, or as many as it needs), `inserting`, `spying`, `early` (deletions by the
+//! front), `deleting`, and the public calls in `making`, `member`, `held` and `finishing`. `gate` is for programs that run members in threads.
 #![tactic(auto)]
 
 mod board;
 mod boxed;
 mod deleting;
+mod early;
 mod errors;
 mod finishing;
 mod gate;

@@ -26,8 +26,8 @@ impl<const CAP: usize, const LEVELS: usize> Board<CAP, LEVELS> {
     /// A board of empty parts, and its members in order.
     ///
     /// It alone takes the memory of the board itself: a part of about `CAP` items for each member,
-    /// the shared part, two lines of the cache for each lock, and the list of members. Later calls
-    /// take memory for shared blocks alone.
+    /// the shared part, two lines of the cache for each lock and for the front, and the list of
+    /// members. Later calls take memory for shared blocks alone.
     pub fn new(
         alloc: Global,
         threads: usize,
@@ -97,7 +97,9 @@ fn table_of<const CAP: usize, const LEVELS: usize>(
         × (made.1.table_id ≡ made.0.table.shared.table_id)
         × (made.1.me ≡ (view (fresh 0 sizes.threads), []))) }
 {
-    let words = Vec::from_elem(alloc, 0u64, (sizes.threads + 1) * STRIDE)?;
+    // The locks are free, and the front is that of a part without items.
+    let mut words = Vec::from_elem(alloc, 0u64, (sizes.threads + 2) * STRIDE)?;
+    words[(sizes.threads + 1) * STRIDE] = u64::MAX;
     let slots = parts(alloc, sizes.threads, sizes.k)?;
     let Ok((table, seat)) = Table::new(alloc, words.as_slice(), slots, &sizes) else {
         return Err(AllocError);

@@ -1,13 +1,12 @@
 //! What the members of a board do.
-ghost use Rattle.std.specs.Prelude.{◌≡◌, ◌<◌, ◌≤◌, ◌+◌, ◌++◌, ◌↔◌, ℕ, List, [], ◌∷◌, length, IfOk, IfErr, IsErrAnd, MatchOption, None};
+ghost use Rattle.std.specs.Prelude.{◌≡◌, ◌<◌, ◌≤◌, ◌+◌, ◌++◌, ◌↔◌, ℕ, List, [], ◌∷◌, length, IfOk, IfErr, IsErrAnd, None};
 ghost use Rattle.std.specs.Option.{option_to_list};
 ghost use Rattle.klsm_run.specs.declared.item.Item.{Item};
 ghost use Rattle.klsm_world.specs.OwnSteps.{inserted, deleted};
 ghost use Rattle.klsm_board.specs.Rule.{IsReached};
 ghost use Rattle.klsm_board.specs.Boards.{Adds, IsOf, IsSame, own_steps};
-ghost use Rattle.klsm_board.specs.Entries.{both_taken};
 ghost use Rattle.klsm_board.specs.Inserting.{Inserts, RefusesInsert, RefusesInsertInTime, stamp_of, stamped};
-ghost use Rattle.klsm_board.specs.Deleting.{Deletes, FindsNothing, MissesDeletion};
+ghost use Rattle.klsm_board.specs.Deleting.{AnswersDeletion, MissesDeletion};
 
 use crate::board::{Board, Member};
 use crate::deleting::{delete_in_time, delete_now};
@@ -88,7 +87,8 @@ impl<const CAP: usize, const LEVELS: usize> Member<CAP, LEVELS> {
         }
         let item = self.next_item(key, load);
         let thread = self.number as usize;
-        insert_now(&board.table.shared, &mut self.seat, thread, item)?;
+        let threads = self.sizes.threads;
+        insert_now(&board.table.shared, &mut self.seat, thread, threads, item)?;
         self.inserted += 1;
         Ok(item.stamp)
     }
@@ -125,7 +125,15 @@ impl<const CAP: usize, const LEVELS: usize> Member<CAP, LEVELS> {
         }
         let item = self.next_item(key, load);
         let thread = self.number as usize;
-        insert_in_time(rt, &board.table.shared, &mut self.seat, thread, item)?;
+        let threads = self.sizes.threads;
+        insert_in_time(
+            rt,
+            &board.table.shared,
+            &mut self.seat,
+            thread,
+            threads,
+            item,
+        )?;
         self.inserted += 1;
         Ok(item.stamp)
     }
@@ -133,8 +141,10 @@ impl<const CAP: usize, const LEVELS: usize> Member<CAP, LEVELS> {
     /// Deletes a small item and answers it. It waits for nobody. `None` where the own part, the
     /// shared one and each other part that could be looked into were empty.
     ///
-    /// At most T·k smaller items live then, in all parts together, and where the answer is `None` at
-    /// most (T-1)·k items.
+    /// It takes the own lock and, unless its least item has a key below the front, the shared one. At
+    /// most T·k smaller items live then, in all parts together, at most (T-1)·k where the shared lock
+    /// was not taken, and none of its own in the two parts; where the answer is `None`, at most (T-1)·k
+    /// items live.
     pub fn try_delete_min<P: Picker>(
         &mut self,
         board: &Board<CAP, LEVELS>,
@@ -142,14 +152,8 @@ impl<const CAP: usize, const LEVELS: usize> Member<CAP, LEVELS> {
     ) -> Result<Option<Item>, Busy>
         requires { IsOf self.old board.now }
         ensures same { IsSame self.old self.new }
-        ensures ok { IfOk result (λ answer. (own : List Item) × (shared : List Item)
-            × MatchOption answer
-            (FindsNothing self.old.sizes self.old.number own shared
-            (both_taken self.old.number [] [] own shared (own_steps self.old)) (own_steps self.new)
-            × (picker.new ≡ picker.old))
-            (Deletes P.may_pick picker.old picker.new self.old.sizes self.old.number own shared
-            (both_taken self.old.number [] [] own shared (own_steps self.old))
-            (own_steps self.new))) }
+        ensures ok { IfOk result (λ answer. AnswersDeletion P.may_pick picker.old picker.new
+            self.old.sizes self.old.number [] [] (own_steps self.old) (own_steps self.new) answer) }
         ensures adds { IfOk result (λ answer. Adds self.old self.new [] (option_to_list answer)) }
         ensures busy { IfErr result (λ busy. Adds self.old self.new [] []
             × (picker.new ≡ picker.old)
@@ -164,8 +168,8 @@ impl<const CAP: usize, const LEVELS: usize> Member<CAP, LEVELS> {
         Ok(answer)
     }
 
-    /// Deletes a small item and answers it, as `try_delete_min`. It may wait for the own lock and
-    /// for the shared one, as `insert` does.
+    /// Deletes a small item and answers it, as `try_delete_min`. It may wait for the own lock and,
+    /// where it needs that, for the shared one, as `insert` does.
     pub fn delete_min<P: Picker>(
         &mut self,
         rt: &impl Wait,
@@ -175,15 +179,8 @@ impl<const CAP: usize, const LEVELS: usize> Member<CAP, LEVELS> {
         requires { IsOf self.old board.now }
         ensures same { IsSame self.old self.new }
         ensures ok { (own_misses : List ℕ) × (shared_misses : List ℕ)
-            × (own : List Item) × (shared : List Item)
-            × MatchOption result
-            (FindsNothing self.old.sizes self.old.number own shared
-            (both_taken self.old.number own_misses shared_misses own shared (own_steps self.old))
-            (own_steps self.new)
-            × (picker.new ≡ picker.old))
-            (Deletes P.may_pick picker.old picker.new self.old.sizes self.old.number own shared
-            (both_taken self.old.number own_misses shared_misses own shared (own_steps self.old))
-            (own_steps self.new)) }
+            × AnswersDeletion P.may_pick picker.old picker.new self.old.sizes self.old.number
+            own_misses shared_misses (own_steps self.old) (own_steps self.new) result }
         ensures adds { Adds self.old self.new [] (option_to_list result) }
     {
         let thread = self.number as usize;

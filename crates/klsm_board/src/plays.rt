@@ -1,4 +1,4 @@
-//! What a step on a lock tells the call that makes it. These types are for the proofs alone.
+//! What a step on a lock or on the front tells the call that makes it. These types are for the proofs alone.
 use crate::rule::{Holding, View};
 use atomic_table::Play;
 use std::marker::{Brand, PhantomData};
@@ -6,6 +6,7 @@ use std::marker::{Brand, PhantomData};
 /// What a call tells the step that it makes.
 pub trait Told {
     ghost use Rattle.std.specs.Prelude.{ℕ};
+    ghost use Rattle.klsm_run.specs.declared.item.Item.{Item};
     ghost use Rattle.klsm_world.specs.declared.step.Event.{Event};
     ghost use Rattle.klsm_board.specs.declared.sizes.Sizes.{Sizes};
 
@@ -16,6 +17,9 @@ pub trait Told {
 
     // What is true of the event that is committed.
     ghost fits: { Event → Type 0 };
+
+    // The item that is deleted, where its key is below the front.
+    ghost least: { Item };
 }
 
 impl Told for Brand {
@@ -24,6 +28,8 @@ impl Told for Brand {
     ghost thread = { 0 };
 
     ghost fits = { λ _. Unit {0} };
+
+    ghost least = { record { key = 0; stamp = record { owner = 0; number = 0 }; load = 0 } };
 }
 
 /// A part is taken, or tried in vain.
@@ -57,4 +63,26 @@ impl<S: Holding, D: Told> Play<S, View> for Commit<D> {
     ghost use Rattle.klsm_board.specs.Steps.{committed, on_part};
 
     ghost then = { on_part (committed D.fits D.sizes D.thread) };
+}
+
+/// An event takes effect where the front is set.
+pub(crate) struct SetFront<D> {
+    of: PhantomData<D>,
+}
+
+impl<S: Holding, D: Told> Play<S, View> for SetFront<D> {
+    ghost use Rattle.klsm_board.specs.Steps.{set_front};
+
+    ghost then = { set_front D.fits D.sizes D.thread };
+}
+
+/// The front is looked at, and an item whose key is below it is deleted.
+pub(crate) struct Look<D> {
+    of: PhantomData<D>,
+}
+
+impl<S: Holding, D: Told> Play<S, View> for Look<D> {
+    ghost use Rattle.klsm_board.specs.Steps.{looked};
+
+    ghost then = { looked D.least D.sizes D.thread };
 }

@@ -1,8 +1,9 @@
 //! The rule of the board's table: what its words, its slots and its seats always are together.
 //!
 //! Word `part * STRIDE` is the lock of a part: 0 while it is free, and `t + 1` while thread t holds
-//! it. The slot of that number has the part. A seat knows the own steps of one thread, and at first
-//! and at last those of several.
+//! it. The slot of that number has the part. Behind the locks, where that of one part more would be,
+//! is the front: the key of the shared part's least item. A seat knows the own steps of one thread,
+//! and at first and at last those of several.
 ghost use Rattle.std.specs.Prelude.{ℕ, List};
 ghost use Rattle.klsm_run.specs.declared.item.Item.{Item};
 ghost use Rattle.klsm_board.specs.declared.sizes.Sizes.{Sizes};
@@ -13,7 +14,7 @@ use klsm_world::Entry;
 use std::collections::LinkedList;
 use std::marker::PhantomData;
 
-/// How far the lock words stand apart: two lines of the cache, which a processor fetches together.
+/// How far the lock words and the front stand apart: two lines of the cache, which a processor fetches together.
 /// The words between stay 0, and no step is made on them.
 pub(crate) const STRIDE: usize = 16;
 

@@ -1,18 +1,19 @@
 //! The parts as the slots of a board have them.
-ghost use Rattle.std.specs.Prelude.{◌≡◌, ℕ, ◌<◌, ◌≤◌, ◌+◌, List, [], length, max, slice_get, ◌++◌, IsOk, IfErr, OnOk, vec_len, vec_capacity, OnErr, MatchBool, MatchOption};
+ghost use Rattle.std.specs.Prelude.{◌≡◌, ℕ, ◌<◌, ◌≤◌, ◌+◌, List, [], length, max, slice_get, ◌++◌, IsOk, IfErr, OnOk, vec_len, vec_capacity, OnErr, MatchBool, MatchOption, IfSome};
 ghost use Rattle.std.specs.List.{Contains};
 ghost use Rattle.klsm_run.specs.declared.item.Item.{Item};
 ghost use Rattle.klsm_run.specs.Capacity.{IsCapacity, heap_room};
 ghost use Rattle.klsm_run.specs.Content.{ShareNone, sorted};
 ghost use Rattle.klsm_parts.specs.Limit.{IsLevelCount, limit_of};
 ghost use Rattle.klsm_parts.specs.Parts.{items_in};
-ghost use Rattle.klsm_parts.specs.Events.{MayPut, MayFlush, MayTake, MayFindNothing, MaySpy, own_after_put, own_after_flush, shared_after_flush, own_after_take, shared_after_take, own_after_spy, victim_after_spy};
+ghost use Rattle.klsm_parts.specs.Least.{IsLeast};
+ghost use Rattle.klsm_parts.specs.Events.{MayPut, MayFlush, MayTake, MayFindNothing, MaySpy, own_after_put, own_after_flush, shared_after_flush, own_after_take, shared_after_take, own_after_early, own_after_spy, victim_after_spy, front_of};
 ghost use Rattle.klsm_world.specs.OwnSteps.{own_part, shared_part};
 ghost use Rattle.klsm_board.specs.Choosing.{Chooses};
 
 use crate::boxed::Boxed;
 use crate::rule::Holding;
-use klsm_parts::{Local, LsmError, Picker, Shared, flush, put, spy, take};
+use klsm_parts::{Local, LsmError, Picker, Shared, flush, put, spy, take, take_least};
 use klsm_run::Item;
 use std::alloc::AllocError;
 
@@ -44,7 +45,16 @@ pub trait PartSlot: Holding + Drop {
 
     /// The least item, if there is one.
     fn least(&self) -> Option<Item>
-        ensures { result ≡ slice_get (Self.content self.now) 0 };
+        ensures is { result ≡ slice_get (Self.content self.now) 0 }
+        ensures least { IfSome result (λ x. IsLeast x (Self.content self.now)) };
+
+    /// The least item of an own part, if there is one, as `least`. The next deletion need then not search for it.
+    fn find_least(&mut self) -> Option<Item>
+        requires own { (k : ℕ) × (t : ℕ) × Self.suits k (own_part t) self.old }
+        ensures kind { (k t : ℕ) → Self.suits k (own_part t) self.old
+            → Self.suits k (own_part t) self.new }
+        ensures same { Self.content self.new ≡ Self.content self.old }
+        ensures least { IfSome result (λ x. IsLeast x (Self.content self.old)) };
 
     /// Appends the items to a list.
     fn append_to(&self, all: &mut Vec<Item>) -> Result<(), AllocError>
@@ -90,8 +100,24 @@ pub trait PartSlot: Holding + Drop {
             → (k t : ℕ) → Self.suits k (own_part t) self.old
             → limit_of levels heap_room < length (Self.content shared.old) + max 1 k) };
 
-    /// Takes an item out of an own part and the shared one. `None` where both are empty.
-    fn take<P: Picker>(&mut self, shared: &mut Self, picker: &mut P) -> Option<Item>
+    /// The front of the shared part: the key of its least item, and the greatest number where it is
+    /// empty.
+    fn front(&self) -> u64
+        requires { (k : ℕ) × Self.suits k shared_part self.now }
+        ensures { result ≡ front_of (Self.content self.now) };
+
+    /// Takes the least item out of an own part that has one.
+    fn take_least(&mut self) -> Item
+        requires own { (k : ℕ) × (t : ℕ) × Self.suits k (own_part t) self.old }
+        requires some { (x : Item) × IsLeast x (Self.content self.old) }
+        ensures kind { (k t : ℕ) → Self.suits k (own_part t) self.old
+            → Self.suits k (own_part t) self.new }
+        ensures least { IsLeast result (Self.content self.old) }
+        ensures left { Self.content self.new ≡ own_after_early (Self.content self.old) result };
+
+    /// Takes an item out of an own part and the shared one, for the member of this number. `None` where
+    /// both are empty.
+    fn take<P: Picker>(&mut self, owner: u32, shared: &mut Self, picker: &mut P) -> Option<Item>
         requires sized { is_sized }
         requires parts { (k : ℕ) × (t : ℕ) × Self.suits k (own_part t) self.old
             × Self.suits k shared_part shared.old }
@@ -105,11 +131,11 @@ pub trait PartSlot: Holding + Drop {
             × (Self.content self.new ≡ Self.content self.old)
             × (Self.content shared.new ≡ Self.content shared.old)
             × (picker.new ≡ picker.old))
-            (λ item. MayTake k (Self.content self.old) (Self.content shared.old) item
+            (λ item. MayTake k owner (Self.content self.old) (Self.content shared.old) item
             × (Self.content self.new ≡ own_after_take (Self.content self.old) item)
             × (Self.content shared.new
             ≡ shared_after_take (Self.content self.old) (Self.content shared.old) item)
-            × Chooses P.may_pick picker.old picker.new k (Self.content self.old)
+            × Chooses P.may_pick picker.old picker.new k owner (Self.content self.old)
             (Self.content shared.old) item) };
 
     /// Moves items from a victim's part to an own one that is empty: true where some moved.
@@ -189,6 +215,14 @@ impl<const CAP: usize, const LEVELS: usize> PartSlot for BoardSlot<CAP, LEVELS> 
         }
     }
 
+    #[inline]
+    fn find_least(&mut self) -> Option<Item> {
+        match self {
+            Slot::Own(own) => own.get_mut().find_least(),
+            _ => unreachable!(),
+        }
+    }
+
     fn append_to(&self, all: &mut Vec<Item>) -> Result<(), AllocError> {
         match self {
             Slot::Own(own) => own.get().append_to(all),
@@ -216,10 +250,26 @@ impl<const CAP: usize, const LEVELS: usize> PartSlot for BoardSlot<CAP, LEVELS> 
     }
 
     #[inline]
-    fn take<P: Picker>(&mut self, shared: &mut Self, picker: &mut P) -> Option<Item> {
+    fn front(&self) -> u64 {
+        match self {
+            Slot::Common(shared) => shared.get().front(),
+            _ => unreachable!(),
+        }
+    }
+
+    #[inline]
+    fn take_least(&mut self) -> Item {
+        match self {
+            Slot::Own(own) => take_least(own.get_mut()),
+            _ => unreachable!(),
+        }
+    }
+
+    #[inline]
+    fn take<P: Picker>(&mut self, owner: u32, shared: &mut Self, picker: &mut P) -> Option<Item> {
         match (self, shared) {
             (Slot::Own(own), Slot::Common(shared)) => {
-                take(own.get_mut(), shared.get_mut(), picker)
+                take(owner, own.get_mut(), shared.get_mut(), picker)
             }
             _ => unreachable!(),
         }

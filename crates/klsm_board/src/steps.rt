@@ -1,16 +1,18 @@
-//! The steps on a lock, as the world sees them.
+//! The steps on a lock and on the front, as the world sees them.
 ghost use Rattle.std.specs.Prelude.{◌≡◌, ◌<◌, ◌≤◌, ◌+◌, ◌-◌, ◌++◌, ◌==◌, ℕ, [], ◌∷◌, List, length, MatchBool, None};
 ghost use mathlib.Core.Option.{none};
 ghost use Rattle.atomic_table.specs.Table.{rest, step};
 ghost use Rattle.klsm_run.specs.declared.item.Item.{Item};
 ghost use Rattle.klsm_world.specs.declared.step.Event.{Event};
 ghost use Rattle.klsm_world.specs.declared.step.Entry.TheVariants.{Acquired, Committed, Released, Missed};
-ghost use Rattle.klsm_world.specs.OwnSteps.{Hand, Holds, found_in, after_event, hand_of, inserted};
+ghost use Rattle.klsm_world.specs.OwnSteps.{Hand, Holds, own_part, found_in, after_event, hand_of, inserted};
+ghost use Rattle.klsm_parts.specs.Least.{IsLeast};
+ghost use Rattle.klsm_board.specs.Rule.{place};
 ghost use Rattle.klsm_world.specs.LegalSteps.{MayCommit};
-ghost use Rattle.klsm_board.specs.Steps.{mine, IsMine, acquired, released, committed};
-ghost use Rattle.klsm_board.specs.Seats.{Carries, Stands, Has, CarriedOut, HasRoom, IsSeatOf};
+ghost use Rattle.klsm_board.specs.Steps.{mine, IsMine, acquired, released, committed, looked, set_front};
+ghost use Rattle.klsm_board.specs.Seats.{Carries, Stands, Has, CarriedOut, HasRoom, LeavesShared, SetsFront, IsSeatOf, own_in_hand};
 
-use crate::plays::{Acquire, Commit, Release, Told};
+use crate::plays::{Acquire, Commit, Look, Release, SetFront, Told};
 use crate::rule::{Holding, Locks, MemberSeat, STRIDE};
 use klsm_run::Item;
 use klsm_world::Event;
@@ -76,6 +78,7 @@ fn commit<S: Holding, D: Told, T>(
         × MayCommit table.now.key.k thread (hand_of thread (mine seat.old.me.0))
         (length (inserted (mine seat.old.me.0))) e
         × HasRoom table.now.key.quota (mine seat.old.me.0) e
+        × LeavesShared thread (hand_of thread (mine seat.old.me.0)) e
         × ((y : S) × (seat.old.me.1 ≡ (part, y) ∷ rest seat.old.me.1)
         × S.suits table.now.key.k part y
         × Holds (after_event thread (hand_of thread (mine seat.old.me.0)) e) part (S.content y)) }
@@ -86,6 +89,58 @@ fn commit<S: Holding, D: Told, T>(
     let _ = thread;
     let _ = about;
     table.store::<Commit<D>>(seat, part * STRIDE, 0);
+}
+
+// Commits some event that D fits by setting the front to what the event leaves it.
+fn store_front<S: Holding, D: Told, T>(
+    table: &Locks<S>,
+    seat: &mut MemberSeat<S>,
+    threads: usize,
+    thread: usize,
+    front: u64,
+    about: &T,
+)
+    requires told { (D.sizes ≡ table.now.key) × (D.thread ≡ thread) }
+    requires seat { IsSeatOf seat.old.table_id table.now.table_id table.now.key thread }
+    requires threads { threads ≡ table.now.key.threads }
+    requires view { IsMine seat.old.me.0 thread }
+    requires event { (e : Event) × D.fits e
+        × MayCommit table.now.key.k thread (hand_of thread (mine seat.old.me.0))
+        (length (inserted (mine seat.old.me.0))) e
+        × HasRoom table.now.key.quota (mine seat.old.me.0) e
+        × SetsFront thread (hand_of thread (mine seat.old.me.0)) e front }
+    ensures same { (seat.new.table_id ≡ seat.old.table_id) × (seat.new.id ≡ seat.old.id) }
+    ensures told { set_front D.fits table.now.key thread
+        (step table.now.table_id.slots (place (threads + 1)) front 0 none) seat.old.me front
+        seat.new.me }
+{
+    let _ = thread;
+    let _ = about;
+    table.store::<SetFront<D>>(seat, (threads + 1) * STRIDE, front);
+}
+
+// Loads the front. Where the key of D's item is below it, the load commits the deletion of that item.
+fn load_front<S: Holding, D: Told>(
+    table: &Locks<S>,
+    seat: &mut MemberSeat<S>,
+    threads: usize,
+    thread: usize,
+    least: Item,
+) -> u64
+    requires told { (D.sizes ≡ table.now.key) × (D.thread ≡ thread) × (D.least ≡ least) }
+    requires seat { IsSeatOf seat.old.table_id table.now.table_id table.now.key thread }
+    requires threads { threads ≡ table.now.key.threads }
+    requires view { IsMine seat.old.me.0 thread }
+    requires least { (own : List Item)
+        × Holds (hand_of thread (mine seat.old.me.0)) (own_part thread) own × IsLeast least own }
+    ensures same { (seat.new.table_id ≡ seat.old.table_id) × (seat.new.id ≡ seat.old.id) }
+    ensures told { looked least table.now.key thread
+        (step table.now.table_id.slots (place (threads + 1)) 0 0 none) seat.old.me result
+        seat.new.me }
+{
+    let _ = thread;
+    let _ = least;
+    table.load::<Look<D>>(seat, (threads + 1) * STRIDE)
 }
 
 /// A try to take a part. The word found is 0 where it came to the seat, and else names its holder.
@@ -146,6 +201,7 @@ pub(crate) fn commit_event<S: Holding>(
     requires seat { IsSeatOf seat.old.table_id table.now.table_id table.now.key thread }
     requires part { part ≤ table.now.key.threads }
     requires room { HasRoom table.now.key.quota (mine seat.old.me.0) event.now }
+    requires leaves { LeavesShared thread (hand_of thread (mine seat.old.me.0)) event.now }
     requires out { (left : List Item) × (hand : Hand)
         × CarriedOut S.content S.suits table.now.key thread event.now ((part, left) ∷ hand)
         seat.old.me
@@ -198,6 +254,8 @@ pub(crate) fn commit_moving<S: Holding, T: Moving>(
     requires part { part ≤ table.now.key.threads }
     requires room { (moved : List Item)
         → HasRoom table.now.key.quota (mine seat.old.me.0) (T.event about.now moved) }
+    requires leaves { (moved : List Item)
+        → LeavesShared thread (hand_of thread (mine seat.old.me.0)) (T.event about.now moved) }
     requires out { (moved : List Item) × (left : List Item) × (hand : Hand)
         × CarriedOut S.content S.suits table.now.key thread (T.event about.now moved)
         ((part, left) ∷ hand) seat.old.me
@@ -216,4 +274,81 @@ pub(crate) fn commit_moving<S: Holding, T: Moving>(
         ≡ mine seat.old.me.0 ++ Committed (T.event about.now moved) ∷ Released part ∷ []) }
 {
     commit::<S, Brand, T>(table, seat, part, thread, about);
+}
+
+/// Commits an event that was carried out in the parts that the seat carries, by setting the front to
+/// what the event leaves it.
+pub(crate) fn commit_by_front<S: Holding>(
+    table: &Locks<S>,
+    seat: &mut MemberSeat<S>,
+    threads: usize,
+    thread: usize,
+    front: u64,
+    event: &Event,
+)
+    requires seat { IsSeatOf seat.old.table_id table.now.table_id table.now.key thread }
+    requires threads { threads ≡ table.now.key.threads }
+    requires room { HasRoom table.now.key.quota (mine seat.old.me.0) event.now }
+    requires sets { SetsFront thread (hand_of thread (mine seat.old.me.0)) event.now front }
+    requires out { (hand : Hand)
+        × CarriedOut S.content S.suits table.now.key thread event.now hand seat.old.me }
+    ensures same { (seat.new.table_id ≡ seat.old.table_id) × (seat.new.id ≡ seat.old.id) }
+    ensures has { (hand : Hand) → Carries S.content S.suits table.now.key thread hand seat.old.me
+        → Has S.content S.suits table.now.key thread hand seat.new.me }
+    ensures list { mine seat.new.me.0 ≡ mine seat.old.me.0 ++ Committed event.now ∷ [] }
+{
+    store_front::<S, Brand, Event>(table, seat, threads, thread, front, event);
+}
+
+/// Commits an event by which items moved, by setting the front to what the event leaves it. The caller
+/// learns of the items that its list names that their moving leaves what the seat carries.
+pub(crate) fn commit_moving_by_front<S: Holding, T: Moving>(
+    table: &Locks<S>,
+    seat: &mut MemberSeat<S>,
+    threads: usize,
+    thread: usize,
+    front: u64,
+    about: &T,
+)
+    requires seat { IsSeatOf seat.old.table_id table.now.table_id table.now.key thread }
+    requires threads { threads ≡ table.now.key.threads }
+    requires room { (moved : List Item)
+        → HasRoom table.now.key.quota (mine seat.old.me.0) (T.event about.now moved) }
+    requires out { (moved : List Item) × (hand : Hand)
+        × CarriedOut S.content S.suits table.now.key thread (T.event about.now moved) hand
+        seat.old.me
+        × SetsFront thread (hand_of thread (mine seat.old.me.0)) (T.event about.now moved) front }
+    ensures same { (seat.new.table_id ≡ seat.old.table_id) × (seat.new.id ≡ seat.old.id) }
+    ensures has { (hand : Hand) → Carries S.content S.suits table.now.key thread hand seat.old.me
+        → Has S.content S.suits table.now.key thread hand seat.new.me }
+    ensures list { (hand : Hand) → Carries S.content S.suits table.now.key thread hand seat.old.me
+        → (moved : List Item)
+        × CarriedOut S.content S.suits table.now.key thread (T.event about.now moved) hand
+        seat.old.me
+        × (mine seat.new.me.0
+        ≡ mine seat.old.me.0 ++ Committed (T.event about.now moved) ∷ []) }
+{
+    store_front::<S, Brand, T>(table, seat, threads, thread, front, about);
+}
+
+/// Loads the front. Where the key of the least item of the own part is below it, the load commits the
+/// deletion of that item, which is still to be taken out.
+pub(crate) fn look_at_front<S: Holding>(
+    table: &Locks<S>,
+    seat: &mut MemberSeat<S>,
+    threads: usize,
+    thread: usize,
+    least: Item,
+) -> u64
+    requires seat { IsSeatOf seat.old.table_id table.now.table_id table.now.key thread }
+    requires threads { threads ≡ table.now.key.threads }
+    requires has { (own : List Item)
+        × Has S.content S.suits table.now.key thread (own_in_hand thread own) seat.old.me
+        × IsLeast least own }
+    ensures same { (seat.new.table_id ≡ seat.old.table_id) × (seat.new.id ≡ seat.old.id) }
+    ensures looked { looked least table.now.key thread
+        (step table.now.table_id.slots (place (threads + 1)) 0 0 none) seat.old.me result
+        seat.new.me }
+{
+    load_front::<S, Brand>(table, seat, threads, thread, least)
 }

@@ -1,6 +1,8 @@
 -- A list that gains the items of an LSM, block after block.
 use Rattle.std.proofs.Common.{◌≡◌, ℕ, ◌≤◌, ◌<◌, ◌+◌, List, [], ◌++◌, length, take, drop, get_or, ap, sym, ◌∙◌, arith, length-append, append_assoc, take-append-drop, take_all}
 use Rattle.klsm_run.specs.declared.item.Item.{Item}
+use Rattle.klsm_run.specs.Content.{sorted}
+use Rattle.klsm_run.proofs.ContentLemmas.{sorted_itself}
 use Rattle.klsm_run.proofs.SortedLemmas.{length_sorted}
 use Rattle.klsm_lsm.specs.Lsm.{content}
 use Rattle.klsm_parts.specs.Parts.{PartState, items_in}
@@ -44,3 +46,7 @@ all_listed n bs before after len cap len' cap' none_left listed =
 -- a part has as many items as its blocks
 pub so_many_in : (part : PartState) → length (items_in part) ≡ length (content part.blocks)
 so_many_in part = length_sorted (content part.blocks)
+
+-- they are in ascending order
+pub in_order : (part : PartState) → sorted (items_in part) ≡ items_in part
+in_order part = sorted_itself (content part.blocks)

@@ -25,11 +25,11 @@ use Rattle.klsm_lsm.proofs.JoinLemmas.{some_in_block}
 use Rattle.klsm_lsm.proofs.AddLemmas.{sorted_add}
 use Rattle.klsm_lsm.proofs.CutLemmas.{sorted_cut}
 use Rattle.klsm_parts.specs.Least.{least, IsLeast}
-use Rattle.klsm_parts.specs.Events.{IsWithin, minus, MayFlush, MayTake, MayFindNothing, own_after_flush, shared_after_flush, own_after_take, shared_after_take, times}
+use Rattle.klsm_parts.specs.Events.{IsWithin, minus, MayFlush, IsInReach, MayFindNothing, own_after_flush, shared_after_flush, own_after_take, shared_after_take, times}
 use Rattle.klsm_parts.specs.Taking.{IsCutFrom}
 
--- a taken item is larger than at most k items of the own part and the shared one together
-pub take_skips_few : (k : ℕ) (own shared : List Item) (x : Item) → MayTake k own shared x → skipped (own ++ shared) x ≤ k
+-- an item in reach is larger than at most k items of the own part and the shared one together
+pub take_skips_few : (k : ℕ) (own shared : List Item) (x : Item) → IsInReach k own shared x → skipped (own ++ shared) x ≤ k
 take_skips_few k own shared x (inl taken) =
     let none : skipped shared x ≡ 0 = ap (λ c. skipped c x) taken.0 in
     omega (arith, skipped_append own shared x, none, least_skips_none x own taken.1)
@@ -158,21 +158,21 @@ least_candidate candidate y own first not_smaller = first_of_both candidate own 
 pub least_own : (candidate y : Item) (own : List Item) → slice_get (sorted own) 0 ≡ Some y → is_smaller y candidate ≡ true → IsLeast y (candidate ∷ own)
 least_own candidate y own first smaller = first_of_both candidate own (Some y) first ∙ ap Some (lesser_second candidate y smaller)
 
--- a take may return the least item of a candidate and the own part
-pub may_take_candidate : (k : ℕ) (own shared : List Item) (candidate : Item) (index : ℕ) (x : Item) → index < k + 1 → slice_get (sorted shared) index ≡ Some candidate → IsLeast x (candidate ∷ own) → MayTake k own shared x
-may_take_candidate k own shared candidate index x among found first =
+-- the least item of a candidate and the own part is in reach
+pub candidate_in_reach : (k : ℕ) (own shared : List Item) (candidate : Item) (index : ℕ) (x : Item) → index < k + 1 → slice_get (sorted shared) index ≡ Some candidate → IsLeast x (candidate ∷ own) → IsInReach k own shared x
+candidate_in_reach k own shared candidate index x among found first =
     inr (candidate, contains_at (least (k + 1) shared) index candidate (slice_get-take (k + 1) (sorted shared) index among ∙ found), first)
 
--- a take may return the least own item where the shared part is empty, or its least item is larger
-pub may_take_own : (k : ℕ) (own shared : List Item) (x : Item) → IsLeast x own → (shared ≡ []) ⊎ ((y : Item) × IsLeast y shared × IsSmaller x y) → MayTake k own shared x
-may_take_own k own shared x first (inl empty) = inl (empty, first)
-may_take_own k own shared x first (inr other) =
-    may_take_candidate k own shared other.0 0 x (omega arith) other.1 (least_own other.0 x own first (ap is_lt other.2))
+-- so is the least own item where the shared part is empty, or its least item is larger
+pub own_in_reach : (k : ℕ) (own shared : List Item) (x : Item) → IsLeast x own → (shared ≡ []) ⊎ ((y : Item) × IsLeast y shared × IsSmaller x y) → IsInReach k own shared x
+own_in_reach k own shared x first (inl empty) = inl (empty, first)
+own_in_reach k own shared x first (inr other) =
+    candidate_in_reach k own shared other.0 0 x (omega arith) other.1 (least_own other.0 x own first (ap is_lt other.2))
 
 -- contents may be sorted first
-pub may_take_sorted : (k : ℕ) (own shared : List Item) (x : Item) → MayTake k own shared x → MayTake k (sorted own) (sorted shared) x
-may_take_sorted k own shared x (inl taken) = inl (ap sorted taken.0, ap (λ c. slice_get c 0) (sorted_itself own) ∙ taken.1)
-may_take_sorted k own shared x (inr taken) = inr (
+pub in_reach_sorted : (k : ℕ) (own shared : List Item) (x : Item) → IsInReach k own shared x → IsInReach k (sorted own) (sorted shared) x
+in_reach_sorted k own shared x (inl taken) = inl (ap sorted taken.0, ap (λ c. slice_get c 0) (sorted_itself own) ∙ taken.1)
+in_reach_sorted k own shared x (inr taken) = inr (
   taken.0,
   subst (λ c. Contains (take (k + 1) c) taken.0) (sym (sorted_itself shared)) taken.1,
   ap (λ c. slice_get (placed taken.0 c) 0) (sorted_itself own) ∙ taken.2,

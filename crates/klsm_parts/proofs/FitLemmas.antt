@@ -22,15 +22,15 @@ run n = up 8 (up 8 (0 + array_vec n 32) + 16)
 
 -- of an own part, of which a run has s bytes
 abbrev local : ℕ → ℕ
-local s = up 8 (up 8 (0 + lsm 8 (option s)) + 8)
+local s = up 8 (up 8 (up 8 (0 + lsm 8 (option s)) + 8) + 16)
 
--- the last field but one, as the LSM of an own part and the shared part of a queue
+-- the last field but one, as the shared part of a queue
 pub field_fits : (a b c s n limit : ℕ) → up a (up 8 (up b c + s) + n) < limit → s < limit
 field_fits a b c s n limit whole = omega (arith, whole)
 
 -- the LSM of an own part
-pub first_fits : (a b s n limit : ℕ) → up a (up b (0 + s) + n) < limit → s < limit
-first_fits a b s n limit whole = omega (arith, whole)
+pub first_fits : (a b s n m limit : ℕ) → up a (up 8 (up b (0 + s) + n) + m) < limit → s < limit
+first_fits a b s n m limit whole = omega (arith, whole)
 
 -- a run in one of the eight slots of an own part
 pub run_fits : (s limit : ℕ) → local s < limit → s < limit
@@ -49,7 +49,7 @@ pub pivots_fit : (a b l m p q limit : ℕ) → up a (up b (up 8 (up 8 q + p) + l
 pivots_fit a b l m p q limit whole = omega (arith, whole)
 
 -- what is known of the candidates of a shared part that a run is put into
-pub merging_fits : (a b m p q limit : ℕ) → up a (up b (up 8 (up 8 q + p) + 184) + m) < limit → up 8 (up 8 (160 + p) + 8) < limit
+pub merging_fits : (a b m p q limit : ℕ) → up a (up b (up 8 (up 8 q + p) + 328) + m) < limit → up 8 (up 8 (304 + p) + 8) < limit
 merging_fits a b m p q limit whole = omega (arith, whole)
 
 -- what is as small has a place
@@ -83,7 +83,7 @@ own_lsm_fits n capacity = small_fits _ (lsm_is_small _ (run_is_small n capacity)
 -- the own part
 pub local_fits : (n : ℕ) → IsCapacity n → local (run n) < 9223372036854775808
 local_fits n capacity = part_fits _ (lsm_is_small _ (run_is_small n capacity)) where
-  part_fits : (s : ℕ) → s < 131072 → up 8 (up 8 (0 + s) + 8) < 9223372036854775808
+  part_fits : (s : ℕ) → s < 131072 → up 8 (up 8 (up 8 (0 + s) + 8) + 16) < 9223372036854775808
   part_fits s small = omega (arith, small)
 
 -- the LSM of a shared part of any number of levels
@@ -92,7 +92,7 @@ shared_lsm_fits n levels = omega (arith, levels.at_most)
 
 -- what is known of the least items: the first, and an array of bytes for the ranking
 abbrev least_items : ℕ
-least_items = up 8 (up 8 (0 + option 32) + up 8 (0 + array_vec 129 1))
+least_items = up 8 (up 8 (0 + option 32) + up 8 (up 8 (0 + array_vec 129 1) + array_vec 129 1))
 
 -- the shared part
 pub shared_fits : (n : ℕ) → IsLevelCount n → up 8 (up 1 (up 8 (up 8 (up 8 (0 + lsm n 48) + 8) + array_vec n 8) + least_items) + 0) < 9223372036854775808

@@ -3,7 +3,7 @@ use Rattle.std.proofs.Common.{◌≡◌, ℕ, zero, suc, ◌+◌, ◌<◌, ◌�
 use Rattle.std.specs.List.{slice_get, refill}
 use Rattle.std.specs.Option.{option_map}
 use Rattle.std.proofs.lemmas.List.{length-append, length-take, length-set}
-use Rattle.std.proofs.lemmas.Option.{slice_get_past, same_Some}
+use Rattle.std.proofs.lemmas.Option.{slice_get_past, same_Some, slice_get_within, get_or_from_slice_get}
 use Rattle.klsm_run.specs.declared.item.Item.{Item}
 use Rattle.klsm_run.specs.ItemOrder.{is_smaller}
 use Rattle.klsm_run.specs.Content.{sorted, IsAscending}
@@ -132,3 +132,20 @@ ranked n bs ps lent read j lent_is read_is lsm pivots first =
 -- there is an item of each rank below the number of items
 pub some_ranked : (n : ℕ) (bs : List (List Item)) → n < length (content bs) → (x : Item) × (slice_get (sorted (content bs)) n ≡ Some x)
 some_ranked n bs more = at_index (sorted (content bs)) n (rw (length_sorted (content bs)) more)
+
+-- where not all items are marked, the block with the least of the others has one behind its pivot, however the pivots are read
+pub least_within : (bs : List (List Item)) (ps read : List ℕ) (b : ℕ) (run : List Item) → read ≡ ps → slice_get bs b ≡ Some run → length (marked bs ps) < length (content bs)
+    → slice_get (get_or bs b []) (get_or ps b 0) ≡ slice_get (sorted (content (unmarked bs ps))) 0 → get_or read b 0 < length run
+least_within bs ps read b run same here some least =
+    let rest = content (unmarked bs ps) in
+    let both : length (sorted (content bs)) ≡ length (sorted (marked bs ps ++ rest)) = ap length (marked_and_unmarked bs ps) in
+    let left : 0 < length rest = omega (arith, both, length_sorted (content bs), length_sorted (marked bs ps ++ rest), length-append (marked bs ps) rest, some) in
+    let first = some_ranked 0 (unmarked bs ps) left in
+    let there : get_or ps b 0 < length (get_or bs b []) = slice_get_within (get_or bs b []) (get_or ps b 0) first.0 (least ∙ first.1) in
+    subst (λ (qs : List ℕ). get_or qs b 0 < length run) (sym same) (subst (λ (xs : List Item). get_or ps b 0 < length xs) (get_or_from_slice_get bs b run [] here) there)
+
+-- and the item there is the one that is read
+pub least_is_read : (bs : List (List Item)) (ps read : List ℕ) (b : ℕ) (run : List Item) (x y : Item) → read ≡ ps → slice_get bs b ≡ Some run → slice_get (get_or bs b []) (get_or ps b 0) ≡ Some x → slice_get run (get_or read b 0) ≡ Some y → x ≡ y
+least_is_read bs ps read b run x y same here first second =
+    let there : slice_get run (get_or ps b 0) ≡ Some x = subst (λ (xs : List Item). slice_get xs (get_or ps b 0) ≡ Some x) (get_or_from_slice_get bs b run [] here) first in
+    same_Some x y (sym there ∙ (ap (λ (qs : List ℕ). slice_get run (get_or qs b 0)) (sym same) ∙ second))

@@ -10,12 +10,15 @@ pub mod MarkedLemmas
 pub mod MendLemmas
 pub mod MergingLemmas
 pub mod OwnLemmas
+pub mod OwnOrderLemmas
+pub mod OwnerLemmas
 pub mod PairLemmas
 pub mod PivotLemmas
 pub mod PivotListLemmas
 pub mod QueueLemmas
 pub mod RankingCutLemmas
 pub mod RankingLemmas
+pub mod RisingLemmas
 pub mod SpyLemmas
 pub mod TakeLemmas
 pub mod UnitedLemmas

@@ -25,11 +25,12 @@ use Rattle.klsm_lsm.proofs.ContentLemmas.{ascending_content}
 use Rattle.klsm_lsm.proofs.AddLemmas.{lawful_add, sorted_add, length_add}
 use Rattle.klsm_parts.specs.Pivots.{unmarked, ArePivots}
 use Rattle.klsm_parts.specs.Mending.{united_pivots}
-use Rattle.klsm_parts.specs.Ranking.{AreInBlocks, IsRanking, IsMerging, more_marked, place_after_add}
+use Rattle.klsm_parts.specs.Ranking.{AreInBlocks, AreOwners, AreRanked, IsMerging, owner_byte, more_marked, place_after_add}
 use Rattle.klsm_parts.proofs.PivotLemmas.{first_unmarked, first_unmarked_ascending, pivot_more, pivot_more_ascending, pivots_none, pivots_all, length_marked}
 use Rattle.klsm_parts.proofs.FoundLemmas.{one_each}
 use Rattle.klsm_parts.proofs.MendLemmas.{AreSplit, SkipsFew, SkipsMany, skips_apart, split_if_pivots, split_united, sum_united, count_marked, pivots_if_split}
 use Rattle.klsm_parts.proofs.RankingLemmas.{ranking_more}
+use Rattle.klsm_parts.proofs.OwnerLemmas.{owners_more}
 use Rattle.klsm_parts.proofs.UnitedLemmas.{run_in_united, block_in_united}
 
 -- the least item that is not marked is the lesser of the run's next one and of the blocks' next one
@@ -71,19 +72,21 @@ is_next bs run order ps q x up marks least =
     }
 
 -- no item is ranked
-pub merging_none : (bs : List (List Item)) (run : List Item) (first count : ℕ) → IsMerging bs run first count [] (replicate (length bs) 0) 0
+pub merging_none : (bs : List (List Item)) (run : List Item) (first count : ℕ) → IsMerging bs run first count [] [] (replicate (length bs) 0) 0
 merging_none bs run first count = record {
   of_run_few = omega arith;
   marks = pivots_none (run ∷ bs);
   old_marks = pivots_none bs;
   ranking = tt;
+  owned = tt;
+  as_many = refl;
 }
 
 -- the next least item is one of the run
-pub merging_of_run : (bs : List (List Item)) (run : List Item) (first count : ℕ) (order ps : List ℕ) (q : ℕ) (y : Item) → IsLsm bs → IsAscending (sorted (run ++ content bs)) → IsAscending run → first + count ≤ length bs → IsMerging bs run first count order ps q
+pub merging_of_run : (bs : List (List Item)) (run : List Item) (first count : ℕ) (order owners ps : List ℕ) (q : ℕ) (y : Item) → IsLsm bs → IsAscending (sorted (run ++ content bs)) → IsAscending run → first + count ≤ length bs → IsMerging bs run first count order owners ps q
     → slice_get run q ≡ Some y → MatchOption (slice_get (sorted (content bs)) (length order - q)) (Unit {0}) (λ x. is_smaller y x ≡ true)
-    → IsMerging bs run first count (order ++ first ∷ []) ps (q + 1)
-merging_of_run bs run first count order ps q y lsm up run_up within merging here smaller =
+    → IsMerging bs run first count (order ++ first ∷ []) (owners ++ owner_byte y ∷ []) ps (q + 1)
+merging_of_run bs run first count order owners ps q y lsm up run_up within merging here smaller =
     let n = length order in
     let size : length (order ++ first ∷ []) ≡ n + 1 = length-append order (first ∷ []) in
     let left : length (order ++ first ∷ []) - (q + 1) ≡ n - q = omega (arith, size) in
@@ -94,13 +97,15 @@ merging_of_run bs run first count order ps q y lsm up run_up within merging here
       marks = rw size (pivot_more_ascending n (run ∷ bs) (q ∷ ps) 0 up merging.marks next.more (here ∙ next.least));
       old_marks = rw left merging.old_marks;
       ranking = ranking_more (united bs first count run) (sorted (run ++ content bs)) order first y merging.ranking next.at (run_in_united bs run first count y (omega (arith, within)) (contains_at run q y here));
+      owned = owners_more (sorted (run ++ content bs)) owners (owner_byte y) y merging.owned (ap (slice_get (sorted (run ++ content bs))) merging.as_many ∙ next.at) refl;
+      as_many = omega (arith, size, length-append owners (owner_byte y ∷ []), merging.as_many);
     }
 
 -- the next least item is one of a block
-pub merging_of_block : (bs : List (List Item)) (run : List Item) (first count : ℕ) (order ps : List ℕ) (q b : ℕ) (x : Item) → IsLsm bs → IsAscending (sorted (run ++ content bs)) → IsAscending run → first + count ≤ length bs → IsMerging bs run first count order ps q
+pub merging_of_block : (bs : List (List Item)) (run : List Item) (first count : ℕ) (order owners ps : List ℕ) (q b : ℕ) (x : Item) → IsLsm bs → IsAscending (sorted (run ++ content bs)) → IsAscending run → first + count ≤ length bs → IsMerging bs run first count order owners ps q
     → b < length bs → slice_get (sorted (content bs)) (length order - q) ≡ Some x → slice_get (get_or bs b []) (get_or ps b 0) ≡ Some x → MatchOption (slice_get run q) (Unit {0}) (λ y. is_smaller y x ≡ false)
-    → IsMerging bs run first count (order ++ place_after_add first count b ∷ []) (more_marked ps b) q
-merging_of_block bs run first count order ps q b x lsm up run_up within merging inside there here not_smaller =
+    → IsMerging bs run first count (order ++ place_after_add first count b ∷ []) (owners ++ owner_byte x ∷ []) (more_marked ps b) q
+merging_of_block bs run first count order owners ps q b x lsm up run_up within merging inside there here not_smaller =
     let n = length order in
     let place = place_after_add first count b in
     let size : length (order ++ place ∷ []) ≡ n + 1 = length-append order (place ∷ []) in
@@ -114,11 +119,13 @@ merging_of_block bs run first count order ps q b x lsm up run_up within merging 
       marks = rw size (pivot_more_ascending n (run ∷ bs) (q ∷ ps) (suc b) up merging.marks next.more (here ∙ next.least));
       old_marks = rw left (pivot_more (n - q) bs ps b lsm merging.old_marks old_more old_least);
       ranking = ranking_more (united bs first count run) (sorted (run ++ content bs)) order place x merging.ranking next.at (block_in_united bs run first count b x within inside (contains_at (get_or bs b []) (get_or ps b 0) x here));
+      owned = owners_more (sorted (run ++ content bs)) owners (owner_byte x) x merging.owned (ap (slice_get (sorted (run ++ content bs))) merging.as_many ∙ next.at) refl;
+      as_many = omega (arith, size, length-append owners (owner_byte x ∷ []), merging.as_many);
     }
 
 -- the run's marked items are some of its own, and each block has a pivot
-pub merging_within : (bs : List (List Item)) (run : List Item) (first count : ℕ) (order ps : List ℕ) (q : ℕ) → IsMerging bs run first count order ps q → (q ≤ length run) × (length ps ≡ length bs)
-merging_within bs run first count order ps q merging = (merging.marks.within.0, one_each bs ps merging.marks.within.1)
+pub merging_within : (bs : List (List Item)) (run : List Item) (first count : ℕ) (order owners ps : List ℕ) (q : ℕ) → IsMerging bs run first count order owners ps q → (q ≤ length run) × (length ps ≡ length bs)
+merging_within bs run first count order owners ps q merging = (merging.marks.within.0, one_each bs ps merging.marks.within.1)
 
 -- the blocks with the run are lawful
 pub added_lawful : (bs : List (List Item)) (run : List Item) (l : ℕ) → IsLsm bs → IsBlock l run → ShareNone (content bs) run → IsLsm (add bs run)
@@ -129,9 +136,9 @@ pub added_ascending : (bs : List (List Item)) (run : List Item) → IsLsm (add b
 added_ascending bs run lawful = subst IsAscending (sorted_add bs run ∙ sorted_swap (content bs) run) (ascending_content (add bs run) lawful)
 
 -- the pivots after the run was put in
-pub merged_exact : (k first count : ℕ) (bs : List (List Item)) (run : List Item) (order ps : List ℕ) (q : ℕ) → IsLsm (add bs run) → IsMerging bs run first count order ps q → length order ≡ min (k + 1) (length run + length (content bs)) → add bs run ≡ united bs first count run
+pub merged_exact : (k first count : ℕ) (bs : List (List Item)) (run : List Item) (order owners ps : List ℕ) (q : ℕ) → IsLsm (add bs run) → IsMerging bs run first count order owners ps q → length order ≡ min (k + 1) (length run + length (content bs)) → add bs run ≡ united bs first count run
     → ArePivots (k + 1) (add bs run) (united_pivots ps first count q)
-merged_exact k first count bs run order ps q lawful merging size same =
+merged_exact k first count bs run order owners ps q lawful merging size same =
     let up = added_ascending bs run lawful in
     let n = length order in
     let whole = run ++ content bs in
@@ -145,10 +152,14 @@ merged_exact k first count bs run order ps q lawful merging size same =
     pivots_all (k + 1) (add bs run) (united_pivots ps first count q) (pivots_if_split few many _ (add bs run) (united_pivots ps first count q) (skips_apart whole n) after total)
 
 -- and the ranking
-pub merged_ranking : (bs : List (List Item)) (run : List Item) (first count : ℕ) (order ps : List ℕ) (q : ℕ) → IsMerging bs run first count order ps q → add bs run ≡ united bs first count run → IsRanking (add bs run) order
-merged_ranking bs run first count order ps q merging same =
-    subst (λ cs. AreInBlocks cs (sorted (content (add bs run))) order) (sym same)
-    (subst (λ xs. AreInBlocks (united bs first count run) xs order) (sym (sorted_add bs run ∙ sorted_swap (content bs) run)) merging.ranking)
+pub merged_ranking : (bs : List (List Item)) (run : List Item) (first count : ℕ) (order owners ps : List ℕ) (q : ℕ) → IsMerging bs run first count order owners ps q → add bs run ≡ united bs first count run → AreRanked (add bs run) order owners
+merged_ranking bs run first count order owners ps q merging same =
+    let all : sorted (content (add bs run)) ≡ sorted (run ++ content bs) = sorted_add bs run ∙ sorted_swap (content bs) run in
+    record {
+      in_blocks = subst (λ cs. AreInBlocks cs (sorted (content (add bs run))) order) (sym same) (subst (λ xs. AreInBlocks (united bs first count run) xs order) (sym all) merging.ranking);
+      owned = subst (λ xs. AreOwners xs owners) (sym all) merging.owned;
+      as_many = merging.as_many;
+    }
 
 -- so many blocks are left
 pub length_united : (bs : List (List Item)) (first count : ℕ) (run : List Item) → first + count ≤ length bs → length (united bs first count run) + count ≡ length bs + 1
@@ -183,11 +194,19 @@ run_is_later run q next f is tested = by_item (slice_get run q) (subst (λ o. Ma
     by_item None tested' = tt
     by_item (Some y) tested' = sym tested'
 
+-- a run that comes before has a next item
+pub run_goes_on : (run : List Item) (q : ℕ) (next : Option (ℕ × Item)) → MatchOption (slice_get run q) (true ≡ false) (λ y. MatchOption next (IsTrue true) (λ f. true ≡ is_smaller y f.1)) → q < length run
+run_goes_on run q next tested = by_item (slice_get run q) refl tested
+  where
+    by_item : (o : Option Item) → slice_get run q ≡ o → MatchOption o (true ≡ false) (λ y. MatchOption next (IsTrue true) (λ f. true ≡ is_smaller y f.1)) → q < length run
+    by_item None same tested' = let bad : true ≡ false = tested' in cc
+    by_item (Some y) same tested' = slice_get_within run q y same
+
 -- where neither the run nor the blocks have a next item, all are ranked
-pub none_is_next : (bs : List (List Item)) (run : List Item) (first count : ℕ) (order ps : List ℕ) (q : ℕ) → IsMerging bs run first count order ps q → length order < length run + length (content bs)
+pub none_is_next : (bs : List (List Item)) (run : List Item) (first count : ℕ) (order owners ps : List ℕ) (q : ℕ) → IsMerging bs run first count order owners ps q → length order < length run + length (content bs)
     → length (content bs) ≤ length order - q → length run ≤ q → ⊥
-none_is_next bs run first count order ps q merging more past run_past =
-    absurd (omega (arith, merging.of_run_few, (merging_within bs run first count order ps q merging).0, more, past, run_past, few))
+none_is_next bs run first count order owners ps q merging more past run_past =
+    absurd (omega (arith, merging.of_run_few, (merging_within bs run first count order owners ps q merging).0, more, past, run_past, few))
   where
     few : length order - q ≤ length (content bs)
     few = omega (arith, length_marked (length order - q) bs ps merging.old_marks, count_marked bs ps merging.old_marks.within, count_marked (run ∷ bs) (q ∷ ps) merging.marks.within, length_marked (length order) (run ∷ bs) (q ∷ ps) merging.marks, sum_by-cons (λ (x : ℕ). x) q ps, length-append run (content bs), more, merging.of_run_few)

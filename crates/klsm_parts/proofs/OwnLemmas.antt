@@ -1,8 +1,9 @@
 -- An own part after an item was put in or taken out.
-use Rattle.std.proofs.Common.{◌≡◌, ℕ, ◌<◌, ◌≤◌, List, [], ◌∷◌, length, get_or, drop, Some, sym, ap, ◌∙◌, arith}
+use Rattle.std.proofs.Common.{◌≡◌, ℕ, ◌<◌, ◌≤◌, List, [], ◌∷◌, length, get_or, drop, Option, Some, None, sym, ap, ◌∙◌, arith}
 use Rattle.std.specs.List.{Contains, slice_get}
 use Rattle.std.proofs.lemmas.List.{length-append}
 use Rattle.std.proofs.lemmas.List.Elements.{Contains-append_right}
+use Rattle.std.proofs.lemmas.Option.{none-some}
 use Rattle.klsm_run.specs.declared.item.Item.{Item}
 use Rattle.klsm_run.specs.Content.{placed, sorted}
 use Rattle.klsm_run.proofs.ContentLemmas.{sorted_swap, sorted_itself}
@@ -13,24 +14,38 @@ use Rattle.klsm_lsm.specs.Adding.{add, cut}
 use Rattle.klsm_lsm.proofs.JoinLemmas.{some_in_block}
 use Rattle.klsm_lsm.proofs.AddLemmas.{length_add, sorted_add}
 use Rattle.klsm_lsm.proofs.CutLemmas.{length_cut}
-use Rattle.klsm_parts.specs.Parts.{IsOwn}
+use Rattle.klsm_parts.specs.declared.ranks.Place.{Place}
+use Rattle.klsm_parts.specs.LeastPlaces.{IsLeastPlace}
+use Rattle.klsm_parts.specs.Parts.{IsLeastBlock, IsOwn}
 
 -- one run holds all items of an own part, and so has its LSM room for them
 pub has_room : (capacity count : ℕ) → count < capacity → capacity ≤ 128 → count < limit_of 8 capacity
 has_room capacity count less few = omega arith
 
-pub own_added : (capacity k : ℕ) (old bs : List (List Item)) (x : Item) → IsOwn capacity (record { k = k; blocks = old }) → length (content bs) < k → IsOwn capacity (record { k = k; blocks = add bs (x ∷ []) })
-own_added capacity k old bs x own room = record {
+-- no block was found
+pub none_found : (bs : List (List Item)) (at : ℕ) → None ≡ Some at → IsLeastBlock bs at
+none_found bs at bad = absurd (none-some at bad)
+
+-- the first item of the block that has the least one stands in its place
+pub place_if_block : (bs : List (List Item)) (at : ℕ) (place : Place) → place.block ≡ at → place.index ≡ 0 → slice_get (get_or bs at []) 0 ≡ Some place.item → IsLeastBlock bs at → IsLeastPlace bs (Some place)
+place_if_block bs at place block index item least =
+    let here : slice_get (get_or bs place.block []) place.index ≡ Some place.item = rw (block, index) item in
+    record { item = sym item ∙ least.first; place = (rw block least.inside, here); first = index }
+
+pub own_added : (capacity k : ℕ) (old bs : List (List Item)) (x : Item) (found : Option ℕ) → IsOwn capacity (record { k = k; blocks = old }) found → length (content bs) < k → IsOwn capacity (record { k = k; blocks = add bs (x ∷ []) }) None
+own_added capacity k old bs x found own room = record {
   few = omega (arith, length_add bs (x ∷ []), room);
   k_in_range = own.k_in_range;
   capacity_in_range = own.capacity_in_range;
+  found_is = none_found (add bs (x ∷ []));
 }
 
-pub own_cut : (capacity k : ℕ) (bs : List (List Item)) (at index : ℕ) (x : Item) → IsOwn capacity (record { k = k; blocks = bs }) → slice_get (get_or bs at []) index ≡ Some x → IsOwn capacity (record { k = k; blocks = cut bs at index })
-own_cut capacity k bs at index x own found = record {
-  few = omega (arith, length_cut bs at index x found, own.few);
+pub own_cut : (capacity k : ℕ) (bs : List (List Item)) (at index : ℕ) (x : Item) (found : Option ℕ) → IsOwn capacity (record { k = k; blocks = bs }) found → slice_get (get_or bs at []) index ≡ Some x → IsOwn capacity (record { k = k; blocks = cut bs at index }) None
+own_cut capacity k bs at index x found own here = record {
+  few = omega (arith, length_cut bs at index x here, own.few);
   k_in_range = own.k_in_range;
   capacity_in_range = own.capacity_in_range;
+  found_is = none_found (cut bs at index);
 }
 
 -- an item that was put in is among the others

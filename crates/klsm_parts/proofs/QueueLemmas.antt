@@ -5,7 +5,7 @@ use Rattle.std.proofs.lemmas.List.{length-append}
 use Rattle.std.proofs.lemmas.List.Elements.{All-from_recursion, recursion_from_All}
 use Rattle.klsm_run.specs.declared.item.Item.{Item}
 use Rattle.klsm_run.specs.ItemOrder.{is_smaller}
-use Rattle.klsm_run.specs.Content.{placed, sorted, skipped, IsAscending, ShareNone}
+use Rattle.klsm_run.specs.Content.{placed, sorted, IsAscending, ShareNone}
 use Rattle.klsm_run.proofs.AllLemmas.{all_append}
 use Rattle.klsm_run.proofs.SortedLemmas.{all_sorted, length_sorted}
 use Rattle.klsm_run.proofs.ContainsLemmas.{contains_unsorted}
@@ -13,7 +13,8 @@ use Rattle.klsm_run.proofs.ApartLemmas.{apart_if_sharing_none, ascending_sorted}
 use Rattle.klsm_run.proofs.ContentLemmas.{sorted_middle, sorted_swap, sorted_same_behind, sorted_sorted, sorted_itself}
 use Rattle.klsm_run.proofs.LesserLemmas.{lesser, first_append}
 use Rattle.klsm_run.proofs.IndexLemmas.{taken_at}
-use Rattle.klsm_run.proofs.RankLemmas.{count_sorted}
+use Rattle.klsm_run.proofs.RankLemmas.{none_below_least, empty_if_no_least}
+use Rattle.klsm_run.proofs.LeastLemmas.{placed_least}
 use Rattle.klsm_run.specs.Capacity.{IsCapacity, heap_room}
 use Rattle.klsm_lsm.specs.Lsm.{content, IsLsm}
 use Rattle.klsm_lsm.specs.Limit.{IsLevelCount, limit_of}
@@ -24,8 +25,7 @@ use Rattle.klsm_lsm.proofs.CutLemmas.{sorted_cut}
 use Rattle.klsm_parts.specs.Parts.{PartState, items_in, least_in, candidates_of}
 use Rattle.klsm_parts.specs.Flushing.{moved, kept}
 use Rattle.klsm_parts.specs.Taking.{picks, lesser_of, IsCutFrom, Leaves}
-use Rattle.klsm_parts.specs.Events.{MayFindNothing}
-use Rattle.klsm_parts.specs.Queues.{QueueState, IsQueue, Joins, HaveNoPlace, IsFull}
+use Rattle.klsm_parts.specs.Queues.{QueueState, IsNumbered, IsQueue, Joins, HaveNoPlace, IsFull}
 use Rattle.klsm_parts.proofs.TakeLemmas.{IsTested}
 use Rattle.klsm_parts.proofs.PairLemmas.{ArePair, pair_put, pair_flushed, pair_taken}
 
@@ -114,16 +114,15 @@ abbrev pub IsLeft : Option Item → PartState → PartState → PartState → Pa
 IsLeft answer own own_after shared shared_after =
     MatchOption answer ((own_after ≡ own) × (shared_after ≡ shared)) (λ x. Leaves x own own_after shared shared_after)
 
--- what it leaves of the queue, and that k stays
-pub items_after : (answer : Option Item) (n : ℕ) (own own_after shared shared_after : PartState) → IsLeft answer own own_after shared shared_after
-    → MatchOption answer (queue_of own_after shared_after n ≡ queue_of own shared n) (λ x. both own shared ≡ sorted (x ∷ both own_after shared_after))
-items_after None n own own_after shared shared_after left = rw (left.0, left.1) refl
-items_after (Some x) n own own_after shared shared_after left = left_items x own own_after shared shared_after left
-
-pub count_after : (answer : Option Item) (own own_after shared shared_after : PartState) → IsLeft answer own own_after shared shared_after → IfSome answer (λ _. length (both own shared) ≡ length (both own_after shared_after) + 1)
-count_after None own own_after shared shared_after left = tt
-count_after (Some x) own own_after shared shared_after left =
-    omega (arith, ap length (left_items x own own_after shared shared_after left), length_sorted (x ∷ both own_after shared_after))
+-- what it leaves of the queue where it is the least item, and that k stays
+pub items_after : (answer : Option Item) (n : ℕ) (own own_after shared shared_after : PartState) → answer ≡ slice_get (both own shared) 0 → IsLeft answer own own_after shared shared_after
+    → MatchOption answer ((both own shared ≡ []) × (queue_of own_after shared_after n ≡ queue_of own shared n)) (λ x. both own shared ≡ x ∷ both own_after shared_after)
+items_after None n own own_after shared shared_after least left = (ap sorted (empty_if_no_least (items_in own ++ items_in shared) (sym least)), rw (left.0, left.1) refl)
+items_after (Some x) n own own_after shared shared_after least left =
+    let rest = both own_after shared_after in
+    let is : both own shared ≡ sorted (x ∷ rest) = left_items x own own_after shared shared_after left in
+    let first : slice_get (sorted (x ∷ rest)) 0 ≡ Some x = ap (λ c. slice_get c 0) (sym is) ∙ sym least in
+    is ∙ (ap (placed x) (sorted_itself (items_in own_after ++ items_in shared_after)) ∙ placed_least x rest (none_below_least x (x ∷ rest) first).1)
 
 pub item_left : (answer : Option Item) (own own_after shared shared_after : PartState) → IsLeft answer own own_after shared shared_after → IfSome answer (λ x. Leaves x own own_after shared shared_after)
 item_left None own own_after shared shared_after left = tt
@@ -142,13 +141,13 @@ pub full_by_place : (levels : ℕ) (x : Item) (queue : QueueState) (P : Type 0) 
 full_by_place levels x queue P place left = (λ p. inr (place.0 p), λ full. elim full [ inl used ↦ absurd (omega (arith, used, left)) | inr none ↦ place.1 none ])
 
 -- a queue stays one where an item joins its parts, and where one leaves them
-pub queue_joined : (capacity levels n next : ℕ) (own own_after shared shared_after : PartState) (x : Item) → x.stamp.number ≡ n → next ≡ n + 1 → IsLsm own.blocks → Joins x own own_after shared shared_after
+pub queue_joined : (capacity levels n next : ℕ) (own own_after shared shared_after : PartState) (x : Item) → x.stamp.owner ≡ 0 → x.stamp.number ≡ n → next ≡ n + 1 → IsLsm own.blocks → Joins x own own_after shared shared_after
     → IsQueue capacity levels (queue_of own shared n) → IsQueue capacity levels (queue_of own_after shared_after next)
-queue_joined capacity levels n next own own_after shared shared_after x is after lsm (inl put) queue =
-    let pair : ArePair next own_after shared_after = rw put.2 (pair_put n next own shared own_after x is after put.1 (pair_of capacity levels n own shared queue)) in
+queue_joined capacity levels n next own own_after shared shared_after x owner is after lsm (inl put) queue =
+    let pair : ArePair next own_after shared_after = rw put.2 (pair_put n next own shared own_after x owner is after put.1 (pair_of capacity levels n own shared queue)) in
     queue_if_pair capacity levels n next own own_after shared shared_after (ap (λ (p : PartState). p.k) put.1) pair queue
-queue_joined capacity levels n next own own_after shared shared_after x is after lsm (inr flushed) queue =
-    let pair = pair_flushed n next own shared own_after shared_after x is after lsm flushed.1 flushed.2 (pair_of capacity levels n own shared queue) in
+queue_joined capacity levels n next own own_after shared shared_after x owner is after lsm (inr flushed) queue =
+    let pair = pair_flushed n next own shared own_after shared_after x owner is after lsm flushed.1 flushed.2 (pair_of capacity levels n own shared queue) in
     queue_if_pair capacity levels n next own own_after shared shared_after (ap (λ (p : PartState). p.k) flushed.1) pair queue
 
 pub queue_left : (capacity levels n : ℕ) (answer : Option Item) (own own_after shared shared_after : PartState) → IsLeft answer own own_after shared shared_after
@@ -162,8 +161,8 @@ pub queue_of_none : (capacity levels k : ℕ) → k ≤ capacity → IsCapacity 
 queue_of_none capacity levels k few capacity_in levels_in = record {
   same_k = refl;
   apart = λ x in_own in_shared. absurd (omega (arith, in_own.1));
-  own_numbered = All-from_recursion (λ (x : Item). x.stamp.number < 0) [] tt;
-  shared_numbered = All-from_recursion (λ (x : Item). x.stamp.number < 0) [] tt;
+  own_numbered = All-from_recursion (IsNumbered 0) [] tt;
+  shared_numbered = All-from_recursion (IsNumbered 0) [] tt;
   k_in_range = few;
   capacity_in_range = capacity_in;
   levels_in_range = levels_in;
@@ -179,26 +178,6 @@ length_both own shared =
       length_sorted (content own.blocks),
       length_sorted (content shared.blocks),
     )
-
--- the items that are smaller than one may be counted in any order
-pub skips_both : (answer : Option Item) (k : ℕ) (own shared : PartState) → IfSome answer (λ x. skipped (items_in own ++ items_in shared) x ≤ k) → IfSome answer (λ x. skipped (both own shared) x ≤ k)
-skips_both None k own shared few = tt
-skips_both (Some x) k own shared few = omega (arith, few, count_sorted (λ y. is_smaller y x) (items_in own ++ items_in shared))
-
--- where there is no item, no part has one
-none_of_both : (a b : List Item) → sorted (a ++ b) ≡ [] → (a ≡ []) × (b ≡ [])
-none_of_both [] [] none = (refl, refl)
-none_of_both [] (y ∷ ys) none = absurd (omega (arith, ap length none, length_sorted (y ∷ ys)))
-none_of_both (x ∷ xs) b none = absurd (omega (arith, ap length none, length_sorted ((x ∷ xs) ++ b)))
-
-pub none_if_nothing : (own shared : PartState) → MayFindNothing (items_in own) (items_in shared) → both own shared ≡ []
-none_if_nothing own shared nothing =
-    ap (λ c. sorted (c ++ items_in shared)) nothing.own_empty ∙ ap sorted nothing.shared_empty
-
-pub nothing_if_none : (own shared : PartState) → both own shared ≡ [] → MayFindNothing (items_in own) (items_in shared)
-nothing_if_none own shared none =
-    let each = none_of_both (items_in own) (items_in shared) none in
-    record { own_empty = each.0; shared_empty = each.1 }
 
 -- the least item is the lesser of the least ones of both parts
 pub least_both : (own shared : PartState) → slice_get (both own shared) 0 ≡ lesser (least_in shared) (least_in own)
@@ -265,3 +244,13 @@ all_of_both P own shared of_own of_shared =
     let b = content shared.blocks in
     let each = all_append P (sorted a) (sorted b) (all_sorted P a (recursion_from_All P a of_own)) (all_sorted P b (recursion_from_All P b of_shared)) in
     All-from_recursion P (both own shared) (all_sorted P (sorted a ++ sorted b) each)
+
+-- the item that goes is the least one, where the picker answers the first candidate
+pub least_goes : (own shared : PartState) (answer : Option Item) → (picks (least_in own) (least_in shared) ≡ false → answer ≡ least_in own)
+    → (picks (least_in own) (least_in shared) ≡ true → (candidate : Item) × (slice_get (candidates_of shared) 0 ≡ Some candidate) × (answer ≡ Some (lesser_of candidate (least_in own))))
+    → answer ≡ slice_get (both own shared) 0
+least_goes own shared answer unasked asked = by_test (picks (least_in own) (least_in shared)) refl
+  where
+    by_test : (b : Bool) → picks (least_in own) (least_in shared) ≡ b → answer ≡ slice_get (both own shared) 0
+    by_test true is = let chosen = asked is in chosen.2 ∙ sym (least_of_first own shared chosen.0 chosen.1)
+    by_test false is = unasked is ∙ (unasked_is_least (least_in own) (least_in shared) is ∙ sym (least_both own shared))

@@ -1,7 +1,7 @@
 -- The ranking after an item was cut out: the other items keep their order, and the blocks behind may move up.
-use Rattle.std.proofs.Common.{◌≡◌, ◌≢◌, ℕ, ◌+◌, ◌-◌, ◌<◌, ◌≤◌, ◌==◌, Bool, true, List, [], ◌∷◌, ◌++◌, length, map, min, get_or, set, remove, take, drop, Option, Some, None, IfSome, MatchOption, sym, ap, ◌∙◌, subst, arith, zero, suc, inl, inr}
+use Rattle.std.proofs.Common.{◌≡◌, ◌≢◌, ℕ, ◌+◌, ◌-◌, ◌%◌, ◌<◌, ◌≤◌, ◌==◌, Bool, true, List, [], ◌∷◌, ◌++◌, length, map, min, get_or, set, remove, take, drop, Option, Some, None, IfSome, MatchOption, sym, ap, ◌∙◌, subst, arith, zero, suc, inl, inr}
 use Rattle.std.specs.List.{AllByRecursion, Contains, slice_get}
-use Rattle.std.specs.Option.{option_to_list}
+use Rattle.std.specs.Option.{option_map, option_to_list}
 use Rattle.std.proofs.lemmas.Bool.{cases_lt, cases_eq, lt-ltb, le-ltb, eq-eqb, ne_eqb}
 use Rattle.std.proofs.lemmas.List.{append-nil, length-append, length-map, length-take, length-take-le, get_or-set_same, get_or-set_other, get_or-take, get_or-drop, get_or_append_left, get_or-append_right}
 use Rattle.std.proofs.lemmas.List.Edits.{length-remove, get_or-remove_below, get_or-remove_above}
@@ -24,10 +24,12 @@ use Rattle.klsm_lsm.specs.Adding.{cut}
 use Rattle.klsm_lsm.specs.Places.{IsPartner}
 use Rattle.klsm_lsm.proofs.ContentLemmas.{ascending_content}
 use Rattle.klsm_lsm.proofs.CutLemmas.{sorted_cut, length_cut}
-use Rattle.klsm_parts.specs.Ranking.{AreInBlocks, IsRanking, IsOfBlock, closes_up, place_after_cut, cut_ranking}
+use Rattle.klsm_parts.specs.Ranking.{AreInBlocks, IsRanking, IsOfBlock, closes_up, place_after_cut, cut_ranking, AreOwners, AreRanked}
+use Rattle.klsm_parts.specs.declared.ranks.Ranked.{Ranked}
 use Rattle.klsm_parts.specs.Least.{least}
 use Rattle.klsm_parts.specs.Parts.{PartState, candidates_of}
 use Rattle.klsm_parts.proofs.RankingLemmas.{ranking_more}
+use Rattle.klsm_parts.proofs.OwnerLemmas.{owners_more, owners_remove}
 
 -- one item less is ranked
 pub length_cut_ranking : (order : List ℕ) (rank : ℕ) (closes : Bool) (at : ℕ) → rank < length order → length (cut_ranking order rank closes at) + 1 ≡ length order
@@ -161,17 +163,34 @@ ranking_cut bs order at index rank x is_only partner lsm ranking ranked here fou
     (new_if_removed all rank x (ascending_content bs lsm) among)
     (ranking_remove bs all order rank ranking ranked))
 
+-- what is known of the next item, where there is one
+abbrev pub IsNextRanked : ℕ → List (List Item) → Option Ranked → Type 0
+IsNextRanked k bs next = MatchOption next (length (content bs) ≤ k) (λ n. (n.block < length bs) × (k < length (content bs)) × IsOfBlock bs k n.block n.owner)
+
+-- its block and the low byte of its owner
+abbrev pub next_block : Option Ranked → List ℕ
+next_block next = option_to_list (option_map (λ n. n.block) next)
+
+abbrev pub next_owner : Option Ranked → List ℕ
+next_owner next = option_to_list (option_map (λ n. n.owner % 256) next)
+
 -- the ranking with the next item, where there is one
-pub ranking_replaced : (k : ℕ) (bs : List (List Item)) (order : List ℕ) (next : Option ℕ) → IsRanking bs order → length order + 1 ≡ min (k + 1) (length (content bs) + 1)
-    → MatchOption next (length (content bs) ≤ k) (λ b. (b < length bs) × (k < length (content bs)) × IsOfBlock bs k b)
-    → IsRanking bs (order ++ option_to_list next) × (length (order ++ option_to_list next) ≡ min (k + 1) (length (content bs)))
-ranking_replaced k bs order None ranking size few =
-    let same : order ++ [] ≡ order = append-nil order in
-    (subst (IsRanking bs) (sym same) ranking, omega (arith, size, few, ap length same))
-ranking_replaced k bs order (Some b) ranking size next =
+pub ranking_replaced : (k : ℕ) (bs : List (List Item)) (order owners : List ℕ) (next : Option Ranked) → AreRanked bs order owners → length order + 1 ≡ min (k + 1) (length (content bs) + 1) → IsNextRanked k bs next
+    → AreRanked bs (order ++ next_block next) (owners ++ next_owner next) × (length (order ++ next_block next) ≡ min (k + 1) (length (content bs)))
+ranking_replaced k bs order owners None ranked size few =
+    (subst (λ os. AreRanked bs os (owners ++ [])) (sym (append-nil order)) (subst (AreRanked bs order) (sym (append-nil owners)) ranked), omega (arith, size, few, ap length (append-nil order)))
+ranking_replaced k bs order owners (Some n) ranked size next =
+    let x = next.2.0 in
     let known : length order ≡ k = omega (arith, size, next.1) in
-    let there : slice_get (sorted (content bs)) (length order) ≡ Some next.2.0 = ap (slice_get (sorted (content bs))) known ∙ next.2.1 in
-    (ranking_more bs (sorted (content bs)) order b next.2.0 ranking there next.2.2, omega (arith, length-append order (b ∷ []), known, next.1))
+    let there : slice_get (sorted (content bs)) (length order) ≡ Some x = ap (slice_get (sorted (content bs))) known ∙ next.2.1 in
+    let owned_there : slice_get (sorted (content bs)) (length owners) ≡ Some x = ap (slice_get (sorted (content bs))) ranked.as_many ∙ there in (
+      record {
+        in_blocks = ranking_more bs (sorted (content bs)) order n.block x ranked.in_blocks there next.2.2;
+        owned = owners_more (sorted (content bs)) owners (n.owner % 256) x ranked.owned owned_there (ap (λ m. m % 256) (sym next.2.3));
+        as_many = omega (arith, length-append order (n.block ∷ []), length-append owners ((n.owner % 256) ∷ []), ranked.as_many);
+      },
+      omega (arith, length-append order (n.block ∷ []), known, next.1),
+    )
 
 -- a candidate's rank is one of the ranking
 pub candidate_ranked : (k : ℕ) (bs : List (List Item)) (order : List ℕ) (rank : ℕ) (x : Item) → length order ≡ min (k + 1) (length (content bs)) → slice_get (least (k + 1) (content bs)) rank ≡ Some x → rank < length order
@@ -179,22 +198,29 @@ candidate_ranked k bs order rank x whole among =
     omega (arith, whole, slice_get_within (least (k + 1) (content bs)) rank x among, length-take (k + 1) (sorted (content bs)), length_sorted (content bs))
 
 -- the ranking after a candidate was cut out, and the next item came
-pub ranking_mended : (k at index rank : ℕ) (x : Item) (is_only : Bool) (partner next : Option ℕ) (bs after : List (List Item)) (order : List ℕ) → after ≡ cut bs at index → IsLsm bs → IsRanking bs order → length order ≡ min (k + 1) (length (content bs)) → at < length bs
+pub ranking_mended : (k at index rank : ℕ) (x : Item) (is_only : Bool) (partner : Option ℕ) (next : Option Ranked) (bs after : List (List Item)) (order owners : List ℕ) → after ≡ cut bs at index → IsLsm bs → AreRanked bs order owners → length order ≡ min (k + 1) (length (content bs)) → at < length bs
     → slice_get (get_or bs at []) index ≡ Some x → slice_get (least (k + 1) (content bs)) rank ≡ Some x → IsPartner bs at partner → is_only ≡ (length (get_or bs at []) == 1)
-    → MatchOption next (length (content after) ≤ k) (λ b. (b < length after) × (k < length (content after)) × IsOfBlock after k b)
-    → IsRanking after (cut_ranking order rank (closes_up is_only partner) at ++ option_to_list next) × (length (cut_ranking order rank (closes_up is_only partner) at ++ option_to_list next) ≡ min (k + 1) (length (content after)))
-ranking_mended k at index rank x is_only partner next bs after order is lsm ranking whole here found among partner_is only told =
+    → IsNextRanked k after next
+    → AreRanked after (cut_ranking order rank (closes_up is_only partner) at ++ next_block next) (remove owners rank ++ next_owner next) × (length (cut_ranking order rank (closes_up is_only partner) at ++ next_block next) ≡ min (k + 1) (length (content after)))
+ranking_mended k at index rank x is_only partner next bs after order owners is lsm all_ranked whole here found among partner_is only told =
     let closes = closes_up is_only partner in
+    let all = sorted (content bs) in
     let ranked = candidate_ranked k bs order rank x whole among in
-    let there = (taken_at (k + 1) (sorted (content bs)) rank x among).1 in
-    let left = subst (λ cs. IsRanking cs (cut_ranking order rank closes at)) (sym is) (ranking_cut bs order at index rank x is_only partner lsm ranking ranked here found there partner_is only) in
+    let owned : rank < length owners = omega (arith, ranked, all_ranked.as_many) in
+    let there = (taken_at (k + 1) all rank x among).1 in
+    let cut_order = cut_ranking order rank closes at in
+    let left : AreRanked (cut bs at index) cut_order (remove owners rank) = record {
+      in_blocks = ranking_cut bs order at index rank x is_only partner lsm all_ranked.in_blocks ranked here found there partner_is only;
+      owned = subst (λ xs. AreOwners xs (remove owners rank)) (sym (sorted_after_cut bs at index rank x lsm found there)) (owners_remove all owners rank all_ranked.owned owned);
+      as_many = omega (arith, length-remove owners rank owned, length_cut_ranking order rank closes at ranked, all_ranked.as_many);
+    } in
     let size : length (content after) + 1 ≡ length (content bs) = omega (arith, ap (λ cs. length (content cs)) is, length_cut bs at index x found) in
-    ranking_replaced k after (cut_ranking order rank closes at) next left (omega (arith, length_cut_ranking order rank closes at ranked, whole, size)) told
+    ranking_replaced k after cut_order (remove owners rank) next (subst (λ cs. AreRanked cs cut_order (remove owners rank)) (sym is) left) (omega (arith, length_cut_ranking order rank closes at ranked, whole, size)) told
 
 -- the next item's block is one of the few that there are
-pub next_small : (k : ℕ) (bs : List (List Item)) (next : Option ℕ) → MatchOption next (length (content bs) ≤ k) (λ b. (b < length bs) × (k < length (content bs)) × IsOfBlock bs k b) → length bs < 256 → IfSome next (λ b. b < 256)
+pub next_small : (k : ℕ) (bs : List (List Item)) (next : Option Ranked) → IsNextRanked k bs next → length bs < 256 → IfSome next (λ n. n.block < 256)
 next_small k bs None told few = tt
-next_small k bs (Some b) told few = omega (arith, told.0, few)
+next_small k bs (Some n) told few = omega (arith, told.0, few)
 
 -- a candidate by where it stands and by its rank
 pub record IsCandidateAt (k : ℕ) (bs : List (List Item)) (at index rank : ℕ) : Type 0 where

@@ -1,14 +1,26 @@
 -- What follows from the definitions alone.
-use Rattle.std.specs.Prelude.{ℕ, ◌≡◌, ◌≤◌, List, ◌++◌, slice_get, Some}
+use Rattle.std.specs.Prelude.{ℕ, ◌≡◌, ◌+◌, ◌≤◌, List, ◌∷◌, ◌++◌, slice_get, Some}
 use Rattle.klsm_run.specs.declared.item.Item.{Item}
 use Rattle.klsm_run.specs.Content.{sorted, skipped}
-use Rattle.klsm_parts.specs.Events.{MayTake}
+use Rattle.klsm_parts.specs.Least.{least, IsLeast}
+use Rattle.klsm_parts.specs.Events.{MayTake, MayTakeEarly, front_of}
 use Rattle.klsm_parts.specs.Parts.{PartState, items_in, least_in, candidates_of}
-use Rattle.klsm_parts.specs.Taking.{lesser_of}
+use Rattle.klsm_parts.specs.Taking.{own_first, lesser_of}
 
 -- a deletion skips at most k items of the two parts
 abbrev pub TakesSkipFew : Type 0
-TakesSkipFew = (k : ℕ) (own shared : List Item) (x : Item) → MayTake k own shared x → skipped (own ++ shared) x ≤ k
+TakesSkipFew = (k owner : ℕ) (own shared : List Item) (x : Item) → MayTake k owner own shared x → skipped (own ++ shared) x ≤ k
+
+-- the candidate that goes by the rule of own order, or the least own item in its place, is one that may be taken
+abbrev pub OwnOrderMayTake : Type 0
+OwnOrderMayTake = (k owner index : ℕ) (own shared : List Item) (candidate x : Item)
+    → slice_get (least (k + 1) shared) (own_first owner index (least (k + 1) shared)) ≡ Some candidate
+    → IsLeast x (candidate ∷ own)
+    → MayTake k owner own shared x
+
+-- a deletion by the front skips no item of the two parts
+abbrev pub EarliesSkipNone : Type 0
+EarliesSkipNone = (own shared : List Item) (x : Item) → MayTakeEarly own x (front_of shared) → skipped (own ++ shared) x ≡ 0
 
 -- the lesser of the first candidate and the least own item is the least item of both parts
 abbrev pub FirstGivesLeast : Type 0

@@ -1,5 +1,5 @@
 -- Parts, as contracts see them.
-use Rattle.std.specs.Prelude.{ℕ, ◌≡◌, ◌+◌, ◌≤◌, List, length, min, slice_get, Option}
+use Rattle.std.specs.Prelude.{ℕ, ◌≡◌, ◌+◌, ◌<◌, ◌≤◌, List, [], length, min, slice_get, slice_index_or, Option, Some}
 use Rattle.klsm_run.specs.declared.item.Item.{Item}
 use Rattle.klsm_run.specs.Capacity.{IsCapacity}
 use Rattle.klsm_run.specs.Content.{sorted}
@@ -7,7 +7,7 @@ use Rattle.klsm_lsm.specs.Lsm.{content, IsLsm}
 use Rattle.klsm_lsm.specs.Limit.{IsLevelCount}
 use Rattle.klsm_parts.specs.Least.{least}
 use Rattle.klsm_parts.specs.Pivots.{ArePivots}
-use Rattle.klsm_parts.specs.Ranking.{IsRanking}
+use Rattle.klsm_parts.specs.Ranking.{AreRanked}
 
 -- an own part or a shared one: its k, and the blocks of its LSM
 pub record PartState : Type 0 where
@@ -26,18 +26,24 @@ least_in part = slice_get (items_in part) 0
 abbrev pub candidates_of : PartState → List Item
 candidates_of shared = least (shared.k + 1) (content shared.blocks)
 
--- an own part has at most k items, and one run can hold these
-pub record IsOwn (capacity : ℕ) (part : PartState) : Type 0 where
+-- the least item is the first one of this block
+pub record IsLeastBlock (blocks : List (List Item)) (at : ℕ) : Type 0 where
+  pub inside : at < length blocks
+  pub first : slice_get (slice_index_or blocks at []) 0 ≡ slice_get (sorted (content blocks)) 0
+
+-- an own part has at most k items, and one run can hold these; where the block of the least item was found, it is that
+pub record IsOwn (capacity : ℕ) (part : PartState) (found : Option ℕ) : Type 0 where
   pub few : length (content part.blocks) ≤ part.k
   pub k_in_range : part.k ≤ capacity
   pub capacity_in_range : IsCapacity capacity
+  pub found_is : (at : ℕ) → found ≡ Some at → IsLeastBlock part.blocks at
 
--- a shared part is a lawful LSM with exact pivots of its least k+1 items, of which the blocks are known in their order, and the least
--- one itself
-pub record IsShared (levels : ℕ) (part : PartState) (pivots : List ℕ) (ranking : List ℕ) (least : Option Item) : Type 0 where
+-- a shared part is a lawful LSM with exact pivots of its least k+1 items, of which the blocks and the owners' low bytes are known in
+-- their order, and the least one itself
+pub record IsShared (levels : ℕ) (part : PartState) (pivots ranking owners : List ℕ) (least : Option Item) : Type 0 where
   pub lawful : IsLsm part.blocks
   pub pivots_exact : ArePivots (part.k + 1) part.blocks pivots
-  pub ranking_exact : IsRanking part.blocks ranking
+  pub ranking_exact : AreRanked part.blocks ranking owners
   pub ranking_whole : length ranking ≡ min (part.k + 1) (length (content part.blocks))
   pub least_found : least ≡ least_in part
   pub k_in_range : part.k ≤ 128

@@ -24,12 +24,17 @@ items_of queue = sorted (items_in queue.own ++ items_in queue.shared)
 abbrev pub least_of : QueueState → Option Item
 least_of queue = slice_get (items_of queue) 0
 
+-- an item of a queue: its owner is 0, and its number was given out among the first n
+pub record IsNumbered (n : ℕ) (x : Item) : Type 0 where
+  pub owner : x.stamp.owner ≡ 0
+  pub number : x.stamp.number < n
+
 -- the parts have one k and share no item, and the number of each item was given out before
 pub record IsQueue (capacity levels : ℕ) (queue : QueueState) : Type 0 where
   pub same_k : queue.own.k ≡ queue.shared.k
   pub apart : ShareNone (content queue.own.blocks) (content queue.shared.blocks)
-  pub own_numbered : All (λ item. item.stamp.number < queue.inserted) (content queue.own.blocks)
-  pub shared_numbered : All (λ item. item.stamp.number < queue.inserted) (content queue.shared.blocks)
+  pub own_numbered : All (IsNumbered queue.inserted) (content queue.own.blocks)
+  pub shared_numbered : All (IsNumbered queue.inserted) (content queue.shared.blocks)
   pub k_in_range : queue.own.k ≤ capacity
   pub capacity_in_range : IsCapacity capacity
   pub levels_in_range : IsLevelCount levels

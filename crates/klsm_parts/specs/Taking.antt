@@ -1,5 +1,5 @@
 -- How a deletion chooses its item, and how the item leaves the blocks of its part.
-use Rattle.std.specs.Prelude.{◌≡◌, ◌⊎◌, ℕ, Bool, false, true, not, List, [], length, slice_get, slice_index_or, if◌then◌else◌, Option, Some, None}
+use Rattle.std.specs.Prelude.{◌≡◌, ◌⊎◌, ◌==◌, ℕ, zero, suc, Bool, false, true, not, List, [], ◌∷◌, length, slice_get, slice_index_or, if◌then◌else◌, Option, Some, None}
 use Rattle.klsm_run.specs.declared.item.Item.{Item}
 use Rattle.klsm_run.specs.ItemOrder.{is_smaller}
 use Rattle.klsm_lsm.specs.Adding.{cut}
@@ -21,12 +21,19 @@ abbrev pub unless_smaller : Item → Option Item → Option Item
 unless_smaller candidate None = Some candidate
 unless_smaller candidate (Some x) = if is_smaller x candidate then None else Some candidate
 
--- the picker was asked once for one of the candidates, and this follows from its choice
-pub record IsPicked {P : Type 0} (may_pick : P → ℕ → ℕ → P → Type 0) (before after : P) (candidates : List Item) (Follows : Item → Type 0) : Type 0 where
+-- of the candidates up to the one of an index, the index of the first that an owner inserted, and that index where there is none
+abbrev pub own_first : ℕ → ℕ → List Item → ℕ
+own_first owner zero candidates = zero
+own_first owner (suc index) [] = suc index
+own_first owner (suc index) (c ∷ candidates) = if c.stamp.owner == owner then zero else suc (own_first owner index candidates)
+
+-- the picker was asked once for one of the candidates; of those up to it the first that the owner inserted, or else that one, is the
+-- candidate that counts; and this follows from it
+pub record IsPicked {P : Type 0} (may_pick : P → ℕ → ℕ → P → Type 0) (before after : P) (owner : ℕ) (candidates : List Item) (Follows : Item → Type 0) : Type 0 where
   pub index : ℕ
   pub picked : may_pick before (length candidates) index after
   pub candidate : Item
-  pub found : slice_get candidates index ≡ Some candidate
+  pub found : slice_get candidates (own_first owner index candidates) ≡ Some candidate
   pub follows : Follows candidate
 
 -- blocks without an item of theirs, which was cut out of its block

@@ -1,11 +1,23 @@
 //! Laws of the definitions that the contracts cite. The functions do nothing: what they ensure is a
 //! theorem.
-ghost use Rattle.klsm_parts.specs.Laws.{TakesSkipFew, FirstGivesLeast};
+ghost use Rattle.klsm_parts.specs.Laws.{TakesSkipFew, OwnOrderMayTake, EarliesSkipNone, FirstGivesLeast};
 
 /// Whatever the parts hold and whichever candidate is picked, a deletion skips at most k items of
 /// the two.
 pub fn takes_skip_few()
     ensures { TakesSkipFew }
+{}
+
+/// Whichever candidate is picked: the first before it that the owner inserted, or else that one
+/// itself, may be taken, or the least own item in its place. So the deletion skips none of the owner's
+/// items.
+pub fn own_order_may_take()
+    ensures { OwnOrderMayTake }
+{}
+
+/// A deletion by the front skips no item of the two parts.
+pub fn earlies_skip_none()
+    ensures { EarliesSkipNone }
 {}
 
 /// A deletion that picks the first candidate gives the least item of the two parts, so with `First`

@@ -9,10 +9,9 @@
 //! A program of one thread takes a `Queue`, which has both parts and numbers the items itself:
 //!
 //! ```text
-//! let mut open: Queue<64, 21> = Queue::new(alloc, 16);  // a deletion may skip 16 items
-//! let mut picker = random_of(1);                        // or First, and no item is skipped
+//! let mut open: Queue<64, 21> = Queue::new(alloc, 16);  // 16 items lie in its own part
 //! open.insert(bound_of(&root), 0)?;                     // a key, and what the item is to carry
-//! while let Some(item) = open.delete_min(&mut picker) {
+//! while let Some(item) = open.delete_min() {            // the least of all
 //!     for node in children_of(item.load) {
 //!         open.insert(bound_of(&node), index_of(&node))?;
 //!     }
@@ -24,25 +23,32 @@
 //! ```text
 //! put(&mut own, item);                                  // the own part has room
 //! flush(&mut own, &mut shared, item)?;                  // it has not: its largest block moves
-//! let next = take(&mut own, &mut shared, &mut picker);
+//! let next = take(member, &mut own, &mut shared, &mut picker);
+//! let least = take_least(&mut own);                     // its key is below the front
 //! let count = spy(&mut own, &mut victim);               // it is empty: items move from another's
 //! ```
 //!
 //! - **Lawful at all times.** The invariants of `Local` and `Shared` hold of every value: a lawful
 //!   LSM of at most k items, and one within its limit with exact pivots. `Local::len`,
 //!   `Shared::len` and `Shared::pivot` tell it to their callers.
-//! - **Each call is its event.** The clauses `event` of `put`, `flush`, `take` and `spy` say that
+//! - **Each call is its event.** The clauses `event` of `put`, `flush`, `take`, `take_least` and `spy` say that
 //!   the event may happen, and what it leaves of the contents; the other clauses say which blocks
 //!   move, and which item goes.
 //! - **A deletion skips at most k items** of the two parts: clause `skips` of `take`.
 //!   `laws::takes_skip_few` says the same of the event, however the candidate was picked.
+//! - **A member's own order is kept.** A deletion skips no item of the two parts that the member
+//!   itself inserted: clause `event` of `take`. Of the candidates up to the picked one the first that
+//!   the member inserted goes, if there is one, and `laws::own_order_may_take` says why that is enough.
+//! - **The front tells when the shared part need not be looked at.** `Shared::front` is the key of its
+//!   least item. Where that of the least own item is below it, `take_least` is the deletion, and
+//!   skips no item of the two: clause `early`, and `laws::earlies_skip_none`.
 //! - **A `Queue` holds what was inserted and not yet deleted**, each item once: clauses `items` of
 //!   `Queue::insert` and `Queue::delete_min`, and `ascending` of `Queue::len`. It asks nothing of
 //!   its callers.
 //! - **A deletion takes no memory** and is never refused. `flush` makes one growth, before anything
 //!   changes; refused, it has changed nothing: clauses `unchanged`.
-//! - **The candidates are known in their order**, a byte for each, so that a deletion finds any of
-//!   them without a comparison.
+//! - **The candidates are known in their order**, two bytes for each, its block and its owner, so that a
+//!   deletion finds any of them without a comparison, and the first of an owner's by its byte.
 //! - **Pivots are mended, not counted anew.** A change of the shared part costs about one
 //!   comparison a block for them. `Shared::pivot_anew` counts, and its contract is that of `pivot`.
 #![tactic(auto)]
@@ -64,7 +70,7 @@ mod taking;
 
 pub use flushing::flush;
 pub use klsm_lsm::LsmError;
-pub use local::{Local, put};
+pub use local::{Local, put, take_least};
 pub use part::Part;
 pub use picker::{First, Last, Picker, Random, random_of};
 pub use queue::Queue;

@@ -1,5 +1,5 @@
 //! The part of one member.
-ghost use Rattle.std.specs.Prelude.{◌≡◌, ◌<◌, ◌≤◌, ◌↔◌, ◌∷◌, [], length, slice_get, slice_index_or, Some, IsTrue, ◌+◌, ◌++◌, IsOk, OnOk, vec_len, vec_capacity};
+ghost use Rattle.std.specs.Prelude.{ℕ, ◌≡◌, ◌<◌, ◌≤◌, ◌↔◌, ◌∷◌, [], length, slice_get, slice_index_or, Some, IsTrue, ◌+◌, ◌++◌, IsOk, OnOk, vec_len, vec_capacity};
 ghost use Rattle.std.specs.List.{Contains};
 ghost use Rattle.std.specs.Option.{option_to_list};
 ghost use Rattle.klsm_run.specs.Capacity.{IsCapacity};
@@ -8,13 +8,14 @@ ghost use Rattle.klsm_lsm.specs.Lsm.{content, IsLsm};
 ghost use Rattle.klsm_lsm.specs.Adding.{add};
 ghost use Rattle.klsm_lsm.specs.Spying.{spied, left_by_spy};
 ghost use Rattle.klsm_parts.specs.Least.{IsLeast};
+ghost use Rattle.klsm_parts.specs.LeastPlaces.{IsLeastPlace};
 ghost use Rattle.klsm_parts.specs.Parts.{PartState, IsOwn, items_in, least_in};
-ghost use Rattle.klsm_parts.specs.Events.{MayPut, MayTake, own_after_put, own_after_take};
+ghost use Rattle.klsm_parts.specs.Events.{MayPut, MayTake, MayTakeEarly, own_after_put, own_after_take, own_after_early};
 ghost use Rattle.klsm_parts.specs.Flushing.{kept};
 ghost use Rattle.klsm_parts.specs.Taking.{IsCutFrom};
 
 use crate::appending::append_blocks;
-use crate::ranks::{Place, least_place};
+use crate::ranks::{Place, first_of, least_place};
 use klsm_lsm::Lsm;
 use klsm_run::{FixedRun, Item};
 use std::alloc::{AllocError, Allocator};
@@ -26,6 +27,8 @@ use std::marker::Model;
 pub struct Local<const CAP: usize> {
     lsm: Lsm<FixedRun<CAP>, 8>,
     k: usize,
+    // The block of the least item, where a look has found it and nothing has changed since.
+    found: Option<usize>,
 }
 
 impl<const CAP: usize> Model for Local<CAP> {
@@ -33,7 +36,7 @@ impl<const CAP: usize> Model for Local<CAP> {
 
     ghost view = { λ own. record { k = own.k; blocks = own.lsm } };
 
-    ghost invariant = { λ own. IsOwn CAP (record { k = own.k; blocks = own.lsm }) };
+    ghost invariant = { λ own. IsOwn CAP (record { k = own.k; blocks = own.lsm }) own.found };
 }
 
 impl<const CAP: usize> Local<CAP> {
@@ -43,7 +46,11 @@ impl<const CAP: usize> Local<CAP> {
         requires k { k ≤ CAP }
         ensures { result ≡ record { k = k; blocks = [] } }
     {
-        Local { lsm: Lsm::new(), k }
+        Local {
+            lsm: Lsm::new(),
+            k,
+            found: None,
+        }
     }
 
     /// The greatest number of items. It is within what one run can hold.
@@ -109,27 +116,32 @@ impl<const CAP: usize> Local<CAP> {
         if self.lsm.blocks() == 0 {
             return;
         }
+        self.found = None;
         self.lsm.discard_largest();
         let Ok(()) = self.lsm.insert(item) else {
             unreachable!();
         };
     }
 
-    /// Takes the least item out. It takes no memory, and costs one comparison a block.
-    pub fn take_least(&mut self) -> Item
-        requires { 0 < length (content self.old.blocks) }
-        ensures least { IsLeast result (content self.old.blocks) }
-        ensures cut { IsCutFrom result self.old.blocks self.new.blocks }
-        ensures k { self.new.k ≡ self.old.k }
-
-        // What takes effect on the contents, where the shared part is empty.
-        ensures event { MayTake self.old.k (items_in self.old) [] result
-            × (items_in self.new ≡ own_after_take (items_in self.old) result) }
+    /// The least item, if there is one, as `least`. The next deletion need then not search for it, if nothing changes before.
+    pub fn find_least(&mut self) -> Option<Item>
+        ensures least { result ≡ least_in self.old }
+        ensures same { self.new ≡ self.old }
     {
-        let Some(place) = least_place(&self.lsm) else {
-            unreachable!();
-        };
-        self.remove(place.block, place.index)
+        let place = self.least_place()?;
+        self.found = Some(place.block);
+        Some(place.item)
+    }
+
+    // The least item, and where it stands, if there is one.
+    #[inline]
+    pub(crate) fn least_place(&self) -> Option<Place>
+        ensures { IsLeastPlace self.now.blocks result }
+    {
+        match self.found {
+            Some(block) => Some(first_of(&self.lsm, block)),
+            None => least_place(&self.lsm),
+        }
     }
 
     // Takes the least item out, which is item `index` of block `block`.
@@ -141,9 +153,10 @@ impl<const CAP: usize> Local<CAP> {
         ensures least { IsLeast result (content self.old.blocks) }
         ensures cut { IsCutFrom result self.old.blocks self.new.blocks }
         ensures k { self.new.k ≡ self.old.k }
-        ensures event { MayTake self.old.k (items_in self.old) [] result
+        ensures event { ((owner : ℕ) → MayTake self.old.k owner (items_in self.old) [] result)
             × (items_in self.new ≡ own_after_take (items_in self.old) result) }
     {
+        self.found = None;
         self.lsm.remove(block, index)
     }
 
@@ -158,6 +171,8 @@ impl<const CAP: usize> Local<CAP> {
         ensures count { result ≡ length (content self.new.blocks) }
     {
         let _few = victim.len();
+        self.found = None;
+        victim.found = None;
         self.lsm.spy(&mut victim.lsm)
     }
 }
@@ -182,7 +197,34 @@ pub fn put<const CAP: usize>(own: &mut Local<CAP>, item: Item)
     ensures event { MayPut own.old.k (items_in own.old)
         × (items_in own.new ≡ own_after_put (items_in own.old) item) }
 {
+    own.found = None;
     let Ok(()) = own.lsm.insert(item) else {
         unreachable!();
     };
+}
+
+/// Takes the least item out of an own part that is not empty. It takes no memory, and costs one comparison a block, or none where
+/// `find_least` has found it.
+///
+/// Where its key is below the front of the shared part, that is a deletion which looks at no shared item.
+#[inline]
+pub fn take_least<const CAP: usize>(own: &mut Local<CAP>) -> Item
+    requires { 0 < length (content own.old.blocks) }
+    ensures least { IsLeast result (content own.old.blocks) }
+    ensures cut { IsCutFrom result own.old.blocks own.new.blocks }
+    ensures k { own.new.k ≡ own.old.k }
+
+    // What takes effect on the contents, where its key is below the front of the shared part.
+    ensures early { (front : ℕ) → result.key < front
+        → MayTakeEarly (items_in own.old) result front
+        × (items_in own.new ≡ own_after_early (items_in own.old) result) }
+
+    // And where the shared part is empty.
+    ensures event { ((owner : ℕ) → MayTake own.old.k owner (items_in own.old) [] result)
+        × (items_in own.new ≡ own_after_take (items_in own.old) result) }
+{
+    let Some(place) = own.least_place() else {
+        unreachable!();
+    };
+    own.remove(place.block, place.index)
 }

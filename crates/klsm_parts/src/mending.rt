@@ -7,13 +7,13 @@ ghost use Rattle.klsm_parts.specs.Pivots.{ArePivots};
 ghost use Rattle.klsm_parts.specs.Ranking.{IsOfBlock};
 ghost use Rattle.klsm_parts.specs.Mending.{united_pivots, cut_pivots, IsCutMendable};
 
-use crate::ranks::mark_least;
+use crate::ranks::{Ranked, mark_least};
 use arrayvec::ArrayVec;
 use klsm_lsm::Lsm;
 use klsm_run::Run;
 
-/// Mends the pivots after a marked item was cut out of a block, and answers the block of the item that is marked in its place,
-/// if there is one: the item of rank k. It costs one comparison a block.
+/// Mends the pivots after a marked item was cut out of a block, and answers the block and the owner of the item that is marked in
+/// its place, if there is one: the item of rank k. It costs one comparison a block.
 ///
 /// `is_only` tells whether the block had no other item, and `partner` the block that became one
 /// with it, if one did.
@@ -24,18 +24,18 @@ pub(crate) fn mend_cut<R: Run, const LEVELS: usize>(
     is_only: bool,
     partner: Option<usize>,
     k: usize,
-) -> Option<usize>
+) -> Option<Ranked>
     requires mendable { IsCutMendable k lsm.now block is_only partner pivots.old.items }
     requires k { k ≤ 128 }
     ensures pivots { ArePivots (k + 1) lsm.now pivots.new.items }
     ensures next { MatchOption result (length (content lsm.now) ≤ k)
-        (λ next. (next < length lsm.now) × (k < length (content lsm.now))
-        × IsOfBlock lsm.now k next) }
+        (λ next. (next.block < length lsm.now) × (k < length (content lsm.now))
+        × IsOfBlock lsm.now k next.block next.owner) }
 {
     cut_pivot(pivots, block, is_only, partner);
     if lsm.len() > k {
-        let block = mark_least(lsm, pivots);
-        Some(block)
+        let next = mark_least(lsm, pivots);
+        Some(next)
     } else {
         None
     }

@@ -10,7 +10,7 @@ ghost use Rattle.klsm_parts.specs.Pivots.{ArePivots};
 ghost use Rattle.klsm_parts.specs.Ranking.{CanMerge, CanRankNext, IsRanking, IsMerging, place_after_add};
 
 use crate::ranking::Ranking;
-use crate::ranks::{comes_before, none_of};
+use crate::ranks::{Ranked, comes_before, none_of};
 use arrayvec::ArrayVec;
 use klsm_lsm::{Cascade, Lsm};
 use klsm_run::{Item, Run};
@@ -20,7 +20,7 @@ use klsm_run::{Item, Run};
 pub(crate) struct Merging<const LEVELS: usize> {
     /// The blocks that the run will become one with.
     pub(crate) cascade: Cascade,
-    /// The blocks of the items, as these will be.
+    /// The blocks of the items, as these will be, and their owners.
     pub(crate) ranking: Ranking,
     /// How many of the items each block has, as the blocks are.
     pub(crate) pivots: ArrayVec<usize, LEVELS>,
@@ -40,7 +40,8 @@ pub(crate) fn merged<B: Run, R: Run, const LEVELS: usize>(
         ≡ united lsm.now result.cascade.first result.cascade.count (R.items run.now) }
     ensures within { result.cascade.first + result.cascade.count ≤ length lsm.now }
     ensures merging { IsMerging lsm.now (R.items run.now) result.cascade.first
-        result.cascade.count result.ranking.blocks.items result.pivots.items result.of_run }
+        result.cascade.count result.ranking.blocks.items result.ranking.owners.items
+        result.pivots.items result.of_run }
     ensures whole { length result.ranking.blocks.items
         ≡ min (k + 1) (length (R.items run.now) + length (content lsm.now)) }
     ensures lawful { IsLsm (add lsm.now (R.items run.now)) }
@@ -64,11 +65,11 @@ impl<const LEVELS: usize> Merging<LEVELS> {
     fn rank_next<B: Run, R: Run>(&mut self, ranking: &Ranking, lsm: &Lsm<B, LEVELS>, run: &R)
         requires { CanRankNext LEVELS lsm.now (R.items run.now) ranking.now.blocks.items
             self.old.cascade.first self.old.cascade.count self.old.ranking.blocks.items
-            self.old.pivots.items self.old.of_run }
+            self.old.ranking.owners.items self.old.pivots.items self.old.of_run }
         ensures same { self.new.cascade ≡ self.old.cascade }
         ensures merging { IsMerging lsm.now (R.items run.now) self.old.cascade.first
-            self.old.cascade.count self.new.ranking.blocks.items self.new.pivots.items
-            self.new.of_run }
+            self.old.cascade.count self.new.ranking.blocks.items
+            self.new.ranking.owners.items self.new.pivots.items self.new.of_run }
         ensures len { length self.new.ranking.blocks.items
             ≡ length self.old.ranking.blocks.items + 1 }
     {
@@ -77,13 +78,19 @@ impl<const LEVELS: usize> Merging<LEVELS> {
         let rank = self.ranking.len() - self.of_run;
         let next = next_item(ranking, lsm, self.pivots.as_slice(), rank);
         if run_comes_first(run, self.of_run, next) {
-            self.ranking.push(self.cascade.first);
+            self.ranking.push(Ranked {
+                block: self.cascade.first,
+                owner: run.item_at(self.of_run).stamp.owner,
+            });
             self.of_run += 1;
         } else {
-            let Some((block, _)) = next else {
+            let Some((block, item)) = next else {
                 unreachable!();
             };
-            self.ranking.push(place_after(block, self.cascade));
+            self.ranking.push(Ranked {
+                block: place_after(block, self.cascade),
+                owner: item.stamp.owner,
+            });
             self.pivots.as_mut_slice()[block] += 1;
         }
     }

@@ -8,7 +8,7 @@ use rand_core::{Rng, SeedableRng};
 use rand_pcg::Pcg32;
 use std::marker::Model;
 
-/// Chooses which candidate a deletion takes.
+/// Chooses which candidate a deletion takes, where it takes none before that which its owner inserted.
 ///
 /// A deletion from the shared part asks it once. A picker of a caller's own may leave `may_pick`
 /// out, and then promises no more than an index of a candidate.

@@ -1,24 +1,26 @@
 //! The queue for one thread.
-ghost use Rattle.std.specs.Prelude.{◌≡◌, ◌+◌, ◌-◌, ◌<◌, ◌≤◌, ◌^◌, ◌↔◌, ◌∷◌, [], false, length, Some, None, IsTrue, IsOk, IfOk, OnOk, OnErr, IsErrAnd, IfSome, MatchOption};
+ghost use Rattle.std.specs.Prelude.{◌≡◌, ◌+◌, ◌-◌, ◌<◌, ◌≤◌, ◌^◌, ◌↔◌, ◌∷◌, [], length, Some, None, IsTrue, IsOk, IfOk, OnOk, OnErr, IsErrAnd, IfSome, MatchOption};
 ghost use Rattle.std.specs.List.{All, Contains};
 ghost use Rattle.klsm_run.specs.Capacity.{IsCapacity, heap_room};
-ghost use Rattle.klsm_run.specs.Content.{sorted, skipped, IsAscending, ShareNone};
+ghost use Rattle.klsm_run.specs.Content.{sorted, IsAscending, ShareNone};
 ghost use Rattle.klsm_lsm.specs.Lsm.{content, IsLsm};
 ghost use Rattle.klsm_lsm.specs.Limit.{IsLevelCount, limit_of};
-ghost use Rattle.klsm_parts.specs.Parts.{least_in, candidates_of};
-ghost use Rattle.klsm_parts.specs.Taking.{picks, lesser_of, IsPicked, Leaves};
-ghost use Rattle.klsm_parts.specs.Queues.{QueueState, IsQueue, items_of, least_of, next_item, Joins, HaveNoPlace, IsFull};
+ghost use Rattle.klsm_parts.specs.Taking.{Leaves};
+ghost use Rattle.klsm_parts.specs.Queues.{QueueState, IsNumbered, IsQueue, items_of, least_of, next_item, Joins, HaveNoPlace, IsFull};
 
 use crate::taking::is_smaller_own;
-use crate::{Local, Picker, Shared, flush, put, take};
+use crate::{First, Local, Shared, flush, put, take};
 use klsm_lsm::LsmError;
 use klsm_run::{Item, Stamp};
 use std::alloc::{Allocator, Global};
 use std::fmt;
 use std::marker::Model;
 
-/// A relaxed priority queue for one thread: an own part and a shared one, of which a deletion looks
-/// at both.
+// The owner of all items of a queue.
+const OWNER: u32 = 0;
+
+/// A priority queue for one thread: an own part and a shared one, of which a deletion looks at both. Deletions are exact: each
+/// gives the least item. `k` says how many items lie in the own part before some move to the shared one.
 ///
 /// `CAP` is at least k, and at most 128. `LEVELS` says how many items the shared part can hold:
 /// `2^(LEVELS-1)`, so 1,048,576 with 21.
@@ -41,8 +43,7 @@ impl<const CAP: usize, const LEVELS: usize, A: Allocator + Copy> Model for Queue
 }
 
 impl<const CAP: usize, const LEVELS: usize, A: Allocator + Copy> Queue<CAP, LEVELS, A> {
-    /// The queue with no item, whose deletions may skip `k` items each. `alloc` is what the shared
-    /// part will take memory from.
+    /// The queue with no item, whose own part is to hold at most `k`. `alloc` is what the shared part will take memory from.
     pub fn new(alloc: A, k: usize) -> Self
         requires capacity { IsCapacity CAP }
         requires levels { IsLevelCount LEVELS }
@@ -58,7 +59,7 @@ impl<const CAP: usize, const LEVELS: usize, A: Allocator + Copy> Queue<CAP, LEVE
         }
     }
 
-    /// How many items a deletion may skip.
+    /// How many items the own part may hold.
     #[inline]
     pub fn k(&self) -> usize
         ensures k { result ≡ self.now.own.k }
@@ -82,7 +83,7 @@ impl<const CAP: usize, const LEVELS: usize, A: Allocator + Copy> Queue<CAP, LEVE
     pub fn len(&self) -> usize
         ensures len { result ≡ length (items_of self.now) }
         ensures ascending { IsAscending (items_of self.now) }
-        ensures numbered { All (λ item. item.stamp.number < self.now.inserted) (items_of self.now) }
+        ensures numbered { All (IsNumbered self.now.inserted) (items_of self.now) }
     {
         self.own.len() + self.shared.len()
     }
@@ -176,31 +177,21 @@ impl<const CAP: usize, const LEVELS: usize, A: Allocator + Copy> Queue<CAP, LEVE
         }
     }
 
-    /// Deletes an item: the least own one where that is the least of all, else the lesser of it and
-    /// the candidate that the picker answers. `None` where there is no item.
+    /// Deletes the least item and answers it. `None` where there is no item.
     ///
-    /// It skips at most k items, and with `First` none (`laws::first_gives_least`). It takes no
-    /// memory, and costs what `take` does.
-    pub fn delete_min<P: Picker>(&mut self, picker: &mut P) -> Option<Item>
-        ensures nothing { (result ≡ None) ↔ (items_of self.old ≡ []) }
-        ensures items { MatchOption result (self.new ≡ self.old)
-            (λ item. items_of self.old ≡ sorted (item ∷ items_of self.new)) }
-        ensures count { IfSome result (λ _.
-            length (items_of self.old) ≡ length (items_of self.new) + 1) }
-        ensures skips { IfSome result (λ item. skipped (items_of self.old) item ≤ self.old.own.k) }
-
-        // The picker is asked, once, exactly where the least item is a shared one.
-        ensures unasked { picks (least_in self.old.own) (least_in self.old.shared) ≡ false
-            → (picker.new ≡ picker.old) × (result ≡ least_of self.old) }
-        ensures asked { IsTrue (picks (least_in self.old.own) (least_in self.old.shared))
-            → IsPicked P.may_pick picker.old picker.new (candidates_of self.old.shared)
-            (λ candidate. result ≡ Some (lesser_of candidate (least_in self.old.own))) }
+    /// All items of a queue have one owner, so a deletion by `take` skips none of them, whatever a picker says; this asks
+    /// none. It takes no memory, and costs what `take` does.
+    pub fn delete_min(&mut self) -> Option<Item>
+        ensures least { result ≡ least_of self.old }
+        ensures items { MatchOption result
+            ((items_of self.old ≡ []) × (self.new ≡ self.old))
+            (λ item. items_of self.old ≡ item ∷ items_of self.new) }
         ensures parts { IfSome result
             (λ item. Leaves item self.old.own self.new.own self.old.shared self.new.shared) }
         ensures k { self.new.own.k ≡ self.old.own.k }
         ensures inserted { self.new.inserted ≡ self.old.inserted }
     {
-        take(&mut self.own, &mut self.shared, picker)
+        take(OWNER, &mut self.own, &mut self.shared, &mut First)
     }
 }
 
@@ -224,7 +215,10 @@ fn item_of(key: u64, number: u64, load: u64) -> Item
 {
     Item {
         key,
-        stamp: Stamp { owner: 0, number },
+        stamp: Stamp {
+            owner: OWNER,
+            number,
+        },
         load,
     }
 }

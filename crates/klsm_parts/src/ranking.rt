@@ -1,12 +1,13 @@
-//! The candidates of the shared part in their order: the block of each.
-ghost use Rattle.std.specs.Prelude.{◌≡◌, ◌+◌, ◌<◌, ◌≤◌, ◌++◌, ◌∷◌, ℕ, [], true, length, map, slice_get, slice_index_or, count_by, nat_eq, Some, IfSome};
+//! The candidates of the shared part in their order: the block of each, and a byte of its owner.
+ghost use Rattle.std.specs.Prelude.{◌≡◌, ◌+◌, ◌%◌, ◌<◌, ◌≤◌, ◌↔◌, ◌++◌, ◌∷◌, ℕ, [], true, length, map, remove, slice_get, slice_index_or, count_by, nat_eq, option_map, Some, IfSome, IsTrue};
 ghost use Rattle.std.specs.Option.{option_to_list};
 ghost use Rattle.arrayvec.specs.ArrayVec.{array_vec_len};
 ghost use Rattle.klsm_run.specs.Content.{sorted};
 ghost use Rattle.klsm_lsm.specs.Lsm.{content, IsLsm};
-ghost use Rattle.klsm_parts.specs.Ranking.{IsRanking, closes_up, cut_ranking, place_after_cut};
+ghost use Rattle.klsm_parts.specs.Taking.{own_first};
+ghost use Rattle.klsm_parts.specs.Ranking.{IsRanking, AreRanked, closes_up, cut_ranking, place_after_cut};
 
-use crate::ranks::Place;
+use crate::ranks::{Place, Ranked};
 use arrayvec::ArrayVec;
 use klsm_lsm::Lsm;
 use klsm_run::{Item, Run};
@@ -19,7 +20,7 @@ pub(crate) struct LeastItems {
     pub(crate) ranking: Ranking,
 }
 
-/// The blocks of the candidates, in the order of these.
+/// The blocks of the candidates and who inserted these, in their order.
 ///
 /// Since a block is in ascending order, a candidate's index there is the number of candidates before it that are of the same
 /// block.
@@ -27,15 +28,19 @@ pub(crate) struct LeastItems {
 pub(crate) struct Ranking {
     // With room for the k+1 candidates.
     pub(crate) blocks: ArrayVec<u8, 129>,
+    // The low bytes of the owners, so that a search for an owner's candidate reads no other item.
+    pub(crate) owners: ArrayVec<u8, 129>,
 }
 
 impl Ranking {
     /// No candidate.
     pub(crate) fn new() -> Self
-        ensures { result.blocks.items ≡ [] }
+        ensures blocks { result.blocks.items ≡ [] }
+        ensures owners { result.owners.items ≡ [] }
     {
         Ranking {
             blocks: ArrayVec::new(),
+            owners: ArrayVec::new(),
         }
     }
 
@@ -84,17 +89,60 @@ impl Ranking {
         Some(self.place(lsm, 0).item)
     }
 
-    /// One candidate more, the next after those that are known, of a block.
-    #[inline]
-    pub(crate) fn push(&mut self, block: usize)
-        requires room { array_vec_len self.old.blocks < 129 }
-        requires block { block < 256 }
-        ensures { self.new.blocks.items ≡ self.old.blocks.items ++ block ∷ [] }
+    /// Of the candidates up to one of a rank, the rank of the first that an owner inserted, and of that one where there is none.
+    /// It costs a look at a byte for each, and reads an item only where the byte is the owner's.
+    pub(crate) fn own_first<R: Run, const LEVELS: usize>(
+        &self,
+        lsm: &Lsm<R, LEVELS>,
+        owner: u32,
+        rank: usize,
+    ) -> usize
+        requires lawful { IsLsm lsm.now }
+        requires ranking { AreRanked lsm.now self.now.blocks.items self.now.owners.items }
+        requires rank { rank < length self.now.blocks.items }
+        ensures first { result ≡ own_first owner rank (sorted (content lsm.now)) }
+        ensures at_most { result ≤ rank }
     {
-        self.blocks.push(block as u8);
+        for earlier in 0..rank {
+            if self.is_owned(lsm, owner, earlier) {
+                return earlier;
+            }
+        }
+        rank
     }
 
-    /// The candidate of a rank leaves, which is one of a block, and one of the block `next` comes last, if there is one.
+    // Whether an owner inserted the candidate of a rank. Where the low bytes differ, no item is read.
+    #[inline]
+    fn is_owned<R: Run, const LEVELS: usize>(
+        &self,
+        lsm: &Lsm<R, LEVELS>,
+        owner: u32,
+        rank: usize,
+    ) -> bool
+        requires lawful { IsLsm lsm.now }
+        requires ranking { AreRanked lsm.now self.now.blocks.items self.now.owners.items }
+        requires rank { rank < length self.now.blocks.items }
+        ensures { IfSome (slice_get (sorted (content lsm.now)) rank)
+            (λ item. IsTrue result ↔ (item.stamp.owner ≡ owner)) }
+    {
+        self.owners.as_slice()[rank] == low_byte(owner)
+            && self.place(lsm, rank).item.stamp.owner == owner
+    }
+
+    /// One candidate more, the next after those that are known.
+    #[inline]
+    pub(crate) fn push(&mut self, next: Ranked)
+        requires room { array_vec_len self.old.blocks < 129 }
+        requires owners_room { array_vec_len self.old.owners < 129 }
+        requires block { next.block < 256 }
+        ensures blocks { self.new.blocks.items ≡ self.old.blocks.items ++ next.block ∷ [] }
+        ensures owners { self.new.owners.items ≡ self.old.owners.items ++ (next.owner % 256) ∷ [] }
+    {
+        self.blocks.push(next.block as u8);
+        self.owners.push(low_byte(next.owner));
+    }
+
+    /// The candidate of a rank leaves, which is one of a block, and the next one comes last, if there is one.
     ///
     /// `is_only` tells whether the block had no other item, and `partner` the block that became one with it, if one did.
     pub(crate) fn replace(
@@ -103,15 +151,18 @@ impl Ranking {
         block: usize,
         is_only: bool,
         partner: Option<usize>,
-        next: Option<usize>,
+        next: Option<Ranked>,
     )
         requires rank { rank < array_vec_len self.old.blocks }
+        requires owners { array_vec_len self.old.owners ≡ array_vec_len self.old.blocks }
         requires room { array_vec_len self.old.blocks ≤ 129 }
         requires block { block < 256 }
-        requires next { IfSome next (λ next. next < 256) }
-        ensures { self.new.blocks.items
+        requires next { IfSome next (λ next. next.block < 256) }
+        ensures blocks { self.new.blocks.items
             ≡ cut_ranking self.old.blocks.items rank (closes_up is_only partner) block
-            ++ option_to_list next }
+            ++ option_to_list (option_map (λ next. next.block) next) }
+        ensures owners { self.new.owners.items ≡ remove self.old.owners.items rank
+            ++ option_to_list (option_map (λ next. next.owner % 256) next) }
     {
         self.remove(rank, block, is_closing(is_only, partner));
         if let Some(next) = next {
@@ -122,10 +173,14 @@ impl Ranking {
     // The candidate of a rank leaves. `closes_up` says whether the block behind its own then has the place of that.
     fn remove(&mut self, rank: usize, block: usize, closes_up: bool)
         requires rank { rank < array_vec_len self.old.blocks }
+        requires owners { rank < array_vec_len self.old.owners }
         requires block { block < 256 }
-        ensures { self.new.blocks.items ≡ cut_ranking self.old.blocks.items rank closes_up block }
+        ensures blocks { self.new.blocks.items
+            ≡ cut_ranking self.old.blocks.items rank closes_up block }
+        ensures owners { self.new.owners.items ≡ remove self.old.owners.items rank }
     {
         let _place = self.blocks.remove(rank);
+        let _owner = self.owners.remove(rank);
         if closes_up {
             close_up(self.blocks.as_mut_slice(), block as u8);
         }
@@ -138,6 +193,14 @@ fn is_closing(is_only: bool, partner: Option<usize>) -> bool
     ensures { result ≡ closes_up is_only partner }
 {
     is_only || partner.is_some()
+}
+
+// What is kept of an owner.
+#[inline]
+fn low_byte(owner: u32) -> u8
+    ensures { result ≡ owner % 256 }
+{
+    (owner % 256) as u8
 }
 
 // Gives each block behind another the place before its own.

@@ -20,17 +20,34 @@ pub(crate) struct Place {
     pub(crate) item: Item,
 }
 
+/// What the order of the candidates keeps of one: its block, and who inserted it.
+#[derive(Clone, Copy)]
+pub(crate) struct Ranked {
+    pub(crate) block: usize,
+    pub(crate) owner: u32,
+}
+
 /// The least item, and where it stands, if there is one. It costs one comparison a block.
 pub(crate) fn least_place<R: Run, const LEVELS: usize>(lsm: &Lsm<R, LEVELS>) -> Option<Place>
     ensures { IsLeastPlace lsm.now result }
 {
     let block = lsm.least_block()?;
+    Some(first_of(lsm, block))
+}
+
+/// The first item of a block.
+#[inline]
+pub(crate) fn first_of<R: Run, const LEVELS: usize>(lsm: &Lsm<R, LEVELS>, block: usize) -> Place
+    requires { block < length lsm.now }
+    ensures place { (result.block ≡ block) × (result.index ≡ 0) }
+    ensures item { slice_get (slice_index_or lsm.now block []) 0 ≡ Some result.item }
+{
     let item = lsm.block(block).item_at(0);
-    Some(Place {
+    Place {
         block,
         index: 0,
         item,
-    })
+    }
 }
 
 /// The item of a place.
@@ -59,24 +76,29 @@ pub(crate) fn pivots_of<R: Run, const LEVELS: usize>(
     pivots
 }
 
-/// Marks one item more, the least of those that are not marked, and answers its block. It costs one comparison a block.
+/// Marks one item more, the least of those that are not marked, and answers its block and its owner. It costs one comparison a
+/// block.
 pub(crate) fn mark_least<R: Run, const LEVELS: usize>(
     lsm: &Lsm<R, LEVELS>,
     pivots: &mut ArrayVec<usize, LEVELS>,
-) -> usize
+) -> Ranked
     requires lawful { IsLsm lsm.now }
     requires within { AreWithin lsm.now pivots.old.items }
     requires some { length (marked lsm.now pivots.old.items) < length (content lsm.now) }
     ensures marks { (n : ℕ) → n < length (content lsm.now) → ArePivots n lsm.now pivots.old.items
         → ArePivots (n + 1) lsm.now pivots.new.items }
     ensures block { (n : ℕ) → n < length (content lsm.now) → ArePivots n lsm.now pivots.old.items
-        → IsOfBlock lsm.now n result }
-    ensures inside { result < length lsm.now }
+        → IsOfBlock lsm.now n result.block result.owner }
+    ensures inside { result.block < length lsm.now }
 {
     let _count = lsm.len();
     let block = least_unmarked(lsm, pivots.as_slice());
+    let item = lsm.block(block).item_at(pivots.as_slice()[block]);
     pivots.as_mut_slice()[block] += 1;
-    block
+    Ranked {
+        block,
+        owner: item.stamp.owner,
+    }
 }
 
 /// A pivot of 0 for each block.

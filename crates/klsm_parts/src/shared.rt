@@ -6,6 +6,8 @@ ghost use Rattle.klsm_lsm.specs.Lsm.{content, IsLsm};
 ghost use Rattle.klsm_lsm.specs.Limit.{IsLevelCount, limit_of};
 ghost use Rattle.klsm_lsm.specs.Adding.{add, cut};
 ghost use Rattle.klsm_parts.specs.Pivots.{ArePivots, IsPivotAt, count_in_least};
+ghost use Rattle.klsm_parts.specs.Events.{front_of};
+ghost use Rattle.klsm_parts.specs.Taking.{own_first};
 ghost use Rattle.klsm_parts.specs.Parts.{PartState, IsShared, items_in, least_in, candidates_of};
 
 use crate::appending::append_blocks;
@@ -40,7 +42,7 @@ impl<const LEVELS: usize, A: Allocator + Copy> Model for Shared<LEVELS, A> {
 
     ghost invariant = { λ shared. IsShared LEVELS
         (record { k = shared.k; blocks = shared.lsm }) shared.pivots.items
-        shared.least.ranking.blocks.items shared.least.first };
+        shared.least.ranking.blocks.items shared.least.ranking.owners.items shared.least.first };
 }
 
 impl<const LEVELS: usize, A: Allocator + Copy> Shared<LEVELS, A> {
@@ -96,6 +98,18 @@ impl<const LEVELS: usize, A: Allocator + Copy> Shared<LEVELS, A> {
         ensures { result ≡ least_in self.now }
     {
         self.least.first
+    }
+
+    /// The front: the key of the least item, and the greatest number where there is no item. It costs
+    /// one access.
+    #[inline]
+    pub fn front(&self) -> u64
+        ensures { result ≡ front_of (items_in self.now) }
+    {
+        match self.least.first {
+            Some(item) => item.key,
+            None => u64::MAX,
+        }
     }
 
     /// The items, as an LSM.
@@ -161,6 +175,15 @@ impl<const LEVELS: usize, A: Allocator + Copy> Shared<LEVELS, A> {
         ensures candidate { slice_get (candidates_of self.now) index ≡ Some result.item }
     {
         self.least.ranking.place(&self.lsm, index)
+    }
+
+    // Of the candidates up to one, the index of the first that an owner inserted, and of that one where there is none.
+    pub(crate) fn own_first(&self, owner: u32, index: usize) -> usize
+        requires { index < length (candidates_of self.now) }
+        ensures first { result ≡ own_first owner index (candidates_of self.now) }
+        ensures at_most { result ≤ index }
+    {
+        self.least.ranking.own_first(&self.lsm, owner, index)
     }
 
     // Puts a copy of a run in. What can be refused comes first, and Full before a growth.

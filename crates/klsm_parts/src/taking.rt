@@ -5,20 +5,22 @@ ghost use Rattle.klsm_run.specs.ItemOrder.{is_smaller};
 ghost use Rattle.klsm_lsm.specs.Lsm.{content};
 ghost use Rattle.klsm_parts.specs.Parts.{items_in, least_in, candidates_of};
 ghost use Rattle.klsm_parts.specs.Events.{MayTake, MayFindNothing, own_after_take, shared_after_take};
-ghost use Rattle.klsm_parts.specs.Taking.{picks, lesser_of, unless_smaller, IsPicked, Leaves};
+ghost use Rattle.klsm_parts.specs.Taking.{own_first, picks, lesser_of, unless_smaller, IsPicked, Leaves};
 
-use crate::ranks::{Place, item_of, least_place};
+use crate::ranks::{Place, item_of};
 use crate::{Local, Picker, Shared};
 use klsm_run::Item;
 use std::alloc::Allocator;
 
 /// Takes an item out of the two parts: the least own one where it is the least of both parts, else
-/// the lesser of the least own one and the candidate that the picker answers. `None` where both
-/// parts are empty.
+/// the lesser of the least own one and a candidate. That is the one which the picker answers, or the
+/// first before it that `owner` inserted, if there is one. `None` where both parts are empty.
 ///
-/// What it takes skips at most k items of the two parts. It takes no memory. It costs one
-/// comparison a block of the own part and, where a shared item goes, one a block of the shared one.
+/// What it takes skips at most k items of the two parts, and none that `owner` inserted. It takes no
+/// memory. It costs one comparison a block of the own part and, where a shared item goes, one a block
+/// of the shared one and a look at a byte of each candidate before the one that goes.
 pub fn take<const CAP: usize, const LEVELS: usize, A: Allocator + Copy, P: Picker>(
+    owner: u32,
     own: &mut Local<CAP>,
     shared: &mut Shared<LEVELS, A>,
     picker: &mut P,
@@ -26,11 +28,12 @@ pub fn take<const CAP: usize, const LEVELS: usize, A: Allocator + Copy, P: Picke
     requires same_k { own.old.k ≡ shared.old.k }
     requires apart { ShareNone (content own.old.blocks) (content shared.old.blocks) }
 
-    // The picker is asked, once, exactly where the least of both parts is a shared item.
+    // The picker is asked, once, exactly where the least of both parts is a shared item. Of the candidates up to the one
+    // that it answers, the first that the owner inserted counts, or that one.
     ensures unasked { picks (least_in own.old) (least_in shared.old) ≡ false
         → (picker.new ≡ picker.old) × (result ≡ least_in own.old) }
     ensures asked { IsTrue (picks (least_in own.old) (least_in shared.old))
-        → IsPicked P.may_pick picker.old picker.new (candidates_of shared.old)
+        → IsPicked P.may_pick picker.old picker.new owner (candidates_of shared.old)
         (λ candidate. result ≡ Some (lesser_of candidate (least_in own.old))) }
 
     // The item leaves its part.
@@ -41,15 +44,15 @@ pub fn take<const CAP: usize, const LEVELS: usize, A: Allocator + Copy, P: Picke
     // What takes effect on the contents.
     ensures nothing { (result ≡ None) ↔ MayFindNothing (items_in own.old) (items_in shared.old) }
     ensures event { IfSome result (λ item.
-        MayTake own.old.k (items_in own.old) (items_in shared.old) item
+        MayTake own.old.k owner (items_in own.old) (items_in shared.old) item
         × (items_in own.new ≡ own_after_take (items_in own.old) item)
         × (items_in shared.new ≡ shared_after_take (items_in own.old) (items_in shared.old) item)) }
     ensures skips { IfSome result (λ item.
         skipped (items_in own.old ++ items_in shared.old) item ≤ own.old.k) }
 {
     // Each part is searched once.
-    let least_own = least_place(own.lsm());
-    match choose(item_of(least_own), shared, picker) {
+    let least_own = own.least_place();
+    match choose(owner, item_of(least_own), shared, picker) {
         Some((place, rank)) => {
             shared.remove(place.block, place.index, rank);
             Some(place.item)
@@ -63,6 +66,7 @@ pub fn take<const CAP: usize, const LEVELS: usize, A: Allocator + Copy, P: Picke
 
 // The candidate to take, and how many candidates are smaller. `None` where the least own item is to be taken, if there is one.
 fn choose<const LEVELS: usize, A: Allocator + Copy, P: Picker>(
+    owner: u32,
     least_own: Option<Item>,
     shared: &Shared<LEVELS, A>,
     picker: &mut P,
@@ -70,7 +74,7 @@ fn choose<const LEVELS: usize, A: Allocator + Copy, P: Picker>(
     ensures unasked { picks least_own (least_in shared.now) ≡ false
         → (picker.new ≡ picker.old) × (result ≡ None) }
     ensures asked { IsTrue (picks least_own (least_in shared.now))
-        → IsPicked P.may_pick picker.old picker.new (candidates_of shared.now)
+        → IsPicked P.may_pick picker.old picker.new owner (candidates_of shared.now)
         (λ candidate. option_map (λ chosen. chosen.0.item) result
         ≡ unless_smaller candidate least_own) }
     ensures place { IfSome result (λ chosen. (chosen.0.block < length shared.now.blocks)
@@ -83,11 +87,12 @@ fn choose<const LEVELS: usize, A: Allocator + Copy, P: Picker>(
         return None;
     }
     let index = picker.pick(shared.candidates());
-    let candidate = shared.place_of_candidate(index);
+    let rank = shared.own_first(owner, index);
+    let candidate = shared.place_of_candidate(rank);
     if is_smaller_own(least_own, candidate.item) {
         return None;
     }
-    Some((candidate, index))
+    Some((candidate, rank))
 }
 
 // Whether the least own item, if there is one, is smaller than another item.

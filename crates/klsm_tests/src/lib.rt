@@ -14,7 +14,6 @@
 //!   definitions.
 #![tactic(auto)]
 
-#[cfg(test)]
 mod board;
 #[cfg(test)]
 mod knapsack;
@@ -34,6 +33,8 @@ mod printed;
 mod program;
 #[cfg(test)]
 mod rationed;
+#[cfg(test)]
+mod rules;
 #[cfg(test)]
 mod runs;
 #[cfg(test)]

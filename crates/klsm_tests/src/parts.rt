@@ -7,4 +7,5 @@ mod pickers;
 mod plain;
 mod refused;
 mod spied;
+mod taken;
 mod worked;

@@ -1,5 +1,5 @@
 -- What the calls of a member show in the text.
-use Rattle.std.proofs.Common.{◌≡◌, ◌≤◌, ℕ, suc, List, [], ◌∷◌, ◌++◌, length, length-append, ap, ◌∙◌, inl, inr, arith}
+use Rattle.std.proofs.Common.{◌≡◌, ◌≤◌, ℕ, suc, List, [], ◌∷◌, ◌++◌, length, length-append, ap, ◌∙◌, inl, inr, arith, Some, None}
 use Rattle.std.proofs.lemmas.Grind.{flat_map-append}
 use Rattle.std.proofs.lemmas.List.Concat.{flat_map-cons}
 use Rattle.std.specs.List.{flat_map}
@@ -10,13 +10,13 @@ use Rattle.klsm_world.specs.declared.step.Entry.{Entry}
 use Rattle.klsm_world.specs.OwnSteps.{inserted, inserted_by}
 use Rattle.klsm_board.specs.declared.sizes.Sizes.{Sizes}
 use Rattle.klsm_board.specs.declared.errors.InsertError.{InsertError}
-use Rattle.klsm_board.specs.Entries.{both_taken}
+use Rattle.klsm_board.specs.Entries.{own_taken, both_taken}
 use Rattle.klsm_board.specs.Inserting.{Inserts, RefusesInsertInTime}
-use Rattle.klsm_board.specs.Deleting.{Deletes, FindsNothing, victim_of}
+use Rattle.klsm_board.specs.Deleting.{Deletes, FindsNothing, AnswersDeletion, victim_of}
 use Rattle.klsm_board.proofs.calls.EventLemmas.{events}
-use Rattle.klsm_board.proofs.calls.AddLemmas.{both_quiet}
+use Rattle.klsm_board.proofs.calls.AddLemmas.{own_quiet, both_quiet}
 use Rattle.klsm_board.proofs.calls.AddedLemmas.{puts_events, flushes_events, refused_in_time_events}
-use Rattle.klsm_board.proofs.calls.DeletedLemmas.{takes_events, spied_events, nothing_events}
+use Rattle.klsm_board.proofs.calls.DeletedLemmas.{takes_events, early_events, spied_events, nothing_events}
 use Rattle.klsm_text.specs.declared.answer.Answer.TheVariants.{Inserted, Deleted, Nothing}
 use Rattle.klsm_tool.specs.Shown.{shown, shown_in}
 
@@ -32,6 +32,7 @@ inserted_within es = by_events (events es)
     one (event.Put x) = omega arith
     one (event.Flush x moved) = omega arith
     one (event.Take x) = omega arith
+    one (event.Early x front) = omega arith
     one event.Nothing = omega arith
     one (event.Spy victim moved) = omega arith
 
@@ -60,13 +61,23 @@ module _ (m : Sizes) (t : ℕ) (own_misses shared_misses : List ℕ) (own shared
   quiet : events taken ≡ events es
   quiet = both_quiet t own_misses shared_misses own shared es
 
-  -- a deletion shows its item
-  pub deletion_shows : {P : Type 0} (may_pick : P → ℕ → ℕ → P → Type 0) (before after : P) (x : Item) → Deletes may_pick before after m t own shared taken es' x
+  -- a deletion from both parts shows its item
+  deletion_shows : {P : Type 0} (may_pick : P → ℕ → ℕ → P → Type 0) (before after : P) (x : Item) → Deletes may_pick before after m t own shared taken es' x
       → shown_in es' ≡ shown_in es ++ Deleted x ∷ []
   deletion_shows may_pick before after x (inl takes) = shows_more es es' (event.Take x ∷ []) (takes_events m t own shared es taken es' quiet x takes.0)
   deletion_shows may_pick before after x (inr takes) =
       shows_more es es' (event.Spy (victim_of m.threads t (suc takes.0.spies.passed)) takes.0.moved ∷ event.Take x ∷ []) (spied_events m t own shared es taken es' quiet x takes.0)
 
   -- and one that finds nothing shows that
-  pub nothing_shows : FindsNothing m t own shared taken es' → shown_in es' ≡ shown_in es ++ Nothing ∷ []
+  nothing_shows : FindsNothing m t own shared taken es' → shown_in es' ≡ shown_in es ++ Nothing ∷ []
   nothing_shows finds = shows_more es es' (event.Nothing ∷ []) (nothing_events m t own shared es taken es' quiet finds)
+
+-- what a deletion answered is what it shows
+module _ {P : Type 0} (may_pick : P → ℕ → ℕ → P → Type 0) (before after : P) (m : Sizes) (t : ℕ) (own_misses shared_misses : List ℕ) (es es' : List Entry) where
+  pub item_shows : (x : Item) → AnswersDeletion may_pick before after m t own_misses shared_misses es es' (Some x) → shown_in es' ≡ shown_in es ++ Deleted x ∷ []
+  item_shows x (own, inl early) = shows_more es es' (event.Early x early.0.front ∷ []) (early_events m t own es (own_taken t own_misses own es) es' x (own_quiet t own_misses own es) early.0)
+  item_shows x (own, inr both) = deletion_shows m t own_misses shared_misses own both.0 es es' may_pick before after x both.1
+
+  pub none_shows : AnswersDeletion may_pick before after m t own_misses shared_misses es es' None → shown_in es' ≡ shown_in es ++ Nothing ∷ []
+  none_shows (own, inl early) = absurd early.0
+  none_shows (own, inr both) = nothing_shows m t own_misses shared_misses own both.0 es es' both.1.0

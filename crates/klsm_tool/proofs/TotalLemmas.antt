@@ -46,6 +46,7 @@ inserted_shown es = by_events (flat_map event_at es)
     more (event.Put x) answers = omega arith
     more (event.Flush x moved) answers = omega arith
     more (event.Take x) answers = omega arith
+    more (event.Early x front) answers = omega arith
     more event.Nothing answers = omega arith
     more (event.Spy victim moved) answers = omega arith
 

@@ -14,6 +14,7 @@ abbrev pub shown : Event → List Answer
 shown (event.Put x) = Inserted x ∷ []
 shown (event.Flush x moved) = Inserted x ∷ []
 shown (event.Take x) = Deleted x ∷ []
+shown (event.Early x front) = Deleted x ∷ []
 shown event.Nothing = Nothing ∷ []
 shown (event.Spy victim moved) = []
 

@@ -11,7 +11,7 @@ Rows:
   THREAD,d,,         Delete an item, one of the least
 
 Threads are numbered from 0. Each keeps K items for itself; what is more goes to a part that all
-share, of which a deletion takes a candidate.
+share, of which a deletion takes a candidate, but none above one of its thread's own.
 
 Answers:
   THREAD i KEY STAMP                      The item was inserted
@@ -39,8 +39,8 @@ Example:
   1 i 2 1.1
   1 i 9 1.2
   0 i 1 0.0
-  1 d 3 1.0 load 0 skip 2
-  max skip 2 bound 2";
+  1 d 2 1.1 load 0 skip 1
+  max skip 1 bound 2";
 
 /// The help of `klsm live`.
 pub(crate) const LIVE_HELP: &str = "\

@@ -180,4 +180,4 @@ const NODES_HELP: &str = "How many nodes a worker keeps for itself, 0 to 64";
 
 const IDLE_HELP: &str = "After how many answers 'nothing' in a row a worker ends, 0 to 1000000";
 
-const PICK_HELP: &str = "Which candidate a deletion takes: first, last or random";
+const PICK_HELP: &str = "Which candidate a deletion picks: first, last or random";

@@ -1,6 +1,6 @@
 //! How a script is run, and how an instance is solved.
 
-/// Which candidate of the shared part a deletion takes.
+/// Which candidate of the shared part a deletion picks.
 #[derive(Clone, Copy, Debug, PartialEq, Eq)]
 pub enum Pick {
     /// The least.

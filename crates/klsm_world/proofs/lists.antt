@@ -1,5 +1,4 @@
 -- Tests on lists of items, and lists that are merged.
-pub mod RisingLemmas  -- no later item of a sorted list is smaller
 pub mod RestLemmas  -- what a loop has seen of a list
 pub mod ConditionLemmas  -- the conditions of events
 pub mod TakeConditionLemmas  -- the condition of a Take

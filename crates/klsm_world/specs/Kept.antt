@@ -2,11 +2,12 @@
 use Rattle.std.specs.Prelude.{ℕ, ◌≡◌, ◌+◌, ◌≤◌, ◌==◌, if◌then◌else◌, List, [], ◌∷◌, length, slice_index_or, Option, Some, None}
 use Rattle.klsm_run.specs.declared.item.Item.{Item}
 use Rattle.klsm_run.specs.Content.{sorted}
+use Rattle.klsm_parts.specs.Events.{front_of}
 use Rattle.klsm_world.specs.declared.step.Event.TheVariants as event
 use Rattle.klsm_world.specs.declared.step.Entry.{Entry}
 use Rattle.klsm_world.specs.declared.step.Entry.TheVariants as entry
 use Rattle.klsm_world.specs.declared.own_steps.KeptStep.{KeptStep}
-use Rattle.klsm_world.specs.declared.own_steps.KeptStep.TheVariants.{Acquired, Put, Flush, Take, Nothing, Spy, Released, Missed}
+use Rattle.klsm_world.specs.declared.own_steps.KeptStep.TheVariants.{Acquired, Put, Flush, Take, Early, Nothing, Spy, Released, Missed}
 use Rattle.klsm_world.specs.Worlds.{Limits, World, word_of, content_of}
 use Rattle.klsm_world.specs.LawfulWorlds.{IsLawful}
 use Rattle.klsm_world.specs.WorldView.{AreLimits}
@@ -17,6 +18,7 @@ entry_of (Acquired p) items = entry.Acquired p items
 entry_of (Put x) items = entry.Committed (event.Put x)
 entry_of (Flush x) items = entry.Committed (event.Flush x items)
 entry_of (Take x) items = entry.Committed (event.Take x)
+entry_of (Early x front) items = entry.Committed (event.Early x front)
 entry_of Nothing items = entry.Committed event.Nothing
 entry_of (Spy victim) items = entry.Committed (event.Spy victim items)
 entry_of (Released p) items = entry.Released p
@@ -31,6 +33,7 @@ homes_of _ _ = []
 abbrev pub world_of : List ℕ → List (List Item) → List (List Entry) → World
 world_of words contents lists = record {
   words = words;
+  front = front_of (slice_index_or contents 0 []);
   homes = homes_of words contents;
   lists = lists;
 }

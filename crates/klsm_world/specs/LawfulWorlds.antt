@@ -2,8 +2,8 @@
 use Rattle.std.specs.Prelude.{ℕ, ◌≡◌, ◌≢◌, ◌+◌, ◌<◌, ◌≤◌, List, length, Some, None}
 use Rattle.std.specs.List.{flat_map}
 use Rattle.klsm_run.specs.declared.item.Item.{Item}
-use Rattle.klsm_parts.specs.Events.{times}
-use Rattle.klsm_world.specs.OwnSteps.{Holds, HoldsSome, own_part, inserted, deleted}
+use Rattle.klsm_parts.specs.Events.{times, front_of}
+use Rattle.klsm_world.specs.OwnSteps.{Holds, HoldsSome, shared_part, own_part, inserted, deleted}
 use Rattle.klsm_world.specs.LegalSteps.{IsLegal}
 use Rattle.klsm_world.specs.Worlds.{Limits, World, word_of, home_of, steps_of, hand_in, content_of, live}
 
@@ -35,6 +35,8 @@ pub record IsLawful (limits : Limits) (w : World) : Type 0 where
   pub agreed : AreAgreed limits w
   -- an own part has at most k items
   pub few : (t : ℕ) → t < limits.threads → length (content_of w (own_part t)) ≤ limits.k
+  -- the front word is the front of the shared part, be it free or held
+  pub front_is : w.front ≡ front_of (content_of w shared_part)
   -- what was inserted is what was deleted and what is live, each as often
   pub each_once : (x : Item)
       → times x (flat_map inserted w.lists) ≡ times x (flat_map deleted w.lists) + times x (live w)

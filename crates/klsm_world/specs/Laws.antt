@@ -1,16 +1,16 @@
 -- What follows from the definitions alone, for every number of threads and every k.
-use Rattle.std.specs.Prelude.{ℕ, ◌≡◌, ◌≢◌, ◌*◌, ◌-◌, ◌+◌, ◌<◌, ◌≤◌, ◌==◌, if◌then◌else◌, List, [], ◌∷◌, length, reverse, Some}
+use Rattle.std.specs.Prelude.{ℕ, ◌≡◌, ◌≢◌, ◌*◌, ◌-◌, ◌+◌, ◌<◌, ◌≤◌, ◌==◌, if◌then◌else◌, List, [], ◌∷◌, ◌++◌, length, reverse, Some}
 use Rattle.std.specs.List.{flat_map}
 use Rattle.klsm_run.specs.declared.item.Item.{Item}
 use Rattle.klsm_run.specs.Content.{sorted, skipped, ShareNone}
-use Rattle.klsm_parts.specs.Events.{times}
+use Rattle.klsm_parts.specs.Events.{times, SkipsNoneOf}
 use Rattle.klsm_world.specs.declared.step.Event.{Event}
-use Rattle.klsm_world.specs.declared.step.Event.TheVariants.{Take, Nothing}
+use Rattle.klsm_world.specs.declared.step.Event.TheVariants.{Take, Early, Nothing}
 use Rattle.klsm_world.specs.declared.step.Step.{Step}
 use Rattle.klsm_world.specs.declared.step.Step.TheVariants.{Acquire, Commit, Release, Miss}
 use Rattle.klsm_world.specs.declared.errors.StepError.{StepError}
 use Rattle.klsm_world.specs.declared.errors.StepError.TheVariants.{NoMemory}
-use Rattle.klsm_world.specs.OwnSteps.{event_at, inserted}
+use Rattle.klsm_world.specs.OwnSteps.{shared_part, own_part, event_at, inserted}
 use Rattle.klsm_world.specs.Worlds.{Limits, World, word_of, home_of, steps_of, content_of, live, first_world}
 use Rattle.klsm_world.specs.LawfulWorlds.{IsLawful}
 use Rattle.klsm_world.specs.Schedules.{MayStep, acquired, next, Leads}
@@ -37,6 +37,23 @@ abbrev pub TakesSkipFew : Type 0
 TakesSkipFew = (limits : Limits) (w : World) (t : ℕ) (x : Item) → IsLawful limits w
     → MayStep limits w (Commit t (Take x))
     → skipped (live w) x ≤ limits.threads * limits.k
+
+-- a deletion by the front skips at most (T-1)·k
+abbrev pub EarliesSkipFew : Type 0
+EarliesSkipFew = (limits : Limits) (w : World) (t : ℕ) (x : Item) (front : ℕ) → IsLawful limits w
+    → MayStep limits w (Commit t (Early x front))
+    → skipped (live w) x ≤ (limits.threads - 1) * limits.k
+
+-- neither skips an item that thread t itself inserted, of those in its own part and in the shared one
+abbrev pub TakesKeepOwnOrder : Type 0
+TakesKeepOwnOrder = (limits : Limits) (w : World) (t : ℕ) (x : Item) → IsLawful limits w
+    → MayStep limits w (Commit t (Take x))
+    → SkipsNoneOf t (content_of w (own_part t) ++ content_of w shared_part) x
+
+abbrev pub EarliesKeepOwnOrder : Type 0
+EarliesKeepOwnOrder = (limits : Limits) (w : World) (t : ℕ) (x : Item) (front : ℕ)
+    → IsLawful limits w → MayStep limits w (Commit t (Early x front))
+    → SkipsNoneOf t (content_of w (own_part t) ++ content_of w shared_part) x
 
 -- in a lawful world at most (T-1)·k items live where thread t may answer nothing
 abbrev pub NothingLeavesFew : Type 0

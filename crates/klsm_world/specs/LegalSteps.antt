@@ -1,9 +1,9 @@
 -- Which events a thread may commit, and which lists of own steps are legal.
 use Rattle.std.specs.Prelude.{ℕ, ◌≡◌, ◌≢◌, ◌≤◌, List, length, take, slice_get, Some, None}
 use Rattle.klsm_run.specs.declared.item.Item.{Item}
-use Rattle.klsm_parts.specs.Events.{MayPut, MayFlush, MayTake, MayFindNothing, MaySpy}
+use Rattle.klsm_parts.specs.Events.{MayPut, MayFlush, MayTake, MayTakeEarly, MayFindNothing, MaySpy}
 use Rattle.klsm_world.specs.declared.step.Event.{Event}
-use Rattle.klsm_world.specs.declared.step.Event.TheVariants.{Put, Flush, Take, Nothing, Spy}
+use Rattle.klsm_world.specs.declared.step.Event.TheVariants.{Put, Flush, Take, Early, Nothing, Spy}
 use Rattle.klsm_world.specs.declared.step.Entry.{Entry}
 use Rattle.klsm_world.specs.declared.step.Entry.TheVariants.{Acquired, Committed, Released, Missed}
 use Rattle.klsm_world.specs.OwnSteps.{Hand, Holds, HoldsSome, found_in, shared_part, own_part, hand_of, inserted}
@@ -43,7 +43,8 @@ abbrev pub MayCommit : ℕ → ℕ → Hand → ℕ → Event → Type 0
 MayCommit k t hand n (Put x) = MayInsert t n x (HoldsOwn t hand (λ own. MayPut k own))
 MayCommit k t hand n (Flush x moved) =
     MayInsert t n x (HoldsBoth t shared_part hand (λ own shared. MayFlush k own x moved))
-MayCommit k t hand n (Take x) = HoldsBoth t shared_part hand (λ own shared. MayTake k own shared x)
+MayCommit k t hand n (Take x) = HoldsBoth t shared_part hand (λ own shared. MayTake k t own shared x)
+MayCommit k t hand n (Early x front) = HoldsOwn t hand (λ own. MayTakeEarly own x front)
 MayCommit k t hand n Nothing = HoldsBoth t shared_part hand MayFindNothing
 MayCommit k t hand n (Spy victim moved) =
     MaySpyOn t victim (HoldsBoth t (own_part victim) hand (λ own from. MaySpy own from moved))

@@ -1,14 +1,15 @@
 -- What a thread can know from its own list alone, of every world in which it has this list.
-use Rattle.std.specs.Prelude.{ℕ, ◌≡◌, ◌≢◌, ◌*◌, ◌-◌, ◌<◌, ◌≤◌, List, length}
+use Rattle.std.specs.Prelude.{ℕ, ◌≡◌, ◌≢◌, ◌*◌, ◌-◌, ◌<◌, ◌≤◌, List, ◌++◌, length}
 use Rattle.std.specs.List.{Contains}
 use Rattle.klsm_run.specs.declared.item.Item.{Item}
 use Rattle.klsm_run.specs.Content.{skipped, ShareNone}
-use Rattle.klsm_world.specs.declared.step.Event.TheVariants.{Take, Nothing}
+use Rattle.klsm_parts.specs.Events.{SkipsNoneOf}
+use Rattle.klsm_world.specs.declared.step.Event.TheVariants.{Take, Early, Nothing}
 use Rattle.klsm_world.specs.declared.step.Entry.{Entry}
 use Rattle.klsm_world.specs.declared.step.Entry.TheVariants.{Committed}
-use Rattle.klsm_world.specs.OwnSteps.{Holds, hand_of, inserted, deleted}
+use Rattle.klsm_world.specs.OwnSteps.{Holds, shared_part, own_part, hand_of, inserted, deleted}
 use Rattle.klsm_world.specs.LegalSteps.{BearsStamp, MayFollow}
-use Rattle.klsm_world.specs.Worlds.{Limits, World, steps_of, live}
+use Rattle.klsm_world.specs.Worlds.{Limits, World, steps_of, content_of, live}
 use Rattle.klsm_world.specs.LawfulWorlds.{IsLawful}
 use Rattle.klsm_world.specs.Laws.{IsWithinQuota}
 
@@ -16,6 +17,22 @@ use Rattle.klsm_world.specs.Laws.{IsWithinQuota}
 abbrev pub SkipsFew : Limits → ℕ → List Entry → Item → Type 0
 SkipsFew limits t own x = (w : World) → IsLawful limits w → steps_of w t ≡ own
     → skipped (live w) x ≤ limits.threads * limits.k
+
+-- in every such world whose front word is this, at most (T-1)·k live items are smaller than x
+abbrev pub SkipsFewBy : ℕ → Limits → ℕ → List Entry → Item → Type 0
+SkipsFewBy front limits t own x = (w : World) → IsLawful limits w → steps_of w t ≡ own
+    → w.front ≡ front → skipped (live w) x ≤ (limits.threads - 1) * limits.k
+
+-- in every such world x skips no item that thread t inserted, of those in its own part and in the
+-- shared one
+abbrev pub KeepsOwnOrder : Limits → ℕ → List Entry → Item → Type 0
+KeepsOwnOrder limits t own x = (w : World) → IsLawful limits w → steps_of w t ≡ own
+    → SkipsNoneOf t (content_of w (own_part t) ++ content_of w shared_part) x
+
+-- and in every such world whose front word is this
+abbrev pub KeepsOwnOrderBy : ℕ → Limits → ℕ → List Entry → Item → Type 0
+KeepsOwnOrderBy front limits t own x = (w : World) → IsLawful limits w → steps_of w t ≡ own
+    → w.front ≡ front → SkipsNoneOf t (content_of w (own_part t) ++ content_of w shared_part) x
 
 -- in every such world at most (T-1)·k items live
 abbrev pub LeavesFew : Limits → ℕ → List Entry → Type 0
@@ -27,6 +44,23 @@ abbrev pub ListsSkipFew : Type 0
 ListsSkipFew = (limits : Limits) (t : ℕ) (own : List Entry) (x : Item) → t < limits.threads
     → MayFollow limits.k t own (Committed (Take x))
     → SkipsFew limits t own x
+
+-- so does one by a front, in the worlds of that front
+abbrev pub ListsSkipFewEarly : Type 0
+ListsSkipFewEarly = (limits : Limits) (t : ℕ) (own : List Entry) (x : Item) (front : ℕ)
+    → t < limits.threads → MayFollow limits.k t own (Committed (Early x front))
+    → SkipsFewBy front limits t own x
+
+-- and both keep own order
+abbrev pub ListsKeepOwnOrder : Type 0
+ListsKeepOwnOrder = (limits : Limits) (t : ℕ) (own : List Entry) (x : Item) → t < limits.threads
+    → MayFollow limits.k t own (Committed (Take x))
+    → KeepsOwnOrder limits t own x
+
+abbrev pub ListsKeepOwnOrderEarly : Type 0
+ListsKeepOwnOrderEarly = (limits : Limits) (t : ℕ) (own : List Entry) (x : Item) (front : ℕ)
+    → t < limits.threads → MayFollow limits.k t own (Committed (Early x front))
+    → KeepsOwnOrderBy front limits t own x
 
 -- where an answer "nothing" may follow a list, few items live
 abbrev pub ListsLeaveFew : Type 0

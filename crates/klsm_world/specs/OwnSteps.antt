@@ -4,9 +4,9 @@
 use Rattle.std.specs.Prelude.{ℕ, ◌≡◌, ◌+◌, ◌==◌, if◌then◌else◌, List, [], ◌∷◌, Option, Some, None, unwrap_or}
 use Rattle.std.specs.List.{fold, flat_map}
 use Rattle.klsm_run.specs.declared.item.Item.{Item}
-use Rattle.klsm_parts.specs.Events.{own_after_put, own_after_flush, shared_after_flush, own_after_take, shared_after_take, own_after_spy, victim_after_spy}
+use Rattle.klsm_parts.specs.Events.{own_after_put, own_after_flush, shared_after_flush, own_after_take, shared_after_take, own_after_early, own_after_spy, victim_after_spy}
 use Rattle.klsm_world.specs.declared.step.Event.{Event}
-use Rattle.klsm_world.specs.declared.step.Event.TheVariants.{Put, Flush, Take, Nothing, Spy}
+use Rattle.klsm_world.specs.declared.step.Event.TheVariants.{Put, Flush, Take, Early, Nothing, Spy}
 use Rattle.klsm_world.specs.declared.step.Entry.{Entry}
 use Rattle.klsm_world.specs.declared.step.Entry.TheVariants.{Acquired, Committed, Released, Missed}
 
@@ -60,6 +60,8 @@ after_event t hand (Take x) =
     changed
     (changed hand (own_part t) (own_after_take (content_in hand (own_part t)) x))
     shared_part (shared_after_take (content_in hand (own_part t)) (content_in hand shared_part) x)
+after_event t hand (Early x front) =
+    changed hand (own_part t) (own_after_early (content_in hand (own_part t)) x)
 after_event t hand Nothing = hand
 after_event t hand (Spy victim moved) =
     changed
@@ -82,6 +84,7 @@ abbrev pub inserted_by : Event → List Item
 inserted_by (Put x) = x ∷ []
 inserted_by (Flush x moved) = x ∷ []
 inserted_by (Take x) = []
+inserted_by (Early x front) = []
 inserted_by Nothing = []
 inserted_by (Spy victim moved) = []
 
@@ -89,6 +92,7 @@ abbrev pub deleted_by : Event → List Item
 deleted_by (Put x) = []
 deleted_by (Flush x moved) = []
 deleted_by (Take x) = x ∷ []
+deleted_by (Early x front) = x ∷ []
 deleted_by Nothing = []
 deleted_by (Spy victim moved) = []
 

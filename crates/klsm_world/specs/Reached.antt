@@ -2,7 +2,7 @@
 use Rattle.std.specs.Prelude.{ℕ, ◌≡◌, ◌*◌, ◌-◌, List, length}
 use Rattle.klsm_run.specs.declared.item.Item.{Item}
 use Rattle.klsm_run.specs.Content.{skipped}
-use Rattle.klsm_world.specs.declared.step.Event.TheVariants.{Take, Nothing}
+use Rattle.klsm_world.specs.declared.step.Event.TheVariants.{Take, Early, Nothing}
 use Rattle.klsm_world.specs.declared.step.Step.{Step}
 use Rattle.klsm_world.specs.declared.step.Step.TheVariants.{Commit}
 use Rattle.klsm_world.specs.Worlds.{Limits, World, live, limits_of}
@@ -22,6 +22,17 @@ pub record ReachesMostSkipped (limits : Limits) : Type 0 where
   pub leads : Leads limits steps world
   pub legal : MayStep limits world (Commit thread (Take item))
   pub reached : skipped (live world) item ≡ limits.threads * limits.k
+
+-- a schedule after which a thread may delete by the front an item that skips (T-1)·k live ones
+pub record ReachesMostSkippedEarly (limits : Limits) : Type 0 where
+  pub steps : List Step
+  pub world : World
+  pub thread : ℕ
+  pub item : Item
+  pub front : ℕ
+  pub leads : Leads limits steps world
+  pub legal : MayStep limits world (Commit thread (Early item front))
+  pub reached : skipped (live world) item ≡ (limits.threads - 1) * limits.k
 
 -- a schedule after which a thread may answer "nothing" while (T-1)·k items live
 pub record ReachesMostLeft (limits : Limits) : Type 0 where

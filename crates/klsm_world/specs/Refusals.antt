@@ -2,7 +2,7 @@
 use Rattle.std.specs.Prelude.{ℕ, ◌≡◌, ◌+◌, ◌<◌, ◌≤◌, ◌⊎◌, List, [], ◌∷◌, None}
 use Rattle.std.specs.List.{Contains}
 use Rattle.klsm_world.specs.declared.step.Event.{Event}
-use Rattle.klsm_world.specs.declared.step.Event.TheVariants.{Put, Flush, Take, Nothing, Spy}
+use Rattle.klsm_world.specs.declared.step.Event.TheVariants.{Put, Flush, Take, Early, Nothing, Spy}
 use Rattle.klsm_world.specs.declared.step.Step.{Step}
 use Rattle.klsm_world.specs.declared.step.Step.TheVariants.{Acquire, Commit, Release, Miss}
 use Rattle.klsm_world.specs.declared.errors.StepError.{StepError}
@@ -16,6 +16,7 @@ abbrev pub NamesNoVictim : Limits → ℕ → Event → Type 0
 NamesNoVictim limits t (Put x) = ⊥
 NamesNoVictim limits t (Flush x moved) = ⊥
 NamesNoVictim limits t (Take x) = ⊥
+NamesNoVictim limits t (Early x front) = ⊥
 NamesNoVictim limits t Nothing = ⊥
 NamesNoVictim limits t (Spy victim moved) = (limits.threads ≤ victim) ⊎ (victim ≡ t)
 
@@ -31,6 +32,7 @@ abbrev pub parts_for : ℕ → Event → List ℕ
 parts_for t (Put x) = own_part t ∷ []
 parts_for t (Flush x moved) = own_part t ∷ shared_part ∷ []
 parts_for t (Take x) = own_part t ∷ shared_part ∷ []
+parts_for t (Early x front) = own_part t ∷ []
 parts_for t Nothing = own_part t ∷ shared_part ∷ []
 parts_for t (Spy victim moved) = own_part t ∷ own_part victim ∷ []
 

@@ -7,7 +7,7 @@ use Rattle.klsm_run.specs.declared.item.Item.{Item}
 use Rattle.klsm_run.specs.Content.{skipped, without}
 use Rattle.klsm_parts.specs.Events.{plus}
 use Rattle.klsm_world.specs.declared.step.Event.{Event}
-use Rattle.klsm_world.specs.declared.step.Event.TheVariants.{Put, Flush, Take, Nothing, Spy}
+use Rattle.klsm_world.specs.declared.step.Event.TheVariants.{Put, Flush, Take, Early, Nothing, Spy}
 use Rattle.klsm_world.specs.declared.step.Step.{Step}
 use Rattle.klsm_world.specs.declared.step.Step.TheVariants.{Acquire, Commit, Release, Miss}
 use Rattle.klsm_world.specs.Worlds.{Limits}
@@ -17,6 +17,7 @@ abbrev pub queue_after : List Item → Event → List Item
 queue_after c (Put x) = plus c (x ∷ [])
 queue_after c (Flush x moved) = plus c (x ∷ [])
 queue_after c (Take x) = without x c
+queue_after c (Early x front) = without x c
 queue_after c Nothing = c
 queue_after c (Spy victim moved) = c
 
@@ -26,6 +27,7 @@ abbrev pub MayMove : Limits → List Item → Event → Type 0
 MayMove limits c (Put x) = Contains c x → ⊥
 MayMove limits c (Flush x moved) = Contains c x → ⊥
 MayMove limits c (Take x) = Contains c x × (skipped c x ≤ limits.threads * limits.k)
+MayMove limits c (Early x front) = Contains c x × (skipped c x ≤ limits.threads * limits.k)
 MayMove limits c Nothing = length c ≤ (limits.threads - 1) * limits.k
 MayMove limits c (Spy victim moved) = Unit {0}
 
@@ -55,5 +57,6 @@ most_skipped [] = 0
 most_skipped (Put x ∷ before) = most_skipped before
 most_skipped (Flush x moved ∷ before) = most_skipped before
 most_skipped (Take x ∷ before) = max (skipped (queue_of before) x) (most_skipped before)
+most_skipped (Early x front ∷ before) = max (skipped (queue_of before) x) (most_skipped before)
 most_skipped (Nothing ∷ before) = most_skipped before
 most_skipped (Spy victim moved ∷ before) = most_skipped before

@@ -1,12 +1,14 @@
 -- Steps of a world: which are legal, to which world each leads, and schedules of them.
 use Rattle.std.specs.Prelude.{ℕ, ◌≡◌, ◌≢◌, ◌+◌, ◌<◌, ◌≤◌, List, [], ◌∷◌, ◌++◌, length, slice_set, Some, None, unwrap_or}
 use Rattle.klsm_run.specs.declared.item.Item.{Item}
+use Rattle.klsm_parts.specs.Events.{front_of}
 use Rattle.klsm_world.specs.declared.step.Event.{Event}
+use Rattle.klsm_world.specs.declared.step.Event.TheVariants.{Put, Flush, Take, Early, Nothing, Spy}
 use Rattle.klsm_world.specs.declared.step.Step.{Step}
 use Rattle.klsm_world.specs.declared.step.Step.TheVariants.{Acquire, Commit, Release, Miss}
 use Rattle.klsm_world.specs.declared.step.Entry.{Entry}
 use Rattle.klsm_world.specs.declared.step.Entry.TheVariants.{Acquired, Committed, Released, Missed}
-use Rattle.klsm_world.specs.OwnSteps.{HoldsSome, content_in, inserted}
+use Rattle.klsm_world.specs.OwnSteps.{Hand, HoldsSome, shared_part, content_in, after_event, inserted}
 use Rattle.klsm_world.specs.LegalSteps.{MayCommit}
 use Rattle.klsm_world.specs.Worlds.{Limits, World, word_of, home_of, holder_of, steps_of, hand_in, first_world}
 
@@ -16,10 +18,20 @@ pub record MayAcquire (limits : Limits) (w : World) (t p : ℕ) : Type 0 where
   pub part : p ≤ limits.threads
   pub free : word_of w p ≡ 0
 
+-- an Early names the front that the front word says
+abbrev pub NamesFront : ℕ → Event → Type 0
+NamesFront word (Put x) = Unit {0}
+NamesFront word (Flush x moved) = Unit {0}
+NamesFront word (Take x) = Unit {0}
+NamesFront word (Early x front) = front ≡ word
+NamesFront word Nothing = Unit {0}
+NamesFront word (Spy victim moved) = Unit {0}
+
 -- an event may take effect on parts that thread t holds
 pub record MayTakeEffect (limits : Limits) (w : World) (t : ℕ) (event : Event) : Type 0 where
   pub thread : t < limits.threads
   pub commit : MayCommit limits.k t (hand_in w t) (length (inserted (steps_of w t))) event
+  pub front : NamesFront w.front event
 
 -- thread t may give part p back, which it holds
 pub record MayRelease (limits : Limits) (w : World) (t p : ℕ) : Type 0 where
@@ -44,10 +56,23 @@ MayStep limits w (Miss t p) = MayMiss limits w t p
 abbrev pub noted : World → ℕ → Entry → List (List Entry)
 noted w t entry = slice_set w.lists t (steps_of w t ++ entry ∷ [])
 
+-- the front word after an event of thread t, which had this hand: a Flush and a Take set it to the
+-- front of what they leave in the shared part
+abbrev pub front_after : ℕ → ℕ → Hand → Event → ℕ
+front_after word t hand (Put x) = word
+front_after word t hand (Flush x moved) =
+    front_of (content_in (after_event t hand (Flush x moved)) shared_part)
+front_after word t hand (Take x) =
+    front_of (content_in (after_event t hand (Take x)) shared_part)
+front_after word t hand (Early x front) = word
+front_after word t hand Nothing = word
+front_after word t hand (Spy victim moved) = word
+
 -- the world after thread t took part p, of which its list records this content
 abbrev pub acquired : World → ℕ → ℕ → List Item → World
 acquired w t p found = record {
   words = slice_set w.words p (t + 1);
+  front = w.front;
   homes = slice_set w.homes p None;
   lists = noted w t (Acquired p found);
 }
@@ -57,16 +82,19 @@ abbrev pub next : World → Step → World
 next w (Acquire t p) = acquired w t p (unwrap_or (home_of w p) [])
 next w (Commit t event) = record {
   words = w.words;
+  front = front_after w.front t (hand_in w t) event;
   homes = w.homes;
   lists = noted w t (Committed event);
 }
 next w (Release t p) = record {
   words = slice_set w.words p 0;
+  front = w.front;
   homes = slice_set w.homes p (Some (content_in (hand_in w t) p));
   lists = noted w t (Released p);
 }
 next w (Miss t p) = record {
   words = w.words;
+  front = w.front;
   homes = w.homes;
   lists = noted w t (Missed p (holder_of w p));
 }

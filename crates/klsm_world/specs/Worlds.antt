@@ -1,6 +1,7 @@
 -- Worlds of T threads and T + 1 parts.
 use Rattle.std.specs.Prelude.{ℕ, zero, suc, ◌+◌, ◌-◌, List, [], ◌++◌, length, replicate, slice_index_or, Option, Some, None, unwrap_or}
 use Rattle.klsm_run.specs.declared.item.Item.{Item}
+use Rattle.klsm_parts.specs.Events.{front_of}
 use Rattle.klsm_world.specs.declared.step.Entry.{Entry}
 use Rattle.klsm_world.specs.OwnSteps.{Hand, content_in, hand_of}
 
@@ -14,9 +15,10 @@ abbrev pub limits_of : ℕ → ℕ → Limits
 limits_of threads k = record { threads = threads; k = k }
 
 -- for each part a word, 0 where it is free and t + 1 where thread t holds it, and its content at
--- home, where it is free; for each thread the list of its own steps
+-- home, where it is free; the front word; for each thread the list of its own steps
 pub record World : Type 0 where
   pub words : List ℕ
+  pub front : ℕ
   pub homes : List (Option (List Item))
   pub lists : List (List Entry)
 
@@ -50,10 +52,11 @@ live_below w (suc n) = live_below w n ++ content_of w n
 abbrev pub live : World → List Item
 live w = live_below w (length w.homes)
 
--- at first all parts are free and empty, and no thread has stepped
+-- at first all parts are free and empty, the front is that of no item, and no thread has stepped
 abbrev pub first_world : Limits → World
 first_world limits = record {
   words = replicate (limits.threads + 1) 0;
+  front = front_of [];
   homes = replicate (limits.threads + 1) (Some []);
   lists = replicate limits.threads [];
 }

@@ -1,7 +1,7 @@
 //! Whether events may happen, on contents of parts.
 ghost use Rattle.std.specs.Prelude.{◌≡◌, ◌+◌, ◌≤◌, ◌<◌, ◌↔◌, ◌∷◌, [], IsTrue, length};
 ghost use Rattle.klsm_run.specs.Content.{sorted, IsAscending};
-ghost use Rattle.klsm_parts.specs.Events.{times, IsWithin, MayFlush, MayTake, MaySpy};
+ghost use Rattle.klsm_parts.specs.Events.{times, IsWithin, IsInReach, SkipsNoneOf, MayFlush, MayTake, MayTakeEarly, MaySpy};
 
 use klsm_run::Item;
 
@@ -53,13 +53,47 @@ pub(crate) fn may_flush(k: usize, own: &[Item], item: Item, moved: &[Item]) -> b
     own.len() < k + moved.len()
 }
 
-/// Whether an item may be taken from two ascending parts. It looks at the least own item and at the
-/// candidates.
-pub(crate) fn may_take(k: usize, own: &[Item], shared: &[Item], item: Item) -> bool
+/// Whether no item that an owner inserted is smaller than one.
+pub(crate) fn skips_none_of(owner: u32, items: &[Item], item: Item) -> bool
+    ensures { IsTrue result ↔ SkipsNoneOf owner items.now item }
+{
+    for other in items {
+        if other.stamp.owner == owner && *other < item {
+            return false;
+        }
+    }
+    true
+}
+
+/// Whether a thread may take an item from two ascending parts.
+pub(crate) fn may_take(k: usize, owner: u32, own: &[Item], shared: &[Item], item: Item) -> bool
     requires own_sorted { sorted own.now ≡ own.now }
     requires shared_sorted { sorted shared.now ≡ shared.now }
     requires k_in_range { k ≤ 128 }
-    ensures { IsTrue result ↔ MayTake k own.now shared.now item }
+    ensures { IsTrue result ↔ MayTake k owner own.now shared.now item }
+{
+    // No own item is smaller than one in reach.
+    is_in_reach(k, own, shared, item) && skips_none_of(owner, shared, item)
+}
+
+/// Whether an item is the least of a part, and its key is below a front.
+pub(crate) fn may_take_early(own: &[Item], item: Item, front: u64) -> bool
+    requires { sorted own.now ≡ own.now }
+    ensures { IsTrue result ↔ MayTakeEarly own.now item front }
+{
+    let Some(least) = own.first() else {
+        return false;
+    };
+    *least == item && item.key < front
+}
+
+// Whether an item is in reach of a deletion from two ascending parts. It looks at the least own item
+// and at the candidates.
+fn is_in_reach(k: usize, own: &[Item], shared: &[Item], item: Item) -> bool
+    requires own_sorted { sorted own.now ≡ own.now }
+    requires shared_sorted { sorted shared.now ≡ shared.now }
+    requires k_in_range { k ≤ 128 }
+    ensures { IsTrue result ↔ IsInReach k own.now shared.now item }
 {
     let candidates = &shared[..shared.len().min(k + 1)];
     let Some(least) = own.first() else {

@@ -1,8 +1,8 @@
 //! Laws of the definitions that the contracts cite. The functions do nothing: what they ensure is a
 //! theorem.
-ghost use Rattle.klsm_world.specs.Laws.{AccountsAddUp, AccountsLeaveLive, AcquiresFindContents, DeletionsAreFew, FirstWorldIsLawful, ListsHaveEvents, LiveItemsDiffer, NothingLeavesFew, PartsShareNone, RefusedIsNotLegal, SchedulesAreRuns, SchedulesKeepLawful, StepsKeepLawful, TakesSkipFew};
-ghost use Rattle.klsm_world.specs.OwnListLaws.{HandsAreApart, ListsLeaveFew, ListsSkipFew, NextIsNewInHand, OwnDeletionsAreFew};
-ghost use Rattle.klsm_world.specs.Reached.{ReachesMostLeft, ReachesMostSkipped, two_threads};
+ghost use Rattle.klsm_world.specs.Laws.{AccountsAddUp, AccountsLeaveLive, AcquiresFindContents, DeletionsAreFew, EarliesKeepOwnOrder, EarliesSkipFew, FirstWorldIsLawful, ListsHaveEvents, LiveItemsDiffer, NothingLeavesFew, PartsShareNone, RefusedIsNotLegal, SchedulesAreRuns, SchedulesKeepLawful, StepsKeepLawful, TakesKeepOwnOrder, TakesSkipFew};
+ghost use Rattle.klsm_world.specs.OwnListLaws.{HandsAreApart, ListsKeepOwnOrder, ListsKeepOwnOrderEarly, ListsLeaveFew, ListsSkipFew, ListsSkipFewEarly, NextIsNewInHand, OwnDeletionsAreFew};
+ghost use Rattle.klsm_world.specs.Reached.{ReachesMostLeft, ReachesMostSkipped, ReachesMostSkippedEarly, two_threads};
 
 /// The first world is lawful.
 pub fn first_world_is_lawful()
@@ -16,18 +16,27 @@ pub fn steps_keep_lawful()
     ensures schedules { SchedulesKeepLawful }
 {}
 
-/// In a lawful world, a deletion that a thread may commit skips at most T·k live items, and where
-/// it may answer nothing, at most (T-1)·k items live. The content of a part that another thread
-/// holds counts too.
+/// In a lawful world, a deletion that a thread may commit skips at most T·k live items, one by the
+/// front at most (T-1)·k, and where it may answer nothing, at most (T-1)·k items live. The content of
+/// a part that another thread holds counts too.
 pub fn takes_skip_few()
     ensures takes { TakesSkipFew }
+    ensures earlies { EarliesSkipFew }
     ensures nothing { NothingLeavesFew }
 {}
 
-/// With two threads, and at most one item in an own part, there are schedules that reach both
+/// In a lawful world, a deletion that a thread may commit skips no item that the thread itself
+/// inserted, of those in its own part and in the shared one.
+pub fn own_order_is_kept()
+    ensures takes { TakesKeepOwnOrder }
+    ensures earlies { EarliesKeepOwnOrder }
+{}
+
+/// With two threads, and at most one item in an own part, there are schedules that reach the
 /// bounds.
 pub fn bounds_are_reached()
     ensures takes { ReachesMostSkipped two_threads }
+    ensures earlies { ReachesMostSkippedEarly two_threads }
     ensures nothing { ReachesMostLeft two_threads }
 {}
 
@@ -49,12 +58,17 @@ pub fn parts_share_none()
 {}
 
 /// What a thread can know from its own list alone: a deletion or an answer "nothing" that may
-/// follow it passes over few items of every lawful world that has this list. Where there is such a
+/// follow it passes over few items of every lawful world that has this list, and a deletion over none
+/// that the thread inserted and that lies in its own part or in the shared one. Of a deletion by the
+/// front this is said of the worlds of that front. Where there is such a
 /// world, within the quota, the parts in the thread's hand share no item, none of them has the item
 /// of its next insertion, and its deletions are counted in a word.
 pub fn own_lists_tell()
     ensures takes { ListsSkipFew }
+    ensures earlies { ListsSkipFewEarly }
     ensures nothing { ListsLeaveFew }
+    ensures takes_order { ListsKeepOwnOrder }
+    ensures earlies_order { ListsKeepOwnOrderEarly }
     ensures apart { HandsAreApart }
     ensures new { NextIsNewInHand }
     ensures deletions { OwnDeletionsAreFew }

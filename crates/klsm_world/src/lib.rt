@@ -2,10 +2,11 @@
 //! step after another.
 //!
 //! A queue with locks is as good as the interleavings of its locked steps. This crate says what
-//! these are, apart from any lock that runs: a world has T threads and T + 1 parts, the shared part
-//! 0 and thread t's own part t + 1. A step takes a free part, gives one back, tries one in vain, or
-//! commits an event on parts in hand. A list of legal steps is a schedule. Whoever wants to know
-//! what a relaxed queue can do reads `specs/`, and whoever wants to try a schedule runs it:
+//! these are, apart from any lock that runs: a world has T threads, T + 1 parts, the shared part 0
+//! and thread t's own part t + 1, and a front word. A step takes a free part, gives one back, tries
+//! one in vain, or commits an event on parts in hand. A list of legal steps is a schedule. Whoever
+//! wants to know what a relaxed queue can do reads `specs/`, and whoever wants to try a schedule
+//! runs it:
 //!
 //! ```text
 //! let steps = [
@@ -25,16 +26,21 @@
 //!   skip, which is at most T·k: clause `trace`. A fault is that of the first step that is refused:
 //!   clause `refused`.
 //! - **The laws** hold of every schedule, for every T and k, and each is the contract of a function
-//!   of `laws`: each world is lawful; a deletion skips at most T·k of all live items; "nothing" is
-//!   answered only where at most (T-1)·k items live; the events are a run of the relaxed queue of
-//!   one thread; an acquire records the content that was at home.
+//!   of `laws`: each world is lawful; a deletion skips at most T·k of all live items, and one by the
+//!   front at most (T-1)·k; neither skips an item of its own thread's in the two parts that it is
+//!   from; "nothing" is answered only where at most (T-1)·k items live; the events are a run of the
+//!   relaxed queue of one thread; an acquire records the content that was at home.
 //! - **A thread's own list is enough** to know that its deletion skips few, that the parts in its
 //!   hand are disjoint, and that its next item is new: `laws::own_lists_tell`. So whoever runs
 //!   threads has to keep each thread's list, and no picture of the world.
 //!
+//! A world also has a front word: the key of the least item of the shared part, be it free or held. A
+//! thread whose least own item has a key below it may delete that item with its own part alone in hand.
+//!
 //! Why a deletion skips so few: its item is among the least k+1 of the shared part, or smaller, and
 //! no own item is smaller, so at most k items of the two parts are; each other own part holds at
-//! most k items, whatever they are.
+//! most k items, whatever they are. Where the key is below the front, no item of the two parts is
+//! smaller, so only the other own parts count.
 #![tactic(auto)]
 
 mod conditions;

@@ -17,6 +17,7 @@ pub(crate) enum KeptStep {
     Put(Item),
     Flush(Item),
     Take(Item),
+    Early(Item, u64),
     Nothing,
     Spy(u32),
     Released(u32),

@@ -95,6 +95,7 @@ fn deleted_item(step: &Step) -> Option<Item>
     match step {
         Step::Commit { thread: _, event } => match event {
             Event::Take(item) => Some(*item),
+            Event::Early { item, front: _ } => Some(*item),
             _ => None,
         },
         _ => None,

@@ -15,8 +15,17 @@ pub enum Event {
         /// The items that move, ascending without repeats.
         moved: Items,
     },
-    /// The item leaves the own part or the shared one.
+    /// The item leaves the own part or the shared one. No smaller item of the two is one that the
+    /// thread inserted.
     Take(Item),
+    /// The least own item leaves its part, and no shared item is looked at.
+    Early {
+        /// The item, whose key is below the front.
+        item: Item,
+        /// The front of the shared part: the key of its least item, and the greatest number where
+        /// it is empty.
+        front: u64,
+    },
     /// Both parts are empty.
     Nothing,
     /// Items move from another thread's part to the own one, which is empty.

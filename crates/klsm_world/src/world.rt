@@ -1,10 +1,12 @@
 //! A world that runs: it takes steps, and refuses those that are not legal.
 ghost use Rattle.std.specs.Prelude.{ℕ, ◌≡◌, ◌≢◌, ◌<◌, ◌≤◌, ◌↔◌, ◌⊎◌, [], replicate, IfOk, IfErr, IsErrAnd};
 ghost use Rattle.klsm_run.specs.Content.{sorted, skipped};
+ghost use Rattle.klsm_parts.specs.Events.{front_of};
 ghost use Rattle.klsm_world.specs.Kept.{IsKept, world_of};
 ghost use Rattle.klsm_world.specs.LawfulWorlds.{IsLawful};
+ghost use Rattle.klsm_world.specs.OwnSteps.{shared_part};
 ghost use Rattle.klsm_world.specs.WorldView.{IsStepped, WorldView};
-ghost use Rattle.klsm_world.specs.Worlds.{first_world, limits_of, live};
+ghost use Rattle.klsm_world.specs.Worlds.{content_of, first_world, limits_of, live};
 
 mod checking;
 mod stepping;
@@ -14,6 +16,7 @@ use crate::errors::{StepError, WorldError};
 use crate::items::Items;
 use crate::own_steps::OwnSteps;
 use crate::step::Step;
+use crate::world::checking::SHARED;
 use klsm_run::Item;
 use std::alloc::{Allocator, Global};
 use std::fmt;
@@ -108,6 +111,18 @@ impl<A: Allocator + Copy> World<A> {
         ensures refused { IfErr result (λ why. why ≡ WorldError.NoMemory) }
     {
         Ok(Items::new(all_ascending(alloc, &self.contents)?))
+    }
+
+    /// The front: the key of the least item of the shared part, be it free or held, and the greatest
+    /// number where it is empty.
+    pub fn front(&self) -> u64
+        ensures word { result ≡ self.now.world.front }
+        ensures front { result ≡ front_of (content_of self.now.world shared_part) }
+    {
+        match self.contents[SHARED].as_slice().first() {
+            Some(item) => item.key,
+            None => u64::MAX,
+        }
     }
 
     /// How many live items are smaller than an item. It costs a look at each.

@@ -1,19 +1,19 @@
 -- The events of a deletion's entries.
 use Rattle.std.proofs.Common.{◌≡◌, ℕ, zero, suc, ◌-◌, true, false, true≢false, length, List, [], ◌∷◌, ◌++◌, sym, refl, ap, ◌∙◌, inl, inr, append_assoc}
-use Rattle.std.specs.Prelude.{MatchOption, Option, Some, None}
+use Rattle.std.specs.Prelude.{MatchOption, IsSomeAnd, Option, Some, None}
 use Rattle.std.specs.Option.{is_some, option_to_list}
 use Rattle.klsm_run.specs.declared.item.Item.{Item}
 use Rattle.klsm_world.specs.declared.step.Event.{Event}
-use Rattle.klsm_world.specs.declared.step.Event.TheVariants.{Take, Nothing, Spy}
+use Rattle.klsm_world.specs.declared.step.Event.TheVariants.{Take, Early, Nothing, Spy}
 use Rattle.klsm_world.specs.declared.step.Entry.{Entry}
 use Rattle.klsm_world.specs.declared.step.Entry.TheVariants.{Acquired, Committed, Released, Missed}
 use Rattle.klsm_world.specs.OwnSteps.{own_part}
 use Rattle.klsm_board.specs.declared.sizes.Sizes.{Sizes}
 use Rattle.klsm_board.specs.declared.errors.Busy.{Busy}
-use Rattle.klsm_board.specs.Entries.{own_taken, both_released}
-use Rattle.klsm_board.specs.Deleting.{Passes, PassesBy, TakesOut, TakesSpied, FindsNothing, Deletes, MissesDeletion, victim_of}
+use Rattle.klsm_board.specs.Entries.{own_taken, both_taken, both_released}
+use Rattle.klsm_board.specs.Deleting.{Passes, PassesBy, TakesOut, TakesEarly, TakesSpied, FindsNothing, Deletes, AnswersDeletion, MissesDeletion, victim_of}
 use Rattle.klsm_board.proofs.calls.EventLemmas.{events, IsQuiet, events_append, quiet_append, same_events}
-use Rattle.klsm_board.proofs.calls.AddLemmas.{goes_on, inserts, deletes, own_quiet}
+use Rattle.klsm_board.proofs.calls.AddLemmas.{goes_on, inserts, deletes, own_quiet, both_quiet}
 use Rattle.klsm_board.proofs.calls.AddedLemmas.{Gains, quiet_gains}
 
 -- victims that were passed by
@@ -65,10 +65,25 @@ module _ (m : Sizes) (t : ℕ) (own shared : List Item) (es taken es' : List Ent
   deletes_gain may_pick before after x (inr takes) = spied_gain x takes.0
 
   -- what a deletion answered is what the list deletes more
-  pub answer_gains : {P : Type 0} (may_pick : P → ℕ → ℕ → P → Type 0) (before after : P) (answer : Option Item) → MatchOption answer (FindsNothing m t own shared taken es' × (after ≡ before)) (Deletes may_pick before after m t own shared taken es')
+  answer_gains : {P : Type 0} (may_pick : P → ℕ → ℕ → P → Type 0) (before after : P) (answer : Option Item) → MatchOption answer (FindsNothing m t own shared taken es' × (after ≡ before)) (Deletes may_pick before after m t own shared taken es')
       → Gains es es' [] (option_to_list answer)
   answer_gains may_pick before after None told = nothing_gains told.0
   answer_gains may_pick before after (Some x) told = deletes_gain may_pick before after x told
+
+pub early_events : (m : Sizes) (t : ℕ) (own : List Item) (es taken es' : List Entry) (x : Item) → events taken ≡ events es → (told : TakesEarly m t own taken es' x) → events es' ≡ events es ++ Early x told.front ∷ []
+early_events m t own es taken es' x quiet told = goes_on es taken (Committed (Early x told.front) ∷ Released (own_part t) ∷ []) es' quiet told.steps
+
+early_gains : (m : Sizes) (t : ℕ) (own : List Item) (es taken es' : List Entry) (answer : Option Item) → events taken ≡ events es → IsSomeAnd answer (λ x. TakesEarly m t own taken es' x) → Gains es es' [] (option_to_list answer)
+early_gains m t own es taken es' None quiet told = absurd told
+early_gains m t own es taken es' (Some x) quiet told = gained es es' (Early x told.front ∷ []) [] (x ∷ []) (early_events m t own es taken es' x quiet told) refl refl
+
+-- and so it is of each of the ways to answer
+pub answers_gain : {P : Type 0} (may_pick : P → ℕ → ℕ → P → Type 0) (before after : P) (m : Sizes) (t : ℕ) (own_misses shared_misses : List ℕ) (es es' : List Entry) (answer : Option Item)
+    → AnswersDeletion may_pick before after m t own_misses shared_misses es es' answer → Gains es es' [] (option_to_list answer)
+answers_gain may_pick before after m t own_misses shared_misses es es' answer (own, inl early) =
+    early_gains m t own es (own_taken t own_misses own es) es' answer (own_quiet t own_misses own es) early.0
+answers_gain may_pick before after m t own_misses shared_misses es es' answer (own, inr both) =
+    answer_gains m t own both.0 es (both_taken t own_misses shared_misses own both.0 es) es' (both_quiet t own_misses shared_misses own both.0 es) may_pick before after answer both.1
 
 -- how many items were answered
 pub some_is_one : {A : Type 0} (o : Option A) → is_some o ≡ true → length (option_to_list o) ≡ 1

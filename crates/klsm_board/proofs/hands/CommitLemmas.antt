@@ -2,18 +2,19 @@
 use Rattle.std.proofs.Common.{◌≡◌, ◌≢◌, ℕ, ◌+◌, List, [], ◌∷◌, length, sym, ap, ◌∙◌, subst, arith}
 use Rattle.atomic_table.specs.Table.{Me}
 use Rattle.klsm_run.specs.declared.item.Item.{Item}
-use Rattle.klsm_parts.specs.Events.{MayPut, MayFlush, MayTake, MaySpy, own_after_put, own_after_flush, shared_after_flush, own_after_take, shared_after_take, own_after_spy, victim_after_spy}
-use Rattle.klsm_world.specs.declared.step.Event.TheVariants.{Put, Flush, Take, Spy}
-use Rattle.klsm_world.specs.OwnSteps.{Hand, Holds, found_in, hand_of, inserted}
+use Rattle.klsm_parts.specs.Events.{MayPut, MayFlush, MayTake, MayTakeEarly, MaySpy, own_after_put, own_after_flush, shared_after_flush, own_after_take, shared_after_take, own_after_early, own_after_spy, victim_after_spy, front_of}
+use Rattle.klsm_world.specs.declared.step.Event.TheVariants.{Put, Flush, Take, Early, Spy}
+use Rattle.klsm_world.specs.OwnSteps.{Hand, Holds, found_in, hand_of, inserted, content_in, after_event, shared_part}
 use Rattle.klsm_world.specs.LegalSteps.{BearsStamp}
 use Rattle.klsm_world.proofs.counts.EventCountLemmas.{length_plus}
+use Rattle.std.specs.Prelude.{unwrap_or}
 use Rattle.std.proofs.lemmas.Option.{same_Some}
 use Rattle.klsm_board.specs.declared.sizes.Sizes.{Sizes}
 use Rattle.klsm_board.specs.declared.rule.View.{View}
 use Rattle.klsm_board.specs.Rule.{IsReached}
 use Rattle.klsm_board.specs.Steps.{mine}
-use Rattle.klsm_board.specs.Seats.{Carries, Has, CarriedOut, own_in_hand, both_in_hand, three_in_hand}
-use Rattle.klsm_board.proofs.hands.EventLemmas.{own_in_one, own_in_both, shared_in_both, own_in_three, victim_in_three, put_leaves, flush_leaves, take_leaves, spy_leaves}
+use Rattle.klsm_board.specs.Seats.{Carries, Has, CarriedOut, LeavesShared, SetsFront, own_in_hand, both_in_hand, three_in_hand}
+use Rattle.klsm_board.proofs.hands.EventLemmas.{own_in_one, own_in_both, shared_in_both, own_in_three, victim_in_three, put_leaves, flush_leaves, take_leaves, early_leaves, spy_leaves}
 
 -- the content of the part that was taken last
 abbrev first_content : Hand → List Item
@@ -87,7 +88,7 @@ module _ {S : Type 0} (content : S → List Item) (suits : ℕ → ℕ → S →
       let a = length_plus shared named in let b = length_plus shared moved in
       (subst (λ c. MayFlush m.k c x named) own_is held.fits, omega (arith, a, b, lengths))
 
-  pub take_done : (own shared : List Item) (x : Item) (me me' : Me S View) → Has content suits m t (both_in_hand t own shared) me → me'.0 ≡ me.0 → MayTake m.k own shared x
+  pub take_done : (own shared : List Item) (x : Item) (me me' : Me S View) → Has content suits m t (both_in_hand t own shared) me → me'.0 ≡ me.0 → MayTake m.k t own shared x
       → Carries content suits m t (both_in_hand t (own_after_take own x) (shared_after_take own shared x)) me'
       → CarriedOut content suits m t (Take x) (both_in_hand t (own_after_take own x) (shared_after_take own shared x)) me'
   take_done own shared x me me' has same may carries = record {
@@ -101,6 +102,42 @@ module _ {S : Type 0} (content : S → List Item) (suits : ℕ → ℕ → S →
     };
     done = take_leaves t (hand_of t (mine me'.0)) own shared (still (both_in_hand t own shared) me me' has same) x;
   }
+
+  pub early_done : (own : List Item) (x : Item) (front : ℕ) (me me' : Me S View) → Has content suits m t (own_in_hand t own) me → me'.0 ≡ me.0 → MayTakeEarly own x front
+      → Carries content suits m t (own_in_hand t (own_after_early own x)) me'
+      → CarriedOut content suits m t (Early x front) (own_in_hand t (own_after_early own x)) me'
+  early_done own x front me me' has same may carries = record {
+    carries = carries;
+    may = record { own = own; holds_own = holds_still (own_in_hand t own) me me' (t + 1) own has same (own_in_one t own); fits = may };
+    done = early_leaves t (hand_of t (mine me'.0)) own x front (still (own_in_hand t own) me me' has same);
+  }
+
+  -- a Take leaves the shared part, where that is as it was
+  pub take_leaves_shared : (own shared : List Item) (x : Item) (me me' : Me S View) → Has content suits m t (both_in_hand t own shared) me → me'.0 ≡ me.0 → shared_after_take own shared x ≡ shared
+      → LeavesShared t (hand_of t (mine me'.0)) (Take x)
+  take_leaves_shared own shared x me me' has same stays =
+      let hand_is = still (both_in_hand t own shared) me me' has same in
+      ap (λ h. unwrap_or (found_in h 0) []) (take_leaves t (hand_of t (mine me'.0)) own shared hand_is x)
+      ∙ (ap (λ o. unwrap_or o []) (shared_in_both t (own_after_take own x) (shared_after_take own shared x))
+      ∙ (stays ∙ sym (ap (λ h. unwrap_or (found_in h 0) []) hand_is ∙ ap (λ o. unwrap_or o []) (shared_in_both t own shared))))
+
+  -- and else sets the front to that of what it leaves
+  pub take_sets_front : (own shared : List Item) (x : Item) (front : ℕ) (me me' : Me S View) → Has content suits m t (both_in_hand t own shared) me → me'.0 ≡ me.0 → shared_after_take own shared x ≢ shared → front ≡ front_of (shared_after_take own shared x)
+      → SetsFront t (hand_of t (mine me'.0)) (Take x) front
+  take_sets_front own shared x front me me' has same changed is =
+      let hand_is = still (both_in_hand t own shared) me me' has same in
+      let after : content_in (after_event t (hand_of t (mine me'.0)) (Take x)) shared_part ≡ shared_after_take own shared x =
+      ap (λ h. unwrap_or (found_in h 0) []) (take_leaves t (hand_of t (mine me'.0)) own shared hand_is x) ∙ ap (λ o. unwrap_or o []) (shared_in_both t (own_after_take own x) (shared_after_take own shared x)) in
+      let before : content_in (hand_of t (mine me'.0)) shared_part ≡ shared = ap (λ h. unwrap_or (found_in h 0) []) hand_is ∙ ap (λ o. unwrap_or o []) (shared_in_both t own shared) in
+      (λ stays. changed (sym after ∙ (stays ∙ before)), is ∙ ap front_of (sym after))
+
+  -- and so does a Flush
+  pub flush_sets_front : (own shared : List Item) (x : Item) (moved : List Item) (front : ℕ) (me me' : Me S View) → Has content suits m t (both_in_hand t own shared) me → me'.0 ≡ me.0 → front ≡ front_of (shared_after_flush shared moved)
+      → SetsFront t (hand_of t (mine me'.0)) (Flush x moved) front
+  flush_sets_front own shared x moved front me me' has same is =
+      let hand_is = still (both_in_hand t own shared) me me' has same in
+      is ∙ sym (ap (λ h. front_of (unwrap_or (found_in h 0) [])) (flush_leaves t (hand_of t (mine me'.0)) own shared hand_is x moved)
+      ∙ ap (λ o. front_of (unwrap_or o [])) (shared_in_both t (own_after_flush own x moved) (shared_after_flush shared moved)))
 
   pub spy_done : (v : ℕ) (found own shared moved : List Item) (me me' : Me S View) → v ≢ t → Has content suits m t (three_in_hand t v found own shared) me → me'.0 ≡ me.0 → MaySpy own found moved
       → Carries content suits m t (three_in_hand t v (victim_after_spy found moved) (own_after_spy moved) shared) me'

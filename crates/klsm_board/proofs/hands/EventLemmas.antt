@@ -1,8 +1,8 @@
 -- What events leave of a hand with the own part, the shared one and a victim's.
 use Rattle.std.proofs.Common.{◌≡◌, ◌≢◌, ℕ, ◌+◌, List, [], ◌∷◌, refl, sym, ap, ◌∙◌, arith, Some, None}
 use Rattle.klsm_run.specs.declared.item.Item.{Item}
-use Rattle.klsm_parts.specs.Events.{own_after_put, own_after_flush, shared_after_flush, own_after_take, shared_after_take, own_after_spy, victim_after_spy}
-use Rattle.klsm_world.specs.declared.step.Event.TheVariants.{Put, Flush, Take, Spy}
+use Rattle.klsm_parts.specs.Events.{own_after_put, own_after_flush, shared_after_flush, own_after_take, shared_after_take, own_after_early, own_after_spy, victim_after_spy}
+use Rattle.klsm_world.specs.declared.step.Event.TheVariants.{Put, Flush, Take, Early, Spy}
 use Rattle.klsm_world.specs.OwnSteps.{Hand, found_in, content_in, changed, after_event}
 use Rattle.klsm_world.proofs.hands.HandLemmas.{choice_hit, choice_miss, found_first, found_behind}
 use Rattle.klsm_board.specs.Seats.{own_in_hand, both_in_hand, three_in_hand}
@@ -54,6 +54,12 @@ pub put_leaves : (t : ℕ) (h : Hand) (own : List Item) (x : Item) → h ≡ own
 put_leaves t h own x is =
     let own_is : content_in h (t + 1) ≡ own = ap (λ z. unwrap_or z []) (ap (λ z. found_in z (t + 1)) is ∙ own_in_one t own) in
     (λ i. changed (is i) (t + 1) (own_after_put (own_is i) x)) ∙ change_first (t + 1) own (own_after_put own x) []
+
+-- an Early
+pub early_leaves : (t : ℕ) (h : Hand) (own : List Item) (x : Item) (front : ℕ) → h ≡ own_in_hand t own → after_event t h (Early x front) ≡ own_in_hand t (own_after_early own x)
+early_leaves t h own x front is =
+    let own_is : content_in h (t + 1) ≡ own = ap (λ z. unwrap_or z []) (ap (λ z. found_in z (t + 1)) is ∙ own_in_one t own) in
+    (λ i. changed (is i) (t + 1) (own_after_early (own_is i) x)) ∙ change_first (t + 1) own (own_after_early own x) []
 
 change_both : (t : ℕ) (own shared own' shared' : List Item) → changed (changed (both_in_hand t own shared) (t + 1) own') 0 shared' ≡ both_in_hand t own' shared'
 change_both t own shared own' shared' =

@@ -4,19 +4,19 @@ use Rattle.std.specs.List.{Contains}
 use Rattle.atomic_table.specs.Table.{Me}
 use Rattle.klsm_run.specs.declared.item.Item.{Item}
 use Rattle.klsm_run.specs.Content.{ShareNone}
-use Rattle.klsm_parts.specs.Events.{MayTake, MayFindNothing}
+use Rattle.klsm_parts.specs.Events.{MayTake, MayTakeEarly, MayFindNothing}
 use Rattle.klsm_world.specs.declared.step.Entry.{Entry}
 use Rattle.klsm_world.specs.OwnSteps.{Hand, Holds, found_in, inserted}
 use Rattle.klsm_world.specs.LegalSteps.{BearsStamp}
-use Rattle.klsm_world.specs.OwnListLaws.{IsPossible, SkipsFew, LeavesFew}
-use Rattle.klsm_world.proofs.theorems.OwnListLemmas.{hands_are_apart, next_is_new_in_hand, lists_skip_few, lists_leave_few}
+use Rattle.klsm_world.specs.OwnListLaws.{IsPossible, SkipsFew, SkipsFewBy, KeepsOwnOrder, KeepsOwnOrderBy, LeavesFew}
+use Rattle.klsm_world.proofs.theorems.OwnListLemmas.{hands_are_apart, next_is_new_in_hand, lists_skip_few, lists_skip_few_early, lists_keep_order, lists_keep_order_early, lists_leave_few}
 use Rattle.klsm_world.proofs.theorems.RunLemmas.{schedules_keep_lawful}
 use Rattle.klsm_board.specs.declared.sizes.Sizes.{Sizes}
 use Rattle.klsm_board.specs.declared.rule.View.{View}
 use Rattle.klsm_board.specs.Rule.{limits_of, IsReached}
 use Rattle.klsm_board.specs.Steps.{mine}
-use Rattle.klsm_board.specs.Seats.{Has, both_in_hand}
-use Rattle.klsm_board.proofs.hands.EventLemmas.{own_in_both, shared_in_both}
+use Rattle.klsm_board.specs.Seats.{Has, own_in_hand, both_in_hand}
+use Rattle.klsm_board.proofs.hands.EventLemmas.{own_in_one, own_in_both, shared_in_both}
 
 -- a world to which a schedule leads is lawful
 pub possible : (m : Sizes) (t : ℕ) (es : List Entry) → IsReached m t es → IsPossible (limits_of m) m.quota t es
@@ -43,13 +43,41 @@ module _ {S : Type 0} (content : S → List Item) (suits : ℕ → ℕ → S →
       (ap (λ h. found_in h p) has.hand_is ∙ holds)
 
   -- a deletion from both parts in hand skips few items
-  pub take_skips_few : (own shared : List Item) (me : Me S View) (x : Item) → Has content suits m t (both_in_hand t own shared) me → MayTake m.k own shared x → SkipsFew (limits_of m) t (mine me.0) x
+  pub take_skips_few : (own shared : List Item) (me : Me S View) (x : Item) → Has content suits m t (both_in_hand t own shared) me → MayTake m.k t own shared x → SkipsFew (limits_of m) t (mine me.0) x
   take_skips_few own shared me x has may = let reached = has.reached in
       lists_skip_few (limits_of m) t (mine me.0) x reached.thread (record {
         own = own;
         other = shared;
         holds_own = ap (λ h. found_in h (t + 1)) has.hand_is ∙ own_in_both t own shared;
         holds_other = ap (λ h. found_in h 0) has.hand_is ∙ shared_in_both t own shared;
+        fits = may;
+      })
+
+  -- and none of the thread's own in them
+  pub take_keeps_order : (own shared : List Item) (me : Me S View) (x : Item) → Has content suits m t (both_in_hand t own shared) me → MayTake m.k t own shared x → KeepsOwnOrder (limits_of m) t (mine me.0) x
+  take_keeps_order own shared me x has may = let reached = has.reached in
+      lists_keep_order (limits_of m) t (mine me.0) x reached.thread (record {
+        own = own;
+        other = shared;
+        holds_own = ap (λ h. found_in h (t + 1)) has.hand_is ∙ own_in_both t own shared;
+        holds_other = ap (λ h. found_in h 0) has.hand_is ∙ shared_in_both t own shared;
+        fits = may;
+      })
+
+  -- so does one by the front, in the worlds of that front, with the own part in hand
+  pub early_skips_few : (own : List Item) (me : Me S View) (x : Item) (front : ℕ) → Has content suits m t (own_in_hand t own) me → MayTakeEarly own x front → SkipsFewBy front (limits_of m) t (mine me.0) x
+  early_skips_few own me x front has may = let reached = has.reached in
+      lists_skip_few_early (limits_of m) t (mine me.0) x front reached.thread (record {
+        own = own;
+        holds_own = ap (λ h. found_in h (t + 1)) has.hand_is ∙ own_in_one t own;
+        fits = may;
+      })
+
+  pub early_keeps_order : (own : List Item) (me : Me S View) (x : Item) (front : ℕ) → Has content suits m t (own_in_hand t own) me → MayTakeEarly own x front → KeepsOwnOrderBy front (limits_of m) t (mine me.0) x
+  early_keeps_order own me x front has may = let reached = has.reached in
+      lists_keep_order_early (limits_of m) t (mine me.0) x front reached.thread (record {
+        own = own;
+        holds_own = ap (λ h. found_in h (t + 1)) has.hand_is ∙ own_in_one t own;
         fits = may;
       })
 

@@ -19,10 +19,10 @@ use Rattle.klsm_world.specs.Schedules.{Leads}
 use Rattle.std.specs.Prelude.{unwrap_or}
 use Rattle.klsm_board.specs.declared.sizes.Sizes.{Sizes}
 use Rattle.klsm_board.specs.declared.rule.View.{View}
-use Rattle.klsm_board.specs.Rule.{place, lock_words, limits_of, content_at, world_of, Ruled, IsReached}
+use Rattle.klsm_board.specs.Rule.{place, lock_words, front_word, limits_of, content_at, world_of, Ruled, IsReached}
 use Rattle.klsm_board.specs.Steps.{on_part, gain, acquired}
-use Rattle.klsm_board.proofs.table.PlaceLemmas.{at_place}
-use Rattle.klsm_board.proofs.table.KeepLemmas.{Goes, world, alone, home_back, keeps_rule, keeps_reached, agrees, same_steps, inside, few_more, word_is, word_set, as_long}
+use Rattle.klsm_board.proofs.table.PlaceLemmas.{at_place, front_stays}
+use Rattle.klsm_board.proofs.table.KeepLemmas.{Goes, world, alone, home_back, keeps_rule, keeps_reached, agrees, same_steps, inside, few_more, word_is, word_set, stays}
 
 module _ {S : Type 0} (content : S → List Item) (suits : ℕ → ℕ → S → Type 0) (m : Sizes) where
   module _ (s : State S View) (r : Ruled content suits m s) (id t : ℕ) (xs : List Entry) (at : get_elem? s.views id ≡ some (alone content suits m t xs)) (lt : t < m.threads)
@@ -50,11 +50,11 @@ module _ {S : Type 0} (content : S → List Item) (suits : ℕ → ℕ → S →
         let ms : List WorldStep = Acquire t p ∷ r.schedule in
         let ws : List ℕ = set s.words (place p) (t + 1) in
         let hc : content y ≡ unwrap_or (home_of w0 p) [] = b.2 ∙ sym (ap (λ z. unwrap_or z []) f.1) in
-        let led : Leads (limits_of m) ms (world_of content (lock_words m ws) (set s.homes p none) ls) = record {
+        let led : Leads (limits_of m) ms (world_of content (lock_words m ws) (front_word m ws) (set s.homes p none) ls) = record {
           before = w0;
           led = r.leads;
           legal = record { thread = lt; part = le; free = free };
-          after = λ i. record { words = word_set content suits m s r id t xs at lt p (t + 1) le i; homes = map-set (content_at content) s.homes p none i; lists = set r.lists t (sym same i ++ Acquired p (hc i) ∷ []) };
+          after = λ i. record { words = word_set content suits m s r id t xs at lt p (t + 1) le i; front = front_stays m s.words p (t + 1) le i; homes = map-set (content_at content) s.homes p none i; lists = set r.lists t (sym same i ++ Acquired p (hc i) ∷ []) };
         } in
         let old_suits = r.suited in
         let stands : get_elem? ls t ≡ some es = set_here r.lists t es (inside content suits m s r id t xs at lt) in
@@ -67,7 +67,7 @@ module _ {S : Type 0} (content : S → List Item) (suits : ℕ → ℕ → S →
           alone content suits m t es,
           takes p y,
           b.1,
-          keeps_rule content suits m s r id t xs es at lt ws (set s.homes p none) ls ms (as_long content suits m s r id t xs at lt p (t + 1)) led stands else
+          keeps_rule content suits m s r id t xs es at lt ws (set s.homes p none) ls ms (stays content suits m s r id t xs at lt p (t + 1)) led stands else
               (λ q z h. ⊎_elim (λ (k : (q ≡ p) × (none ≡ some z)). absurd (some-ne-none z (sym k.1))) (λ (k : (q ≢ p) × (get_elem? s.homes q ≡ some (some z))). old_suits q z k.1) (at_set s.homes p q none (some z) h))
               few,
           at_place (λ q. acquired content suits m t (step slots q 0 (t + 1) none) me0 (get_or s.words (place p) 0) now) p (
@@ -96,11 +96,11 @@ module _ {S : Type 0} (content : S → List Item) (suits : ℕ → ℕ → S →
         let ls : List (List Entry) = set r.lists t es in
         let ms : List WorldStep = Miss t p ∷ r.schedule in
         let ws : List ℕ = set s.words (place p) n in
-        let led : Leads (limits_of m) ms (world_of content (lock_words m ws) s.homes ls) = record {
+        let led : Leads (limits_of m) ms (world_of content (lock_words m ws) (front_word m ws) s.homes ls) = record {
           before = w0;
           led = r.leads;
           legal = record { thread = lt; part = le; taken = ne'; by_another = λ e. other (sym same_word ∙ e) };
-          after = λ i. record { words = lock_words m (set-get_or s.words (place p) 0 i); homes = map (content_at content) s.homes; lists = set r.lists t (sym same i ++ Missed p (sym same_word i - 1) ∷ []) };
+          after = λ i. record { words = lock_words m (set-get_or s.words (place p) 0 i); front = front_word m (set-get_or s.words (place p) 0 i); homes = map (content_at content) s.homes; lists = set r.lists t (sym same i ++ Missed p (sym same_word i - 1) ∷ []) };
         } in
         let stands : get_elem? ls t ≡ some es = set_here r.lists t es (inside content suits m s r id t xs at lt) in
         let else : (u : ℕ) → u ≢ t → get_elem? ls u ≡ get_elem? r.lists u = (λ u d. set_else r.lists t u es d) in
@@ -112,7 +112,7 @@ module _ {S : Type 0} (content : S → List Item) (suits : ℕ → ℕ → S →
           alone content suits m t es,
           keeps,
           tt,
-          keeps_rule content suits m s r id t xs es at lt ws s.homes ls ms (as_long content suits m s r id t xs at lt p n) led stands else r.suited few,
+          keeps_rule content suits m s r id t xs es at lt ws s.homes ls ms (stays content suits m s r id t xs at lt p n) led stands else r.suited few,
           at_place (λ q. acquired content suits m t (step slots q 0 (t + 1) none) me0 n now) p (
             subst (λ b'. MatchBool b' ((z : S) × suits m.k p z × (now ≡ won z)) ((now ≡ lost) × (n ≤ m.threads)))
                 (sym (ne_eqb n 0 ne)) (refl, small),

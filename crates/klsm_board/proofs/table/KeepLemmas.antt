@@ -1,5 +1,5 @@
 -- A seat that goes on with its list keeps the rule, wherever a schedule leads to the new world.
-use Rattle.std.proofs.Common.{◌≡◌, ◌≢◌, ℕ, zero, suc, ◌+◌, ◌*◌, ◌<◌, ◌≤◌, List, [], ◌∷◌, ◌++◌, map, length, length-set, get_or, set, sym, refl, ap, ◌∙◌, subst, arith}
+use Rattle.std.proofs.Common.{◌≡◌, ◌≢◌, ℕ, zero, suc, ◌+◌, ◌*◌, ◌<◌, ◌≤◌, List, [], ◌∷◌, ◌++◌, map, length, get_or, set, sym, refl, ap, ◌∙◌, subst, arith}
 use Rattle.std.specs.Prelude.{Some, None}
 use Rattle.std.specs.List.{flat_map}
 use mathlib.Core.Option.{some, some-injective, some-ne-none}
@@ -12,7 +12,7 @@ use Rattle.std.proofs.lemmas.List.{length-append}
 use Rattle.atomic_table.specs.Table.{State, Me, Act, Valid, stepped, carried_after}
 use Rattle.klsm_run.specs.declared.item.Item.{Item}
 use Rattle.klsm_world.specs.declared.step.Event.{Event}
-use Rattle.klsm_world.specs.declared.step.Event.TheVariants.{Put, Flush, Take, Nothing, Spy}
+use Rattle.klsm_world.specs.declared.step.Event.TheVariants.{Put, Flush, Take, Early, Nothing, Spy}
 use Rattle.klsm_world.specs.declared.step.Entry.{Entry}
 use Rattle.klsm_world.specs.declared.step.Entry.TheVariants.{Committed}
 use Rattle.klsm_world.specs.declared.step.Step.{Step as WorldStep}
@@ -24,9 +24,9 @@ use Rattle.klsm_world.proofs.counts.ItemGrowthLemmas.{items_grow}
 use Rattle.klsm_world.proofs.theorems.RunLemmas.{schedules_keep_lawful}
 use Rattle.klsm_board.specs.declared.sizes.Sizes.{Sizes}
 use Rattle.klsm_board.specs.declared.rule.View.{View}
-use Rattle.klsm_board.specs.Rule.{own, view, place, lock_words, limits_of, content_at, world_of, Ruled, IsReached}
+use Rattle.klsm_board.specs.Rule.{own, view, place, lock_words, front_word, limits_of, content_at, world_of, Ruled, IsReached}
 use Rattle.klsm_board.specs.Seats.{HasRoom}
-use Rattle.klsm_board.proofs.table.PlaceLemmas.{word_at, word_set_at}
+use Rattle.klsm_board.proofs.table.PlaceLemmas.{StayBetween, others_stay, word_at, word_set_at}
 use Rattle.klsm_board.proofs.table.DealtLemmas.{my_list, deals_on, once_on}
 
 -- a thread's list, as a world has it
@@ -50,6 +50,7 @@ pub room_for : (quota : ℕ) (es : List Entry) (event : Event) → HasRoom quota
 room_for quota es (Put x) room few = let a : length (inserted (es ++ Committed (Put x) ∷ [])) ≡ length (inserted es) + 1 = insertions_more es (Committed (Put x)) in let b : length (inserted es) < quota = room (omega arith) in omega (arith, a, b)
 room_for quota es (Flush x moved) room few = let a : length (inserted (es ++ Committed (Flush x moved) ∷ [])) ≡ length (inserted es) + 1 = insertions_more es (Committed (Flush x moved)) in let b : length (inserted es) < quota = room (omega arith) in omega (arith, a, b)
 room_for quota es (Take x) room few = let a : length (inserted (es ++ Committed (Take x) ∷ [])) ≡ length (inserted es) + 0 = insertions_more es (Committed (Take x)) in omega (arith, a, few)
+room_for quota es (Early x front) room few = let a : length (inserted (es ++ Committed (Early x front) ∷ [])) ≡ length (inserted es) + 0 = insertions_more es (Committed (Early x front)) in omega (arith, a, few)
 room_for quota es Nothing room few = let a : length (inserted (es ++ Committed Nothing ∷ [])) ≡ length (inserted es) + 0 = insertions_more es (Committed Nothing) in omega (arith, a, few)
 room_for quota es (Spy victim moved) room few = let a : length (inserted (es ++ Committed (Spy victim moved) ∷ [])) ≡ length (inserted es) + 0 = insertions_more es (Committed (Spy victim moved)) in omega (arith, a, few)
 
@@ -61,7 +62,7 @@ module _ {S : Type 0} (content : S → List Item) (suits : ℕ → ℕ → S →
   Rule = Ruled content suits m
 
   abbrev pub world : St → List (List Entry) → World
-  world s ls = world_of content (lock_words m s.words) s.homes ls
+  world s ls = world_of content (lock_words m s.words) (front_word m s.words) s.homes ls
 
   abbrev pub alone : ℕ → List Entry → View
   alone t es = view (own t es ∷ [])
@@ -83,13 +84,14 @@ module _ {S : Type 0} (content : S → List Item) (suits : ℕ → ℕ → S →
 
   -- a member's seat goes on with its list, and the schedule with it
   pub keeps_rule : (s : St) (r : Rule s) (id t : ℕ) (xs es : List Entry) → get_elem? s.views id ≡ some (alone t xs) → t < m.threads → (ws : List ℕ) (os : List (Maybe S)) (ls : List (List Entry)) (ms : List WorldStep)
-      → length ws ≡ length s.words → Leads (limits_of m) ms (world_of content (lock_words m ws) os ls) → get_elem? ls t ≡ some es → ((u : ℕ) → u ≢ t → get_elem? ls u ≡ get_elem? r.lists u) → ((p : ℕ) (y : S) → get_elem? os p ≡ some (some y) → suits m.k p y)
+      → StayBetween s.words ws → Leads (limits_of m) ms (world_of content (lock_words m ws) (front_word m ws) os ls) → get_elem? ls t ≡ some es → ((u : ℕ) → u ≢ t → get_elem? ls u ≡ get_elem? r.lists u) → ((p : ℕ) (y : S) → get_elem? os p ≡ some (some y) → suits m.k p y)
       → length (inserted es) ≤ m.quota
       → Rule record { words = ws; homes = os; views = set s.views id (alone t es) }
-  keeps_rule s r id t xs es at lt ws os ls ms len leads here else suited few = record {
+  keeps_rule s r id t xs es at lt ws os ls ms stay leads here else suited few = record {
     lists = ls;
     schedule = ms;
-    wide = len ∙ r.wide;
+    wide = stay.as_many ∙ r.wide;
+    between = λ i none. stay.same i none ∙ r.between i none;
     leads = leads;
     dealt = deals_on m.threads r.lists s.views id (alone t xs) t xs r.dealt at refl es (r.once t lt) ls here else;
     once = λ u ltu. once_on m.threads r.lists s.views id (alone t xs) t xs r.dealt at refl es u (r.once u ltu);
@@ -99,11 +101,11 @@ module _ {S : Type 0} (content : S → List Item) (suits : ℕ → ℕ → S →
 
   -- its list is then one of a world to which the schedule leads
   pub keeps_reached : (s : St) (r : Rule s) (t : ℕ) (es : List Entry) → t < m.threads → (ws : List ℕ) (os : List (Maybe S)) (ls : List (List Entry)) (ms : List WorldStep)
-      → Leads (limits_of m) ms (world_of content (lock_words m ws) os ls) → get_elem? ls t ≡ some es → ((u : ℕ) → u ≢ t → get_elem? ls u ≡ get_elem? r.lists u)
+      → Leads (limits_of m) ms (world_of content (lock_words m ws) (front_word m ws) os ls) → get_elem? ls t ≡ some es → ((u : ℕ) → u ≢ t → get_elem? ls u ≡ get_elem? r.lists u)
       → length (inserted es) ≤ m.quota
       → IsReached m t es
   keeps_reached s r t es lt ws os ls ms leads here else few = record {
-    world = world_of content (lock_words m ws) os ls;
+    world = world_of content (lock_words m ws) (front_word m ws) os ls;
     schedule = ms;
     leads = leads;
     within = λ u ltu. each_within m.quota ls (within_on t es r.lists ls here else few r.within) u;
@@ -141,7 +143,7 @@ module _ {S : Type 0} (content : S → List Item) (suits : ℕ → ℕ → S →
     word_is p le = word_at (m.threads + 1) s.words p (omega (arith, le))
 
     pub word_set : (p x : ℕ) → p ≤ m.threads → lock_words m (set s.words (place p) x) ≡ set (lock_words m s.words) p x
-    word_set p x le = let wide = r.wide in let wide' : length s.words ≡ (m.threads + 1) * 16 = wide in word_set_at (m.threads + 1) s.words p x (omega (arith, wide', le))
+    word_set p x le = let wide = r.wide in let wide' : length s.words ≡ (m.threads + 2) * 16 = wide in word_set_at (m.threads + 1) s.words p x (omega (arith, wide', le))
 
-    pub as_long : (p x : ℕ) → length (set s.words (place p) x) ≡ length s.words
-    as_long p x = length-set s.words (place p) x
+    pub stays : (p x : ℕ) → StayBetween s.words (set s.words (place p) x)
+    stays p x = others_stay s.words p x

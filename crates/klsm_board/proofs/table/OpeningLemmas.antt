@@ -1,6 +1,6 @@
 -- The table of a new board meets the rule, and goes on to do so when a seat hands over a list and
 -- when two seats join.
-use Rattle.std.proofs.Common.{◌≡◌, ◌≢◌, ◌⊎◌, ℕ, zero, suc, ◌+◌, ◌<◌, ◌≤◌, cond, eqb, List, [], ◌∷◌, ◌++◌, map, length, set, replicate, sym, refl, ap, ◌∙◌, subst, ⊎_elim, inl, inr, arith}
+use Rattle.std.proofs.Common.{◌≡◌, ◌≢◌, ◌⊎◌, ℕ, zero, suc, ◌+◌, ◌<◌, ◌≤◌, cond, eqb, List, [], ◌∷◌, ◌++◌, map, length, length-set, set, replicate, sym, refl, ap, ◌∙◌, subst, ⊎_elim, inl, inr, arith}
 use Rattle.std.specs.Prelude.{Some}
 use mathlib.Core.Logic.{dite}
 use mathlib.Core.Option.{some, some-injective, some-ne-none}
@@ -16,7 +16,7 @@ use Rattle.klsm_board.specs.declared.sizes.Sizes.{Sizes}
 use Rattle.klsm_board.specs.declared.rule.Own.{Own}
 use Rattle.klsm_board.specs.declared.rule.View.{View}
 use Rattle.klsm_board.specs.Rule.{own, view, place, fresh, everyone, lists_of, lists_in, content_at, Ruled}
-use Rattle.klsm_board.proofs.table.PlaceLemmas.{locks_blank}
+use Rattle.klsm_board.proofs.table.PlaceLemmas.{got_else, got_blank, locks_blank, locks_stay, front_set_at}
 use Rattle.klsm_board.proofs.table.DealtLemmas.{lists_in-set}
 
 -- how many lists of a thread two rows of views have
@@ -68,6 +68,13 @@ some_back [] p y e = absurd (some-ne-none (some y) (sym e))
 some_back (x ∷ xs) zero y e = some-injective (some x) (some y) e
 some_back (x ∷ xs) (suc p) y e = some_back xs p y e
 
+-- the words of a new table: all locks are free, and the front is that of no item
+abbrev pub first_words : Sizes → List ℕ
+first_words m = set (replicate (place (m.threads + 2)) 0) (place (m.threads + 1)) 18446744073709551615
+
+pub length_first : (m : Sizes) → length (first_words m) ≡ place (m.threads + 2)
+length_first m = length-set (replicate (place (m.threads + 2)) 0) (place (m.threads + 1)) 18446744073709551615 ∙ length-replicate (place (m.threads + 2)) 0
+
 module _ {S : Type 0} (content : S → List Item) (suits : ℕ → ℕ → S → Type 0) (m : Sizes) where
   -- a seat gives its first list to a new one
   pub divides : (id : ℕ) (v : View) (o : Own) (os : List Own) → v.lists ≡ o ∷ os → Splits (Ruled content suits m) id v (view os) (view (o ∷ []))
@@ -78,6 +85,7 @@ module _ {S : Type 0} (content : S → List Item) (suits : ℕ → ℕ → S →
         lists = r.lists;
         schedule = r.schedule;
         wide = r.wide;
+        between = r.between;
         leads = r.leads;
         dealt = λ j u e i x e'. ⊎_elim
             (λ (in_set : get_elem? (set s.views id (view os)) j ≡ some u). ⊎_elim (λ (k : (j ≡ id) × (view os ≡ u)). mine (suc i) x (ap (λ (z : View). get_elem? z.lists i) k.1 ∙ e')) (λ (k : (j ≢ id) × (get_elem? s.views j ≡ some u)). deals j u k.1 i x e') (at_set s.views id j (view os) u in_set))
@@ -109,6 +117,7 @@ module _ {S : Type 0} (content : S → List Item) (suits : ℕ → ℕ → S →
         lists = r.lists;
         schedule = r.schedule;
         wide = r.wide;
+        between = r.between;
         leads = r.leads;
         dealt = λ j u e i x e'. ⊎_elim
             (λ (k : (j ≡ other) × (view [] ≡ u)). absurd (some-ne-none x (sym (ap (λ (z : View). get_elem? z.lists i) k.1 ∙ e'))))
@@ -134,12 +143,13 @@ module _ {S : Type 0} (content : S → List Item) (suits : ℕ → ℕ → S →
   all_empty (x ∷ xs) h = λ i. Some (h 0 x refl i) ∷ all_empty xs (λ j y e. h (suc j) y e) i
 
   -- at first, where each slot has its part and the part is empty
-  pub opens : (xs : List S) → length xs ≡ m.threads + 1 → ((i : ℕ) (y : S) → get_elem? xs i ≡ some y → (content y ≡ []) × suits m.k i y) → Ruled content suits m (opening (replicate (place (m.threads + 1)) 0) xs (everyone m))
+  pub opens : (xs : List S) → length xs ≡ m.threads + 1 → ((i : ℕ) (y : S) → get_elem? xs i ≡ some y → (content y ≡ []) × suits m.k i y) → Ruled content suits m (opening (first_words m) xs (everyone m))
   opens xs len each = record {
     lists = replicate m.threads [];
     schedule = [];
-    wide = length-replicate (place (m.threads + 1)) 0;
-    leads = λ i. record { words = locks_blank 0 (m.threads + 1) (place (m.threads + 1)) i; homes = (all_empty xs (λ j y e. (each j y e).0) ∙ ap (λ n. replicate n (Some [])) len) i; lists = replicate m.threads [] };
+    wide = length_first m;
+    between = λ i none. got_else (replicate (place (m.threads + 2)) 0) (place (m.threads + 1)) i 18446744073709551615 (none (m.threads + 1)) ∙ got_blank (place (m.threads + 2)) i;
+    leads = λ i. record { words = (locks_stay m (replicate (place (m.threads + 2)) 0) 18446744073709551615 ∙ locks_blank 0 (m.threads + 1) (place (m.threads + 2))) i; front = front_set_at m (replicate (place (m.threads + 2)) 0) 18446744073709551615 (length-replicate (place (m.threads + 2)) 0) i; homes = (all_empty xs (λ j y e. (each j y e).0) ∙ ap (λ n. replicate n (Some [])) len) i; lists = replicate m.threads [] };
     dealt = λ j v e i o e'. one_view j v e i o e';
     once = λ t lt. let h = fresh_once m.threads 0 t (omega arith) (omega (arith, lt)) in omega (arith, h);
     suited = λ p y e. (each p y (some_back xs p y e)).1;

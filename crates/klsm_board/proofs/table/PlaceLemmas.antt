@@ -1,8 +1,8 @@
 -- Lock words that stand apart, as the words of the world.
-use Rattle.std.proofs.Common.{◌≡◌, ◌≢◌, ℕ, zero, suc, ◌+◌, ◌*◌, ◌<◌, ◌≤◌, List, [], ◌∷◌, length, get_or, set, replicate, refl, ap, ◌∙◌, subst, arith}
+use Rattle.std.proofs.Common.{◌≡◌, ◌≢◌, ℕ, zero, suc, ◌+◌, ◌*◌, ◌<◌, ◌≤◌, List, [], ◌∷◌, length, length-set, get_or, set, replicate, refl, ap, ◌∙◌, subst, arith}
 use Rattle.atomic_table.specs.Seated.{TableId}
 use Rattle.klsm_board.specs.declared.sizes.Sizes.{Sizes}
-use Rattle.klsm_board.specs.Rule.{place, locks_from, IsSized}
+use Rattle.klsm_board.specs.Rule.{place, locks_from, lock_words, front_word, IsSized}
 
 -- what holds of a part holds of each part with the same word
 pub at_place : (F : ℕ → Type 0) (p : ℕ) → F p → (q : ℕ) → place q ≡ place p → F q
@@ -13,17 +13,25 @@ got_here [] i x h = absurd (omega (arith, h))
 got_here (y ∷ ys) zero x h = refl
 got_here (y ∷ ys) (suc i) x h = got_here ys i x (omega (arith, h))
 
-got_else : (l : List ℕ) (i j x : ℕ) → j ≢ i → get_or (set l i x) j 0 ≡ get_or l j 0
+pub got_else : (l : List ℕ) (i j x : ℕ) → j ≢ i → get_or (set l i x) j 0 ≡ get_or l j 0
 got_else [] i j x n = refl
 got_else (y ∷ ys) zero zero x n = absurd (n refl)
 got_else (y ∷ ys) zero (suc j) x n = refl
 got_else (y ∷ ys) (suc i) zero x n = refl
 got_else (y ∷ ys) (suc i) (suc j) x n = got_else ys i j x (λ e. n (ap suc e))
 
-got_blank : (k i : ℕ) → ◌≡◌ {A = ℕ} (get_or (replicate k 0) i 0) 0
+pub got_blank : (k i : ℕ) → ◌≡◌ {A = ℕ} (get_or (replicate k 0) i 0) 0
 got_blank zero i = refl
 got_blank (suc k) zero = refl
 got_blank (suc k) (suc i) = got_blank k i
+
+-- the words of a table after a step on one that stands in a place: as many, and none between the places has changed
+pub record StayBetween (before after : List ℕ) : Type 0 where
+  pub as_many : length after ≡ length before
+  pub same : (i : ℕ) → ((p : ℕ) → i ≢ place p) → get_or after i 0 ≡ get_or before i 0
+
+pub others_stay : (ws : List ℕ) (p x : ℕ) → StayBetween ws (set ws (place p) x)
+others_stay ws p x = record { as_many = length-set ws (place p) x; same = λ i none. got_else ws (place p) i x (none p) }
 
 -- the word of the part q + p
 lock_at : (q n : ℕ) (ws : List ℕ) (p : ℕ) → p < n → get_or (locks_from q n ws) p 0 ≡ get_or ws (place (q + p)) 0
@@ -60,5 +68,24 @@ pub locks_blank : (q n k : ℕ) → locks_from q n (replicate k 0) ≡ replicate
 locks_blank q zero k = refl
 locks_blank q (suc n) k = λ i. got_blank k (place q) i ∷ locks_blank (suc q) n k i
 
+-- a word behind those of the parts
+behind : (q n : ℕ) (ws : List ℕ) (i x : ℕ) → (q + n) * 16 ≤ i → locks_from q n (set ws i x) ≡ locks_from q n ws
+behind q zero ws i x h = refl
+behind q (suc n) ws i x h = λ k. got_else ws i (place q) x (λ e. let e' : q * 16 ≡ i = e in omega (arith, e', h)) k ∷ behind (suc q) n ws i x (omega (arith, h)) k
+
+-- the front word is none of the locks, and the other way round
+pub locks_stay : (m : Sizes) (ws : List ℕ) (x : ℕ) → lock_words m (set ws (place (m.threads + 1)) x) ≡ lock_words m ws
+locks_stay m ws x = behind 0 (m.threads + 1) ws (place (m.threads + 1)) x (omega arith)
+
+pub front_stays : (m : Sizes) (ws : List ℕ) (p x : ℕ) → p ≤ m.threads → front_word m (set ws (place p) x) ≡ front_word m ws
+front_stays m ws p x le = got_else ws (place p) (place (m.threads + 1)) x (λ e. let e' : (m.threads + 1) * 16 ≡ p * 16 = e in omega (arith, e', le))
+
+-- where it is set in the table, it is set in the world
+pub front_set_at : (m : Sizes) (ws : List ℕ) (x : ℕ) → length ws ≡ place (m.threads + 2) → front_word m (set ws (place (m.threads + 1)) x) ≡ x
+front_set_at m ws x wide = let wide' : length ws ≡ (m.threads + 2) * 16 = wide in got_here ws (place (m.threads + 1)) x (omega (arith, wide'))
+
+pub front_inside : (z : TableId) (m : Sizes) → IsSized z m → place (m.threads + 1) < z.words
+front_inside z m sized = let w : z.words ≡ (m.threads + 2) * 16 = sized.0 in omega (arith, w)
+
 pub inside : (z : TableId) (m : Sizes) (p : ℕ) → IsSized z m → p ≤ m.threads → place p < z.words
-inside z m p sized le = let w : z.words ≡ (m.threads + 1) * 16 = sized.0 in omega (arith, w, le)
+inside z m p sized le = let w : z.words ≡ (m.threads + 2) * 16 = sized.0 in omega (arith, w, le)

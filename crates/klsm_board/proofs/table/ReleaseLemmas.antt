@@ -15,16 +15,18 @@ use Rattle.klsm_world.specs.declared.step.Step.TheVariants.{Commit, Release}
 use Rattle.klsm_world.specs.OwnSteps.{Holds, found_in, content_in, after_event, hand_of, inserted}
 use Rattle.klsm_world.specs.LegalSteps.{MayCommit}
 use Rattle.klsm_world.specs.Worlds.{World, steps_of}
-use Rattle.klsm_world.specs.Schedules.{Leads}
+use Rattle.klsm_world.specs.Schedules.{MayStep, front_after, Leads}
+use Rattle.klsm_world.proofs.theorems.RunLemmas.{schedules_keep_lawful}
 use Rattle.klsm_world.proofs.hands.NotedLemmas.{hand_of_more}
 use Rattle.std.specs.Prelude.{unwrap_or}
 use Rattle.klsm_board.specs.declared.sizes.Sizes.{Sizes}
 use Rattle.klsm_board.specs.declared.rule.View.{View}
-use Rattle.klsm_board.specs.Rule.{place, lock_words, limits_of, content_at, world_of, Ruled}
+use Rattle.klsm_board.specs.Rule.{place, lock_words, front_word, limits_of, content_at, world_of, Ruled}
 use Rattle.klsm_board.specs.Steps.{on_part, released, committed}
-use Rattle.klsm_board.specs.Seats.{HasRoom}
-use Rattle.klsm_board.proofs.table.PlaceLemmas.{at_place}
-use Rattle.klsm_board.proofs.table.KeepLemmas.{Goes, world, alone, list_at, insertions_more, room_for, keeps_rule, keeps_reached, here, same_steps, inside, few_now, few_more, word_set, as_long}
+use Rattle.klsm_board.specs.Seats.{HasRoom, LeavesShared}
+use Rattle.klsm_board.proofs.table.PlaceLemmas.{at_place, front_stays}
+use Rattle.klsm_board.proofs.table.FrontLemmas.{no_front, front_left}
+use Rattle.klsm_board.proofs.table.KeepLemmas.{Goes, world, alone, list_at, insertions_more, room_for, keeps_rule, keeps_reached, here, same_steps, inside, few_now, few_more, word_set, stays}
 
 module _ {S : Type 0} (content : S → List Item) (suits : ℕ → ℕ → S → Type 0) (m : Sizes) where
   module _ (s : State S View) (r : Ruled content suits m s) (id t : ℕ) (xs : List Entry) (at : get_elem? s.views id ≡ some (alone content suits m t xs)) (lt : t < m.threads)
@@ -35,7 +37,7 @@ module _ {S : Type 0} (content : S → List Item) (suits : ℕ → ℕ → S →
 
     -- the part goes home, from a list to which the schedule has led
     gives_back : (es : List Entry) (ls : List (List Entry)) (ms : List WorldStep) → Leads (limits_of m) ms (world content suits m s ls) → get_elem? ls t ≡ some es → Holds (hand_of t es) p (content y)
-        → Leads (limits_of m) (Release t p ∷ ms) (world_of content (lock_words m ws) (set s.homes p (some y)) (set ls t (es ++ Released p ∷ [])))
+        → Leads (limits_of m) (Release t p ∷ ms) (world_of content (lock_words m ws) (front_word m ws) (set s.homes p (some y)) (set ls t (es ++ Released p ∷ [])))
     gives_back es ls ms led is has =
         let w1 : World = world content suits m s ls in
         let st : steps_of w1 t ≡ es = list_at ls t es is in
@@ -45,7 +47,7 @@ module _ {S : Type 0} (content : S → List Item) (suits : ℕ → ℕ → S →
           before = w1;
           led = led;
           legal = record { thread = lt; held = record { content = content y; holds = has' } };
-          after = λ i. record { words = word_set content suits m s r id t xs at lt p 0 le i; homes = (map-set (content_at content) s.homes p (some y) ∙ ap (λ z. set (map (content_at content) s.homes) p (Some z)) (sym back)) i; lists = set ls t (sym st i ++ Released p ∷ []) };
+          after = λ i. record { words = word_set content suits m s r id t xs at lt p 0 le i; front = front_stays m s.words p 0 le i; homes = (map-set (content_at content) s.homes p (some y) ∙ ap (λ z. set (map (content_at content) s.homes) p (Some z)) (sym back)) i; lists = set ls t (sym st i ++ Released p ∷ []) };
         }
 
     still_suited : (q : ℕ) (z : S) → get_elem? (set s.homes p (some y)) q ≡ some (some z) → suits m.k q z
@@ -64,14 +66,14 @@ module _ {S : Type 0} (content : S → List Item) (suits : ℕ → ℕ → S →
           alone content suits m t es,
           gives,
           tt,
-          keeps_rule content suits m s r id t xs es at lt ws (set s.homes p (some y)) ls ms (as_long content suits m s r id t xs at lt p 0) led stands else still_suited few,
+          keeps_rule content suits m s r id t xs es at lt ws (set s.homes p (some y)) ls ms (stays content suits m s r id t xs at lt p 0) led stands else still_suited few,
           at_place (λ q. released m t (step slots q 0 0 none) (alone content suits m t xs, (p, y) ∷ cs) 0 (alone content suits m t es, cs)) p
               (refl, keeps_reached content suits m s r t es lt ws (set s.homes p (some y)) ls ms led stands else few),
         )
 
-    commits : (fits : Event → Type 0) (e : Event) → fits e → MayCommit m.k t (hand_of t xs) (length (inserted xs)) e → HasRoom m.quota xs e → Holds (after_event t (hand_of t xs) e) p (content y)
+    commits : (fits : Event → Type 0) (e : Event) → fits e → MayCommit m.k t (hand_of t xs) (length (inserted xs)) e → HasRoom m.quota xs e → LeavesShared t (hand_of t xs) e → Holds (after_event t (hand_of t xs) e) p (content y)
         → Goes content suits m s id p ((p, y) ∷ cs) (λ _. on_part (committed fits m t) (step slots (place p) 0 0 none) (alone content suits m t xs, (p, y) ∷ cs) 0) 0
-    commits fits e fit may room has =
+    commits fits e fit may room leaves has =
         let w0 : World = world content suits m s r.lists in
         let same : steps_of w0 t ≡ xs = same_steps content suits m s r id t xs at lt in
         let within : t < length r.lists = inside content suits m s r id t xs at lt in
@@ -82,11 +84,14 @@ module _ {S : Type 0} (content : S → List Item) (suits : ℕ → ℕ → S →
         let ms1 : List WorldStep = Commit t e ∷ r.schedule in
         let here1 : get_elem? ls1 t ≡ some es1 = set_here r.lists t es1 within in
         let may' : MayCommit m.k t (hand_of t (steps_of w0 t)) (length (inserted (steps_of w0 t))) e = subst (λ z. MayCommit m.k t (hand_of t z) (length (inserted z)) e) (sym same) may in
+        let legal : MayStep (limits_of m) w0 (Commit t e) = record { thread = lt; commit = may'; front = no_front w0.front t (hand_of t xs) e leaves } in
+        let kept : front_after w0.front t (hand_of t (steps_of w0 t)) e ≡ w0.front =
+        front_left (limits_of m) w0 t e (schedules_keep_lawful (limits_of m) r.schedule w0 r.leads) legal (subst (λ z. LeavesShared t (hand_of t z) e) (sym same) leaves) in
         let led1 : Leads (limits_of m) ms1 (world content suits m s ls1) = record {
           before = w0;
           led = r.leads;
-          legal = record { thread = lt; commit = may' };
-          after = λ i. record { words = lock_words m s.words; homes = map (content_at content) s.homes; lists = set r.lists t (sym same i ++ Committed e ∷ []) };
+          legal = legal;
+          after = λ i. record { words = lock_words m s.words; front = sym kept i; homes = map (content_at content) s.homes; lists = set r.lists t (sym same i ++ Committed e ∷ []) };
         } in
         let has1 : Holds (hand_of t es1) p (content y) = ap (λ z. found_in z p) (hand_of_more t xs (Committed e)) ∙ has in
         let led = gives_back es1 ls1 ms1 led1 here1 has1 in
@@ -96,7 +101,7 @@ module _ {S : Type 0} (content : S → List Item) (suits : ℕ → ℕ → S →
           alone content suits m t es,
           gives,
           tt,
-          keeps_rule content suits m s r id t xs es at lt ws (set s.homes p (some y)) ls (Release t p ∷ ms1) (as_long content suits m s r id t xs at lt p 0) led stands else still_suited few,
+          keeps_rule content suits m s r id t xs es at lt ws (set s.homes p (some y)) ls (Release t p ∷ ms1) (stays content suits m s r id t xs at lt p 0) led stands else still_suited few,
           at_place (λ q. committed fits m t (step slots q 0 0 none) (alone content suits m t xs, (p, y) ∷ cs) 0 (alone content suits m t es, cs)) p
               (e, fit, refl, keeps_reached content suits m s r t es lt ws (set s.homes p (some y)) ls (Release t p ∷ ms1) led stands else few),
         )
@@ -108,6 +113,6 @@ module _ {S : Type 0} (content : S → List Item) (suits : ℕ → ℕ → S →
 
   -- an event that fits is committed, and a part that the thread holds is given back
   pub commit_allows : (fits : Event → Type 0) (slots id p t : ℕ) (xs : List Entry) (y : S) (cs : List (ℕ × S)) (e : Event) → fits e → t < m.threads → p ≤ m.threads → suits m.k p y → MayCommit m.k t (hand_of t xs) (length (inserted xs)) e
-      → HasRoom m.quota xs e → Holds (after_event t (hand_of t xs) e) p (content y)
+      → HasRoom m.quota xs e → LeavesShared t (hand_of t xs) e → Holds (after_event t (hand_of t xs) e) p (content y)
       → Allows (Ruled content suits m) slots id (alone content suits m t xs, (p, y) ∷ cs) (place p) (λ _. 0) (λ _. on_part (committed fits m t) (step slots (place p) 0 0 none) (alone content suits m t xs, (p, y) ∷ cs) 0)
-  commit_allows fits slots id p t xs y cs e fit lt le suit may room has s r deep at small = commits s r id t xs at lt slots p y cs le suit fits e fit may room has
+  commit_allows fits slots id p t xs y cs e fit lt le suit may room leaves has s r deep at small = commits s r id t xs at lt slots p y cs le suit fits e fit may room leaves has

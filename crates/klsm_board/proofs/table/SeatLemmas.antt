@@ -141,6 +141,24 @@ module _ {S : Type 0} (content : S → List Item) (suits : ℕ → ℕ → S →
       ∙ (mine_gain (gain me.0 (Committed event)) t (Released p) mid
       ∙ (ap (λ z. z ++ Released p ∷ []) (mine_gain me.0 t (Committed event) alone) ∙ append_assoc (mine me.0) (Committed event ∷ []) (Released p ∷ [])))
 
+  -- an event was committed, and no part given back
+  pub has_set : (event : Event) (hand : Hand) (me me' : Me S View) → CarriedOut content suits m t event hand me
+      → me' ≡ (gain me.0 (Committed event), me.1) → IsReached m t (mine me'.0) → Has content suits m t hand me'
+  has_set event hand me me' out is reached =
+      let old = out.carries in
+      subst (Has content suits m t hand) (sym is) (record {
+        carries = record {
+          alone = gain_mine me.0 t (Committed event) old.alone;
+          contents_are = old.contents_are;
+          suited = old.suited;
+        };
+        hand_is = hand_gain me.0 (Committed event) old.alone ∙ out.done;
+        reached = subst (λ (z : Me S View). IsReached m t (mine z.0)) is reached;
+      })
+
+  pub mine_set : (event : Event) (me me' : Me S View) → IsMine me.0 t → me' ≡ (gain me.0 (Committed event), me.1) → mine me'.0 ≡ mine me.0 ++ Committed event ∷ []
+  mine_set event me me' alone is = ap (λ (z : Me S View). mine z.0) is ∙ mine_gain me.0 t (Committed event) alone
+
   -- a part that a seat has can be given back
   pub can_give : (p : ℕ) (c : List Item) (hand : Hand) (me : Me S View) → Stands content suits m t ((p, c) ∷ hand) me
       → (y : S) × (me.1 ≡ (p, y) ∷ rest me.1) × suits m.k p y × Holds (hand_of t (mine me.0)) p (content y)

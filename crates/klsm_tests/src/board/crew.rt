@@ -199,3 +199,15 @@ impl<const LEVELS: usize> Crew<LEVELS> {
         }
     }
 }
+
+/// The board and the members that come back, in the order given, where it is not finished for this
+/// cause.
+pub(super) fn refused(
+    alloc: Global,
+    crew: Crew<21>,
+    cause: FinishError,
+    numbers: &[u32],
+) -> Option<Crew<21>> {
+    let (why, crew) = crew.finish(alloc).err()?;
+    (why == cause && crew.are(numbers)).then_some(crew)
+}

@@ -1,7 +1,7 @@
 //! Boards that are finished, with all their members or without some.
 ghost use Rattle.klsm_parts.specs.Limit.{IsLevelCount};
 
-use super::crew::Crew;
+use super::crew::{Crew, refused};
 use super::script::{Name, Step, all_go, item};
 use klsm_board::{Account, FinishError, TryInsertError};
 use std::alloc::Global;
@@ -23,13 +23,6 @@ fn after<const LEVELS: usize>(
 {
     let mut crew = Crew::new(alloc, threads, k, quota).ok()?;
     all_go(rt, &mut crew, true, steps).then_some(crew)
-}
-
-// The board and the members that come back, in the order given, where it is not finished for this
-// cause.
-fn refused(alloc: Global, crew: Crew<21>, cause: FinishError, numbers: &[u32]) -> Option<Crew<21>> {
-    let (why, crew) = crew.finish(alloc).err()?;
-    (why == cause && crew.are(numbers)).then_some(crew)
 }
 
 // The same, after those that were away have come back, and the others gone.

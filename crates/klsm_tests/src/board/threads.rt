@@ -23,27 +23,55 @@ enum Kind {
     Waits,
     // Holds the next part in turn.
     Holds,
+    // Inserts an item whose key is below all shared ones, and deletes it. Now and then it inserts an
+    // item before that may be shared, or never.
+    StaysBelow { shares: bool },
 }
+
+// What the threads of a test do together.
+#[derive(Clone, Copy, PartialEq, Eq)]
+enum Work {
+    Mixed,
+    // The last of them holds parts while the others make calls that may wait.
+    HeldUp,
+    // All stay below what is shared.
+    Below,
+    // They do while another member holds the shared part, so that no call may need it.
+    BelowHeld,
+}
+
+// The keys of items that stay below all shared ones are less than this.
+const SHARED_FROM: u64 = 1000;
 
 // The threads of a test.
 struct Team {
     threads: usize,
     k: usize,
     calls: u32,
-    // Whether the last of them holds parts while the others make calls that may wait.
-    is_held_up: bool,
+    work: Work,
 }
 
 impl Team {
     // What a thread does, and how often: there are a few parts to be held for each call.
     fn rounds_of(&self, number: u32) -> (Kind, u32) {
-        if !self.is_held_up {
-            return (Kind::Mixes, self.calls);
+        match self.work {
+            Work::Mixed => (Kind::Mixes, self.calls),
+            Work::HeldUp if number as usize + 1 < self.threads => (Kind::Waits, self.calls),
+            Work::HeldUp => (Kind::Holds, self.calls.saturating_mul(6)),
+            Work::Below => (Kind::StaysBelow { shares: true }, self.calls),
+            Work::BelowHeld => (Kind::StaysBelow { shares: false }, self.calls),
         }
-        if number as usize + 1 < self.threads {
-            return (Kind::Waits, self.calls);
-        }
-        (Kind::Holds, self.calls.saturating_mul(6))
+    }
+
+    // How many deletions the threads have to note: one in each round of a member that stays below,
+    // and of others any number.
+    fn deletions(&self) -> Option<usize> {
+        let members = match self.work {
+            Work::Mixed | Work::HeldUp => return None,
+            Work::Below => self.threads,
+            Work::BelowHeld => self.threads.saturating_sub(1),
+        };
+        Some(members.saturating_mul(self.calls as usize))
     }
 }
 
@@ -54,6 +82,8 @@ struct Worker {
     mix: Pcg32,
     inserted: Vec<Item>,
     deleted: Vec<Item>,
+    // Whether each deletion that had to give the last item inserted did.
+    is_right: bool,
 }
 
 impl Worker {
@@ -66,6 +96,7 @@ impl Worker {
             mix,
             inserted: Vec::new(alloc),
             deleted: Vec::new(alloc),
+            is_right: true,
         }
     }
 
@@ -89,12 +120,11 @@ impl Worker {
         }
     }
 
-    // Inserts an item of some key, by a call that may wait or by one that does not.
-    fn insert(&mut self, rt: &impl Wait, board: &Board<64, 21>, waits: bool)
+    // Inserts an item of a key, by a call that may wait or by one that does not.
+    fn insert(&mut self, rt: &impl Wait, board: &Board<64, 21>, waits: bool, key: u64)
         requires { IsOf self.old.member board.now }
         ensures { IsOf self.new.member board.now }
     {
-        let key = self.mix.next_u64() % 1000;
         let load = self.member.inserted_count();
         let stamp = if waits {
             self.member.insert(rt, board, key, load).ok()
@@ -127,6 +157,7 @@ impl Worker {
             mix,
             inserted,
             deleted,
+            is_right,
         } = self;
         let member = match member.try_hold(board, lock) {
             Ok(held) => held.put_back(board),
@@ -137,6 +168,7 @@ impl Worker {
             mix,
             inserted,
             deleted,
+            is_right,
         }
     }
 
@@ -146,7 +178,10 @@ impl Worker {
         ensures { IsOf result.member board.now }
     {
         match self.mix.next_u32() % 16 {
-            kind @ 0..=5 => self.insert(rt, board, kind < 3),
+            kind @ 0..=5 => {
+                let key = self.mix.next_u64() % 1000;
+                self.insert(rt, board, kind < 3, key);
+            }
             kind @ 6..=13 => self.delete(rt, board, kind < 10),
             _ => {
                 let lock = self.mix.next_u32() as usize % (board.threads() + 1);
@@ -162,11 +197,35 @@ impl Worker {
         ensures { IsOf result.member board.now }
     {
         if self.mix.next_u32() % 2 == 0 {
-            self.insert(rt, board, true);
+            let key = self.mix.next_u64() % 1000;
+            self.insert(rt, board, true, key);
         } else {
             self.delete(rt, board, true);
         }
         self
+    }
+
+    // Inserts an item whose key is below all shared ones and deletes it, by calls that may wait or by
+    // others.
+    fn stay_below(mut self, rt: &impl Wait, board: &Board<64, 21>, waits: bool) -> Self
+        requires { IsOf self.member board.now }
+        ensures { IsOf result.member board.now }
+    {
+        let key = self.mix.next_u64() % SHARED_FROM;
+        self.insert(rt, board, waits, key);
+        self.delete(rt, board, waits);
+        self.is_right = self.is_right && self.deleted.last() == self.inserted.last();
+        self
+    }
+
+    // Inserts an item that may be shared, and then stays below.
+    fn share(mut self, rt: &impl Wait, board: &Board<64, 21>) -> Self
+        requires { IsOf self.member board.now }
+        ensures { IsOf result.member board.now }
+    {
+        let key = SHARED_FROM + self.mix.next_u64() % 1000;
+        self.insert(rt, board, true, key);
+        self.stay_below(rt, board, true)
     }
 
     // Does what there is to do in a round.
@@ -178,6 +237,8 @@ impl Worker {
             Kind::Mixes => self.mix(rt, board),
             Kind::Waits => self.wait(rt, board),
             Kind::Holds => self.hold(board, round as usize % (board.threads() + 1)),
+            Kind::StaysBelow { shares } if shares && round % 4 == 0 => self.share(rt, board),
+            Kind::StaysBelow { shares } => self.stay_below(rt, board, shares),
         }
     }
 
@@ -194,10 +255,11 @@ impl Worker {
         worker
     }
 
-    // Whether its counts are those of what it noted.
+    // Whether its deletions were right, and its counts are those of what it noted.
     fn agrees(&self) -> bool {
         let noted = (self.inserted.len() as u64, self.deleted.len() as u64);
-        (self.member.inserted_count(), self.member.deleted_count()) == noted
+        let counts = (self.member.inserted_count(), self.member.deleted_count());
+        self.is_right && counts == noted
     }
 }
 
@@ -232,7 +294,7 @@ struct Found {
 }
 
 impl Found {
-    // A worker's member comes back. `None` where its counts are not those of what it noted.
+    // A worker's member comes back. `None` where it does not agree with what it noted.
     fn add(&mut self, worker: Worker) -> Option<()>
         requires { IsOf worker.member self.old.crew.board }
         ensures { self.new.crew.board ≡ self.old.crew.board }
@@ -251,8 +313,12 @@ impl Found {
         self.deleted.extend_from_slice(deleted.as_slice()).ok()
     }
 
-    // Notes what a member still finds. Whether that was so much at most.
+    // Notes what a member still finds, once the part that is held is back. Whether that was so much at
+    // most.
     fn drain(&mut self, most: usize) -> Option<bool> {
+        if self.crew.held.is_some() {
+            self.crew.put_back()?;
+        }
         for _ in 0..most {
             let Some(item) = self.crew.try_delete_min(0, &mut Last)?.ok()? else {
                 return Some(true);
@@ -321,10 +387,19 @@ fn found_by(alloc: Global, crew: Crew<21>, workers: Vec<Worker>) -> Option<Found
     Some(ended.found)
 }
 
+// The board of a team, whose last member may hold the shared part.
+fn crew_of(alloc: Global, team: &Team) -> Option<Crew<21>> {
+    let quota = u64::from(team.calls).saturating_mul(2);
+    let mut crew = Crew::new(alloc, team.threads, team.k, quota).ok()?;
+    if team.work == Work::BelowHeld {
+        crew.try_hold(0)?.ok()?;
+    }
+    Some(crew)
+}
+
 // What is found once all threads of a team have ended.
 fn run_team<R: Threads + Wait + Sync>(rt: &R, alloc: Global, team: &Team) -> Option<Found> {
-    let quota = u64::from(team.calls);
-    let mut crew = Crew::new(alloc, team.threads, team.k, quota).ok()?;
+    let mut crew = crew_of(alloc, team)?;
     let members = crew.take_members(alloc);
     let workers = run_all(rt, alloc, &crew.board, members, team)?;
     found_by(alloc, crew, workers)
@@ -335,16 +410,19 @@ fn run_team<R: Threads + Wait + Sync>(rt: &R, alloc: Global, team: &Team) -> Opt
 fn each_once<R: Threads + Wait + Sync>(rt: &R, alloc: Global, team: &Team) -> Option<bool> {
     let mut found = run_team(rt, alloc, team)?;
     let many = found.inserted.len() > team.calls as usize / 4;
+    let all = team
+        .deletions()
+        .is_none_or(|all| found.deleted.len() == all);
     let most = found.inserted.len().saturating_add(1);
-    let drained = team.is_held_up || found.drain(most)?;
-    Some(many && drained && found.has_account(alloc)?)
+    let drained = team.work == Work::HeldUp || found.drain(most)?;
+    Some(many && all && drained && found.has_account(alloc)?)
 }
 
 const TWO: Team = Team {
     threads: 2,
     k: 4,
     calls: 100_000,
-    is_held_up: false,
+    work: Work::Mixed,
 };
 
 #[test]
@@ -356,7 +434,7 @@ const FOUR: Team = Team {
     threads: 4,
     k: 4,
     calls: 100_000,
-    is_held_up: false,
+    work: Work::Mixed,
 };
 
 #[test]
@@ -368,10 +446,37 @@ const FOUR_HELD_UP: Team = Team {
     threads: 5,
     k: 4,
     calls: 2000,
-    is_held_up: true,
+    work: Work::HeldUp,
 };
 
 #[test]
 fn four_threads_wait_for_parts_that_a_fifth_holds(rt: HostRuntime) {
     assert!(rt; each_once(&rt, rt.alloc(), &FOUR_HELD_UP) == Some(true));
+}
+
+const FOUR_BELOW: Team = Team {
+    threads: 4,
+    k: 4,
+    calls: 20_000,
+    work: Work::Below,
+};
+
+// Each deletion goes by the front, which the flushes of the others set meanwhile, and gives the item
+// that its thread inserted last.
+#[test]
+fn four_threads_delete_what_is_below_the_front(rt: HostRuntime) {
+    assert!(rt; each_once(&rt, rt.alloc(), &FOUR_BELOW) == Some(true));
+}
+
+const FOUR_BESIDE_A_HOLDER: Team = Team {
+    threads: 5,
+    k: 4,
+    calls: 20_000,
+    work: Work::BelowHeld,
+};
+
+// None of their calls is refused, though each waits for nobody and the shared part is held.
+#[test]
+fn four_threads_do_without_the_shared_part(rt: HostRuntime) {
+    assert!(rt; each_once(&rt, rt.alloc(), &FOUR_BESIDE_A_HOLDER) == Some(true));
 }

@@ -107,7 +107,8 @@ const SCRIPTS: &[Script] = &[
         ],
     },
     // Member 2 of three holds each of the parts in turn, where members 0 and 1 have one item each
-    // and no room for another. First the shared part.
+    // and no room for another. First the shared part: a deletion below its front and an insertion
+    // into an empty own part do not need it.
     Script {
         threads: 3,
         k: 1,
@@ -116,8 +117,10 @@ const SCRIPTS: &[Script] = &[
             Step::Inserts((6, 0, 0)),
             Step::Inserts((4, 1, 0)),
             Step::Holds(2, 0, 0, None),
+            Step::Deletes(0, Some((6, 0, 0))),
             Step::Misses(0, Busy { lock: 0, by: 2 }),
-            Step::IsRefused(0, 8, TryInsertError::Busy(Busy { lock: 0, by: 2 })),
+            Step::Inserts((8, 0, 1)),
+            Step::IsRefused(0, 9, TryInsertError::Busy(Busy { lock: 0, by: 2 })),
         ],
     },
     // Member 0's own part.

@@ -4,12 +4,15 @@ ghost use Rattle.std.specs.Prelude.{◌≤◌};
 use super::plain::{Plain, marked};
 use crate::rationed::Rationed;
 use klsm_lsm::Lsm;
-use klsm_parts::{Picker, Queue, Shared};
+use klsm_parts::{Local, Queue, Shared};
 use klsm_run::{Item, Run, Stamp};
 use std::alloc::Global;
 
 /// A queue of own parts of at most 64 items, whose growths are rationed.
 pub(super) type RationedQueue<'a> = Queue<64, 21, &'a Rationed<Global>>;
+
+/// A shared part whose growths are rationed.
+pub(super) type RationedShared<'a> = Shared<21, &'a Rationed<Global>>;
 
 /// Both, and what they allocate by.
 #[derive(Drop)]
@@ -17,22 +20,6 @@ pub(super) struct Both<'a> {
     pub heap: &'a Rationed<Global>,
     pub queue: RationedQueue<'a>,
     pub plain: Plain,
-}
-
-/// A picker: the greatest candidate, or the one of a number modulo that of the candidates.
-#[derive(Clone, Copy, Drop)]
-pub(super) enum Pick {
-    Last,
-    Nth(u64),
-}
-
-impl Picker for Pick {
-    fn pick(&mut self, candidates: usize) -> usize {
-        match *self {
-            Pick::Last => candidates - 1,
-            Pick::Nth(number) => (number % candidates as u64) as usize,
-        }
-    }
 }
 
 /// The item of a key, inserted after `number` others.
@@ -74,21 +61,12 @@ pub(super) fn insert_all(both: &mut Both, keys: &[u64]) -> Option<()> {
     Some(())
 }
 
-/// Deletes an item from both, if there is one. `None` where they then differ.
-pub(super) fn delete(both: &mut Both, pick: Pick) -> Option<Option<Item>> {
-    let mut picker = pick;
-    delete_by(both, &mut picker, pick)
-}
-
-/// The same by a picker that has to pick so.
-pub(super) fn delete_by<P: Picker>(
-    both: &mut Both,
-    picker: &mut P,
-    pick: Pick,
-) -> Option<Option<Item>> {
-    let want = both.plain.delete(pick).ok()?;
-    let answer = both.queue.delete_min(picker);
-    if answer != want || !are_same(&both.queue, &both.plain)? {
+/// Deletes the least item from both, if there is one. `None` where they then differ.
+pub(super) fn delete(both: &mut Both) -> Option<Option<Item>> {
+    let want = both.plain.delete_least().ok()?;
+    let least = both.queue.least();
+    let answer = both.queue.delete_min();
+    if least != want || answer != want || !are_same(&both.queue, &both.plain)? {
         return None;
     }
     Some(answer)
@@ -96,25 +74,32 @@ pub(super) fn delete_by<P: Picker>(
 
 /// Whether both show the same blocks, pivots and candidates.
 pub(super) fn are_same(queue: &RationedQueue, plain: &Plain) -> Option<bool> {
+    show_same(queue.own(), queue.shared(), plain)
+}
+
+/// Whether an own part and a shared one show the blocks of the plain one, its pivots and candidates.
+pub(super) fn show_same(own: &Local<64>, shared: &RationedShared, plain: &Plain) -> Option<bool> {
     let candidates = plain.candidates().ok()?;
     Some(
-        has_blocks(queue.own().lsm(), plain.own.as_slice())
-            && has_shared(
-                queue.shared(),
-                plain.shared.as_slice(),
-                candidates.as_slice(),
-            ),
+        has_blocks(own.lsm(), plain.own.as_slice())
+            && has_shared(shared, plain.shared.as_slice(), candidates.as_slice()),
     )
 }
 
-fn has_shared(
-    shared: &Shared<21, &Rationed<Global>>,
-    blocks: &[Vec<Item>],
-    candidates: &[Item],
-) -> bool {
+fn has_shared(shared: &RationedShared, blocks: &[Vec<Item>], candidates: &[Item]) -> bool {
     has_blocks(shared.lsm(), blocks)
         && has_pivots(shared, blocks, candidates)
         && has_candidates(shared, candidates)
+        && has_least(shared, candidates.first().copied())
+}
+
+// Whether this is the least item, if there is one, and its key the front.
+fn has_least(shared: &RationedShared, least: Option<Item>) -> bool {
+    let front = match least {
+        Some(item) => item.key,
+        None => u64::MAX,
+    };
+    shared.least() == least && shared.front() == front
 }
 
 fn has_blocks<R: Run, const LEVELS: usize>(lsm: &Lsm<R, LEVELS>, blocks: &[Vec<Item>]) -> bool {
@@ -130,11 +115,7 @@ fn has_blocks<R: Run, const LEVELS: usize>(lsm: &Lsm<R, LEVELS>, blocks: &[Vec<I
 }
 
 // Whether each pivot, as it is kept and as it is counted anew, marks the block's candidates.
-fn has_pivots(
-    shared: &Shared<21, &Rationed<Global>>,
-    blocks: &[Vec<Item>],
-    candidates: &[Item],
-) -> bool {
+fn has_pivots(shared: &RationedShared, blocks: &[Vec<Item>], candidates: &[Item]) -> bool {
     if shared.lsm().blocks() != blocks.len() {
         return false;
     }
@@ -147,7 +128,7 @@ fn has_pivots(
     true
 }
 
-fn has_candidates(shared: &Shared<21, &Rationed<Global>>, candidates: &[Item]) -> bool {
+fn has_candidates(shared: &RationedShared, candidates: &[Item]) -> bool {
     if shared.candidates() != candidates.len() {
         return false;
     }

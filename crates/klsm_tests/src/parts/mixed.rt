@@ -1,21 +1,25 @@
-//! Mixed insertions and deletions, and then deletions alone where no growth is granted, beside the
-//! plain program. And others whose deletions pick at random.
+//! Mixed steps beside the plain program: of a queue, whose deletions are exact, and then deletions
+//! alone where no growth is granted; and of an own part and a shared one, from which items are taken
+//! for several owners by several pickers.
 ghost use Rattle.std.specs.Prelude.{◌≤◌};
 
-use super::both::{Both, Pick, both_at, delete, delete_by, insert};
+use super::both::{Both, both_at, delete, insert};
+use super::taken::{Parts, parts_at};
+use crate::owned::item;
 use crate::rationed::Rationed;
+use crate::rules::Pick;
 use klsm_parts::Random;
 use rand_core::{Rng, SeedableRng};
 use rand_pcg::Pcg32;
 use std::alloc::Global;
 
-// Inserts an item into both, or deletes one. Keys are few, so that equal ones occur, and insertions
-// somewhat more than deletions.
+// Inserts an item into both, or deletes the least one. Keys are few, so that equal ones occur, and
+// insertions somewhat more than deletions.
 fn step(both: &mut Both, mix: &mut Pcg32) -> Option<()> {
     if mix.next_u32() % 9 < 5 {
         return insert(both, mix.next_u64() % 100);
     }
-    let _item = delete(both, Pick::Nth(mix.next_u64()))?;
+    let _item = delete(both)?;
     Some(())
 }
 
@@ -28,19 +32,19 @@ fn mix_steps(both: &mut Both, mix: &mut Pcg32) -> Option<()> {
 }
 
 // Takes so many items out.
-fn take_out(both: &mut Both, mix: &mut Pcg32, count: usize) -> Option<()> {
+fn take_out(both: &mut Both, count: usize) -> Option<()> {
     for _ in 0..count {
-        let _item = delete(both, Pick::Nth(mix.next_u64()))??;
+        let _item = delete(both)??;
     }
     Some(())
 }
 
 // Takes all items out with no growth granted, and answers whether there were many and none was
 // asked for.
-fn empties(both: &mut Both, mix: &mut Pcg32) -> Option<bool> {
+fn empties(both: &mut Both) -> Option<bool> {
     let count = both.queue.len();
     both.heap.allow(0);
-    take_out(both, mix, count)?;
+    take_out(both, count)?;
     Some(count > 100 && both.queue.is_empty() && !both.heap.has_refused())
 }
 
@@ -52,7 +56,7 @@ fn same_at(alloc: Global, k: usize) -> Option<bool>
     let mut both = both_at(alloc, &heap, k);
     let mut mix = Pcg32::seed_from_u64(8);
     mix_steps(&mut both, &mut mix)?;
-    empties(&mut both, &mut mix)
+    empties(&mut both)
 }
 
 #[test]
@@ -68,32 +72,49 @@ fn next_of(mix: &Pcg32) -> Option<u64> {
     Some(copy.next_u64())
 }
 
-// Inserts an item into both, or deletes one that is picked by the next number.
-fn random_step(both: &mut Both, mix: &mut Pcg32) -> Option<()> {
-    if mix.next_u32() % 9 < 5 {
-        return insert(both, mix.next_u64() % 100);
-    }
-    let pick = Pick::Nth(next_of(mix)?);
-    let _item = delete_by(both, &mut Random::new(mix), pick)?;
+// Inserts an item, of one of three owners. Keys are few here too.
+fn insert_some(parts: &mut Parts, mix: &mut Pcg32, number: u64) -> Option<()> {
+    let owner = mix.next_u32() % 3;
+    parts.insert(item(owner, number, mix.next_u64() % 100))
+}
+
+// Takes an item for one of four owners, of which the last has none: the greatest candidate is picked,
+// or one at random. Where the least own item is below the front, it goes as often as not by that.
+fn take_some(parts: &mut Parts, mix: &mut Pcg32) -> Option<()> {
+    let owner = mix.next_u32() % 4;
+    let way = mix.next_u32() % 4;
+    let least = if way < 3 { parts.find_least()? } else { None };
+    let _item = match least {
+        Some(own) if way == 0 && own.key < parts.shared.front() => parts.take_least()?,
+        _ if way == 1 => parts.take(owner, &mut Pick::Last, Pick::Last)?,
+        _ => {
+            let pick = Pick::Nth(next_of(mix)?);
+            parts.take(owner, &mut Random::new(mix), pick)?
+        }
+    };
     Some(())
 }
 
 // Whether both are the same at this k after each of 500 such steps.
-fn same_at_random(alloc: Global, k: usize) -> Option<bool>
+fn same_for_owners(alloc: Global, k: usize) -> Option<bool>
     requires { k ≤ 64 }
 {
     let heap = Rationed::new(alloc);
-    let mut both = both_at(alloc, &heap, k);
+    let mut parts = parts_at(alloc, &heap, k);
     let mut mix = Pcg32::seed_from_u64(9);
-    for _ in 0..500 {
-        random_step(&mut both, &mut mix)?;
+    for number in 0..500 {
+        if mix.next_u32() % 9 < 5 {
+            insert_some(&mut parts, &mut mix, number)?;
+        } else {
+            take_some(&mut parts, &mut mix)?;
+        }
     }
-    Some(!both.queue.is_empty())
+    Some(!parts.shared.is_empty())
 }
 
 #[test]
-fn the_same_by_random_picks(rt: HostRuntime) {
-    for k in [0, 1, 4] {
-        assert!(rt; same_at_random(rt.alloc(), k) == Some(true));
+fn the_same_for_each_owner(rt: HostRuntime) {
+    for k in [0, 1, 4, 16] {
+        assert!(rt; same_for_owners(rt.alloc(), k) == Some(true));
     }
 }

@@ -228,7 +228,8 @@ fn skips_of_each_pick(rt: HostRuntime) {
     for pick in [Pick::First, Pick::Last, Pick::Random] {
         for threads in 1..=4 {
             for k in [0, 1, 4] {
-                let skips = k > 0 && (threads > 1 || pick != Pick::First);
+                // One thread keeps its own order, so it skips none.
+                let skips = k > 0 && threads > 1;
                 assert!(rt; is_right(&rt, threads, k, pick, skips) == Some(true));
             }
         }

@@ -1,4 +1,4 @@
-//! Scripts of several threads, over boards of their own and over boards that are given: the texts,
+//! Scripts of one thread and of several, over boards of their own and over boards that are given: the texts,
 //! how the runs end, and how many items each member inserted and deleted. And one of more items
 //! than a thread keeps for itself.
 
@@ -16,7 +16,9 @@ struct Scripts {
     worked: &'static [Worked],
 }
 
-// The shared part has 2 and 3, and the members have 9 and 1: the last candidate is 3.
+// The shared part has 2 and 3, and the members have 9 and 1: the last candidate is 3, and the deletion
+// skips no item of its own thread, so it takes 2. And the same by a thread that inserted none of the
+// three items, so it takes 3.
 const LAST_OF_TWO: Scripts = Scripts {
     settings: Settings {
         threads: 2,
@@ -24,18 +26,56 @@ const LAST_OF_TWO: Scripts = Scripts {
         pick: Pick::Last,
         seed: 1,
     },
-    worked: &[(
-        b"1,i,3,0\n1,i,2,0\n1,i,9,0\n0,i,1,0\n1,d,,\n",
-        End::Done,
-        b"\
+    worked: &[
+        (
+            b"1,i,3,0\n1,i,2,0\n1,i,9,0\n0,i,1,0\n1,d,,\n",
+            End::Done,
+            b"\
 1 i 3 1.0
 1 i 2 1.1
 1 i 9 1.2
 0 i 1 0.0
-1 d 3 1.0 load 0 skip 2
+1 d 2 1.1 load 0 skip 1
+max skip 1 bound 2
+",
+            &[(1, 0), (3, 1)],
+        ),
+        (
+            b"0,i,3,0\n0,i,2,0\n0,i,1,0\n1,d,,\n",
+            End::Done,
+            b"\
+0 i 3 0.0
+0 i 2 0.1
+0 i 1 0.2
+1 d 3 0.0 load 0 skip 2
 max skip 2 bound 2
 ",
-        &[(1, 0), (3, 1)],
+            &[(3, 0), (0, 1)],
+        ),
+    ],
+};
+
+// One thread takes its items in order, whatever candidate is picked.
+const LAST_OF_ONE: Scripts = Scripts {
+    settings: Settings {
+        threads: 1,
+        k: 1,
+        pick: Pick::Last,
+        seed: 1,
+    },
+    worked: &[(
+        b"0,i,3,0\n0,i,2,0\n0,i,1,0\n0,d,,\n0,d,,\n0,d,,\n",
+        End::Done,
+        b"\
+0 i 3 0.0
+0 i 2 0.1
+0 i 1 0.2
+0 d 1 0.2 load 0 skip 0
+0 d 2 0.1 load 0 skip 0
+0 d 3 0.0 load 0 skip 0
+max skip 0 bound 1
+",
+        &[(3, 3)],
     )],
 };
 
@@ -182,7 +222,13 @@ fn all_go_so(rt: &(impl AllocGlobal + Wait), scripts: &Scripts) -> bool {
 
 #[test]
 fn scripts_of_several_threads(rt: HostRuntime) {
-    for scripts in [&LAST_OF_TWO, &NONE_KEPT, &FIRST_OF_TWO, &OF_SIXTEEN] {
+    for scripts in [
+        &LAST_OF_TWO,
+        &LAST_OF_ONE,
+        &NONE_KEPT,
+        &FIRST_OF_TWO,
+        &OF_SIXTEEN,
+    ] {
         assert!(rt; all_go_so(&rt, scripts));
     }
 }

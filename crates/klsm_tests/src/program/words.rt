@@ -112,8 +112,8 @@ const TOLD: &[Told] = &[
 1 i 2 1.1
 1 i 9 1.2
 0 i 1 0.0
-1 d 3 1.0 load 0 skip 2
-max skip 2 bound 2
+1 d 2 1.1 load 0 skip 1
+max skip 1 bound 2
 ",
     ),
     (

@@ -40,10 +40,11 @@ fn answer_same(both: &mut Both, step: Step) -> Option<bool> {
     Some(answer == refusal)
 }
 
-// Whether both show the same live items, with the same ranks.
+// Whether both show the same front and the same live items, with the same ranks.
 fn show_same(alloc: Global, both: &Both) -> Option<bool> {
     let live = both.world.live(alloc).ok()?;
-    Some(both.plain.shows(live.as_slice()) && has_ranks(&both.world, live.as_slice()))
+    let same_front = both.world.front() == both.plain.front();
+    Some(same_front && both.plain.shows(live.as_slice()) && has_ranks(&both.world, live.as_slice()))
 }
 
 // Whether each item has its index as its rank.
@@ -67,12 +68,25 @@ fn step_same(alloc: Global, mix: &mut Pcg32, both: &mut Both) -> Option<bool> {
     Some(true)
 }
 
-// Whether all steps as one run tell what the plain world did. They are not all of one kind.
+// Whether all steps as one run tell what the plain world did, and are not all of one kind.
 fn run_same(alloc: Global, both: &Both) -> Option<bool> {
     let (threads, k) = (both.plain.threads, both.plain.k);
     let trace = run(alloc, threads, k, both.taken.as_slice()).ok()?;
-    let are_many = both.taken.len() > 300 && both.plain.deleted.len() > 20;
-    Some(are_many && tells_same(&trace, &both.plain) && both.plain.shows(trace.live.as_slice()))
+    Some(
+        are_many(both)
+            && tells_same(&trace, &both.plain)
+            && both.plain.shows(trace.live.as_slice()),
+    )
+}
+
+// Whether there are many steps, and many deletions of each kind. With k = 0 no item is an own one,
+// so that none goes by the front.
+fn are_many(both: &Both) -> bool {
+    let deleted = both.plain.deleted.len();
+    let early = both.plain.early;
+    both.taken.len() > 300
+        && deleted.saturating_sub(early) > 20
+        && (early > 3) == (both.plain.k > 0)
 }
 
 fn tells_same(trace: &Trace, plain: &Plain) -> bool {

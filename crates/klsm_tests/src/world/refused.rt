@@ -19,7 +19,7 @@ const ALL_KINDS: &[Row] = &[
     Row::Acquire(1, 0),
     Row::Flush(1, TWO, Moved::One(FIVE)),
     Row::Put(1, NINE),
-    Row::Take(1, TWO),
+    Row::Early(1, TWO, 5),
     Row::Take(1, FIVE),
     Row::Release(1, 2),
     Row::Release(1, 0),

@@ -26,7 +26,7 @@ pub(super) enum Moved {
     Two(Name, Name),
 }
 
-/// A step: its thread, and then the part, the items or the victim.
+/// A step: its thread, and then the part, the items, the victim or the front.
 #[derive(Clone, Copy)]
 pub(super) enum Row {
     Acquire(u32, u32),
@@ -35,6 +35,7 @@ pub(super) enum Row {
     Put(u32, Name),
     Flush(u32, Name, Moved),
     Take(u32, Name),
+    Early(u32, Name, u64),
     Nothing(u32),
     Spy(u32, u32, Moved),
 }
@@ -48,6 +49,7 @@ pub(super) fn step_of(alloc: Global, row: Row) -> Option<Step> {
         Row::Put(thread, name) => commit(thread, Event::Put(item(name))),
         Row::Flush(thread, name, moved) => flush(thread, item(name), moved_items(alloc, moved)?),
         Row::Take(thread, name) => commit(thread, Event::Take(item(name))),
+        Row::Early(thread, name, front) => early(thread, item(name), front),
         Row::Nothing(thread) => commit(thread, Event::Nothing),
         Row::Spy(thread, victim, moved) => spy(thread, victim, moved_items(alloc, moved)?),
     })
@@ -56,6 +58,11 @@ pub(super) fn step_of(alloc: Global, row: Row) -> Option<Step> {
 /// A commit of the event.
 pub(super) fn commit(thread: u32, event: Event) -> Step {
     Step::Commit { thread, event }
+}
+
+/// A deletion of the item by the front.
+pub(super) fn early(thread: u32, item: Item, front: u64) -> Step {
+    commit(thread, Event::Early { item, front })
 }
 
 /// A flush of the item.

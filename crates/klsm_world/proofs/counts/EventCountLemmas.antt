@@ -15,7 +15,7 @@ use Rattle.klsm_run.proofs.LeastLemmas.{Has, same_as_itself, without_first}
 use Rattle.klsm_run.proofs.RankLemmas.{count_none, count_sorted}
 use Rattle.klsm_run.proofs.WithoutLemmas.{same_not, same_or_other, without_later, without_new, has_or_new}
 use Rattle.klsm_parts.specs.Least.{least}
-use Rattle.klsm_parts.specs.Events.{times, IsWithin, plus, minus, MayFlush, MayTake, MaySpy, own_after_put, own_after_flush, shared_after_flush, own_after_take, shared_after_take, own_after_spy, victim_after_spy}
+use Rattle.klsm_parts.specs.Events.{times, IsWithin, plus, minus, MayFlush, IsInReach, MayTakeEarly, MaySpy, own_after_put, own_after_flush, shared_after_flush, own_after_take, shared_after_take, own_after_early, own_after_spy, victim_after_spy}
 use Rattle.klsm_parts.proofs.EventLemmas.{is_in}
 
 -- one more item counts where it is the item sought
@@ -158,7 +158,7 @@ flush_counts k own shared x y moved may =
     omega (arith, times_minus y moved (plus own (x ∷ [])) (flush_within k own x moved may), times_plus y own (x ∷ []), times_plus y shared moved)
 
 -- an item that a Take takes, and the own part does not have, is in the shared part
-pub taken_from_shared : (k : ℕ) (own shared : List Item) (x : Item) → MayTake k own shared x → times x own ≡ 0 → 0 < times x shared
+pub taken_from_shared : (k : ℕ) (own shared : List Item) (x : Item) → IsInReach k own shared x → times x own ≡ 0 → 0 < times x shared
 taken_from_shared k own shared x (inl taken) none = absurd (omega (arith, none, times_contained x own (is_in x own taken.1)))
 taken_from_shared k own shared x (inr taken) none =
     let candidate = taken.0 in
@@ -172,7 +172,7 @@ taken_from_shared k own shared x (inr taken) none =
     ]
 
 -- after a Take both parts together have the item once less
-pub take_counts : (k : ℕ) (own shared : List Item) (x y : Item) → MayTake k own shared x
+pub take_counts : (k : ℕ) (own shared : List Item) (x y : Item) → IsInReach k own shared x
     → (times y (own_after_take own x) + times y (shared_after_take own shared x)) + times y (x ∷ []) ≡ times y own + times y shared
 take_counts k own shared x y may = elim (cases_eq (times x own) 0) [
   | inl none ↦
@@ -183,6 +183,10 @@ take_counts k own shared x y may = elim (cases_eq (times x own) 0) [
       let stays : times y (shared_after_take own shared x) ≡ times y shared = ap (λ b. times y (if b then without x shared else shared)) (ne_eqb (times x own) 0 some) in
       omega (arith, stays, times_without y x own (omega (arith, some)))
 ]
+
+-- after an Early the own part has the item once less
+pub early_counts : (own : List Item) (x y : Item) (front : ℕ) → MayTakeEarly own x front → times y (own_after_early own x) + times y (x ∷ []) ≡ times y own
+early_counts own x y front may = times_without y x own (times_contained x own (is_in x own may.least))
 
 -- after a Spy both parts together have what they had
 pub spy_counts : (own victim : List Item) (y : Item) (moved : List Item) → MaySpy own victim moved

@@ -3,9 +3,9 @@ use Rattle.std.proofs.Common.{ℕ, ◌≡◌, ◌≢◌, eqb, cond, List, [], �
 use Rattle.std.proofs.lemmas.Bool.{cases_eq, eq-eqb, ne_eqb}
 use Rattle.std.proofs.lemmas.Option.{none-some, same_Some}
 use Rattle.klsm_run.specs.declared.item.Item.{Item}
-use Rattle.klsm_parts.specs.Events.{own_after_put, own_after_flush, shared_after_flush, own_after_take, shared_after_take, own_after_spy, victim_after_spy}
+use Rattle.klsm_parts.specs.Events.{own_after_put, own_after_flush, shared_after_flush, own_after_take, shared_after_take, own_after_early, own_after_spy, victim_after_spy}
 use Rattle.klsm_world.specs.declared.step.Event.{Event}
-use Rattle.klsm_world.specs.declared.step.Event.TheVariants.{Put, Flush, Take, Nothing, Spy}
+use Rattle.klsm_world.specs.declared.step.Event.TheVariants.{Put, Flush, Take, Early, Nothing, Spy}
 use Rattle.klsm_world.specs.OwnSteps.{Hand, Holds, found_in, content_in, changed, given_back, after_event, own_part, shared_part}
 
 -- by cases on whether two parts are one
@@ -121,6 +121,7 @@ held_before_event t hand (Flush x moved) q d found =
 held_before_event t hand (Take x) q d found =
     held_before_two hand (own_part t) shared_part q
     (own_after_take (content_in hand (own_part t)) x) (shared_after_take (content_in hand (own_part t)) (content_in hand shared_part) x) d found
+held_before_event t hand (Early x front) q d found = held_before_change hand (own_part t) q (own_after_early (content_in hand (own_part t)) x) d found
 held_before_event t hand Nothing q d found = (d, found)
 held_before_event t hand (Spy victim moved) q d found =
     held_before_two hand (own_part t) (own_part victim) q
@@ -135,6 +136,7 @@ held_after_event t hand (Flush x moved) q c found =
 held_after_event t hand (Take x) q c found =
     held_after_two hand (own_part t) shared_part q
     (own_after_take (content_in hand (own_part t)) x) (shared_after_take (content_in hand (own_part t)) (content_in hand shared_part) x) c found
+held_after_event t hand (Early x front) q c found = held_after_change hand (own_part t) q (own_after_early (content_in hand (own_part t)) x) c found
 held_after_event t hand Nothing q c found = (c, found)
 held_after_event t hand (Spy victim moved) q c found =
     held_after_two hand (own_part t) (own_part victim) q

@@ -6,7 +6,7 @@ use Rattle.klsm_run.specs.declared.item.Item.{Item}
 use Rattle.klsm_parts.specs.Events.{times, plus, minus}
 use Rattle.klsm_world.specs.declared.step.Step.TheVariants.{Commit}
 use Rattle.klsm_world.specs.declared.step.Event.{Event}
-use Rattle.klsm_world.specs.declared.step.Event.TheVariants.{Put, Flush, Take, Spy}
+use Rattle.klsm_world.specs.declared.step.Event.TheVariants.{Put, Flush, Take, Early, Spy}
 use Rattle.klsm_world.specs.declared.step.Entry.{Entry}
 use Rattle.klsm_world.specs.declared.step.Entry.TheVariants.{Committed}
 use Rattle.klsm_world.specs.Kept.{IsKept, world_of}
@@ -86,6 +86,14 @@ module _ (before : WorldView) (limits : Limits) (words : List ℕ) (contents : L
         (ap (λ i. set contents i after) part_is
         ∙ (ap (set contents 0) (after_is ∙ ap (λ c. minus c (x ∷ [])) (read_part contents 0 part at read part_is shared_within found copied))
         ∙ sym (contents_taken_shared contents t x (subst (λ c. times x c ≡ 0) own_content none))))
+
+    -- an Early
+    pub early_taken : (x : Item) (front own : ℕ) (at read after : List Item) → MayStep before.limits before.world (Commit t (Early x front)) → lists'' ≡ lists_with lists t (Committed (Early x front))
+        → own ≡ t + 1 → at ≡ get_or contents own at → read ≡ at → after ≡ minus read (x ∷ []) → Took (Early x front) (set contents own after)
+    early_taken x front own at read after may noted own_is found copied after_is =
+        took (Early x front) (set contents own after) may noted
+        (ap (λ i. set contents i after) own_is
+        ∙ ap (set contents (t + 1)) (after_is ∙ ap (λ c. minus c (x ∷ [])) (read_part contents (t + 1) own at read own_is (own_within (Early x front) may) found copied)))
 
     -- a Spy
     pub spy_taken : (victim : ℕ) (moved listed : List Item) (own from : ℕ) (own_after at read left : List Item) → MayStep before.limits before.world (Commit t (Spy victim moved))

@@ -1,5 +1,5 @@
 -- What a running world keeps, after a commit.
-use Rattle.std.proofs.Common.{◌≡◌, ◌≢◌, ℕ, ◌+◌, ◌<◌, ◌≤◌, true, false, eqb, cond, List, [], ◌∷◌, ◌++◌, length, get_or, set, refl, sym, ap, ◌∙◌, subst, inl, inr, arith, unwrap_or}
+use Rattle.std.proofs.Common.{◌≡◌, ◌≢◌, ℕ, ◌+◌, ◌<◌, ◌≤◌, true, false, eqb, cond, List, [], ◌∷◌, ◌++◌, length, get_or, set, Option, refl, sym, ap, ◌∙◌, subst, inl, inr, arith, unwrap_or}
 use Rattle.std.proofs.lemmas.Bool.{cases_eq, ne_eqb, eq-eqb}
 use Rattle.std.proofs.lemmas.List.{length-set, get_or-set_same, get_or-set_other, set-get_or}
 use Rattle.klsm_run.specs.declared.item.Item.{Item}
@@ -7,20 +7,21 @@ use Rattle.klsm_run.specs.Content.{sorted, without}
 use Rattle.klsm_run.proofs.ContentLemmas.{sorted_itself}
 use Rattle.klsm_run.proofs.SortedLemmas.{sorted_ascending}
 use Rattle.klsm_run.proofs.WithoutLemmas.{sorted_without}
-use Rattle.klsm_parts.specs.Events.{times, plus, minus, own_after_put, own_after_flush, shared_after_flush, own_after_take, shared_after_take, own_after_spy, victim_after_spy}
+use Rattle.klsm_parts.specs.Events.{times, plus, minus, own_after_put, own_after_flush, shared_after_flush, own_after_take, shared_after_take, own_after_early, own_after_spy, victim_after_spy, front_of}
 use Rattle.klsm_world.specs.declared.step.Event.{Event}
-use Rattle.klsm_world.specs.declared.step.Event.TheVariants.{Put, Flush, Take, Nothing, Spy}
+use Rattle.klsm_world.specs.declared.step.Event.TheVariants.{Put, Flush, Take, Early, Nothing, Spy}
 use Rattle.klsm_world.specs.declared.step.Step.TheVariants.{Commit}
 use Rattle.klsm_world.specs.declared.step.Entry.{Entry}
 use Rattle.klsm_world.specs.declared.step.Entry.TheVariants.{Committed}
 use Rattle.klsm_world.specs.Kept.{IsKept, homes_of, world_of}
 use Rattle.klsm_world.specs.OwnSteps.{Hand, Holds, content_in, changed, after_event, own_part, shared_part}
-use Rattle.klsm_world.specs.Worlds.{Limits, World, hand_in}
+use Rattle.klsm_world.specs.Worlds.{Limits, World, hand_in, content_of}
 use Rattle.klsm_world.specs.Schedules.{MayStep, next}
 use Rattle.klsm_world.proofs.counts.EventCountLemmas.{without_uncounted}
 use Rattle.klsm_world.proofs.hands.HandLemmas.{held_changed, found_elsewhere, held_after_event}
 use Rattle.klsm_world.proofs.kept.HomesLemmas.{homes_changed}
 use Rattle.klsm_world.proofs.kept.KeptLemmas.{lists_with, kept_after, hand_has}
+use Rattle.klsm_world.proofs.lawful.LawfulLemmas.{lawful_kept}
 use Rattle.klsm_world.proofs.lawful.LegalLemmas.{not_held}
 use Rattle.klsm_world.proofs.hands.PartContentLemmas.{content_held, content_committed, content_not_held}
 
@@ -82,20 +83,23 @@ module _ (limits : Limits) (words : List ℕ) (contents : List (List Item)) (lis
         → (world_of words now (lists_with lists t (Committed event)) ≡ next (world_of words contents lists) (Commit t event)) × IsKept limits words now (lists_with lists t (Committed event))
     as_hand_committed event now may as_hand =
         let w : World = world_of words contents lists in
-        let is : world_of words now (lists_with lists t (Committed event)) ≡ next w (Commit t event) =
-        ap (λ homes. record { words = words; homes = homes; lists = lists_with lists t (Committed event) }) as_hand.homes in (
+        let v : World = next w (Commit t event) in
+        let lists' : List (List Entry) = lists_with lists t (Committed event) in
+        let current : (p : ℕ) → p ≤ limits.threads → content_of v p ≡ get_or now p [] = λ p within. elim (cases_eq (get_or words p 0) (t + 1)) [
+          | inl mine ↦
+              let has = hand_has limits words contents lists t p kept less within mine in
+              let after = held_after_event t (hand_in w t) event p (get_or contents p []) has in
+              content_committed limits w t event p (get_or contents p []) kept.lawful.agreed less has ∙ (ap (λ o. unwrap_or o []) after.1 ∙ as_hand.shown p after.0 within after.1)
+          | inr other ↦
+              content_not_held limits w t event p kept.lawful.agreed less (not_held limits w t p kept.lawful.agreed less other)
+              ∙ (kept.current p within ∙ sym (as_hand.others p other))
+        ] in
+        let front : front_of (get_or now 0 []) ≡ v.front = sym ((lawful_kept limits w (Commit t event) kept.lawful may).front_is ∙ ap front_of (current 0 (omega arith))) in
+        let is : world_of words now lists' ≡ v =
+        ap (λ (f : ℕ). record { words = words; front = f; homes = homes_of words now; lists = lists' }) front
+        ∙ ap (λ (homes : List (Option (List Item))). record { words = words; front = v.front; homes = homes; lists = lists' }) as_hand.homes in (
           is,
-          kept_after limits words words contents now lists (lists_with lists t (Committed event)) (Commit t event) kept may is as_hand.many
-              (λ p within. elim (cases_eq (get_or words p 0) (t + 1)) [
-                | inl mine ↦
-                    let has = hand_has limits words contents lists t p kept less within mine in
-                    let after = held_after_event t (hand_in w t) event p (get_or contents p []) has in
-                    content_committed limits w t event p (get_or contents p []) kept.lawful.agreed less has ∙ (ap (λ o. unwrap_or o []) after.1 ∙ as_hand.shown p after.0 within after.1)
-                | inr other ↦
-                    content_not_held limits w t event p kept.lawful.agreed less (not_held limits w t p kept.lawful.agreed less other)
-                    ∙ (kept.current p within ∙ sym (as_hand.others p other))
-              ])
-              as_hand.ascending,
+          kept_after limits words words contents now lists lists' (Commit t event) kept may is as_hand.many current as_hand.ascending,
         )
 
 -- the contents after an event
@@ -105,6 +109,7 @@ contents_after contents t (Flush x moved) =
     set (set contents (t + 1) (minus (plus (get_or contents (t + 1) []) (x ∷ [])) moved)) 0 (plus (get_or contents 0 []) moved)
 contents_after contents t (Take x) =
     set (set contents (t + 1) (without x (get_or contents (t + 1) []))) 0 (shared_after_take (get_or contents (t + 1) []) (get_or contents 0 []) x)
+contents_after contents t (Early x front) = set contents (t + 1) (without x (get_or contents (t + 1) []))
 contents_after contents t Nothing = contents
 contents_after contents t (Spy victim moved) = set (set contents (t + 1) moved) (victim + 1) (minus (get_or contents (victim + 1) []) moved)
 
@@ -155,6 +160,10 @@ module _ (limits : Limits) (words : List ℕ) (contents : List (List Item)) (lis
       (sym (at_hand shared_part may.thread shared.0 shared.1))
       (two_parts may.thread (own_part t) shared_part (own_after_take (content (own_part t)) x) (shared_after_take (content (own_part t)) (content shared_part) x) own.0 own.1 shared.0 shared.1
       (sorted_minus (x ∷ []) (content (own_part t)) (kept.ascending (own_part t) own.0)) (shared_taken x (content (own_part t)) (content shared_part) (kept.ascending shared_part shared.0))))
+  by_event (Early x front) may =
+      let own = named (own_part t) may.commit.own may.thread may.commit.holds_own in
+      subst (λ c. IsAsHand limits words contents lists t (changed hand (own_part t) (own_after_early c x)) (contents_after contents t (Early x front))) (sym (at_hand (own_part t) may.thread own.0 own.1))
+      (one_part may.thread (own_part t) (own_after_early (content (own_part t)) x) own.0 own.1 (sorted_minus (x ∷ []) (content (own_part t)) (kept.ascending (own_part t) own.0)))
   by_event Nothing may = as_hand_first limits words contents lists t kept may.thread
   by_event (Spy victim moved) may =
       let own = named (own_part t) may.commit.held.own may.thread may.commit.held.holds_own in

@@ -2,6 +2,7 @@
 use Rattle.std.proofs.Common.{◌≡◌, ◌≢◌, ℕ, ◌+◌, ◌-◌, ◌<◌, ◌≤◌, List, [], ◌∷◌, ◌++◌, length, get_or, set, Option, Some, None, refl, sym, ap, ◌∙◌, subst, arith, unwrap_or}
 use Rattle.klsm_run.specs.declared.item.Item.{Item}
 use Rattle.klsm_run.specs.Content.{sorted}
+use Rattle.klsm_parts.specs.Events.{front_of}
 use Rattle.klsm_world.specs.declared.step.Step.{Step}
 use Rattle.klsm_world.specs.declared.step.Step.TheVariants.{Acquire, Release, Miss}
 use Rattle.klsm_world.specs.declared.step.Entry.{Entry}
@@ -59,8 +60,8 @@ kept_acquired limits words contents lists t p kept may =
     let homes : homes_of words' contents ≡ set w.homes p None = homes_taken words contents p (t + 1) (λ bad. omega (arith, bad)) in
     let found : get_or contents p [] ≡ unwrap_or (home_of w p) [] = sym (found_at_home limits w p kept.lawful.agreed may.part may.free ∙ kept.current p may.part) in
     let is : world_of words' contents lists' ≡ next w (Acquire t p) =
-    ap (λ (hs : List (Option (List Item))). record { words = words'; homes = hs; lists = lists' }) homes
-    ∙ ap (λ (c : List Item). record { words = words'; homes = set w.homes p None; lists = lists_with lists t (Acquired p c) }) found in (
+    ap (λ (hs : List (Option (List Item))). record { words = words'; front = front_of (get_or contents 0 []); homes = hs; lists = lists' }) homes
+    ∙ ap (λ (c : List Item). record { words = words'; front = front_of (get_or contents 0 []); homes = set w.homes p None; lists = lists_with lists t (Acquired p c) }) found in (
       is,
       kept_after limits words words' contents contents lists lists' (Acquire t p) kept may is kept.contents_are
           (λ q within. content_acquired limits w t p q kept.lawful.agreed may ∙ kept.current q within) kept.ascending,
@@ -78,7 +79,7 @@ kept_released limits words contents lists t p kept may =
     let named = kept.lawful.agreed.named t p may.held.content may.thread may.held.holds in
     let held : content_in (hand_in w t) p ≡ get_or contents p [] = ap (λ o. unwrap_or o []) (hand_has limits words contents lists t p kept may.thread named.0 named.1) in
     let is : world_of words' contents lists' ≡ next w (Release t p) =
-    ap (λ (hs : List (Option (List Item))). record { words = words'; homes = hs; lists = lists' }) (homes_freed words contents p ∙ ap (λ (c : List Item). set w.homes p (Some c)) (sym held)) in (
+    ap (λ (hs : List (Option (List Item))). record { words = words'; front = front_of (get_or contents 0 []); homes = hs; lists = lists' }) (homes_freed words contents p ∙ ap (λ (c : List Item). set w.homes p (Some c)) (sym held)) in (
       is,
       kept_after limits words words' contents contents lists lists' (Release t p) kept may is kept.contents_are
           (λ q within. content_released limits w t p q kept.lawful.agreed may ∙ kept.current q within) kept.ascending,

@@ -3,6 +3,7 @@ use Rattle.std.proofs.Common.{◌≡◌, ℕ, zero, suc, ◌+◌, ◌≤◌, Lis
 use Rattle.std.proofs.lemmas.List.{get_or-replicate, length-replicate}
 use Rattle.klsm_run.specs.declared.item.Item.{Item}
 use Rattle.klsm_run.specs.Content.{sorted}
+use Rattle.klsm_parts.specs.Events.{front_of}
 use Rattle.klsm_world.specs.declared.step.Entry.{Entry}
 use Rattle.klsm_world.specs.Kept.{IsKept, homes_of, world_of}
 use Rattle.klsm_world.specs.LawfulWorlds.{IsLawful}
@@ -22,7 +23,9 @@ first_is_new limits words contents lists words_are contents_are lists_are =
     ap (λ ws. world_of ws contents lists) words_are
     ∙ (ap (λ cs. world_of (replicate (limits.threads + 1) 0) cs lists) contents_are
     ∙ (ap (world_of (replicate (limits.threads + 1) 0) (replicate (limits.threads + 1) [])) lists_are
-    ∙ ap (λ (homes : List (Option (List Item))). record { words = replicate (limits.threads + 1) 0; homes = homes; lists = replicate limits.threads [] }) (homes_first (limits.threads + 1))))
+    ∙ (ap (λ (homes : List (Option (List Item))). record { words = replicate (limits.threads + 1) 0; front = front_of (get_or (replicate (limits.threads + 1) []) 0 []); homes = homes; lists = replicate limits.threads [] }) (homes_first (limits.threads + 1))
+    ∙ ap (λ (shared : List Item). record { words = replicate (limits.threads + 1) 0; front = front_of shared; homes = replicate (limits.threads + 1) (Some []); lists = replicate limits.threads [] })
+    (get_or-replicate (limits.threads + 1) 0 [] [] (omega arith)))))
 
 -- and it is kept
 pub first_is_kept : (limits : Limits) (words : List ℕ) (contents : List (List Item)) (lists : List (List Entry)) → AreLimits limits

@@ -3,9 +3,9 @@ use Rattle.std.proofs.Common.{ℕ, zero, suc, ◌≡◌, ◌+◌, ◌≤◌, Lis
 use Rattle.std.specs.List.{flat_map}
 use Rattle.std.proofs.lemmas.List.{get_or-replicate}
 use Rattle.klsm_run.specs.declared.item.Item.{Item}
-use Rattle.klsm_parts.specs.Events.{times}
+use Rattle.klsm_parts.specs.Events.{times, front_of}
 use Rattle.klsm_world.specs.declared.step.Entry.{Entry}
-use Rattle.klsm_world.specs.OwnSteps.{own_part, inserted, deleted}
+use Rattle.klsm_world.specs.OwnSteps.{shared_part, own_part, inserted, deleted}
 use Rattle.klsm_world.specs.Worlds.{Limits, content_of, live_below, live, first_world}
 use Rattle.klsm_world.specs.LawfulWorlds.{IsLawful}
 use Rattle.klsm_world.proofs.hands.AgreeLemmas.{agreed_first, content_at_home}
@@ -41,6 +41,7 @@ first_is_lawful limits = record {
   legal = legal_first limits;
   agreed = agreed_first limits;
   few = λ t less. subst (λ c. length c ≤ limits.k) (sym (empty_first limits (own_part t) (omega (arith, less)))) (omega arith);
+  front_is = ap front_of (sym (empty_first limits shared_part (omega arith)));
   each_once = λ x.
       let some_in : times x (flat_map inserted (first_world limits).lists) ≡ 0 = ap (times x) (none_inserted_first limits) in
       let some_out : times x (flat_map deleted (first_world limits).lists) ≡ 0 = ap (times x) (none_deleted_first limits) in

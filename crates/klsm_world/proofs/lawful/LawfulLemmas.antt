@@ -6,6 +6,7 @@ use Rattle.klsm_world.specs.Schedules.{MayStep, next}
 use Rattle.klsm_world.proofs.hands.AgreeLemmas.{agreed_kept}
 use Rattle.klsm_world.proofs.lawful.LegalLemmas.{legal_kept}
 use Rattle.klsm_world.proofs.lawful.FewLemmas.{few_kept}
+use Rattle.klsm_world.proofs.lawful.FrontLemmas.{front_kept}
 use Rattle.klsm_world.proofs.lawful.OnceLemmas.{once_kept}
 
 -- a legal step leads from a lawful world to a lawful one
@@ -14,5 +15,6 @@ lawful_kept limits w step lawful may = record {
   legal = legal_kept limits w step lawful.agreed lawful.legal lawful.few may;
   agreed = agreed_kept limits w step lawful.agreed may;
   few = few_kept limits w step lawful.agreed lawful.few may;
+  front_is = front_kept limits w lawful.agreed lawful.front_is step may;
   each_once = once_kept limits w step lawful.agreed lawful.each_once may;
 }

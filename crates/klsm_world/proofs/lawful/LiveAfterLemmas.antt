@@ -1,16 +1,16 @@
 -- How often an item is live after each event that a thread may commit.
 use Rattle.std.proofs.Common.{◌≡◌, ◌≢◌, ℕ, ◌+◌, ◌<◌, List, [], ◌∷◌, length, refl, sym, ap, ◌∙◌, arith, unwrap_or}
 use Rattle.klsm_run.specs.declared.item.Item.{Item}
-use Rattle.klsm_parts.specs.Events.{times, own_after_put, own_after_flush, shared_after_flush, own_after_take, shared_after_take, own_after_spy, victim_after_spy}
+use Rattle.klsm_parts.specs.Events.{times, own_after_put, own_after_flush, shared_after_flush, own_after_take, shared_after_take, own_after_early, own_after_spy, victim_after_spy}
 use Rattle.klsm_world.specs.declared.step.Event.{Event}
-use Rattle.klsm_world.specs.declared.step.Event.TheVariants.{Put, Flush, Take, Nothing, Spy}
+use Rattle.klsm_world.specs.declared.step.Event.TheVariants.{Put, Flush, Take, Early, Nothing, Spy}
 use Rattle.klsm_world.specs.declared.step.Step.TheVariants.{Commit}
 use Rattle.klsm_world.specs.OwnSteps.{Hand, Holds, found_in, content_in, changed, after_event, own_part, shared_part}
 use Rattle.klsm_world.specs.LegalSteps.{MayCommit}
 use Rattle.klsm_world.specs.Worlds.{Limits, World, hand_in, content_of, live}
 use Rattle.klsm_world.specs.LawfulWorlds.{AreAgreed}
 use Rattle.klsm_world.specs.Schedules.{next}
-use Rattle.klsm_world.proofs.counts.EventCountLemmas.{put_counts, flush_counts, take_counts, spy_counts}
+use Rattle.klsm_world.proofs.counts.EventCountLemmas.{put_counts, flush_counts, take_counts, early_counts, spy_counts}
 use Rattle.klsm_world.proofs.hands.HandLemmas.{found_changed, found_elsewhere}
 use Rattle.klsm_world.proofs.counts.LiveCountLemmas.{live_same, live_changed, live_changed_two}
 use Rattle.klsm_world.proofs.hands.PartContentLemmas.{content_held, held_away, content_unchanged, content_committed}
@@ -121,10 +121,24 @@ module _ (limits : Limits) (w : World) (agreed : AreAgreed limits w) (t : ℕ) (
         arith,
         own_is,
         shared_is,
-        take_counts limits.k own shared y x may.fits,
+        take_counts limits.k own shared y x may.fits.in_reach,
         live_after_two (Take y) (own_part t) shared_part own shared left_own left_shared apart has_own has_shared
             (first_of_two hand (own_part t) shared_part own left_own left_shared apart has_own) (second_of_two hand (own_part t) shared_part shared left_own left_shared apart has_shared)
             (neither_of_two hand (own_part t) shared_part left_own left_shared),
+      )
+
+  -- so does an Early
+  pub live_after_early : (n : ℕ) (y : Item) (front : ℕ) → MayCommit limits.k t (hand_in w t) n (Early y front) → times x (live (next w (Commit t (Early y front)))) + times x (y ∷ []) ≡ times x (live w)
+  live_after_early n y front may =
+      let hand = hand_in w t in
+      let own = may.own in
+      let left : List Item = own_after_early (content_in hand (own_part t)) y in
+      let left_is : times x left ≡ times x (own_after_early own y) = ap (λ o. times x (own_after_early (unwrap_or o []) y)) may.holds_own in
+      omega (
+        arith,
+        left_is,
+        early_counts own y x front may.fits,
+        live_after_one (Early y front) (own_part t) own left may.holds_own (found_changed hand (own_part t) left own may.holds_own) (λ p other. found_elsewhere hand (own_part t) p left other),
       )
 
   -- a Spy leaves the live items as they were

@@ -17,11 +17,13 @@ use Rattle.klsm_run.proofs.LeastLemmas.{not_below}
 use Rattle.klsm_run.proofs.LesserLemmas.{lesser_item, lesser_first, lesser_second, less_if_smaller, not_smaller_trans}
 use Rattle.klsm_run.proofs.OrderLemmas.{item_total, not_smaller_than_itself, Below, Same, Above, ranked}
 use Rattle.klsm_parts.specs.Least.{least, IsLeast}
-use Rattle.klsm_parts.specs.Events.{times, MayTake}
-use Rattle.klsm_run.proofs.RankLemmas.{rising_sorted}
+use Rattle.klsm_parts.specs.Events.{times, IsInReach, SkipsNoneOf, MayTake}
+use Rattle.klsm_run.proofs.RankLemmas.{rising_sorted, none_below_least}
+use Rattle.klsm_run.proofs.AllLemmas.{all_append, all_back}
+use Rattle.klsm_parts.proofs.OwnOrderLemmas.{order_if_none_below}
 use Rattle.klsm_parts.proofs.EventLemmas.{first_of_both, least_alone, least_candidate, least_own}
 use Rattle.klsm_world.proofs.counts.EventCountLemmas.{times_contained, contained_if_counted}
-use Rattle.klsm_world.proofs.lists.RisingLemmas.{later_not_smaller}
+use Rattle.klsm_parts.proofs.RisingLemmas.{later_not_smaller}
 
 -- an item is at most another where that one is not smaller
 pub not_smaller_if_at_most : (x y : Item) → is_le (item_cmp x y) ≡ true → is_smaller y x ≡ false
@@ -63,23 +65,23 @@ pub candidates_taken : (k m : ℕ) (shared : List Item) → sorted shared ≡ sh
 candidates_taken k m shared is_sorted is = first_ones shared m (k + 1) is ∙ ap (take (k + 1)) (sym is_sorted)
 
 -- with no own item a take takes a candidate
-pub take_candidate : (k : ℕ) (own shared : List Item) (x : Item) → slice_get (sorted own) 0 ≡ None → 0 < times x (least (k + 1) shared) → MayTake k own shared x
+pub take_candidate : (k : ℕ) (own shared : List Item) (x : Item) → slice_get (sorted own) 0 ≡ None → 0 < times x (least (k + 1) shared) → IsInReach k own shared x
 take_candidate k own shared x none some = inr (x, contained_if_counted x (least (k + 1) shared) some, least_alone x own none)
 
 -- and what a take takes then is a candidate
-pub candidate_if_taken : (k : ℕ) (own shared : List Item) (x : Item) → slice_get (sorted own) 0 ≡ None → MayTake k own shared x → 0 < times x (least (k + 1) shared)
+pub candidate_if_taken : (k : ℕ) (own shared : List Item) (x : Item) → slice_get (sorted own) 0 ≡ None → IsInReach k own shared x → 0 < times x (least (k + 1) shared)
 candidate_if_taken k own shared x none (inl taken) = let bad : None ≡ Some x = sym none ∙ taken.1 in cc
 candidate_if_taken k own shared x none (inr taken) =
     let same : taken.0 ≡ x = same_Some taken.0 x (sym (first_of_both taken.0 own None none) ∙ taken.2) in
     times_contained x (least (k + 1) shared) (subst (Contains (least (k + 1) shared)) same taken.1)
 
 -- a candidate that is smaller than the least own item may be taken
-pub take_smaller_candidate : (k : ℕ) (own shared : List Item) (x y : Item) → slice_get (sorted own) 0 ≡ Some y → is_smaller x y ≡ true → 0 < times x (least (k + 1) shared) → MayTake k own shared x
+pub take_smaller_candidate : (k : ℕ) (own shared : List Item) (x y : Item) → slice_get (sorted own) 0 ≡ Some y → is_smaller x y ≡ true → 0 < times x (least (k + 1) shared) → IsInReach k own shared x
 take_smaller_candidate k own shared x y first smaller some =
     inr (x, contained_if_counted x (least (k + 1) shared) some, least_candidate x y own first (not_below x y (less_if_smaller x y smaller)))
 
 -- and a taken item that is not the least own one is such a candidate
-pub smaller_candidate_if_taken : (k : ℕ) (own shared : List Item) (x y : Item) → slice_get (sorted own) 0 ≡ Some y → y ≢ x → MayTake k own shared x → (is_smaller x y ≡ true) × (0 < times x (least (k + 1) shared))
+pub smaller_candidate_if_taken : (k : ℕ) (own shared : List Item) (x y : Item) → slice_get (sorted own) 0 ≡ Some y → y ≢ x → IsInReach k own shared x → (is_smaller x y ≡ true) × (0 < times x (least (k + 1) shared))
 smaller_candidate_if_taken k own shared x y first other (inl taken) = absurd (other (same_Some y x (sym first ∙ taken.1)))
 smaller_candidate_if_taken k own shared x y first other (inr taken) = by_test (is_smaller y taken.0) refl (same_Some (lesser_item taken.0 y) x (sym (first_of_both taken.0 own (Some y) first) ∙ taken.2))
   where
@@ -97,7 +99,7 @@ smaller_candidate_if_taken k own shared x y first other (inr taken) = by_test (i
         )
 
 -- the least own item may be taken where a candidate is not smaller
-pub take_least_own : (k : ℕ) (own shared : List Item) (x y : Item) (i : ℕ) → slice_get (sorted own) 0 ≡ Some x → slice_get (least (k + 1) shared) i ≡ Some y → is_smaller y x ≡ false → MayTake k own shared x
+pub take_least_own : (k : ℕ) (own shared : List Item) (x y : Item) (i : ℕ) → slice_get (sorted own) 0 ≡ Some x → slice_get (least (k + 1) shared) i ≡ Some y → is_smaller y x ≡ false → IsInReach k own shared x
 take_least_own k own shared x y i first found low =
     inr (
       y,
@@ -110,7 +112,7 @@ take_least_own k own shared x y i first found low =
     )
 
 -- and the greatest candidate is not smaller where it is taken
-pub greatest_if_taken : (k : ℕ) (own shared : List Item) (x y : Item) (i : ℕ) → slice_get (sorted own) 0 ≡ Some x → slice_get (least (k + 1) shared) i ≡ Some y → length (least (k + 1) shared) ≡ i + 1 → MayTake k own shared x → is_smaller y x ≡ false
+pub greatest_if_taken : (k : ℕ) (own shared : List Item) (x y : Item) (i : ℕ) → slice_get (sorted own) 0 ≡ Some x → slice_get (least (k + 1) shared) i ≡ Some y → length (least (k + 1) shared) ≡ i + 1 → IsInReach k own shared x → is_smaller y x ≡ false
 greatest_if_taken k own shared x y i first found last (inl taken) =
     absurd (omega (arith, last, length-take (k + 1) (sorted shared), ap (λ (c : List Item). length (sorted c)) taken.0))
 greatest_if_taken k own shared x y i first found last (inr taken) =
@@ -125,3 +127,17 @@ greatest_if_taken k own shared x y i first found last (inr taken) =
       | Above greater less ↦ ap is_lt greater
     ] in
     not_smaller_trans x taken.0 y not_less (later_not_smaller (sorted shared) at.0 i taken.0 y (rising_sorted shared) order here.1 there.1)
+
+-- no own item is smaller than one in reach, so own order need be seen in the shared part alone
+pub may_take_if_ordered : (k owner : ℕ) (own shared : List Item) (x : Item) → IsInReach k own shared x → SkipsNoneOf owner shared x → MayTake k owner own shared x
+may_take_if_ordered k owner own shared x in_reach order = record {
+  in_reach = in_reach;
+  own_order = all_append (λ y. y.stamp.owner ≡ owner → is_smaller y x ≡ false) own shared (own_order in_reach) order;
+}
+  where
+    own_order : IsInReach k own shared x → SkipsNoneOf owner own x
+    own_order (inl taken) = order_if_none_below owner x own (none_below_least x own taken.1)
+    own_order (inr taken) = order_if_none_below owner x own (none_below_least x (taken.0 ∷ own) taken.2).1
+
+pub ordered_if_may_take : (k owner : ℕ) (own shared : List Item) (x : Item) → MayTake k owner own shared x → SkipsNoneOf owner shared x
+ordered_if_may_take k owner own shared x may = all_back (λ y. y.stamp.owner ≡ owner → is_smaller y x ≡ false) own shared may.own_order

@@ -1,24 +1,39 @@
 -- What a thread can know from its own list alone.
 use Rattle.std.proofs.Common.{ℕ, ◌*◌, ◌≤◌, length, sym, ap, subst, arith}
 use Rattle.std.specs.List.{flat_map}
-use Rattle.klsm_world.specs.declared.step.Event.TheVariants.{Take, Nothing}
+use Rattle.klsm_world.specs.declared.step.Event.TheVariants.{Take, Early, Nothing}
 use Rattle.klsm_world.specs.OwnSteps.{Holds, hand_of, inserted, deleted}
 use Rattle.klsm_world.specs.LegalSteps.{BearsStamp, MayCommit}
-use Rattle.klsm_world.specs.OwnListLaws.{HandsAreApart, NextIsNewInHand, OwnDeletionsAreFew, ListsSkipFew, ListsLeaveFew}
+use Rattle.klsm_world.specs.OwnListLaws.{HandsAreApart, NextIsNewInHand, OwnDeletionsAreFew, ListsSkipFew, ListsSkipFewEarly, ListsKeepOwnOrder, ListsKeepOwnOrderEarly, ListsLeaveFew}
 use Rattle.klsm_world.proofs.theorems.AccountLemmas.{one_of_all, deletions_are_few}
 use Rattle.klsm_world.proofs.theorems.LiveOnceLemmas.{hands_share_none, next_is_new_to_hand}
-use Rattle.klsm_world.proofs.theorems.SkipLemmas.{live_takes_skip_few, live_nothing_leaves_few}
+use Rattle.klsm_world.proofs.theorems.SkipLemmas.{live_takes_skip_few, live_earlies_skip_few, live_takes_keep_order, live_earlies_keep_order, live_nothing_leaves_few}
 
 -- a deletion or an answer "nothing" passes over few items of each world that has the list
 pub lists_skip_few : ListsSkipFew
 lists_skip_few limits t own x inside may w lawful same =
     live_takes_skip_few limits w t x lawful
-    (record { thread = inside; commit = subst (λ o. MayCommit limits.k t (hand_of t o) (length (inserted o)) (Take x)) (sym same) may })
+    (record { thread = inside; commit = subst (λ o. MayCommit limits.k t (hand_of t o) (length (inserted o)) (Take x)) (sym same) may; front = tt })
+
+pub lists_skip_few_early : ListsSkipFewEarly
+lists_skip_few_early limits t own x front inside may w lawful same by =
+    live_earlies_skip_few limits w t x front lawful
+    (record { thread = inside; commit = subst (λ o. MayCommit limits.k t (hand_of t o) (length (inserted o)) (Early x front)) (sym same) may; front = sym by })
+
+pub lists_keep_order : ListsKeepOwnOrder
+lists_keep_order limits t own x inside may w lawful same =
+    live_takes_keep_order limits w t x lawful
+    (record { thread = inside; commit = subst (λ o. MayCommit limits.k t (hand_of t o) (length (inserted o)) (Take x)) (sym same) may; front = tt })
+
+pub lists_keep_order_early : ListsKeepOwnOrderEarly
+lists_keep_order_early limits t own x front inside may w lawful same by =
+    live_earlies_keep_order limits w t x front lawful
+    (record { thread = inside; commit = subst (λ o. MayCommit limits.k t (hand_of t o) (length (inserted o)) (Early x front)) (sym same) may; front = sym by })
 
 pub lists_leave_few : ListsLeaveFew
 lists_leave_few limits t own inside may w lawful same =
     live_nothing_leaves_few limits w t lawful
-    (record { thread = inside; commit = subst (λ o. MayCommit limits.k t (hand_of t o) (length (inserted o)) Nothing) (sym same) may })
+    (record { thread = inside; commit = subst (λ o. MayCommit limits.k t (hand_of t o) (length (inserted o)) Nothing) (sym same) may; front = tt })
 
 -- of what some world has, the parts in the thread's hand share no item, and its next item is in none
 pub hands_are_apart : HandsAreApart

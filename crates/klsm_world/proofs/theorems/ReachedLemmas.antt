@@ -1,12 +1,12 @@
--- A schedule of two threads, written out, that reaches both bounds.
-use Rattle.std.proofs.Common.{inr, ℕ, List, [], ◌∷◌, refl, arith}
+-- Schedules of two threads, written out, that reach the bounds.
+use Rattle.std.proofs.Common.{inr, ◌≢◌, ℕ, List, [], ◌∷◌, refl, arith}
 use Rattle.klsm_run.specs.declared.item.Item.{Item}
 use Rattle.klsm_world.specs.declared.step.Event.TheVariants.{Put, Flush}
 use Rattle.klsm_world.specs.declared.step.Step.{Step}
-use Rattle.klsm_world.specs.declared.step.Step.TheVariants.{Acquire, Commit}
+use Rattle.klsm_world.specs.declared.step.Step.TheVariants.{Acquire, Commit, Release}
 use Rattle.klsm_world.specs.Worlds.{World, first_world}
 use Rattle.klsm_world.specs.Schedules.{next, Leads}
-use Rattle.klsm_world.specs.Reached.{two_threads, ReachesMostLeft, ReachesMostSkipped}
+use Rattle.klsm_world.specs.Reached.{two_threads, ReachesMostLeft, ReachesMostSkipped, ReachesMostSkippedEarly}
 
 abbrev item : ℕ → ℕ → ℕ → Item
 item key owner number = record { key = key; stamp = record { owner = owner; number = number }; load = 0 }
@@ -46,6 +46,7 @@ leads_to_one_put = record {
   legal = record {
     thread = omega arith;
     commit = record { held = record { own = []; holds_own = refl; fits = omega arith }; stamp = record { owner = refl; number = refl } };
+    front = tt;
   };
   after = refl;
 }
@@ -76,27 +77,98 @@ most_left_is_reached = record {
   legal = record {
     thread = omega arith;
     commit = record { own = []; other = []; holds_own = refl; holds_other = refl; fits = record { own_empty = refl; shared_empty = refl } };
+    front = tt;
   };
   reached = refl;
 }
 
--- or flush 3 and then 2, each of which goes to the shared part
+-- or put 2 into its own part, which it may then delete by the front, though 1 lives
+abbrev two_of_other : Item
+two_of_other = item 2 1 0
+
+abbrev two_put : World
+two_put = next other_taken (Commit 1 (Put two_of_other))
+
+leads_to_two_put : Leads two_threads (Commit 1 (Put two_of_other) ∷ Acquire 1 2 ∷ Commit 0 (Put one) ∷ Acquire 0 1 ∷ []) two_put
+leads_to_two_put = record {
+  before = other_taken;
+  led = leads_to_other_taken;
+  legal = record {
+    thread = omega arith;
+    commit = record { held = record { own = []; holds_own = refl; fits = omega arith }; stamp = record { owner = refl; number = refl } };
+    front = tt;
+  };
+  after = refl;
+}
+
+pub most_skipped_early_is_reached : ReachesMostSkippedEarly two_threads
+most_skipped_early_is_reached = record {
+  steps = Commit 1 (Put two_of_other) ∷ Acquire 1 2 ∷ Commit 0 (Put one) ∷ Acquire 0 1 ∷ [];
+  world = two_put;
+  thread = 1;
+  item = two_of_other;
+  front = 18446744073709551615;
+  leads = leads_to_two_put;
+  legal = record {
+    thread = omega arith;
+    commit = record { own = two_of_other ∷ []; holds_own = refl; fits = record { least = refl; below = omega arith } };
+    front = refl;
+  };
+  reached = refl;
+}
+
+-- where thread 0 has both parts, flushes 3 and then 2, each of which goes to the shared part, and puts 1
 abbrev three : Item
-three = item 3 1 0
+three = item 3 0 0
 
 abbrev two : Item
-two = item 2 1 1
+two = item 2 0 1
+
+abbrev last : Item
+last = item 1 0 2
+
+abbrev shared_taken : World
+shared_taken = next own_taken (Acquire 0 0)
 
 abbrev three_flushed : World
-three_flushed = next both_taken (Commit 1 (Flush three (three ∷ [])))
+three_flushed = next shared_taken (Commit 0 (Flush three (three ∷ [])))
 
 abbrev two_flushed : World
-two_flushed = next three_flushed (Commit 1 (Flush two (two ∷ [])))
+two_flushed = next three_flushed (Commit 0 (Flush two (two ∷ [])))
 
-leads_to_three_flushed : Leads two_threads (Commit 1 (Flush three (three ∷ [])) ∷ to_both_taken) three_flushed
+abbrev last_put : World
+last_put = next two_flushed (Commit 0 (Put last))
+
+abbrev shared_given : World
+shared_given = next last_put (Release 0 0)
+
+abbrev other_own_taken : World
+other_own_taken = next shared_given (Acquire 1 2)
+
+abbrev other_both_taken : World
+other_both_taken = next other_own_taken (Acquire 1 0)
+
+abbrev to_shared_taken : List Step
+to_shared_taken = Acquire 0 0 ∷ Acquire 0 1 ∷ []
+
+abbrev to_two_flushed : List Step
+to_two_flushed = Commit 0 (Flush two (two ∷ [])) ∷ Commit 0 (Flush three (three ∷ [])) ∷ to_shared_taken
+
+abbrev to_other_both_taken : List Step
+to_other_both_taken = Acquire 1 0 ∷ Acquire 1 2 ∷ Release 0 0 ∷ Commit 0 (Put last) ∷ to_two_flushed
+
+leads_to_shared_taken : Leads two_threads to_shared_taken shared_taken
+leads_to_shared_taken = record {
+  before = own_taken;
+  led = leads_to_own_taken;
+  legal = record { thread = omega arith; part = omega arith; free = refl };
+  after = refl;
+}
+
+leads_to_three_flushed : Leads two_threads (Commit 0 (Flush three (three ∷ [])) ∷ to_shared_taken) three_flushed
 leads_to_three_flushed = record {
-  before = both_taken;
-  led = leads_to_both_taken;
+  before = shared_taken;
+  led = leads_to_shared_taken;
   legal = record {
     thread = omega arith;
     commit = record {
@@ -109,11 +181,12 @@ leads_to_three_flushed = record {
       };
       stamp = record { owner = refl; number = refl };
     };
+    front = tt;
   };
   after = refl;
 }
 
-leads_to_two_flushed : Leads two_threads (Commit 1 (Flush two (two ∷ [])) ∷ Commit 1 (Flush three (three ∷ [])) ∷ to_both_taken) two_flushed
+leads_to_two_flushed : Leads two_threads to_two_flushed two_flushed
 leads_to_two_flushed = record {
   before = three_flushed;
   led = leads_to_three_flushed;
@@ -129,21 +202,71 @@ leads_to_two_flushed = record {
       };
       stamp = record { owner = refl; number = refl };
     };
+    front = tt;
   };
   after = refl;
 }
 
--- then it may take 3, the second candidate, and skips 2 and 1
-pub most_skipped_is_reached : ReachesMostSkipped two_threads
-most_skipped_is_reached = record {
-  steps = Commit 1 (Flush two (two ∷ [])) ∷ Commit 1 (Flush three (three ∷ [])) ∷ to_both_taken;
-  world = two_flushed;
-  thread = 1;
-  item = three;
-  leads = leads_to_two_flushed;
+leads_to_last_put : Leads two_threads (Commit 0 (Put last) ∷ to_two_flushed) last_put
+leads_to_last_put = record {
+  before = two_flushed;
+  led = leads_to_two_flushed;
   legal = record {
     thread = omega arith;
-    commit = record { own = []; other = two ∷ three ∷ []; holds_own = refl; holds_other = refl; fits = inr (three, (1, omega arith, refl), refl) };
+    commit = record { held = record { own = []; holds_own = refl; fits = omega arith }; stamp = record { owner = refl; number = refl } };
+    front = tt;
+  };
+  after = refl;
+}
+
+leads_to_shared_given : Leads two_threads (Release 0 0 ∷ Commit 0 (Put last) ∷ to_two_flushed) shared_given
+leads_to_shared_given = record {
+  before = last_put;
+  led = leads_to_last_put;
+  legal = record { thread = omega arith; held = record { content = two ∷ three ∷ []; holds = refl } };
+  after = refl;
+}
+
+leads_to_other_own_taken : Leads two_threads (Acquire 1 2 ∷ Release 0 0 ∷ Commit 0 (Put last) ∷ to_two_flushed) other_own_taken
+leads_to_other_own_taken = record {
+  before = shared_given;
+  led = leads_to_shared_given;
+  legal = record { thread = omega arith; part = omega arith; free = refl };
+  after = refl;
+}
+
+leads_to_other_both_taken : Leads two_threads to_other_both_taken other_both_taken
+leads_to_other_both_taken = record {
+  before = other_own_taken;
+  led = leads_to_other_own_taken;
+  legal = record { thread = omega arith; part = omega arith; free = refl };
+  after = refl;
+}
+
+not_of_one : ◌≢◌ {A = ℕ} 0 1
+not_of_one same = omega (arith, same)
+
+-- then thread 1 may take 3, the second candidate, of which it inserted none, and skips 2 and 1
+pub most_skipped_is_reached : ReachesMostSkipped two_threads
+most_skipped_is_reached = record {
+  steps = to_other_both_taken;
+  world = other_both_taken;
+  thread = 1;
+  item = three;
+  leads = leads_to_other_both_taken;
+  legal = record {
+    thread = omega arith;
+    commit = record {
+      own = [];
+      other = two ∷ three ∷ [];
+      holds_own = refl;
+      holds_other = refl;
+      fits = record {
+        in_reach = inr (three, (1, omega arith, refl), refl);
+        own_order = (λ is. absurd (not_of_one is), (λ is. absurd (not_of_one is), tt));
+      };
+    };
+    front = tt;
   };
   reached = refl;
 }

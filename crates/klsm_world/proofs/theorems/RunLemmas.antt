@@ -1,23 +1,23 @@
 -- The events of a schedule are a run of the relaxed queue, which holds what is live.
-use Rattle.std.proofs.Common.{◌≡◌, ◌⊎◌, inl, inr, ℕ, zero, suc, ◌+◌, ◌-◌, ◌*◌, ◌<◌, ◌≤◌, List, [], ◌∷◌, length, unwrap_or, sym, refl, ap, ◌∙◌, subst, arith}
+use Rattle.std.proofs.Common.{◌≡◌, ◌⊎◌, inl, inr, ℕ, zero, suc, ◌+◌, ◌-◌, ◌*◌, ◌<◌, ◌≤◌, List, [], ◌∷◌, length, unwrap_or, sym, refl, ap, ◌∙◌, subst, arith, suc-mul}
 use Rattle.std.specs.List.{Contains, flat_map}
 use Rattle.std.proofs.lemmas.Bool.{cases_eq}
 use Rattle.std.proofs.lemmas.List.Elements.{Contains-append_left, Contains-append_right}
 use Rattle.std.proofs.lemmas.List.Concat.{flat_map-cons}
 use Rattle.klsm_run.specs.declared.item.Item.{Item}
 use Rattle.klsm_run.specs.ItemOrder.{is_smaller}
-use Rattle.klsm_run.specs.Content.{placed, sorted, without}
+use Rattle.klsm_run.specs.Content.{placed, sorted, without, skipped}
 use Rattle.klsm_run.proofs.SortedLemmas.{length_sorted}
 use Rattle.klsm_run.proofs.ContentLemmas.{sorted_itself}
 use Rattle.klsm_run.proofs.ContainsLemmas.{contains_sorted, contains_unsorted}
 use Rattle.klsm_run.proofs.RankLemmas.{count_sorted}
 use Rattle.klsm_run.proofs.WithoutLemmas.{without_placed}
 use Rattle.klsm_run.proofs.IndexLemmas.{index_of, taken_at, contains_at}
-use Rattle.klsm_parts.specs.Events.{times, MayTake}
+use Rattle.klsm_parts.specs.Events.{times, IsInReach}
 use Rattle.klsm_parts.specs.Least.{least}
 use Rattle.klsm_parts.proofs.EventLemmas.{is_in}
 use Rattle.klsm_world.specs.declared.step.Event.{Event}
-use Rattle.klsm_world.specs.declared.step.Event.TheVariants.{Put, Flush, Take, Nothing, Spy}
+use Rattle.klsm_world.specs.declared.step.Event.TheVariants.{Put, Flush, Take, Early, Nothing, Spy}
 use Rattle.klsm_world.specs.declared.step.Step.{Step}
 use Rattle.klsm_world.specs.declared.step.Step.TheVariants.{Acquire, Commit, Release, Miss}
 use Rattle.klsm_world.specs.declared.step.Entry.{Entry}
@@ -32,7 +32,7 @@ use Rattle.klsm_world.proofs.counts.EventCountLemmas.{times_append, times_contai
 use Rattle.klsm_world.proofs.counts.SameLemmas.{same_if_counted}
 use Rattle.klsm_world.proofs.counts.GainLemmas.{live_gains}
 use Rattle.klsm_world.proofs.hands.PartContentLemmas.{content_held}
-use Rattle.klsm_world.proofs.theorems.SkipLemmas.{live_takes_skip_few, live_nothing_leaves_few}
+use Rattle.klsm_world.proofs.theorems.SkipLemmas.{live_takes_skip_few, live_earlies_skip_few, live_nothing_leaves_few}
 use Rattle.klsm_world.proofs.theorems.StampLemmas.{next_is_not_live}
 use Rattle.klsm_world.proofs.lawful.FirstLemmas.{first_is_lawful, none_live_first}
 use Rattle.klsm_world.proofs.lawful.LawfulLemmas.{lawful_kept}
@@ -46,7 +46,7 @@ live_part w (suc n) p x less within = elim (cases_eq p n) [
 ]
 
 -- a taken item is in one of the two parts
-taken_from : (k : ℕ) (own shared : List Item) (x : Item) → MayTake k own shared x → Contains own x ⊎ Contains shared x
+taken_from : (k : ℕ) (own shared : List Item) (x : Item) → IsInReach k own shared x → Contains own x ⊎ Contains shared x
 taken_from k own shared x (inl taken) = inl (is_in x own taken.1)
 taken_from k own shared x (inr taken) = by_place (is_in x (taken.0 ∷ own) taken.2)
   where
@@ -66,10 +66,27 @@ taken_is_live limits w t x lawful may =
     let part : (p : ℕ) (c : List Item) → p ≤ limits.threads → Holds (hand_in w t) p c → Contains c x → Contains (live w) x = λ p c inside holds within.
     live_part w (length w.homes) p x (omega (arith, inside, lawful.agreed.homes_are))
     (subst (λ d. Contains d x) (sym (content_held limits w t p c lawful.agreed may.thread holds)) within) in
-    elim (taken_from limits.k both.own both.other x both.fits) [
+    elim (taken_from limits.k both.own both.other x both.fits.in_reach) [
       | inl own ↦ part (own_part t) both.own (omega (arith, may.thread)) both.holds_own own
       | inr shared ↦ part shared_part both.other (omega arith) both.holds_other shared
     ]
+
+-- so is the item of an Early
+early_is_live : (limits : Limits) (w : World) (t : ℕ) (x : Item) (front : ℕ) → IsLawful limits w → MayStep limits w (Commit t (Early x front)) → Contains (live w) x
+early_is_live limits w t x front lawful may =
+    let own = may.commit in
+    live_part w (length w.homes) (own_part t) x (omega (arith, may.thread, lawful.agreed.homes_are))
+    (subst (λ d. Contains d x) (sym (content_held limits w t (own_part t) own.own lawful.agreed may.thread own.holds_own)) (is_in x own.own own.fits.least))
+
+-- (T-1)·k is at most T·k
+one_less : (threads k n : ℕ) → n ≤ (threads - 1) * k → n ≤ threads * k
+one_less zero k n few = few
+one_less (suc threads) k n few =
+    let some : ℕ = threads * k in
+    let same : suc threads - 1 ≡ threads = omega arith in
+    let less : n ≤ some = subst (λ m. n ≤ m * k) same few in
+    let more : suc threads * k ≡ some + k = suc-mul threads k in
+    omega (arith, less, more)
 
 -- in a lawful world the queue of live items may move by an event that a thread may commit
 pub live_may_move : (limits : Limits) (w : World) (t : ℕ) (event : Event) → IsLawful limits w → MayStep limits w (Commit t event) → MayMove limits (sorted (live w)) event
@@ -78,6 +95,11 @@ live_may_move limits w t (Flush x moved) lawful may = λ within. next_is_not_liv
 live_may_move limits w t (Take x) lawful may = (
   contains_sorted x (live w) (taken_is_live limits w t x lawful may),
   subst (λ n. n ≤ limits.threads * limits.k) (sym (count_sorted (λ y. is_smaller y x) (live w))) (live_takes_skip_few limits w t x lawful may),
+)
+live_may_move limits w t (Early x front) lawful may = (
+  contains_sorted x (live w) (early_is_live limits w t x front lawful may),
+  subst (λ n. n ≤ limits.threads * limits.k) (sym (count_sorted (λ y. is_smaller y x) (live w)))
+      (one_less limits.threads limits.k (skipped (live w) x) (live_earlies_skip_few limits w t x front lawful may)),
 )
 live_may_move limits w t Nothing lawful may =
     subst (λ n. n ≤ (limits.threads - 1) * limits.k) (sym (length_sorted (live w))) (live_nothing_leaves_few limits w t lawful may)
@@ -116,6 +138,7 @@ module _ (limits : Limits) (v w : World) (t : ℕ) (lawful : IsLawful limits v) 
   committed (Put x) lists = inserts (Committed (Put x)) x lists refl refl
   committed (Flush x moved) lists = inserts (Committed (Flush x moved)) x lists refl refl
   committed (Take x) lists = deletes (Committed (Take x)) x lists refl refl
+  committed (Early x front) lists = deletes (Committed (Early x front)) x lists refl refl
   committed Nothing lists = quiet (Committed Nothing) lists refl refl
   committed (Spy victim moved) lists = quiet (Committed (Spy victim moved)) lists refl refl
 
@@ -189,5 +212,6 @@ queue_counts_insertions limits (event ∷ before) run x =
     one_event c (Put y) may = omega (arith, times_plus x c (y ∷ []))
     one_event c (Flush y moved) may = omega (arith, times_plus x c (y ∷ []))
     one_event c (Take y) may = omega (arith, times_without x y c (times_contained y c may.0))
+    one_event c (Early y front) may = omega (arith, times_without x y c (times_contained y c may.0))
     one_event c Nothing may = omega arith
     one_event c (Spy victim moved) may = omega arith

@@ -7,7 +7,7 @@ use Rattle.std.proofs.lemmas.Option.{slice_get-get_or}
 use Rattle.std.proofs.lemmas.List.Elements.{Contains-append_cases}
 use Rattle.std.proofs.lemmas.List.Concat.{flat_map-cons}
 use Rattle.klsm_run.specs.declared.item.Item.{Item}
-use Rattle.klsm_world.specs.declared.step.Event.TheVariants.{Put, Flush, Take, Nothing, Spy}
+use Rattle.klsm_world.specs.declared.step.Event.TheVariants.{Put, Flush, Take, Early, Nothing, Spy}
 use Rattle.klsm_world.specs.declared.step.Entry.{Entry}
 use Rattle.klsm_world.specs.declared.step.Entry.TheVariants.{Acquired, Committed, Released, Missed}
 use Rattle.klsm_world.specs.OwnSteps.{inserted_by, event_at, inserted}
@@ -36,6 +36,7 @@ stamp_at k t before (Acquired p found) x may within = absurd (contains_none x wi
 stamp_at k t before (Committed (Put y)) x may within = (subst (BearsStamp t (length (inserted before))) (contains_one x y within) may.stamp, refl)
 stamp_at k t before (Committed (Flush y moved)) x may within = (subst (BearsStamp t (length (inserted before))) (contains_one x y within) may.stamp, refl)
 stamp_at k t before (Committed (Take y)) x may within = absurd (contains_none x within)
+stamp_at k t before (Committed (Early y front)) x may within = absurd (contains_none x within)
 stamp_at k t before (Committed Nothing) x may within = absurd (contains_none x within)
 stamp_at k t before (Committed (Spy victim moved)) x may within = absurd (contains_none x within)
 stamp_at k t before (Released p) x may within = absurd (contains_none x within)

@@ -15,7 +15,7 @@ use Rattle.klsm_run.proofs.RankLemmas.{count_sorted}
 use Rattle.klsm_parts.specs.Events.{times, minus}
 use Rattle.klsm_parts.proofs.EventLemmas.{minus_moved}
 use Rattle.klsm_world.specs.declared.step.Event.{Event}
-use Rattle.klsm_world.specs.declared.step.Event.TheVariants.{Put, Flush, Take, Nothing, Spy}
+use Rattle.klsm_world.specs.declared.step.Event.TheVariants.{Put, Flush, Take, Early, Nothing, Spy}
 use Rattle.klsm_world.specs.declared.step.Step.{Step}
 use Rattle.klsm_world.specs.declared.errors.StepError.{StepError}
 use Rattle.klsm_world.specs.declared.errors.StepError.TheVariants as step_error
@@ -34,6 +34,9 @@ use Rattle.klsm_world.proofs.counts.SameLemmas.{same_if_counted}
 use Rattle.klsm_world.proofs.theorems.RunLemmas.{queue_is_live, queue_counts_insertions, schedules_are_runs}
 use Rattle.klsm_world.proofs.traces.TraceLemmas.{HasRun}
 
+most_of_both : {a b bound : ℕ} → b ≤ bound → a ≤ bound → max a b ≤ bound
+most_of_both below few = omega (arith, below, few)
+
 -- in a run no deletion skips more than T·k items
 pub most_few : (limits : Limits) (events : List Event) → IsRun limits events → most_skipped events ≤ limits.threads * limits.k
 most_few limits [] run = omega arith
@@ -42,9 +45,7 @@ most_few limits (Flush x moved ∷ before) run = most_few limits before run.0
 most_few limits (Nothing ∷ before) run = most_few limits before run.0
 most_few limits (Spy victim moved ∷ before) run = most_few limits before run.0
 most_few limits (Take x ∷ before) run = most_of_both (most_few limits before run.0) run.1.1
-  where
-    most_of_both : {a b bound : ℕ} → b ≤ bound → a ≤ bound → max a b ≤ bound
-    most_of_both below few = omega (arith, below, few)
+most_few limits (Early x front ∷ before) run = most_of_both (most_few limits before run.0) run.1.1
 
 -- the order of steps does not change how often an item is in their events
 pub times_reversed : (x : Item) (items_by : Event → List Item) (steps : List Step) → times x (flat_map items_by (events_of (reverse steps))) ≡ times x (flat_map items_by (events_of steps))

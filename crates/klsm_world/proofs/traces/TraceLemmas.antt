@@ -9,7 +9,7 @@ use Rattle.klsm_run.specs.ItemOrder.{is_smaller}
 use Rattle.klsm_run.specs.Content.{skipped}
 use Rattle.klsm_run.proofs.RankLemmas.{count_sorted}
 use Rattle.klsm_world.specs.declared.step.Event.{Event}
-use Rattle.klsm_world.specs.declared.step.Event.TheVariants.{Put, Flush, Take, Nothing, Spy}
+use Rattle.klsm_world.specs.declared.step.Event.TheVariants.{Put, Flush, Take, Early, Nothing, Spy}
 use Rattle.klsm_world.specs.declared.step.Step.{Step}
 use Rattle.klsm_world.specs.declared.step.Step.TheVariants.{Acquire, Commit, Release, Miss}
 use Rattle.klsm_world.specs.Worlds.{Limits, World, live}
@@ -54,6 +54,10 @@ most_run limits before w (Commit t (Take x)) leads =
     let same : skipped (queue_of (events_of before)) x ≡ skipped (live w) x =
     ap (λ c. skipped c x) (queue_is_live limits before w leads) ∙ count_sorted (λ y. is_smaller y x) (live w) in
     ap most_skipped (commit_adds before t (Take x)) ∙ omega (arith, same)
+most_run limits before w (Commit t (Early x front)) leads =
+    let same : skipped (queue_of (events_of before)) x ≡ skipped (live w) x =
+    ap (λ c. skipped c x) (queue_is_live limits before w leads) ∙ count_sorted (λ y. is_smaller y x) (live w) in
+    ap most_skipped (commit_adds before t (Early x front)) ∙ omega (arith, same)
 
 -- one step more
 pub has_run_more : (limits : Limits) (steps : List Step) (count : ℕ) (v w : World) (step : Step) (inserted deleted came went : List Item) (most now : ℕ)

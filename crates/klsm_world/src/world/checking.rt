@@ -7,11 +7,11 @@ ghost use Rattle.klsm_world.specs.LawfulWorlds.{IsLawful};
 ghost use Rattle.klsm_world.specs.LegalSteps.{BearsStamp, MayCommit};
 ghost use Rattle.klsm_world.specs.OwnSteps.{inserted};
 ghost use Rattle.klsm_world.specs.Refusals.{NamesNone, NamesNoVictim, Refuses, parts_for};
-ghost use Rattle.klsm_world.specs.Schedules.{MayStep};
+ghost use Rattle.klsm_world.specs.Schedules.{MayStep, NamesFront};
 ghost use Rattle.klsm_world.specs.Worlds.{content_of, hand_in, steps_of, word_of};
 
 use super::World;
-use crate::conditions::{may_flush, may_spy, may_take};
+use crate::conditions::{may_flush, may_spy, may_take, may_take_early};
 use crate::errors::StepError;
 use crate::step::{Event, Step};
 use klsm_run::Item;
@@ -117,7 +117,7 @@ impl<A: Allocator + Copy> World<A> {
         if !self.holds_all(thread, event) {
             return Err(StepError::NotHeld);
         }
-        if !self.may_commit(thread, event) {
+        if !self.may_commit(thread, event) || !self.names_front(event) {
             return Err(StepError::WrongEvent);
         }
         Ok(())
@@ -168,11 +168,21 @@ impl<A: Allocator + Copy> World<A> {
     {
         let own = self.holds(thread, own_part(thread));
         match event {
-            Event::Put(_) => own,
+            Event::Put(_) | Event::Early { item: _, front: _ } => own,
             Event::Flush { item: _, moved: _ } | Event::Take(_) | Event::Nothing => {
                 own && self.holds(thread, SHARED)
             }
             Event::Spy { victim, moved: _ } => own && self.holds(thread, own_part(*victim)),
+        }
+    }
+
+    // Whether an event names no other front than that of the shared part.
+    fn names_front(&self, event: &Event) -> bool
+        ensures { IsTrue result ↔ NamesFront self.now.world.front event.now }
+    {
+        match event {
+            Event::Early { item: _, front } => *front == self.front(),
+            _ => true,
         }
     }
 
@@ -191,7 +201,8 @@ impl<A: Allocator + Copy> World<A> {
             Event::Flush { item, moved } => {
                 may_flush(self.k, own, *item, moved.as_slice()) && self.bears_stamp(thread, *item)
             }
-            Event::Take(item) => may_take(self.k, own, self.items_of(SHARED), *item),
+            Event::Take(item) => may_take(self.k, thread, own, self.items_of(SHARED), *item),
+            Event::Early { item, front } => may_take_early(own, *item, *front),
             Event::Nothing => own.is_empty() && self.items_of(SHARED).is_empty(),
             Event::Spy { victim, moved } => {
                 may_spy(own, self.items_of(own_part(*victim)), moved.as_slice())

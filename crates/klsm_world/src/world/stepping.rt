@@ -1,7 +1,7 @@
 //! The steps of a world that are legal, each by its kind.
 ghost use Rattle.std.specs.Prelude.{◌≡◌, ◌<◌, ◌++◌, ◌∷◌, [], slice_index_or, slice_set, OnOk, OnErr, IfErr};
 ghost use Rattle.std.specs.Vec.{vec_len};
-ghost use Rattle.klsm_world.specs.declared.step.Event.TheVariants.{Put, Flush, Take, Nothing, Spy};
+ghost use Rattle.klsm_world.specs.declared.step.Event.TheVariants.{Put, Flush, Take, Early, Nothing, Spy};
 ghost use Rattle.klsm_world.specs.declared.step.Step.TheVariants.{Acquire, Commit, Release, Miss};
 ghost use Rattle.klsm_world.specs.Kept.{entry_of};
 ghost use Rattle.klsm_world.specs.WorldView.{IsStepped};
@@ -74,6 +74,7 @@ impl<A: Allocator + Copy> World<A> {
             Event::Put(item) => self.put(thread, *item),
             Event::Flush { item, moved } => self.flush(thread, *item, moved.as_slice()),
             Event::Take(item) => self.take(thread, *item),
+            Event::Early { item, front } => self.take_early(thread, *item, *front),
             Event::Nothing => self.find_nothing(thread),
             Event::Spy { victim, moved } => self.spy(thread, *victim, moved.as_slice()),
         }
@@ -118,6 +119,18 @@ impl<A: Allocator + Copy> World<A> {
         let none = Items::new(Vec::new(self.alloc));
         note(&mut self.lists, thread, KeptStep::Take(item), none)?;
         self.contents[part] = Items::new(after);
+        Ok(())
+    }
+
+    fn take_early(&mut self, thread: u32, item: Item, front: u64) -> Result<(), StepError>
+        requires { MayStep self.old.limits self.old.world (Commit thread (Early item front)) }
+        ensures { IsStepped self.old (Commit thread (Early item front)) result self.new }
+    {
+        let own = own_part(thread);
+        let after = without_all(self.alloc, self.contents[own].as_slice(), &[item])?;
+        let none = Items::new(Vec::new(self.alloc));
+        note(&mut self.lists, thread, KeptStep::Early(item, front), none)?;
+        self.contents[own] = Items::new(after);
         Ok(())
     }
 

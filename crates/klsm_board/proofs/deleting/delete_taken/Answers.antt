@@ -53,11 +53,12 @@ returns-then-search_victims-clause-done g c own shared has_both =
         own_empty = empty.own_empty;
         shared_empty = empty.shared_empty;
         moved = spied.0;
-        least = least_alone m.k spied.0 item took.1;
+        least = least_alone m.k t spied.0 item took.1;
         spied = mine me2.0;
         spies = subst (λ n. SpiesAfter n t (mine me.0) (mine me2.0) spied.0) c.requires.threads (subst (λ es. SpiesAfter c.args.threads t es (mine me2.0) spied.0) none.2 spied.2);
         skips = took.3;
-        steps = took.4;
+        keeps = took.4;
+        steps = took.5;
       },
       (chosen.unasked refl).0 ∙ none.3,
     ))

@@ -19,5 +19,5 @@ returns-clause-looked g c found carries =
     let h = first_here content suits m t p found [] me.1 (rest me.1) c.slot_mut-slot.result.now carries.contents_are carries.suited c.slot_mut-slot.ensures.value in (
       first_changed content suits m t p found found [] me c.slot_mut-slot.result.now carries h.0 h.1,
       c.len.ensures ∙ ap (λ (z : List Item). length z) h.0,
-      c.least.ensures ∙ ap (λ (z : List Item). slice_get z 0) h.0,
+      c.least.ensures.is ∙ ap (λ (z : List Item). slice_get z 0) h.0,
     )

@@ -9,7 +9,7 @@ use Rattle.klsm_board.specs.Seats.{own_in_hand, both_in_hand}
 use Rattle.klsm_board.proofs.seats.StandLemmas.{stands}
 use Rattle.klsm_board.proofs.hands.EventLemmas.{own_in_both, shared_in_both, shared_not_in_one, not_shared}
 use Rattle.klsm_board.proofs.hands.PossibleLemmas.{apart_in_hand, new_in_hand}
-use Rattle.klsm_board.proofs.hands.CommitLemmas.{has_still, flush_out, flush_told}
+use Rattle.klsm_board.proofs.hands.CommitLemmas.{has_still, flush_out, flush_sets_front, flush_told}
 use Rattle.klsm_board.proofs.inserting.flush_both.Goals as goal
 
 pub flush_in-requires : goal.flush_in-requires
@@ -31,16 +31,16 @@ flush_in-requires g c =
       );
     }
 
-pub commit_moving-requires-clause-out : goal.commit_moving-requires-clause-out
-commit_moving-requires-clause-out g c =
+pub commit_moving_by_front-requires-clause-out : goal.commit_moving_by_front-requires-clause-out
+commit_moving_by_front-requires-clause-out g c =
     let content = g.S.Holding.content in let suits = g.S.Holding.suits in
-    let m = c.args.table.now.key in let t = c.args.thread in let k = c.requires.has in
+    let m = c.args.table.now.key in let t = c.args.thread in let k = c.requires.has in let x = c.args.item in
+    let me = c.args.seat.now.me in let me' = c.flush_in.new.seat.me in let same = c.flush_in.ensures.same.2 in
     let did = c.in-Ok.ensures.done k.0 k.1 k.2.carries in (
       did.0,
-      shared_after_flush k.1 did.0,
-      own_in_hand t (own_after_flush k.0 c.args.item did.0),
-      flush_out content suits m t k.0 k.1 c.args.item did.0 c.args.seat.now.me c.flush_in.new.seat.me k.2 c.flush_in.ensures.same.2 c.requires.stamp did.1 did.2,
-      shared_not_in_one t (own_after_flush k.0 c.args.item did.0),
+      both_in_hand t (own_after_flush k.0 x did.0) (shared_after_flush k.1 did.0),
+      flush_out content suits m t k.0 k.1 x did.0 me me' k.2 same c.requires.stamp did.1 did.2,
+      flush_sets_front content suits m t k.0 k.1 x did.0 c.in-Ok.front me me' k.2 same did.4,
     )
 
 pub give_part-requires-clause-has : goal.give_part-requires-clause-has
@@ -48,7 +48,16 @@ give_part-requires-clause-has g c =
     let t = c.args.thread in let k = c.requires.has in
     let did = c.in-Ok.ensures.done k.0 k.1 k.2.carries in
     let left = own_after_flush k.0 c.args.item did.0 in
-    (left, [], stands (c.commit_moving.ensures.gave (shared_after_flush k.1 did.0) (own_in_hand t left) did.2 (shared_not_in_one t left)), refl)
+    let common = shared_after_flush k.1 did.0 in
+    (common, own_in_hand t left, stands (c.commit_moving_by_front.ensures.has (both_in_hand t left common) did.2), shared_not_in_one t left)
+
+pub give_part-requires-in-Ok-clause-has : goal.give_part-requires-in-Ok-clause-has
+give_part-requires-in-Ok-clause-has g c =
+    let t = c.args.thread in let k = c.requires.has in
+    let did = c.in-Ok.ensures.done k.0 k.1 k.2.carries in
+    let left = own_after_flush k.0 c.args.item did.0 in
+    let common = shared_after_flush k.1 did.0 in
+    (left, [], stands (c.give_part.ensures.gave common (own_in_hand t left) (stands (c.commit_moving_by_front.ensures.has (both_in_hand t left common) did.2)) (shared_not_in_one t left)), refl)
 
 pub give_part-requires-in-Err-clause-has : goal.give_part-requires-in-Err-clause-has
 give_part-requires-in-Err-clause-has g c =
@@ -72,21 +81,24 @@ returns-in-Ok-clause-has g c =
     let t = c.args.thread in let k = c.requires.has in
     let did = c.in-Ok.ensures.done k.0 k.1 k.2.carries in
     let left = own_after_flush k.0 c.args.item did.0 in
-    c.give_part.ensures.gave left [] (stands (c.commit_moving.ensures.gave (shared_after_flush k.1 did.0) (own_in_hand t left) did.2 (shared_not_in_one t left))) refl
+    let common = shared_after_flush k.1 did.0 in
+    c.give_part-in-Ok.ensures.gave left [] (stands (c.give_part.ensures.gave common (own_in_hand t left) (stands (c.commit_moving_by_front.ensures.has (both_in_hand t left common) did.2)) (shared_not_in_one t left))) refl
 
 pub returns-in-Ok-clause-done : goal.returns-in-Ok-clause-done
 returns-in-Ok-clause-done g c own shared has =
     let content = g.S.Holding.content in let suits = g.S.Holding.suits in
     let m = c.args.table.now.key in let t = c.args.thread in let me = c.args.seat.now.me in
     let did = c.in-Ok.ensures.done own shared has.carries in
-    let named = c.commit_moving.ensures.list (shared_after_flush shared did.0) (own_in_hand t (own_after_flush own c.args.item did.0)) did.2 in
+    let named = c.commit_moving_by_front.ensures.list (both_in_hand t (own_after_flush own c.args.item did.0) (shared_after_flush shared did.0)) did.2 in
     let told = flush_told content suits m t own shared c.args.item did.0 named.0 me c.flush_in.new.seat.me has c.flush_in.ensures.same.2 named.1 in
     let limit : ℕ = limit_of g.S.PartSlot.levels heap_room in (
       named.0,
       told.0,
       subst (λ n. length shared + n ≤ limit) (sym told.1) did.3,
-      c.give_part.ensures.list ∙ (ap (λ z. z ++ Released (t + 1) ∷ []) (named.2 ∙ ap (λ v. mine v ++ Committed (Flush c.args.item named.0) ∷ Released 0 ∷ []) c.flush_in.ensures.same.2)
-          ∙ append_assoc (mine me.0) (Committed (Flush c.args.item named.0) ∷ Released 0 ∷ []) (Released (t + 1) ∷ [])),
+      c.give_part-in-Ok.ensures.list
+          ∙ (ap (λ z. z ++ Released (t + 1) ∷ []) (c.give_part.ensures.list ∙ ap (λ z. z ++ Released 0 ∷ []) (named.2 ∙ ap (λ v. mine v ++ Committed (Flush c.args.item named.0) ∷ []) c.flush_in.ensures.same.2))
+          ∙ (append_assoc (mine me.0 ++ Committed (Flush c.args.item named.0) ∷ []) (Released 0 ∷ []) (Released (t + 1) ∷ [])
+          ∙ append_assoc (mine me.0) (Committed (Flush c.args.item named.0) ∷ []) (Released 0 ∷ Released (t + 1) ∷ []))),
     )
 
 pub returns-in-Err-clause-has : goal.returns-in-Err-clause-has

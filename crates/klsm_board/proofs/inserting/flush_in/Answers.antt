@@ -4,10 +4,9 @@ use Rattle.klsm_run.specs.declared.item.Item.{Item}
 use Rattle.klsm_run.specs.Capacity.{heap_room}
 use Rattle.klsm_run.specs.Content.{ShareNone}
 use Rattle.klsm_parts.specs.Limit.{limit_of}
-use Rattle.klsm_parts.specs.Events.{MayFlush, own_after_flush, shared_after_flush}
+use Rattle.klsm_parts.specs.Events.{MayFlush, own_after_flush, shared_after_flush, front_of}
 use Rattle.klsm_board.specs.Seats.{Carries, both_in_hand}
 use Rattle.klsm_board.proofs.seats.LendLemmas.{lendable, lent_is, lends_changed}
-use Rattle.klsm_board.proofs.calls.TestLemmas.{where_ok, where_err, of_err}
 use Rattle.klsm_board.proofs.inserting.flush_in.Goals as goal
 
 pub lend_shared-shared-requires : goal.lend_shared-shared-requires
@@ -45,40 +44,42 @@ return_shared-requires-clause-shared g c =
     let m = c.args.table.now.key in let k = c.requires.carries in let lent = c.lend_shared-shared.ensures.lent k.0 k.1 k.2 in
     c.flush-answer.ensures.shared_kind m.k lent.2
 
-pub returns-clause-done : goal.returns-clause-done
-returns-clause-done g c =
+pub front-front-requires : goal.front-front-requires
+front-front-requires g c =
+    let m = c.args.table.now.key in let k = c.requires.carries in let lent = c.lend_shared-shared.ensures.lent k.0 k.1 k.2 in
+    (m.k, c.flush-answer.ensures.shared_kind m.k lent.2)
+
+pub returns-in-Ok-clause-done : goal.returns-in-Ok-clause-done
+returns-in-Ok-clause-done g c own shared carries =
     let content = g.S.Holding.content in let suits = g.S.Holding.suits in let is_vacant = g.S.PartSlot.is_vacant in
     let m = c.args.table.now.key in let t = c.args.thread in let me = c.lend_shared-shared.new.seat.me in let answer = c.flush-answer in
-    where_ok answer.result _ _ answer.ensures.done
-    (λ done own shared carries.
     let lent = c.lend_shared-shared.ensures.lent own shared carries in
     let own_is = lent_is content suits is_vacant m t own me lent.0 c.slot_mut.result.now c.slot_mut.ensures.value in
-    let did = done m.k t own_is.1 in
+    let did = c.in-Ok.ensures.done m.k t own_is.1 in
     let own' = own_after_flush own c.args.item did.0 in
+    let left = did.3 ∙ ap (λ z. shared_after_flush z did.0) lent.1 in
     let lends = lends_changed content suits is_vacant m t own me lent.0 own' answer.new.self (did.2 ∙ ap (λ z. own_after_flush z c.args.item did.0) own_is.0) (answer.ensures.kind m.k t own_is.1) in (
       did.0,
       subst (λ z. MayFlush m.k z c.args.item did.0) own_is.0 did.1,
-      subst (λ z. Carries content suits m t (both_in_hand t own' z) c.return_shared.new.seat.me) (did.3 ∙ ap (λ z. shared_after_flush z did.0) lent.1) (c.return_shared.ensures.back own' lends),
+      subst (λ z. Carries content suits m t (both_in_hand t own' z) c.return_shared.new.seat.me) left (c.return_shared.ensures.back own' lends),
       subst (λ (z : List Item). length z + length did.0 ≤ limit_of g.S.PartSlot.levels heap_room) lent.1 did.4,
-    ))
+      c.front-front.ensures ∙ ap front_of left,
+    )
 
-pub returns-clause-unchanged : goal.returns-clause-unchanged
-returns-clause-unchanged g c =
+pub returns-in-Err-clause-unchanged : goal.returns-in-Err-clause-unchanged
+returns-in-Err-clause-unchanged g c own shared carries =
     let content = g.S.Holding.content in let suits = g.S.Holding.suits in let is_vacant = g.S.PartSlot.is_vacant in
     let m = c.args.table.now.key in let t = c.args.thread in let me = c.lend_shared-shared.new.seat.me in let answer = c.flush-answer in
-    where_err answer.result _ _ answer.ensures.unchanged
-    (λ same own shared carries.
     let lent = c.lend_shared-shared.ensures.lent own shared carries in
     let own_is = lent_is content suits is_vacant m t own me lent.0 c.slot_mut.result.now c.slot_mut.ensures.value in
+    let same = c.in-Err.ensures.unchanged in
     let lends = lends_changed content suits is_vacant m t own me lent.0 own answer.new.self (same.0 ∙ own_is.0) (answer.ensures.kind m.k t own_is.1) in
-    subst (λ z. Carries content suits m t (both_in_hand t own z) c.return_shared.new.seat.me) (same.1 ∙ lent.1) (c.return_shared.ensures.back own lends))
+    subst (λ z. Carries content suits m t (both_in_hand t own z) c.return_shared.new.seat.me) (same.1 ∙ lent.1) (c.return_shared.ensures.back own lends)
 
-pub returns-clause-full : goal.returns-clause-full
-returns-clause-full g c =
+pub returns-in-Err-clause-full : goal.returns-in-Err-clause-full
+returns-in-Err-clause-full g c is own shared carries =
     let content = g.S.Holding.content in let suits = g.S.Holding.suits in let is_vacant = g.S.PartSlot.is_vacant in
-    let m = c.args.table.now.key in let t = c.args.thread in let me = c.lend_shared-shared.new.seat.me in let answer = c.flush-answer in
-    of_err answer.result _ _ answer.ensures.full
-    (λ why full is own shared carries.
+    let m = c.args.table.now.key in let t = c.args.thread in let me = c.lend_shared-shared.new.seat.me in
     let lent = c.lend_shared-shared.ensures.lent own shared carries in
     let own_is = lent_is content suits is_vacant m t own me lent.0 c.slot_mut.result.now c.slot_mut.ensures.value in
-    subst (λ (z : List Item). limit_of g.S.PartSlot.levels heap_room < length z + max 1 m.k) lent.1 (full is m.k t own_is.1))
+    subst (λ (z : List Item). limit_of g.S.PartSlot.levels heap_room < length z + max 1 m.k) lent.1 (c.in-Err.ensures.full is m.k t own_is.1)

@@ -12,7 +12,7 @@ use Rattle.klsm_board.proofs.making.next_member.Goals as goal
 pub split_seat-requires : goal.split_seat-requires
 split_seat-requires g c =
     let board = c.args.board.now in let seat = c.args.seat.now in let h = c.requires.view in let n = c.args.number in
-    let words : board.table.shared.table_id.words ≡ (board.sizes.threads + 1) * 16 = board.sized.0 in
+    let words : board.table.shared.table_id.words ≡ (board.sizes.threads + 2) * 16 = board.sized.0 in
     let is : seat.me.0.lists ≡ own n [] ∷ fresh (n + 1) h.0 = ap (λ z. z.0.lists) h.1 ∙ one_more_fresh h.0 n in (
       c.requires.table,
       omega (arith, words),

@@ -1,4 +1,4 @@
-use Rattle.std.proofs.Common.{arith, ◌≡◌, ℕ, ◌+◌, List, [], ◌∷◌, replicate, length, refl, sym, ap, ◌∙◌, subst}
+use Rattle.std.proofs.Common.{arith, ◌≡◌, ℕ, ◌+◌, List, [], ◌∷◌, replicate, length, set, refl, sym, ap, ◌∙◌, subst}
 use lib.ListN.{length-replicate}
 use Rattle.atomic_table.specs.Table.{opening}
 use Rattle.klsm_parts.specs.Parts.{PartState}
@@ -8,7 +8,7 @@ use Rattle.klsm_board.specs.declared.slot.Slot.{Slot}
 use Rattle.klsm_board.specs.declared.slot.Slot.TheVariants.{Own, Common}
 use Rattle.klsm_board.specs.Slots.{slot_content, IsSlotOf}
 use Rattle.klsm_board.specs.Rule.{place, everyone, Ruled}
-use Rattle.klsm_board.proofs.table.OpeningLemmas.{opens}
+use Rattle.klsm_board.proofs.table.OpeningLemmas.{first_words, length_first, opens}
 use Rattle.klsm_board.proofs.table.MakeLemmas.{first_slots}
 use Rattle.klsm_board.proofs.making.table_of.Goals as goal
 
@@ -17,7 +17,7 @@ new-requires g c =
     let m : Sizes = c.args.sizes in
     let own : Slot PartState PartState = Own (record { k = m.k; blocks = [] }) in
     let slots : List (Slot PartState PartState) = Common (record { k = m.k; blocks = [] }) ∷ replicate m.threads own in
-    let words_are : c.as_slice.result.now ≡ replicate (place (m.threads + 1)) 0 = c.as_slice.ensures.value ∙ c.in_ok-words.ensures.items_if_clones_equal (λ y same. same) in
+    let words_are : c.as_slice.result.now ≡ first_words m = c.as_slice.ensures.value ∙ ap (λ (ws : List ℕ). set ws (place (m.threads + 1)) 18446744073709551615) (c.in_ok-words.ensures.items_if_clones_equal (λ y same. same)) in
     let slots_are : c.in_ok-slots.slots.items ≡ slots = c.in_ok-slots.ensures in
     let n = length-replicate m.threads own in
     subst (λ (z : List ℕ × List (Slot PartState PartState)). Ruled slot_content IsSlotOf m (opening z.0 z.1 (everyone m))) (λ i. (sym words_are i, sym slots_are i))
@@ -46,9 +46,9 @@ invariant_of-result g c =
     let m : Sizes = c.args.sizes in
     let own : Slot PartState PartState = Own (record { k = m.k; blocks = [] }) in
     let told = c.in-Ok.ensures.ok in
-    let words_are : c.as_slice.result.now ≡ replicate (place (m.threads + 1)) 0 = c.as_slice.ensures.value ∙ c.in_ok-words.ensures.items_if_clones_equal (λ y same. same) in
+    let words_are : c.as_slice.result.now ≡ first_words m = c.as_slice.ensures.value ∙ ap (λ (ws : List ℕ). set ws (place (m.threads + 1)) 18446744073709551615) (c.in_ok-words.ensures.items_if_clones_equal (λ y same. same)) in
     let slots_are : c.in_ok-slots.slots.items ≡ Common (record { k = m.k; blocks = [] }) ∷ replicate m.threads own = c.in_ok-slots.ensures in
-    let words : length c.as_slice.result.now ≡ place (m.threads + 1) = ap length words_are ∙ length-replicate (place (m.threads + 1)) 0 in
+    let words : length c.as_slice.result.now ≡ place (m.threads + 2) = ap length words_are ∙ length_first m in
     let slots : length c.in_ok-slots.slots.items ≡ m.threads + 1 = omega (arith, ap length slots_are, length-replicate m.threads own) in
     record { key = told.5; sized = (told.0 ∙ words, told.1 ∙ slots, c.requires.sizes.threads); in_range = c.requires.sizes; capacity = c.requires.capacity; levels = c.requires.levels }
 

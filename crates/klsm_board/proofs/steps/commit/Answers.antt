@@ -14,7 +14,7 @@ store-requires g c =
     let m = c.args.table.now.key in let slots = c.args.table.now.table_id.slots in
     let me = c.args.seat.now.me in let p = c.args.part in let t = c.args.thread in
     let le = c.requires.part in let seat = c.requires.seat in let told = c.requires.told in
-    let event = c.requires.event in let k = event.4 in let fits = g.D.Told.fits in
+    let event = c.requires.event in let k = event.5 in let fits = g.D.Told.fits in
     let content = g.S.Holding.content in let suits = g.S.Holding.suits in (
       seat.0,
       inside c.args.table.now.table_id m p seat.1 le,
@@ -22,7 +22,7 @@ store-requires g c =
           (λ i. (sym told.0 i, sym told.1 i))
           (subst (λ (z : List Own × List (ℕ × g.row.S.Denot)). Allows (Ruled content suits m) slots c.args.seat.now.id (view z.0, z.1) (place p) (λ _. 0) (λ _. on_part (committed fits m t) (step slots (place p) 0 0 none) (view z.0, z.1) 0))
           (λ i. (sym c.requires.view i, sym k.1 i))
-          (commit_allows content suits m fits slots c.args.seat.now.id p t (mine me.0) k.0 (rest me.1) event.0 event.1 seat.2 le k.2 event.2 event.3 k.3)),
+          (commit_allows content suits m fits slots c.args.seat.now.id p t (mine me.0) k.0 (rest me.1) event.0 event.1 seat.2 le k.2 event.2 event.3 event.4 k.3)),
     )
 
 pub returns-clause-told : goal.returns-clause-told

@@ -14,7 +14,7 @@ commit-requires-clause-view g c = let out = c.requires.out.2 in let carries = ou
 pub commit-requires-clause-event : goal.commit-requires-clause-event
 commit-requires-clause-event g c =
     let q = c.requires.out in let out = q.2 in
-    (c.args.event.now, refl, out.may, c.requires.room, can_commit g.S.Holding.content g.S.Holding.suits c.args.table.now.key c.args.thread c.args.part q.0 c.args.event.now q.1 c.args.seat.now.me out)
+    (c.args.event.now, refl, out.may, c.requires.room, c.requires.leaves, can_commit g.S.Holding.content g.S.Holding.suits c.args.table.now.key c.args.thread c.args.part q.0 c.args.event.now q.1 c.args.seat.now.me out)
 
 pub returns-clause-gave : goal.returns-clause-gave
 returns-clause-gave g c = λ left hand carries away.

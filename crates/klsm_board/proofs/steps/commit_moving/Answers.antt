@@ -18,7 +18,7 @@ commit-requires-clause-event g c =
     let q = c.requires.out in let e = g.T.Moving.event c.args.about.now q.0 in let out = q.3 in
     let all = contents g.S.Holding.content g.S.Holding.suits c.args.table.now.key c.args.thread me.1 in
     let named = out_of g.S.Holding.content g.S.Holding.suits c.args.table.now.key c.args.thread e ((p, q.1) ∷ q.2) all me out (as_carried g.S.Holding.content g.S.Holding.suits c.args.table.now.key c.args.thread ((p, q.1) ∷ q.2) me out.carries) in
-    (e, (q.0, refl, named), out.may, c.requires.room q.0, can_commit g.S.Holding.content g.S.Holding.suits c.args.table.now.key c.args.thread p q.1 e q.2 me out)
+    (e, (q.0, refl, named), out.may, c.requires.room q.0, c.requires.leaves q.0, can_commit g.S.Holding.content g.S.Holding.suits c.args.table.now.key c.args.thread p q.1 e q.2 me out)
 
 pub returns-clause-gave : goal.returns-clause-gave
 returns-clause-gave g c = λ left hand carries away.

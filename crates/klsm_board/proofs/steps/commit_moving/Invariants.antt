@@ -1,3 +1,4 @@
+use Rattle.klsm_world.proofs.lists.RestLemmas.{no_item}
 use Rattle.std.specs.Prelude.{◌≡◌, List}
 use Rattle.klsm_run.specs.declared.item.Item.{Item}
 use Rattle.klsm_board.specs.Seats.{contents, CarriedOut}
@@ -10,4 +11,5 @@ ghosts-commit g a = record {
   fits = λ e. (moved : List Item) × (e ≡ g.T.Moving.event a.about.now moved)
       × CarriedOut g.S.Holding.content g.S.Holding.suits a.table.now.key a.thread (g.T.Moving.event a.about.now moved)
       (contents g.S.Holding.content g.S.Holding.suits a.table.now.key a.thread a.seat.now.me.1) a.seat.now.me;
+  least = no_item;
 }

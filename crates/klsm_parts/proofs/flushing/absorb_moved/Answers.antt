@@ -5,7 +5,7 @@ use Rattle.klsm_lsm.specs.Lsm.{content}
 use Rattle.klsm_lsm.specs.Adding.{add}
 use Rattle.klsm_parts.specs.Flushing.{moved}
 use Rattle.klsm_parts.proofs.FlushLemmas.{moved_none, moved_some, some_block, one_apart, block_apart}
-use Rattle.klsm_parts.proofs.FitLemmas.{field_fits, run_fits}
+use Rattle.klsm_parts.proofs.FitLemmas.{first_fits, run_fits}
 use Rattle.klsm_parts.proofs.flushing.absorb_moved.Goals as goal
 
 pub absorb_copy-requires : goal.absorb_copy-requires
@@ -14,7 +14,7 @@ absorb_copy-requires g c = (search, (rw c.single.ensures (omega arith), rw c.sin
 pub block-requires : goal.block-requires
 block-requires g c =
     let some : length (content c.args.own.now.blocks) ≡ 0 → ⊥ = λ none. c.if-len-eq0.false (c.len.ensures.len ∙ none) in
-    (search field_fits, rw c.lsm.ensures (some_block c.args.own.now.blocks some))
+    (search first_fits, rw c.lsm.ensures (some_block c.args.own.now.blocks some))
 
 pub absorb_copy-requires-else-len-eq0 : goal.absorb_copy-requires-else-len-eq0
 absorb_copy-requires-else-len-eq0 g c =
@@ -55,7 +55,7 @@ pub absorb_copy-requires-room-R-Run : goal.absorb_copy-requires-room-R-Run
 absorb_copy-requires-room-R-Run g c κs = search run_fits
 
 pub lsm-requires : goal.lsm-requires
-lsm-requires g c = (search, (search field_fits, search run_fits))
+lsm-requires g c = (search, (search first_fits, search run_fits))
 
 pub block-requires-room-R-Run : goal.block-requires-room-R-Run
 block-requires-room-R-Run g c κs = search run_fits

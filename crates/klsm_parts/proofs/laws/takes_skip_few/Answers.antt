@@ -2,4 +2,4 @@ use Rattle.klsm_parts.proofs.EventLemmas.{take_skips_few}
 use Rattle.klsm_parts.proofs.laws.takes_skip_few.Goals as goal
 
 pub returns : goal.returns
-returns c k own shared x taken = take_skips_few k own shared x taken
+returns c k owner own shared x taken = take_skips_few k own shared x taken.in_reach

@@ -6,7 +6,7 @@ use Rattle.klsm_lsm.specs.Lsm.{content}
 use Rattle.klsm_lsm.specs.Adding.{add}
 use Rattle.klsm_parts.specs.Parts.{PartState}
 use Rattle.klsm_parts.proofs.OwnLemmas.{has_room, own_added, put_is}
-use Rattle.klsm_parts.proofs.FitLemmas.{field_fits, run_fits}
+use Rattle.klsm_parts.proofs.FitLemmas.{first_fits, run_fits}
 use Rattle.klsm_parts.proofs.local.put.Goals as goal
 
 pub unreachable-requires : goal.unreachable-requires
@@ -19,7 +19,7 @@ unreachable-requires g c =
 pub invariant_of-own : goal.invariant_of-own
 invariant_of-own g c =
     let room = subst (λ (p : PartState). length (content p.blocks) < p.k) (sym c.own.view_is) c.requires.room in
-    rw c.in-Ok.ensures.added (own_added g.row.CAP c.own.inside.k c.own.inside.lsm c.own.inside.lsm c.args.item c.own.invariant room)
+    rw c.in-Ok.ensures.added (own_added g.row.CAP c.own.inside.k c.own.inside.lsm c.own.inside.lsm c.args.item c.own.inside.found c.own.invariant room)
 
 pub returns-clause-event : goal.returns-clause-event
 returns-clause-event g c = (
@@ -30,7 +30,7 @@ returns-clause-event g c = (
 pub insert-requires : goal.insert-requires
 insert-requires g c =
     let absent = subst (λ (p : PartState). Contains (content p.blocks) c.args.item → ⊥) (sym c.own.view_is) c.requires.new in
-    (search field_fits, (search run_fits, (c.requires.capacity, absent)))
+    (search first_fits, (search run_fits, (c.requires.capacity, absent)))
 
 pub returns-clause-blocks : goal.returns-clause-blocks
 returns-clause-blocks g c =

@@ -9,16 +9,16 @@ use Rattle.klsm_parts.proofs.merging.merged.Goals as goal
 
 pub loop-init : goal.loop-init
 loop-init g c = record {
-  merging = rw (c.new.ensures, c.none_of.ensures) (merging_none c.args.lsm.now (g.R.Run.items c.args.run.now) c.cascade.result.first c.cascade.result.count);
+  merging = rw (c.new.ensures.blocks, c.new.ensures.owners, c.none_of.ensures) (merging_none c.args.lsm.now (g.R.Run.items c.args.run.now) c.cascade.result.first c.cascade.result.count);
   same = refl;
-  len = rw c.new.ensures refl;
+  len = rw c.new.ensures.blocks refl;
 }
 
 pub loop-preserved : goal.loop-preserved
 loop-preserved g c =
     let after = c.rank_next.new.self in
     record {
-      merging = subst (λ (cascade : Cascade). IsMerging c.args.lsm.now (g.R.Run.items c.args.run.now) cascade.first cascade.count after.ranking.blocks.items after.pivots.items after.of_run) (sym c.rank_next.ensures.same) c.rank_next.ensures.merging;
+      merging = subst (λ (cascade : Cascade). IsMerging c.args.lsm.now (g.R.Run.items c.args.run.now) cascade.first cascade.count after.ranking.blocks.items after.ranking.owners.items after.pivots.items after.of_run) (sym c.rank_next.ensures.same) c.rank_next.ensures.merging;
       same = c.rank_next.ensures.same ∙ c.loop.invariant.same;
       len = omega (arith, c.rank_next.ensures.len, c.loop.invariant.len);
     }

@@ -1,5 +1,7 @@
-use Rattle.std.proofs.Common.{◌≡◌, true, false, refl, sym, subst, ◌∙◌, rules}
+use Rattle.std.proofs.Common.{◌≡◌, ◌<◌, true, false, length, refl, sym, ap, subst, ◌∙◌, arith, rules}
+use Rattle.std.specs.List.{slice_get}
 use Rattle.klsm_lsm.specs.Lsm.{content}
+use Rattle.klsm_parts.specs.Parts.{candidates_of}
 use Rattle.klsm_parts.specs.Taking.{picks}
 use Rattle.klsm_parts.proofs.TakeLemmas.{not_asked, is_asked, own_goes, candidate_goes, some_candidate}
 use Rattle.klsm_parts.proofs.taking.choose.Goals as goal
@@ -28,7 +30,7 @@ returns-then-is_smaller_own-2-clause-asked g c asked = record {
   index = c.pick-index.result;
   picked = rw (← c.candidates.ensures) c.pick-index.ensures.picked;
   candidate = c.place_of_candidate-candidate.result.item;
-  found = c.place_of_candidate-candidate.ensures.candidate;
+  found = ap (slice_get (candidates_of c.args.shared.now)) (sym c.own_first-rank.ensures.first) ∙ c.place_of_candidate-candidate.ensures.candidate;
   follows = own_goes _ c.place_of_candidate-candidate.result.item c.is_smaller_own-2.result c.is_smaller_own-2.ensures c.if-is_smaller_own-2.true;
 }
 
@@ -44,7 +46,7 @@ returns-clause-asked g c asked = record {
   index = c.pick-index.result;
   picked = rw (← c.candidates.ensures) c.pick-index.ensures.picked;
   candidate = c.place_of_candidate-candidate.result.item;
-  found = c.place_of_candidate-candidate.ensures.candidate;
+  found = ap (slice_get (candidates_of c.args.shared.now)) (sym c.own_first-rank.ensures.first) ∙ c.place_of_candidate-candidate.ensures.candidate;
   follows = candidate_goes _ c.place_of_candidate-candidate.result.item c.is_smaller_own-2.result c.is_smaller_own-2.ensures c.if-is_smaller_own-2.false;
 }
 
@@ -71,7 +73,12 @@ pub is_smaller_own-requires-2 : goal.is_smaller_own-requires-2
 is_smaller_own-requires-2 g c = search
 
 pub place_of_candidate-candidate-requires : goal.place_of_candidate-candidate-requires
-place_of_candidate-candidate-requires g c = (search, rw (← c.candidates.ensures) c.pick-index.ensures.below)
+place_of_candidate-candidate-requires g c =
+    let below : c.pick-index.result < length (candidates_of c.args.shared.now) = rw (← c.candidates.ensures) c.pick-index.ensures.below in
+    (search, omega (arith, c.own_first-rank.ensures.at_most, below))
+
+pub own_first-rank-requires : goal.own_first-rank-requires
+own_first-rank-requires g c = (search, rw (← c.candidates.ensures) c.pick-index.ensures.below)
 
 pub returns-in_err-least-clause-unasked : goal.returns-in_err-least-clause-unasked
 returns-in_err-least-clause-unasked g c unasked = (refl, c.from_residual.ensures)

@@ -1,26 +1,25 @@
-use Rattle.std.proofs.Common.{◌≡◌, ◌<◌, [], true, None, length, get_or, refl, sym, ap, subst, ◌∙◌, inl, inr}
+use Rattle.std.proofs.Common.{◌≡◌, [], true, None, get_or, refl, sym, ap, ◌∙◌, inl, inr}
 use Rattle.std.specs.List.{Contains, slice_get}
 use Rattle.std.specs.Option.{option_map}
 use Rattle.std.proofs.lemmas.Option.{slice_get_within}
 use Rattle.klsm_parts.specs.declared.ranks.Place.{Place}
-use Rattle.klsm_run.specs.Content.{sorted}
 use Rattle.klsm_lsm.specs.Lsm.{content}
 use Rattle.klsm_parts.specs.Parts.{PartState, items_in, least_in, candidates_of}
 use Rattle.klsm_parts.specs.Taking.{picks, IsCutFrom}
-use Rattle.klsm_parts.proofs.EventLemmas.{cut_is_taken, not_taken, shared_taken, shared_stays, contains_cut, may_take_sorted, may_find_nothing, take_skips_few}
+use Rattle.klsm_parts.proofs.EventLemmas.{cut_is_taken, not_taken, shared_taken, shared_stays, contains_cut, may_find_nothing, take_skips_few}
+use Rattle.klsm_parts.proofs.OwnOrderLemmas.{may_take_sorted}
 use Rattle.klsm_parts.proofs.TakeLemmas.{asked_of, chosen_may_go, own_may_go, lesser_is_candidate, lesser_is_own, none_is_smaller, none_shared, some_cut}
-use Rattle.klsm_parts.proofs.FitLemmas.{field_fits, run_fits}
 use Rattle.klsm_parts.proofs.taking.take.Goals as goal
 
 pub returns-in-Some-clause-unasked : goal.returns-in-Some-clause-unasked
 returns-in-Some-clause-unasked g c unasked =
-    let own_is = c.item_of.ensures ∙ c.least_place-least_own.ensures.item ∙ ap (λ bs. slice_get (sorted (content bs)) 0) c.lsm.ensures in
+    let own_is = c.item_of.ensures ∙ c.least_place-least_own.ensures.item in
     let bad = (c.in-Some.ensures.unasked (ap (λ o. picks o (least_in c.args.shared.now)) own_is ∙ unasked)).1 in cc
 
 pub returns-in-Some-clause-asked : goal.returns-in-Some-clause-asked
 returns-in-Some-clause-asked g c asked =
-    let own_is = c.item_of.ensures ∙ c.least_place-least_own.ensures.item ∙ ap (λ bs. slice_get (sorted (content bs)) 0) c.lsm.ensures in
-    let own_asked = asked_of g.P.Picker.may_pick c.args.picker.now c.choose.new.picker (candidates_of c.args.shared.now) (least_in c.args.shared.now) _ _ (least_in c.args.own.now) own_is c.in-Some.ensures.asked in
+    let own_is = c.item_of.ensures ∙ c.least_place-least_own.ensures.item in
+    let own_asked = asked_of g.P.Picker.may_pick c.args.picker.now c.choose.new.picker c.args.owner (candidates_of c.args.shared.now) (least_in c.args.shared.now) _ _ (least_in c.args.own.now) own_is c.in-Some.ensures.asked in
     let chosen = own_asked asked in
     record { index = chosen.index; picked = chosen.picked; candidate = chosen.candidate; found = chosen.found; follows = lesser_is_candidate chosen.candidate c.in-Some.place.item _ chosen.follows }
 
@@ -37,53 +36,53 @@ returns-in-Some-clause-nothing g c =
 
 pub returns-in-Some-clause-event : goal.returns-in-Some-clause-event
 returns-in-Some-clause-event g c =
-    let own_is = c.item_of.ensures ∙ c.least_place-least_own.ensures.item ∙ ap (λ bs. slice_get (sorted (content bs)) 0) c.lsm.ensures in
-    let own_asked = asked_of g.P.Picker.may_pick c.args.picker.now c.choose.new.picker (candidates_of c.args.shared.now) (least_in c.args.shared.now) _ _ (least_in c.args.own.now) own_is c.in-Some.ensures.asked in
+    let own_is = c.item_of.ensures ∙ c.least_place-least_own.ensures.item in
+    let own_asked = asked_of g.P.Picker.may_pick c.args.picker.now c.choose.new.picker c.args.owner (candidates_of c.args.shared.now) (least_in c.args.shared.now) _ _ (least_in c.args.own.now) own_is c.in-Some.ensures.asked in
     let rest = c.remove.ensures in
     let gone : IsCutFrom c.in-Some.place.item c.args.shared.now.blocks c.remove.new.self.blocks = (c.in-Some.place.block, c.in-Some.place.index, c.in-Some.ensures.place.1, ap (λ (p : PartState). p.blocks) rest) in
-    let taken = chosen_may_go g.P.Picker.may_pick c.args.picker.now c.choose.new.picker c.args.shared.now.k (content c.args.own.now.blocks) (content c.args.shared.now.blocks) c.in-Some.place.item (λ unasked. let bad = (c.in-Some.ensures.unasked (ap (λ o. picks o (least_in c.args.shared.now)) own_is ∙ unasked)).1 in cc) own_asked in
+    let taken = chosen_may_go g.P.Picker.may_pick c.args.picker.now c.choose.new.picker c.args.shared.now.k c.args.owner (content c.args.own.now.blocks) (content c.args.shared.now.blocks) c.in-Some.place.item (λ unasked. let bad = (c.in-Some.ensures.unasked (ap (λ o. picks o (least_in c.args.shared.now)) own_is ∙ unasked)).1 in cc) own_asked in
     let absent : Contains (content c.args.own.now.blocks) c.in-Some.place.item → ⊥ = λ in_own. c.requires.apart c.in-Some.place.item in_own (contains_cut c.args.shared.now.blocks c.remove.new.self.blocks c.in-Some.place.item gone) in
-    (may_take_sorted c.args.own.now.k (content c.args.own.now.blocks) (content c.args.shared.now.blocks) c.in-Some.place.item (rw c.requires.same_k taken), not_taken c.args.own.now.blocks c.in-Some.place.item absent, shared_taken c.args.own.now.blocks c.args.shared.now.blocks c.remove.new.self.blocks c.in-Some.place.item absent gone)
+    (may_take_sorted c.args.own.now.k c.args.owner (content c.args.own.now.blocks) (content c.args.shared.now.blocks) c.in-Some.place.item (rw c.requires.same_k taken), not_taken c.args.own.now.blocks c.in-Some.place.item absent, shared_taken c.args.own.now.blocks c.args.shared.now.blocks c.remove.new.self.blocks c.in-Some.place.item absent gone)
 
 pub returns-in-Some-clause-skips : goal.returns-in-Some-clause-skips
 returns-in-Some-clause-skips g c =
-    let own_is = c.item_of.ensures ∙ c.least_place-least_own.ensures.item ∙ ap (λ bs. slice_get (sorted (content bs)) 0) c.lsm.ensures in
-    let own_asked = asked_of g.P.Picker.may_pick c.args.picker.now c.choose.new.picker (candidates_of c.args.shared.now) (least_in c.args.shared.now) _ _ (least_in c.args.own.now) own_is c.in-Some.ensures.asked in
-    let taken = chosen_may_go g.P.Picker.may_pick c.args.picker.now c.choose.new.picker c.args.shared.now.k (content c.args.own.now.blocks) (content c.args.shared.now.blocks) c.in-Some.place.item (λ unasked. let bad = (c.in-Some.ensures.unasked (ap (λ o. picks o (least_in c.args.shared.now)) own_is ∙ unasked)).1 in cc) own_asked in
-    take_skips_few c.args.own.now.k (items_in c.args.own.now) (items_in c.args.shared.now) c.in-Some.place.item (may_take_sorted c.args.own.now.k (content c.args.own.now.blocks) (content c.args.shared.now.blocks) c.in-Some.place.item (rw c.requires.same_k taken))
+    let own_is = c.item_of.ensures ∙ c.least_place-least_own.ensures.item in
+    let own_asked = asked_of g.P.Picker.may_pick c.args.picker.now c.choose.new.picker c.args.owner (candidates_of c.args.shared.now) (least_in c.args.shared.now) _ _ (least_in c.args.own.now) own_is c.in-Some.ensures.asked in
+    let taken = chosen_may_go g.P.Picker.may_pick c.args.picker.now c.choose.new.picker c.args.shared.now.k c.args.owner (content c.args.own.now.blocks) (content c.args.shared.now.blocks) c.in-Some.place.item (λ unasked. let bad = (c.in-Some.ensures.unasked (ap (λ o. picks o (least_in c.args.shared.now)) own_is ∙ unasked)).1 in cc) own_asked in
+    take_skips_few c.args.own.now.k (items_in c.args.own.now) (items_in c.args.shared.now) c.in-Some.place.item (may_take_sorted c.args.own.now.k c.args.owner (content c.args.own.now.blocks) (content c.args.shared.now.blocks) c.in-Some.place.item (rw c.requires.same_k taken)).in_reach
 
 pub returns-in_err-least-in-None-clause-unasked : goal.returns-in_err-least-in-None-clause-unasked
 returns-in_err-least-in-None-clause-unasked g c unasked =
-    let own_is = c.item_of.ensures ∙ c.least_place-least_own.ensures.item ∙ ap (λ bs. slice_get (sorted (content bs)) 0) c.lsm.ensures in
+    let own_is = c.item_of.ensures ∙ c.least_place-least_own.ensures.item in
     let none_own : slice_get (items_in c.args.own.now) 0 ≡ None = sym own_is ∙ (c.item_of.ensures ∙ ap (option_map (λ (place : Place). place.item)) c.in_err-least-in-None.was) in
     ((c.in-None.ensures.unasked (ap (λ o. picks o (least_in c.args.shared.now)) own_is ∙ unasked)).0, c.from_residual.ensures ∙ sym none_own)
 
 pub returns-in_err-least-in-None-clause-asked : goal.returns-in_err-least-in-None-clause-asked
 returns-in_err-least-in-None-clause-asked g c asked =
-    let own_is = c.item_of.ensures ∙ c.least_place-least_own.ensures.item ∙ ap (λ bs. slice_get (sorted (content bs)) 0) c.lsm.ensures in
+    let own_is = c.item_of.ensures ∙ c.least_place-least_own.ensures.item in
     let none_own : slice_get (items_in c.args.own.now) 0 ≡ None = sym own_is ∙ (c.item_of.ensures ∙ ap (option_map (λ (place : Place). place.item)) c.in_err-least-in-None.was) in
-    let own_asked = asked_of g.P.Picker.may_pick c.args.picker.now c.choose.new.picker (candidates_of c.args.shared.now) (least_in c.args.shared.now) _ _ (least_in c.args.own.now) own_is c.in-None.ensures.asked in
+    let own_asked = asked_of g.P.Picker.may_pick c.args.picker.now c.choose.new.picker c.args.owner (candidates_of c.args.shared.now) (least_in c.args.shared.now) _ _ (least_in c.args.own.now) own_is c.in-None.ensures.asked in
     let chosen = own_asked asked in
     absurd (none_is_smaller chosen.candidate _ none_own chosen.follows)
 
 pub returns-in_err-least-in-None-clause-nothing : goal.returns-in_err-least-in-None-clause-nothing
 returns-in_err-least-in-None-clause-nothing g c =
-    let own_is = c.item_of.ensures ∙ c.least_place-least_own.ensures.item ∙ ap (λ bs. slice_get (sorted (content bs)) 0) c.lsm.ensures in
+    let own_is = c.item_of.ensures ∙ c.least_place-least_own.ensures.item in
     let none_own : slice_get (items_in c.args.own.now) 0 ≡ None = sym own_is ∙ (c.item_of.ensures ∙ ap (option_map (λ (place : Place). place.item)) c.in_err-least-in-None.was) in
-    let own_asked = asked_of g.P.Picker.may_pick c.args.picker.now c.choose.new.picker (candidates_of c.args.shared.now) (least_in c.args.shared.now) _ _ (least_in c.args.own.now) own_is c.in-None.ensures.asked in
+    let own_asked = asked_of g.P.Picker.may_pick c.args.picker.now c.choose.new.picker c.args.owner (candidates_of c.args.shared.now) (least_in c.args.shared.now) _ _ (least_in c.args.own.now) own_is c.in-None.ensures.asked in
     let unasked : picks (slice_get (items_in c.args.own.now) 0) (slice_get (items_in c.args.shared.now) 0) ≡ true → ⊥ =
     λ asked. let chosen = own_asked asked in none_is_smaller chosen.candidate _ none_own chosen.follows in
     (λ same. may_find_nothing (content c.args.own.now.blocks) (content c.args.shared.now.blocks) none_own (none_shared _ _ none_own unasked), λ none. c.from_residual.ensures)
 
 pub returns-in_ok-least-in-None-clause-unasked : goal.returns-in_ok-least-in-None-clause-unasked
 returns-in_ok-least-in-None-clause-unasked g c unasked =
-    let own_is = c.item_of.ensures ∙ c.least_place-least_own.ensures.item ∙ ap (λ bs. slice_get (sorted (content bs)) 0) c.lsm.ensures in
+    let own_is = c.item_of.ensures ∙ c.least_place-least_own.ensures.item in
     ((c.in-None.ensures.unasked (ap (λ o. picks o (least_in c.args.shared.now)) own_is ∙ unasked)).0, sym c.remove-in-None.ensures.least)
 
 pub returns-in_ok-least-in-None-clause-asked : goal.returns-in_ok-least-in-None-clause-asked
 returns-in_ok-least-in-None-clause-asked g c asked =
-    let own_is = c.item_of.ensures ∙ c.least_place-least_own.ensures.item ∙ ap (λ bs. slice_get (sorted (content bs)) 0) c.lsm.ensures in
-    let own_asked = asked_of g.P.Picker.may_pick c.args.picker.now c.choose.new.picker (candidates_of c.args.shared.now) (least_in c.args.shared.now) _ _ (least_in c.args.own.now) own_is c.in-None.ensures.asked in
+    let own_is = c.item_of.ensures ∙ c.least_place-least_own.ensures.item in
+    let own_asked = asked_of g.P.Picker.may_pick c.args.picker.now c.choose.new.picker c.args.owner (candidates_of c.args.shared.now) (least_in c.args.shared.now) _ _ (least_in c.args.own.now) own_is c.in-None.ensures.asked in
     let chosen = own_asked asked in
     record { index = chosen.index; picked = chosen.picked; candidate = chosen.candidate; found = chosen.found; follows = lesser_is_own chosen.candidate c.remove-in-None.result _ c.remove-in-None.ensures.least chosen.follows }
 
@@ -93,18 +92,18 @@ returns-in_ok-least-in-None-clause-nothing g c =
 
 pub returns-in_ok-least-in-None-clause-event : goal.returns-in_ok-least-in-None-clause-event
 returns-in_ok-least-in-None-clause-event g c =
-    let own_is = c.item_of.ensures ∙ c.least_place-least_own.ensures.item ∙ ap (λ bs. slice_get (sorted (content bs)) 0) c.lsm.ensures in
-    let own_asked = asked_of g.P.Picker.may_pick c.args.picker.now c.choose.new.picker (candidates_of c.args.shared.now) (least_in c.args.shared.now) _ _ (least_in c.args.own.now) own_is c.in-None.ensures.asked in
-    let taken = own_may_go g.P.Picker.may_pick c.args.picker.now c.choose.new.picker c.args.shared.now.k (content c.args.own.now.blocks) (content c.args.shared.now.blocks) c.remove-in-None.result c.remove-in-None.ensures.least own_asked in
+    let own_is = c.item_of.ensures ∙ c.least_place-least_own.ensures.item in
+    let own_asked = asked_of g.P.Picker.may_pick c.args.picker.now c.choose.new.picker c.args.owner (candidates_of c.args.shared.now) (least_in c.args.shared.now) _ _ (least_in c.args.own.now) own_is c.in-None.ensures.asked in
+    let taken = own_may_go g.P.Picker.may_pick c.args.picker.now c.choose.new.picker c.args.shared.now.k c.args.owner (content c.args.own.now.blocks) (content c.args.shared.now.blocks) c.remove-in-None.result c.remove-in-None.ensures.least own_asked in
     let within = contains_cut c.args.own.now.blocks c.remove-in-None.new.self.blocks c.remove-in-None.result c.remove-in-None.ensures.cut in
-    (may_take_sorted c.args.own.now.k (content c.args.own.now.blocks) (content c.args.shared.now.blocks) c.remove-in-None.result (rw c.requires.same_k taken), cut_is_taken c.args.own.now.blocks c.remove-in-None.new.self.blocks c.remove-in-None.result c.remove-in-None.ensures.cut, shared_stays c.args.own.now.blocks c.args.shared.now.blocks c.remove-in-None.result within)
+    (may_take_sorted c.args.own.now.k c.args.owner (content c.args.own.now.blocks) (content c.args.shared.now.blocks) c.remove-in-None.result (rw c.requires.same_k taken), cut_is_taken c.args.own.now.blocks c.remove-in-None.new.self.blocks c.remove-in-None.result c.remove-in-None.ensures.cut, shared_stays c.args.own.now.blocks c.args.shared.now.blocks c.remove-in-None.result within)
 
 pub returns-in_ok-least-in-None-clause-skips : goal.returns-in_ok-least-in-None-clause-skips
 returns-in_ok-least-in-None-clause-skips g c =
-    let own_is = c.item_of.ensures ∙ c.least_place-least_own.ensures.item ∙ ap (λ bs. slice_get (sorted (content bs)) 0) c.lsm.ensures in
-    let own_asked = asked_of g.P.Picker.may_pick c.args.picker.now c.choose.new.picker (candidates_of c.args.shared.now) (least_in c.args.shared.now) _ _ (least_in c.args.own.now) own_is c.in-None.ensures.asked in
-    let taken = own_may_go g.P.Picker.may_pick c.args.picker.now c.choose.new.picker c.args.shared.now.k (content c.args.own.now.blocks) (content c.args.shared.now.blocks) c.remove-in-None.result c.remove-in-None.ensures.least own_asked in
-    take_skips_few c.args.own.now.k (items_in c.args.own.now) (items_in c.args.shared.now) c.remove-in-None.result (may_take_sorted c.args.own.now.k (content c.args.own.now.blocks) (content c.args.shared.now.blocks) c.remove-in-None.result (rw c.requires.same_k taken))
+    let own_is = c.item_of.ensures ∙ c.least_place-least_own.ensures.item in
+    let own_asked = asked_of g.P.Picker.may_pick c.args.picker.now c.choose.new.picker c.args.owner (candidates_of c.args.shared.now) (least_in c.args.shared.now) _ _ (least_in c.args.own.now) own_is c.in-None.ensures.asked in
+    let taken = own_may_go g.P.Picker.may_pick c.args.picker.now c.choose.new.picker c.args.shared.now.k c.args.owner (content c.args.own.now.blocks) (content c.args.shared.now.blocks) c.remove-in-None.result c.remove-in-None.ensures.least own_asked in
+    take_skips_few c.args.own.now.k (items_in c.args.own.now) (items_in c.args.shared.now) c.remove-in-None.result (may_take_sorted c.args.own.now.k c.args.owner (content c.args.own.now.blocks) (content c.args.shared.now.blocks) c.remove-in-None.result (rw c.requires.same_k taken)).in_reach
 
 pub returns-in_ok-least-in-None-clause-left : goal.returns-in_ok-least-in-None-clause-left
 returns-in_ok-least-in-None-clause-left g c = (c.remove-in-None.ensures.k, refl, inl (c.remove-in-None.ensures.cut, refl))
@@ -113,7 +112,7 @@ pub choose-requires : goal.choose-requires
 choose-requires g c = search
 
 pub least_place-least_own-requires : goal.least_place-least_own-requires
-least_place-least_own-requires g c = search field_fits
+least_place-least_own-requires g c = search
 
 pub remove-requires : goal.remove-requires
 remove-requires g c =
@@ -126,7 +125,7 @@ remove-requires-in-None g c =
     let place = c.in_ok-least-in-None.least in
     let found = c.in_ok-least-in-None.ensures in
     let within = slice_get_within _ place.index place.item found.place.1 in
-    (search, subst (λ bs. (place.block < length bs) × ((place.index < length (get_or bs place.block [])) × (slice_get (get_or bs place.block []) place.index ≡ slice_get (sorted (content bs)) 0))) c.lsm.ensures (found.place.0, (within, found.place.1 ∙ found.item)))
+    (search, (found.place.0, (within, found.place.1 ∙ found.item)))
 
 pub returns-in_err-least-in-None-clause-left : goal.returns-in_err-least-in-None-clause-left
 returns-in_err-least-in-None-clause-left g c = rw c.from_residual.ensures (refl, refl)
@@ -136,9 +135,3 @@ returns-in_err-least-in-None-clause-event g c = rw c.from_residual.ensures tt
 
 pub returns-in_err-least-in-None-clause-skips : goal.returns-in_err-least-in-None-clause-skips
 returns-in_err-least-in-None-clause-skips g c = rw c.from_residual.ensures tt
-
-pub lsm-requires : goal.lsm-requires
-lsm-requires g c = (search, (search field_fits, search run_fits))
-
-pub least_place-least_own-requires-room-R-Run : goal.least_place-least_own-requires-room-R-Run
-least_place-least_own-requires-room-R-Run g c κs = search run_fits

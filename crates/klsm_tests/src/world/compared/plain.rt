@@ -22,6 +22,8 @@ pub(super) struct Plain {
     holders: Vec<Option<u32>>,
     pub inserted: Vec<Item>,
     pub deleted: Vec<Item>,
+    // How many of them by the front.
+    pub early: usize,
     pub most: usize,
 }
 
@@ -36,6 +38,7 @@ impl Plain {
             holders: Vec::from_elem(alloc, None, parts).ok()?,
             inserted: Vec::new(alloc),
             deleted: Vec::new(alloc),
+            early: 0,
             most: 0,
         })
     }
@@ -197,7 +200,12 @@ impl Plain {
                 item.stamp == self.next_stamp(thread)
                     && self.may_flush(part, *item, moved.as_slice())
             }
-            Event::Take(item) => self.may_take(part, *item),
+            Event::Take(item) => {
+                self.may_take(part, *item) && self.keeps_order(thread, part, *item)
+            }
+            Event::Early { item, front } => {
+                self.nth(part, 0) == Some(*item) && item.key < *front && *front == self.front()
+            }
             Event::Nothing => self.count(part) == 0 && self.count(0) == 0,
             Event::Spy { victim, moved } => {
                 self.count(part) == 0
@@ -230,6 +238,27 @@ impl Plain {
         self.count(0) == 0 && least == Some(item)
     }
 
+    // No item of the part and the shared one that the thread inserted is smaller.
+    fn keeps_order(&self, thread: u32, part: u32, item: Item) -> bool {
+        for placed in &self.placed {
+            if (placed.part == part || placed.part == 0)
+                && placed.item.stamp.owner == thread
+                && placed.item < item
+            {
+                return false;
+            }
+        }
+        true
+    }
+
+    /// The key of the least item of the shared part, and the greatest number where it is empty.
+    pub(super) fn front(&self) -> u64 {
+        match self.nth(0, 0) {
+            Some(item) => item.key,
+            None => u64::MAX,
+        }
+    }
+
     /// Takes a step that is not refused.
     pub(super) fn take_step(&mut self, step: &Step) -> Option<()> {
         match step {
@@ -255,6 +284,10 @@ impl Plain {
                 self.move_all(0, moved.as_slice());
             }
             Event::Take(item) => self.delete(*item)?,
+            Event::Early { item, front: _ } => {
+                self.early = self.early.saturating_add(1);
+                self.delete(*item)?;
+            }
             Event::Nothing => {}
             Event::Spy { victim: _, moved } => self.move_all(own(thread), moved.as_slice()),
         }
@@ -294,7 +327,7 @@ fn other_part(thread: u32, event: &Event) -> u32 {
     match event {
         Event::Spy { victim, moved: _ } if *victim == thread => u32::MAX,
         Event::Spy { victim, moved: _ } => own(*victim),
-        Event::Put(_) => own(thread),
+        Event::Put(_) | Event::Early { .. } => own(thread),
         _ => 0,
     }
 }

@@ -1,6 +1,6 @@
 //! Random steps, legal ones and others.
 
-use super::super::steps::{Moved, Row, commit, flush, spy, step_of};
+use super::super::steps::{Moved, Row, commit, early, flush, spy, step_of};
 use super::plain::Plain;
 use klsm_run::Item;
 use klsm_world::{Event, Items, Step};
@@ -63,11 +63,12 @@ fn proposed_event(alloc: Global, mix: &mut Pcg32, plain: &Plain, thread: u32) ->
         stamp: plain.next_stamp(thread),
         load: 0,
     };
-    match below(mix, 12) {
+    match below(mix, 14) {
         0..=2 => Some(commit(thread, Event::Put(item))),
         3..=5 => proposed_flush(alloc, mix, plain, thread, item),
         6 => Some(commit(thread, Event::Nothing)),
         7 => proposed_spy(alloc, mix, plain, thread),
+        8 | 9 => Some(proposed_early(mix, plain, thread, item)),
         _ => {
             let item = proposed_take(mix, plain, thread, item);
             Some(commit(thread, Event::Take(item)))
@@ -110,15 +111,39 @@ fn some_of(alloc: Global, mix: &mut Pcg32, plain: &Plain, part: u32) -> Option<V
     Some(some)
 }
 
-// The item of a take: the lesser of the least own item and a shared one, which is mostly a
-// candidate, or `item` where there is none.
+// The item of a take: the lesser of the least own item and a shared one, or `item` where there is
+// none.
 fn proposed_take(mix: &mut Pcg32, plain: &Plain, thread: u32, item: Item) -> Item {
-    let at = below(mix, plain.count(0).min(plain.k.saturating_add(2)));
-    let candidate = plain.nth(0, at).unwrap_or(item);
+    let candidate = proposed_candidate(mix, plain, thread).unwrap_or(item);
     match plain.nth(thread.saturating_add(1), 0) {
         Some(least) => candidate.min(least),
         None => candidate,
     }
+}
+
+// A shared item, which is mostly a candidate: any one or, more often than not, the one that goes by
+// the thread's own order where this is picked.
+fn proposed_candidate(mix: &mut Pcg32, plain: &Plain, thread: u32) -> Option<Item> {
+    let at = below(mix, plain.count(0).min(plain.k.saturating_add(2)));
+    let keeps_order = below(mix, 3) > 0;
+    for index in 0..at {
+        let smaller = plain.nth(0, index)?;
+        if keeps_order && smaller.stamp.owner == thread {
+            return Some(smaller);
+        }
+    }
+    plain.nth(0, at)
+}
+
+// A deletion of the least own item by the front, or of `item` where there is none, and sometimes by
+// another front.
+fn proposed_early(mix: &mut Pcg32, plain: &Plain, thread: u32, item: Item) -> Step {
+    let least = plain.nth(thread.saturating_add(1), 0);
+    let front = match below(mix, 8) {
+        0 => below(mix, 20) as u64,
+        _ => plain.front(),
+    };
+    early(thread, least.unwrap_or(item), front)
 }
 
 // A step with something wrong.

@@ -1,7 +1,13 @@
+use Rattle.std.proofs.Common.{◌∙◌, ap}
+use Rattle.klsm_parts.specs.Parts.{least_in}
+use Rattle.klsm_board.proofs.slots.KindLemmas.{own_content, shared_content}
+use Rattle.klsm_board.proofs.slots.TakeLemmas.{least_told}
 use Rattle.klsm_board.proofs.slot.BoardSlotPartSlot.least.Goals as goal
 
-pub least-requires : goal.least-requires
-least-requires g c = search
+pub returns-in-Own-clause-least : goal.returns-in-Own-clause-least
+returns-in-Own-clause-least g c =
+    least_told c.args.self.now c.in-Own.own c.least.result (own_content c.args.self.now c.in-Own.own c.in-Own.is) (c.least.ensures ∙ ap least_in c.get.ensures)
 
-pub least-requires-in-Common : goal.least-requires-in-Common
-least-requires-in-Common g c = search
+pub returns-in-Common-clause-least : goal.returns-in-Common-clause-least
+returns-in-Common-clause-least g c =
+    least_told c.args.self.now c.in-Common.shared c.least-in-Common.result (shared_content c.args.self.now c.in-Common.shared c.in-Common.is) (c.least-in-Common.ensures ∙ ap least_in c.get-in-Common.ensures)

@@ -26,7 +26,7 @@ returns-clause-done g c =
     let parts = c.requires.parts in
     let same_k : own.k ≡ common.k = own_k parts.0 _ c.args.self.now own own_is parts.2 ∙ sym (shared_k parts.0 _ c.args.shared.now common common_is parts.3) in
     let told = c.take.ensures in
-    taken g.P.Picker.may_pick c.args.picker.now c.take.new.picker c.args.self.now c.args.shared.now own common c.take.new.own c.take.new.shared own_is common_is same_k
+    taken g.P.Picker.may_pick c.args.picker.now c.take.new.picker c.args.owner c.args.self.now c.args.shared.now own common c.take.new.own c.take.new.shared own_is common_is same_k
     c.take.result told.unasked told.asked told.left told.event told.nothing
 
 pub returns-clause-kind : goal.returns-clause-kind

@@ -5,13 +5,13 @@ use Rattle.klsm_lsm.specs.Lsm.{content, IsLsm}
 use Rattle.klsm_parts.specs.Parts.{PartState}
 use Rattle.klsm_parts.proofs.OwnLemmas.{has_room, own_added, fewer_without_largest, absent_without_largest, some_if_block}
 use Rattle.klsm_parts.proofs.FlushLemmas.{kept_none}
-use Rattle.klsm_parts.proofs.FitLemmas.{field_fits, run_fits}
+use Rattle.klsm_parts.proofs.FitLemmas.{first_fits, run_fits}
 use Rattle.klsm_parts.proofs.local.Local.replace_largest.Goals as goal
 
 pub insert-requires : goal.insert-requires
 insert-requires g c =
     let absent = subst (λ (p : PartState). Contains (content p.blocks) c.args.item → ⊥) (sym c.self.view_is) c.requires.new in
-    (search field_fits, (search run_fits, (c.requires.capacity, rw c.discard_largest.ensures (absent_without_largest c.self.inside.lsm c.args.item absent))))
+    (search first_fits, (search run_fits, (c.requires.capacity, rw c.discard_largest.ensures (absent_without_largest c.self.inside.lsm c.args.item absent))))
 
 pub unreachable-requires : goal.unreachable-requires
 unreachable-requires g c =
@@ -29,13 +29,13 @@ invariant_of-self g c =
     let some = some_if_block c.self.inside.lsm lawful (omega (arith, c.blocks-2.ensures.blocks, c.if-blocks-eq0.false)) in
     let room : length (content (drop 1 c.self.inside.lsm)) < c.self.inside.k =
     omega (arith, fewer_without_largest c.self.inside.lsm lawful some, c.self.invariant.few) in
-    rw (c.in-Ok.ensures.added, c.discard_largest.ensures) (own_added g.row.CAP c.self.inside.k c.self.inside.lsm (drop 1 c.self.inside.lsm) c.args.item c.self.invariant room)
+    rw (c.in-Ok.ensures.added, c.discard_largest.ensures) (own_added g.row.CAP c.self.inside.k c.self.inside.lsm (drop 1 c.self.inside.lsm) c.args.item c.self.inside.found c.self.invariant room)
 
 pub returns : goal.returns
 returns g c = search rules
 
 pub blocks-requires : goal.blocks-requires
-blocks-requires g c = search field_fits
+blocks-requires g c = search first_fits
 
 pub same-self : goal.same-self
 same-self g c = refl
@@ -46,7 +46,7 @@ returns-then-blocks-eq0 g c =
     ap (λ (bs : List (List Item)). record { k = c.args.self.now.k; blocks = bs }) (kept_none c.args.self.now.blocks c.args.item none)
 
 pub discard_largest-requires : goal.discard_largest-requires
-discard_largest-requires g c = (search field_fits, omega (arith, c.blocks-2.ensures.blocks, c.if-blocks-eq0.false))
+discard_largest-requires g c = (search first_fits, omega (arith, c.blocks-2.ensures.blocks, c.if-blocks-eq0.false))
 
 pub unreachable-unreachable : goal.unreachable-unreachable
 unreachable-unreachable g c = absurd c.unreachable.result

@@ -5,7 +5,8 @@ use Rattle.klsm_lsm.specs.Lsm.{content}
 use Rattle.klsm_lsm.specs.Spying.{left_by_spy, spied}
 use Rattle.klsm_parts.specs.Parts.{PartState}
 use Rattle.klsm_parts.proofs.SpyLemmas.{few_moved, few_stay}
-use Rattle.klsm_parts.proofs.FitLemmas.{field_fits, run_fits}
+use Rattle.klsm_parts.proofs.OwnLemmas.{none_found}
+use Rattle.klsm_parts.proofs.FitLemmas.{first_fits, run_fits}
 use Rattle.klsm_parts.proofs.local.Local.spy_from.Goals as goal
 
 pub returns-clause-own : goal.returns-clause-own
@@ -25,12 +26,12 @@ pub len-few-requires : goal.len-few-requires
 len-few-requires g c = search
 
 pub spy-requires : goal.spy-requires
-spy-requires g c = (search field_fits, (search run_fits, (c.self.invariant.capacity_in_range, ap (λ (p : PartState). p.blocks) c.self.view_is ∙ c.requires.empty)))
+spy-requires g c = (search first_fits, (search run_fits, (c.self.invariant.capacity_in_range, ap (λ (p : PartState). p.blocks) c.self.view_is ∙ c.requires.empty)))
 
 pub invariant_of-self : goal.invariant_of-self
 invariant_of-self g c =
     let same : c.self.inside.k ≡ c.victim.inside.k = ap (λ (p : PartState). p.k) c.self.view_is ∙ (c.requires.same_k ∙ sym (ap (λ (p : PartState). p.k) c.victim.view_is)) in
-    record { few = omega (arith, same, ap (λ bs. length (content bs)) c.spy.ensures.taken, few_moved c.victim.inside.lsm, c.victim.invariant.few); k_in_range = c.self.invariant.k_in_range; capacity_in_range = c.self.invariant.capacity_in_range }
+    record { few = omega (arith, same, ap (λ bs. length (content bs)) c.spy.ensures.taken, few_moved c.victim.inside.lsm, c.victim.invariant.few); k_in_range = c.self.invariant.k_in_range; capacity_in_range = c.self.invariant.capacity_in_range; found_is = none_found c.spy.new.self }
 
 pub invariant_of-victim : goal.invariant_of-victim
-invariant_of-victim g c = record { few = omega (arith, ap (λ bs. length (content bs)) c.spy.ensures.rest, few_stay c.victim.inside.lsm, c.victim.invariant.few); k_in_range = c.victim.invariant.k_in_range; capacity_in_range = c.victim.invariant.capacity_in_range }
+invariant_of-victim g c = record { few = omega (arith, ap (λ bs. length (content bs)) c.spy.ensures.rest, few_stay c.victim.inside.lsm, c.victim.invariant.few); k_in_range = c.victim.invariant.k_in_range; capacity_in_range = c.victim.invariant.capacity_in_range; found_is = none_found c.spy.new.victim }

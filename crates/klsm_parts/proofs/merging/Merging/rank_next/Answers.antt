@@ -1,12 +1,14 @@
-use Rattle.std.proofs.Common.{◌≡◌, ◌-◌, ◌<◌, ◌≤◌, [], length, get_or, false, Some, MatchOption, IsTrue, subst, arith}
+use Rattle.std.proofs.Common.{◌≡◌, ◌-◌, ◌<◌, ◌≤◌, [], length, get_or, false, Some, MatchOption, IsTrue, ap, sym, ◌∙◌, subst, arith}
 use Rattle.std.specs.List.{slice_get}
+use Rattle.std.proofs.lemmas.Option.{same_Some}
+use Rattle.klsm_run.specs.declared.item.Item.{Item}
 use Rattle.klsm_run.specs.ItemOrder.{is_smaller}
 use Rattle.klsm_run.specs.Content.{sorted}
 use Rattle.klsm_lsm.specs.Lsm.{content}
 use Rattle.klsm_parts.specs.Pivots.{marked}
 use Rattle.klsm_parts.proofs.FoundLemmas.{one_each, pivot_within}
 use Rattle.klsm_parts.proofs.PivotLemmas.{length_marked}
-use Rattle.klsm_parts.proofs.MergingLemmas.{merging_of_run, merging_of_block, run_is_next, run_is_later, run_is_past, blocks_are_past, none_is_next, place_inside, marked_in_place}
+use Rattle.klsm_parts.proofs.MergingLemmas.{merging_of_run, merging_of_block, run_is_next, run_goes_on, run_is_later, run_is_past, blocks_are_past, none_is_next, place_inside, marked_in_place}
 use Rattle.klsm_parts.proofs.merging.Merging.rank_next.Goals as goal
 
 pub push-requires-clause-block : goal.push-requires-clause-block
@@ -21,7 +23,7 @@ unreachable-requires g c =
     let q = c.args.self.now.of_run in
     let tested = subst (λ t. MatchOption (slice_get run q) (t ≡ false) (λ y. MatchOption c.next_item-next.result (IsTrue t) (λ f. t ≡ is_smaller y f.1))) c.if-run_comes_first.false c.run_comes_first.ensures in
     let past : length (content bs) ≤ length order - q = blocks_are_past (length order) q (length (content bs)) (length c.args.ranking.now.blocks.items) c.requires.known (rw (← c.len.ensures) c.in_default.ensures) in
-    none_is_next bs run c.args.self.now.cascade.first c.args.self.now.cascade.count order c.args.self.now.pivots.items q c.requires.merging c.requires.more past (run_is_past run q c.next_item-next.result c.in_default.is tested)
+    none_is_next bs run c.args.self.now.cascade.first c.args.self.now.cascade.count order c.args.self.now.ranking.owners.items c.args.self.now.pivots.items q c.requires.merging c.requires.more past (run_is_past run q c.next_item-next.result c.in_default.is tested)
 
 pub place_after-requires : goal.place_after-requires
 place_after-requires g c =
@@ -71,7 +73,8 @@ returns-then-run_comes_first-clause-merging g c =
     let count = c.args.self.now.cascade.count in
     let tested = subst (λ t. MatchOption (slice_get run q) (t ≡ false) (λ y. MatchOption c.next_item-next.result (IsTrue t) (λ f. t ≡ is_smaller y f.1))) c.if-run_comes_first.true c.run_comes_first.ensures in
     let next = run_is_next bs run rank q c.next_item-next.result _ _ (λ past. blocks_are_past (length order) q (length (content bs)) (length old) c.requires.known (rw (← c.len.ensures) past)) (λ f is. rw (← c.len.ensures) is.2) c.next_item-next.ensures tested in
-    rw c.push.ensures (merging_of_run bs run first count order c.args.self.now.pivots.items q next.item c.requires.lawful c.requires.ascending c.requires.run_ascending c.requires.within c.requires.merging next.here next.smaller)
+    let read : next.item ≡ c.item_at.result = same_Some next.item c.item_at.result (sym next.here ∙ c.item_at.ensures) in
+    rw (c.push.ensures.blocks, c.push.ensures.owners, ap (λ (x : Item). x.stamp.owner) (sym read)) (merging_of_run bs run first count order c.args.self.now.ranking.owners.items c.args.self.now.pivots.items q next.item c.requires.lawful c.requires.ascending c.requires.run_ascending c.requires.within c.requires.merging next.here next.smaller)
 
 pub returns-in-Some-clause-merging : goal.returns-in-Some-clause-merging
 returns-in-Some-clause-merging g c =
@@ -81,7 +84,7 @@ returns-in-Some-clause-merging g c =
     let ps = c.args.self.now.pivots.items in
     let q = c.args.self.now.of_run in
     let b = c.in-Some.block in
-    let x = c.in-Some.field-0-1 in
+    let x = c.in-Some.item in
     let first = c.args.self.now.cascade.first in
     let count = c.args.self.now.cascade.count in
     let known = c.in-Some.ensures in
@@ -89,8 +92,15 @@ returns-in-Some-clause-merging g c =
     let later = run_is_later run q c.next_item-next.result (b, x) c.in-Some.is tested in
     let there : slice_get (sorted (content bs)) (length order - q) ≡ Some x = rw (← c.len.ensures) known.2 in
     let here : slice_get (get_or bs b []) (get_or ps b 0) ≡ Some x = rw (← c.as_slice.ensures.value) known.1 in
-    rw (c.push-else-run_comes_first.ensures, c.place_after.ensures, marked_in_place ps c.as_mut_slice.result.now b c.as_mut_slice.ensures.value)
-    (merging_of_block bs run first count order ps q b x c.requires.lawful c.requires.ascending c.requires.run_ascending c.requires.within c.requires.merging known.0 there here later)
+    rw (c.push-else-run_comes_first.ensures.blocks, c.push-else-run_comes_first.ensures.owners, c.place_after.ensures, marked_in_place ps c.as_mut_slice.result.now b c.as_mut_slice.ensures.value)
+    (merging_of_block bs run first count order c.args.self.now.ranking.owners.items ps q b x c.requires.lawful c.requires.ascending c.requires.run_ascending c.requires.within c.requires.merging known.0 there here later)
+
+pub item_at-requires : goal.item_at-requires
+item_at-requires g c =
+    let run = g.R.Run.items c.args.run.now in
+    let q = c.args.self.now.of_run in
+    let tested = subst (λ t. MatchOption (slice_get run q) (t ≡ false) (λ y. MatchOption c.next_item-next.result (IsTrue t) (λ f. t ≡ is_smaller y f.1))) c.if-run_comes_first.true c.run_comes_first.ensures in
+    run_goes_on run q c.next_item-next.result tested
 
 pub overflow_sub-rank : goal.overflow_sub-rank
 overflow_sub-rank g c = omega (arith, c.len.ensures, c.requires.merging.of_run_few)

@@ -1,10 +1,10 @@
-use Rattle.std.proofs.Common.{◌≡◌, ◌+◌, ◌≤◌, ◌↔◌, ◌∷◌, [], false, length, Some, None, IsTrue, IfSome, MatchOption, ap, subst, sym, ◌∙◌}
-use Rattle.klsm_run.specs.Content.{sorted, skipped}
-use Rattle.klsm_parts.specs.Parts.{least_in, candidates_of}
-use Rattle.klsm_parts.specs.Taking.{picks, lesser_of, IsPicked, Leaves}
+use Rattle.std.proofs.Common.{◌≡◌, ◌∷◌, [], Some, IfSome, MatchOption, ap, subst}
+use Rattle.std.specs.List.{slice_get}
+use Rattle.klsm_parts.specs.Parts.{candidates_of}
+use Rattle.klsm_parts.specs.Taking.{own_first, Leaves}
 use Rattle.klsm_parts.specs.Queues.{QueueState, items_of, least_of}
 use Rattle.klsm_parts.proofs.FitLemmas.{field_fits, own_fits}
-use Rattle.klsm_parts.proofs.QueueLemmas.{queue_of, queue_left, items_after, count_after, item_left, k_left, skips_both, none_if_nothing, nothing_if_none, least_both, unasked_is_least}
+use Rattle.klsm_parts.proofs.QueueLemmas.{queue_of, queue_left, items_after, item_left, k_left, least_goes}
 use Rattle.klsm_parts.proofs.queue.Queue.delete_min.Goals as goal
 
 pub take-requires : goal.take-requires
@@ -14,42 +14,25 @@ pub invariant_of-self : goal.invariant_of-self
 invariant_of-self g c =
     queue_left g.row.CAP g.row.LEVELS c.self.inside.inserted c.take.result c.self.inside.own c.take.new.own c.self.inside.shared c.take.new.shared c.take.ensures.left c.self.invariant
 
-pub returns-clause-nothing : goal.returns-clause-nothing
-returns-clause-nothing g c =
+pub returns-clause-least : goal.returns-clause-least
+returns-clause-least g c =
     let own = c.self.inside.own in
     let shared = c.self.inside.shared in
-    subst (λ (s : QueueState). (c.take.result ≡ None) ↔ (items_of s ≡ [])) c.self.view_is
-    (λ none. none_if_nothing own shared (c.take.ensures.nothing.0 none), λ none. c.take.ensures.nothing.1 (nothing_if_none own shared none))
+    subst (λ (s : QueueState). c.take.result ≡ least_of s) c.self.view_is
+    (least_goes own shared c.take.result (λ unasked. (c.take.ensures.unasked unasked).1) (λ asked.
+    let chosen = c.take.ensures.asked asked in
+    (chosen.candidate, subst (λ i. slice_get (candidates_of shared) (own_first 0 i (candidates_of shared)) ≡ Some chosen.candidate) chosen.picked chosen.found, chosen.follows)))
 
 pub returns-clause-items : goal.returns-clause-items
 returns-clause-items g c =
-    let after = queue_of c.take.new.own c.take.new.shared c.self.inside.inserted in
-    subst (λ (s : QueueState). MatchOption c.take.result (after ≡ s) (λ item. items_of s ≡ sorted (item ∷ items_of after))) c.self.view_is
-    (items_after c.take.result c.self.inside.inserted c.self.inside.own c.take.new.own c.self.inside.shared c.take.new.shared c.take.ensures.left)
-
-pub returns-clause-count : goal.returns-clause-count
-returns-clause-count g c =
-    let after = queue_of c.take.new.own c.take.new.shared c.self.inside.inserted in
-    subst (λ (s : QueueState). IfSome c.take.result (λ _. length (items_of s) ≡ length (items_of after) + 1)) c.self.view_is
-    (count_after c.take.result c.self.inside.own c.take.new.own c.self.inside.shared c.take.new.shared c.take.ensures.left)
-
-pub returns-clause-skips : goal.returns-clause-skips
-returns-clause-skips g c =
-    subst (λ (s : QueueState). IfSome c.take.result (λ item. skipped (items_of s) item ≤ s.own.k)) c.self.view_is
-    (skips_both c.take.result c.self.inside.own.k c.self.inside.own c.self.inside.shared c.take.ensures.skips)
-
-pub returns-clause-unasked : goal.returns-clause-unasked
-returns-clause-unasked g c =
     let own = c.self.inside.own in
     let shared = c.self.inside.shared in
-    subst (λ (s : QueueState). picks (least_in s.own) (least_in s.shared) ≡ false → (c.take.new.picker ≡ c.args.picker.now) × (c.take.result ≡ least_of s)) c.self.view_is
-    (λ unasked. let kept = c.take.ensures.unasked unasked in (kept.0, kept.1 ∙ (unasked_is_least (least_in own) (least_in shared) unasked ∙ sym (least_both own shared))))
-
-pub returns-clause-asked : goal.returns-clause-asked
-returns-clause-asked g c =
-    subst (λ (s : QueueState). IsTrue (picks (least_in s.own) (least_in s.shared))
-    → IsPicked g.P.Picker.may_pick c.args.picker.now c.take.new.picker (candidates_of s.shared) (λ candidate. c.take.result ≡ Some (lesser_of candidate (least_in s.own)))) c.self.view_is
-    c.take.ensures.asked
+    let after = queue_of c.take.new.own c.take.new.shared c.self.inside.inserted in
+    let least = least_goes own shared c.take.result (λ unasked. (c.take.ensures.unasked unasked).1) (λ asked.
+    let chosen = c.take.ensures.asked asked in
+    (chosen.candidate, subst (λ i. slice_get (candidates_of shared) (own_first 0 i (candidates_of shared)) ≡ Some chosen.candidate) chosen.picked chosen.found, chosen.follows)) in
+    subst (λ (s : QueueState). MatchOption c.take.result ((items_of s ≡ []) × (after ≡ s)) (λ item. items_of s ≡ item ∷ items_of after)) c.self.view_is
+    (items_after c.take.result c.self.inside.inserted own c.take.new.own shared c.take.new.shared least c.take.ensures.left)
 
 pub returns-clause-parts : goal.returns-clause-parts
 returns-clause-parts g c =

@@ -32,9 +32,10 @@ returns-in-Err-clause-full g c =
 pub invariant_of-self : goal.invariant_of-self
 invariant_of-self g c =
     let n = c.self.inside.inserted in
+    let owner = ap (λ (x : Item). x.stamp.owner) c.item_of-item.ensures in
     let number = ap (λ (x : Item). x.stamp.number) c.item_of-item.ensures in
     let next : c.in-Some.next ≡ n + 1 = c.in-Some.ensures.1 in
-    queue_joined g.row.CAP g.row.LEVELS n c.in-Some.next c.self.inside.own c.put_or_flush.new.own c.self.inside.shared c.put_or_flush.new.shared c.item_of-item.result number next c.in-Ok.ensures.lawful c.in-Ok.ensures.joins c.self.invariant
+    queue_joined g.row.CAP g.row.LEVELS n c.in-Some.next c.self.inside.own c.put_or_flush.new.own c.self.inside.shared c.put_or_flush.new.shared c.item_of-item.result owner number next c.in-Ok.ensures.lawful c.in-Ok.ensures.joins c.self.invariant
 
 pub returns-in-Ok-clause-item : goal.returns-in-Ok-clause-item
 returns-in-Ok-clause-item g c =

@@ -1,7 +1,7 @@
-use Rattle.std.proofs.Common.{◌≡◌, ◌+◌, ◌<◌, length, subst, arith}
+use Rattle.std.proofs.Common.{◌≡◌, ◌+◌, length, subst, arith}
 use Rattle.std.specs.List.{All}
 use Rattle.klsm_run.specs.Content.{IsAscending}
-use Rattle.klsm_parts.specs.Queues.{QueueState, items_of}
+use Rattle.klsm_parts.specs.Queues.{QueueState, IsNumbered, items_of}
 use Rattle.klsm_parts.proofs.FitLemmas.{field_fits, own_fits}
 use Rattle.klsm_parts.proofs.QueueLemmas.{length_both, ascending_both, all_of_both}
 use Rattle.klsm_parts.proofs.queue.Queue.len.Goals as goal
@@ -26,8 +26,8 @@ returns-clause-ascending g c =
 
 pub returns-clause-numbered : goal.returns-clause-numbered
 returns-clause-numbered g c =
-    subst (λ (s : QueueState). All (λ item. item.stamp.number < s.inserted) (items_of s)) c.self.view_is
-    (all_of_both (λ item. item.stamp.number < c.self.inside.inserted) c.self.inside.own c.self.inside.shared c.self.invariant.own_numbered c.self.invariant.shared_numbered)
+    subst (λ (s : QueueState). All (IsNumbered s.inserted) (items_of s)) c.self.view_is
+    (all_of_both (IsNumbered c.self.inside.inserted) c.self.inside.own c.self.inside.shared c.self.invariant.own_numbered c.self.invariant.shared_numbered)
 
 pub len-requires : goal.len-requires
 len-requires g c = search own_fits

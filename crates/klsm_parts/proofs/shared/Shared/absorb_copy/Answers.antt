@@ -7,7 +7,7 @@ use Rattle.klsm_lsm.specs.Adding.{add}
 use Rattle.klsm_lsm.proofs.AddLemmas.{length_add}
 use Rattle.klsm_parts.specs.Parts.{PartState, IsShared}
 use Rattle.klsm_parts.specs.Pivots.{ArePivots}
-use Rattle.klsm_parts.specs.Ranking.{IsRanking}
+use Rattle.klsm_parts.specs.Ranking.{IsRanking, AreRanked}
 use Rattle.klsm_parts.proofs.FitLemmas.{lsm_fits, pivots_fit, merging_fits}
 use Rattle.klsm_parts.proofs.FoundLemmas.{one_each}
 use Rattle.klsm_parts.proofs.MendLemmas.{count_marked}
@@ -24,7 +24,7 @@ merged-merged-requires g c =
         record {
           levels = c.self.invariant.levels_in_range;
           lawful = c.self.invariant.lawful;
-          ranking = c.self.invariant.ranking_exact;
+          ranking = c.self.invariant.ranking_exact.in_blocks;
           whole = c.self.invariant.ranking_whole;
           k_in_range = c.self.invariant.k_in_range;
           some = c.requires.some;
@@ -69,7 +69,7 @@ least-requires g c =
     let run = g.R.Run.items c.args.run.now in
     let new = c.merged-merged.result in
     let lawful = subst IsLsm (sym c.in-Ok.ensures.added) told.lawful in
-    let ranking = subst (λ cs. IsRanking cs new.ranking.blocks.items) (sym c.in-Ok.ensures.added) (merged_ranking bs run new.cascade.first new.cascade.count new.ranking.blocks.items new.pivots.items new.of_run told.merging told.adds) in
+    let ranking = subst (λ cs. IsRanking cs new.ranking.blocks.items) (sym c.in-Ok.ensures.added) (merged_ranking bs run new.cascade.first new.cascade.count new.ranking.blocks.items new.ranking.owners.items new.pivots.items new.of_run told.merging told.adds).in_blocks in
     let some : 0 < length new.ranking.blocks.items = omega (arith, told.whole, c.requires.some) in
     (search lsm_fits, (lawful, (ranking, λ held. some)))
 
@@ -81,12 +81,12 @@ invariant_of-self g c =
     let new = c.merged-merged.result in
     let told = c.merged-merged.ensures in
     let added = c.in-Ok.ensures.added in
-    let exact = merged_exact k new.cascade.first new.cascade.count bs run new.ranking.blocks.items new.pivots.items new.of_run told.lawful told.merging told.whole told.adds in
-    let ranking = merged_ranking bs run new.cascade.first new.cascade.count new.ranking.blocks.items new.pivots.items new.of_run told.merging told.adds in
+    let exact = merged_exact k new.cascade.first new.cascade.count bs run new.ranking.blocks.items new.ranking.owners.items new.pivots.items new.of_run told.lawful told.merging told.whole told.adds in
+    let ranking = merged_ranking bs run new.cascade.first new.cascade.count new.ranking.blocks.items new.ranking.owners.items new.pivots.items new.of_run told.merging told.adds in
     record {
       lawful = subst IsLsm (sym added) told.lawful;
       pivots_exact = subst (λ cs. ArePivots (k + 1) cs c.unite_pivots.new.pivots.items) (sym added) (rw c.unite_pivots.ensures exact);
-      ranking_exact = subst (λ cs. IsRanking cs new.ranking.blocks.items) (sym added) ranking;
+      ranking_exact = subst (λ cs. AreRanked cs new.ranking.blocks.items new.ranking.owners.items) (sym added) ranking;
       ranking_whole = omega (arith, told.whole, length_add bs run, ap (λ cs. length (content cs)) added);
       least_found = c.least.ensures;
       k_in_range = c.self.invariant.k_in_range;
@@ -94,7 +94,7 @@ invariant_of-self g c =
     }
 
 pub invariant_of-self-in-Err : goal.invariant_of-self-in-Err
-invariant_of-self-in-Err g c = subst (λ bs. IsShared g.row.LEVELS (record { k = c.self.inside.k; blocks = bs }) c.self.inside.pivots.items c.self.inside.least.ranking.blocks.items c.self.inside.least.first) (sym c.in-Err.ensures.unchanged) c.self.invariant
+invariant_of-self-in-Err g c = subst (λ bs. IsShared g.row.LEVELS (record { k = c.self.inside.k; blocks = bs }) c.self.inside.pivots.items c.self.inside.least.ranking.blocks.items c.self.inside.least.ranking.owners.items c.self.inside.least.first) (sym c.in-Err.ensures.unchanged) c.self.invariant
 
 pub returns-in-Ok-clause-added : goal.returns-in-Ok-clause-added
 returns-in-Ok-clause-added g c =

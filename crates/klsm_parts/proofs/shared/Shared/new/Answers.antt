@@ -20,8 +20,8 @@ invariant_of-result g c =
     rw (c.new.ensures, c.new-2.ensures) (record {
       lawful = tt;
       pivots_exact = pivots_all (c.args.k + 1) [] [] (subst (λ n. ArePivots n [] []) none (pivots_none []));
-      ranking_exact = rw c.new-3.ensures tt;
-      ranking_whole = rw c.new-3.ensures none;
+      ranking_exact = rw (c.new-3.ensures.blocks, c.new-3.ensures.owners) (record { in_blocks = tt; owned = tt; as_many = refl });
+      ranking_whole = rw c.new-3.ensures.blocks none;
       least_found = refl;
       k_in_range = c.requires.k;
       levels_in_range = c.requires.levels;

@@ -16,7 +16,7 @@ place-requires g c =
     let among = subst (λ (p : PartState). c.args.index < length (least (p.k + 1) (content p.blocks))) (sym c.self.view_is) c.requires in
     let rank : c.args.index < length c.self.inside.least.ranking.blocks.items =
     omega (arith, among, length-take (c.self.inside.k + 1) (sorted (content lsm)), length_sorted (content lsm), c.self.invariant.ranking_whole) in
-    (search lsm_fits, (c.self.invariant.lawful, (c.self.invariant.ranking_exact, rank)))
+    (search lsm_fits, (c.self.invariant.lawful, (c.self.invariant.ranking_exact.in_blocks, rank)))
 
 pub returns-clause-candidate : goal.returns-clause-candidate
 returns-clause-candidate g c =

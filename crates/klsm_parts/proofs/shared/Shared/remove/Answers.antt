@@ -29,6 +29,7 @@ pub replace-requires : goal.replace-requires
 replace-requires g c =
     let it = candidate_at _ _ c.args.block c.args.index c.args.rank c.self.view_is c.requires.block c.requires.index c.requires.rank in
     record {
+      owners = c.self.invariant.ranking_exact.as_many;
       rank = candidate_ranked c.self.inside.k c.self.inside.lsm c.self.inside.least.ranking.blocks.items c.args.rank it.item c.self.invariant.ranking_whole it.among;
       room = omega (arith, c.self.invariant.ranking_whole, c.self.invariant.k_in_range);
       block = omega (arith, it.here, c.blocks-before.ensures, c.self.invariant.levels_in_range.at_most);
@@ -41,9 +42,9 @@ least-self-inside-requires g c =
     let at = c.args.block in
     let it = candidate_at _ _ at c.args.index c.args.rank c.self.view_is c.requires.block c.requires.index c.requires.rank in
     let only = ap (λ n. n == 1) (c.len-is_only.ensures.len ∙ ap length (sym (get_or_from_slice_get bs at _ [] c.block.ensures.block))) in
-    let mended = ranking_mended c.self.inside.k at c.args.index c.args.rank it.item _ _ c.mend_cut-next.result bs c.remove-item.new.self c.self.inside.least.ranking.blocks.items c.remove-item.ensures.rest c.self.invariant.lawful c.self.invariant.ranking_exact c.self.invariant.ranking_whole it.here it.found it.among c.partner-partner.ensures only c.mend_cut-next.ensures.next in
+    let mended = ranking_mended c.self.inside.k at c.args.index c.args.rank it.item _ _ c.mend_cut-next.result bs c.remove-item.new.self c.self.inside.least.ranking.blocks.items c.self.inside.least.ranking.owners.items c.remove-item.ensures.rest c.self.invariant.lawful c.self.invariant.ranking_exact c.self.invariant.ranking_whole it.here it.found it.among c.partner-partner.ensures only c.mend_cut-next.ensures.next in
     let lawful = subst IsLsm (sym c.remove-item.ensures.rest) (lawful_cut bs at c.args.index c.self.invariant.lawful it.within) in
-    (search lsm_fits, (lawful, (rw c.replace.ensures mended.0, λ some. rw c.replace.ensures (omega (arith, mended.1, some)))))
+    (search lsm_fits, (lawful, (rw c.replace.ensures.blocks mended.0.in_blocks, λ some. rw c.replace.ensures.blocks (omega (arith, mended.1, some)))))
 
 pub invariant_of-self : goal.invariant_of-self
 invariant_of-self g c =
@@ -51,12 +52,12 @@ invariant_of-self g c =
     let at = c.args.block in
     let it = candidate_at _ _ at c.args.index c.args.rank c.self.view_is c.requires.block c.requires.index c.requires.rank in
     let only = ap (λ n. n == 1) (c.len-is_only.ensures.len ∙ ap length (sym (get_or_from_slice_get bs at _ [] c.block.ensures.block))) in
-    let mended = ranking_mended c.self.inside.k at c.args.index c.args.rank it.item _ _ c.mend_cut-next.result bs c.remove-item.new.self c.self.inside.least.ranking.blocks.items c.remove-item.ensures.rest c.self.invariant.lawful c.self.invariant.ranking_exact c.self.invariant.ranking_whole it.here it.found it.among c.partner-partner.ensures only c.mend_cut-next.ensures.next in
+    let mended = ranking_mended c.self.inside.k at c.args.index c.args.rank it.item _ _ c.mend_cut-next.result bs c.remove-item.new.self c.self.inside.least.ranking.blocks.items c.self.inside.least.ranking.owners.items c.remove-item.ensures.rest c.self.invariant.lawful c.self.invariant.ranking_exact c.self.invariant.ranking_whole it.here it.found it.among c.partner-partner.ensures only c.mend_cut-next.ensures.next in
     record {
       lawful = subst IsLsm (sym c.remove-item.ensures.rest) (lawful_cut bs at c.args.index c.self.invariant.lawful it.within);
       pivots_exact = c.mend_cut-next.ensures.pivots;
-      ranking_exact = rw c.replace.ensures mended.0;
-      ranking_whole = rw c.replace.ensures mended.1;
+      ranking_exact = rw (c.replace.ensures.blocks, c.replace.ensures.owners) mended.0;
+      ranking_whole = rw c.replace.ensures.blocks mended.1;
       least_found = c.least-self-inside.ensures;
       k_in_range = c.self.invariant.k_in_range;
       levels_in_range = c.self.invariant.levels_in_range;

@@ -23,6 +23,12 @@ take-requires g c = subst (λ event. MayStep c.args.self.now.limits c.args.self.
 pub returns-in-Take : goal.returns-in-Take
 returns-in-Take g c = subst (λ event. IsStepped c.args.self.now (Commit c.args.thread event) c.take.result c.take.new.self) (sym c.in-Take.is) c.take.ensures
 
+pub take_early-requires : goal.take_early-requires
+take_early-requires g c = subst (λ event. MayStep c.args.self.now.limits c.args.self.now.world (Commit c.args.thread event)) c.in-Early.is c.requires
+
+pub returns-in-Early : goal.returns-in-Early
+returns-in-Early g c = subst (λ event. IsStepped c.args.self.now (Commit c.args.thread event) c.take_early.result c.take_early.new.self) (sym c.in-Early.is) c.take_early.ensures
+
 pub find_nothing-requires : goal.find_nothing-requires
 find_nothing-requires g c = subst (λ event. MayStep c.args.self.now.limits c.args.self.now.world (Commit c.args.thread event)) c.in-Nothing.is c.requires
 

@@ -1,7 +1,7 @@
 use Rattle.std.proofs.Common.{◌≡◌, ◌==◌, ◌↔◌, [], IsTrue, List, length, true, false, inr, refl, sym, ap, subst, ◌∙◌, arith}
 use Rattle.std.proofs.lemmas.Bool.{ltb-true}
-use Rattle.klsm_parts.specs.Events.{MayPut, MayFlush, MayTake, MayFindNothing, MaySpy}
-use Rattle.klsm_world.specs.declared.step.Event.TheVariants.{Put, Flush, Take, Nothing, Spy}
+use Rattle.klsm_parts.specs.Events.{MayPut, MayFlush, MayTake, MayTakeEarly, MayFindNothing, MaySpy}
+use Rattle.klsm_world.specs.declared.step.Event.TheVariants.{Put, Flush, Take, Early, Nothing, Spy}
 use Rattle.klsm_world.specs.Kept.{HoldsAll}
 use Rattle.klsm_world.specs.LawfulWorlds.{IsLawful}
 use Rattle.klsm_world.specs.LegalSteps.{MayCommit}
@@ -24,13 +24,27 @@ returns-in-Take g c =
     let lawful : IsLawful r.limits r.world = subst (λ (z : WorldView). IsLawful z.limits z.world) c.self.view_is c.self.invariant.lawful in
     let held : HoldsAll r.world c.args.thread (parts_for c.args.thread (Take x)) = subst (λ event. HoldsAll r.world c.args.thread (parts_for c.args.thread event)) c.in-Take.is c.requires.held in
     let k : c.self.inside.k ≡ r.limits.k = ap (λ (z : WorldView). z.limits.k) c.self.view_is in
-    let both : MayTake r.limits.k own shared x ↔ MayCommit r.limits.k c.args.thread (hand_in r.world c.args.thread) n (Take x) =
-    holds_both r.limits r.world c.args.thread lawful.agreed c.requires.thread shared_part (λ own shared. MayTake r.limits.k own shared x) own shared
+    let both : MayTake r.limits.k c.args.thread own shared x ↔ MayCommit r.limits.k c.args.thread (hand_in r.world c.args.thread) n (Take x) =
+    holds_both r.limits r.world c.args.thread lawful.agreed c.requires.thread shared_part (λ own shared. MayTake r.limits.k c.args.thread own shared x) own shared
     (subst (λ p. own ≡ content_of r.world p) c.own_part.ensures c.items_of-own.ensures.content) c.items_of.ensures.content held.0 held.1.0 in
     subst (λ event. IsTrue c.may_take.result ↔ MayCommit r.limits.k c.args.thread (hand_in r.world c.args.thread) n event) (sym c.in-Take.is) (
-      λ goes. both.0 (subst (λ z. MayTake z own shared x) k (c.may_take.ensures.0 goes)),
-      λ may. c.may_take.ensures.1 (subst (λ z. MayTake z own shared x) (sym k) (both.1 may)),
+      λ goes. both.0 (subst (λ z. MayTake z c.args.thread own shared x) k (c.may_take.ensures.0 goes)),
+      λ may. c.may_take.ensures.1 (subst (λ z. MayTake z c.args.thread own shared x) (sym k) (both.1 may)),
     )
+
+pub returns-in-Early : goal.returns-in-Early
+returns-in-Early g c =
+    let r : WorldView = c.args.self.now in
+    let x = c.in-Early.item in
+    let front = c.in-Early.front in
+    let own = c.items_of-own.result.now in
+    let n = length (inserted (steps_of r.world c.args.thread)) in
+    let lawful : IsLawful r.limits r.world = subst (λ (z : WorldView). IsLawful z.limits z.world) c.self.view_is c.self.invariant.lawful in
+    let held : HoldsAll r.world c.args.thread (parts_for c.args.thread (Early x front)) = subst (λ event. HoldsAll r.world c.args.thread (parts_for c.args.thread event)) c.in-Early.is c.requires.held in
+    let has = holds_own r.limits r.world c.args.thread lawful.agreed c.requires.thread (λ own. MayTakeEarly own x front) own
+    (subst (λ p. own ≡ content_of r.world p) c.own_part.ensures c.items_of-own.ensures.content) held.0 in
+    subst (λ event. IsTrue c.may_take_early.result ↔ MayCommit r.limits.k c.args.thread (hand_in r.world c.args.thread) n event) (sym c.in-Early.is)
+    (λ goes. has.0 (c.may_take_early.ensures.0 goes), λ may. c.may_take_early.ensures.1 (has.1 may))
 
 pub returns-then-own-self : goal.returns-then-own-self
 returns-then-own-self g c =

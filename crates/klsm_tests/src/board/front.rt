@@ -1,0 +1,159 @@
+//! Deletions by the front, which go through while another member holds the shared part, and those
+//! that have to look at it; and which items a flush and a spy move.
+
+use super::script::{Script, Step, passes};
+use klsm_board::{Busy, TryInsertError};
+
+const MANY: u64 = 1000;
+
+// What one is answered who needs the shared part while member 1 holds it.
+const BY_ONE: Busy = Busy { lock: 0, by: 1 };
+
+const BY_THE_FRONT: &[Script] = &[
+    // The shared part is empty, so each own item is below the front. Where there is none, the shared
+    // part is needed.
+    Script {
+        threads: 2,
+        k: 4,
+        quota: MANY,
+        steps: &[
+            Step::Inserts((5, 0, 0)),
+            Step::Holds(1, 0, 0, None),
+            Step::Deletes(0, Some((5, 0, 0))),
+            Step::Misses(0, BY_ONE),
+        ],
+    },
+    // A key that is the front is not below it, and the shared item goes first. Once the shared part
+    // is empty, the own item is below the front.
+    Script {
+        threads: 2,
+        k: 1,
+        quota: MANY,
+        steps: &[
+            Step::Inserts((4, 0, 0)),
+            Step::Inserts((4, 0, 1)),
+            Step::Holds(1, 0, 1, Some((4, 0, 0))),
+            Step::Misses(0, BY_ONE),
+            Step::PutsBack,
+            Step::Deletes(0, Some((4, 0, 0))),
+            Step::Holds(1, 0, 0, None),
+            Step::Deletes(0, Some((4, 0, 1))),
+        ],
+    },
+    // The greatest key is not below the front of an empty part.
+    Script {
+        threads: 2,
+        k: 1,
+        quota: MANY,
+        steps: &[
+            Step::Inserts((u64::MAX, 0, 0)),
+            Step::Holds(1, 0, 0, None),
+            Step::Misses(0, BY_ONE),
+            Step::PutsBack,
+            Step::Deletes(0, Some((u64::MAX, 0, 0))),
+        ],
+    },
+    // The front is that of the last change: a flush sets it to 3 and the next to 2, and a deletion of
+    // the shared 2 to 3 again. An own 2 is below it then, and an own 3 is not.
+    Script {
+        threads: 2,
+        k: 1,
+        quota: MANY,
+        steps: &[
+            Step::Inserts((3, 0, 0)),
+            Step::Inserts((2, 0, 1)),
+            Step::Inserts((9, 0, 2)),
+            Step::Holds(1, 0, 2, Some((2, 0, 1))),
+            Step::Misses(0, BY_ONE),
+            Step::PutsBack,
+            Step::Deletes(0, Some((2, 0, 1))),
+            Step::Inserts((2, 0, 3)),
+            Step::Holds(1, 0, 2, Some((3, 0, 0))),
+            Step::Deletes(0, Some((2, 0, 3))),
+            Step::Inserts((3, 0, 4)),
+            Step::Misses(0, BY_ONE),
+            Step::PutsBack,
+            Step::Deletes(0, Some((3, 0, 0))),
+            Step::Deletes(0, Some((3, 0, 4))),
+            Step::Deletes(0, Some((9, 0, 2))),
+            Step::Deletes(0, None),
+        ],
+    },
+    // Neither an insertion into a full own part nor a deletion of a shared item goes through while
+    // the shared part is held; one into an own part with room does.
+    Script {
+        threads: 2,
+        k: 1,
+        quota: MANY,
+        steps: &[
+            Step::Inserts((7, 0, 0)),
+            Step::Inserts((8, 0, 1)),
+            Step::Holds(1, 0, 1, Some((7, 0, 0))),
+            Step::IsRefused(0, 1, TryInsertError::Busy(BY_ONE)),
+            Step::Misses(0, BY_ONE),
+            Step::PutsBack,
+            Step::Deletes(0, Some((7, 0, 0))),
+            Step::Deletes(0, Some((8, 0, 1))),
+            Step::Holds(1, 0, 0, None),
+            Step::Inserts((1, 0, 2)),
+            Step::Deletes(0, Some((1, 0, 2))),
+            Step::Counts(0, 3, 3),
+        ],
+    },
+];
+
+#[test]
+fn deletions_by_the_front(rt: HostRuntime) {
+    for script in BY_THE_FRONT {
+        assert!(rt; passes::<21>(&rt, rt.alloc(), script));
+    }
+}
+
+const MOVED: &[Script] = &[
+    // Three own items are a block of two and one of one: the former moves to the shared part.
+    Script {
+        threads: 2,
+        k: 3,
+        quota: MANY,
+        steps: &[
+            Step::Inserts((6, 0, 0)),
+            Step::Inserts((5, 0, 1)),
+            Step::Inserts((7, 0, 2)),
+            Step::Inserts((8, 0, 3)),
+            Step::Holds(1, 0, 2, Some((5, 0, 1))),
+            Step::PutsBack,
+            Step::Holds(1, 1, 2, Some((7, 0, 2))),
+        ],
+    },
+    // Five own items are a block of four and one of one: the former moves to a member that finds
+    // nothing, which deletes the least of them. Of three items in one block the greater two move.
+    Script {
+        threads: 2,
+        k: 8,
+        quota: MANY,
+        steps: &[
+            Step::Inserts((1, 0, 0)),
+            Step::Inserts((2, 0, 1)),
+            Step::Inserts((3, 0, 2)),
+            Step::Inserts((4, 0, 3)),
+            Step::Inserts((0, 0, 4)),
+            Step::Deletes(1, Some((1, 0, 0))),
+            Step::Holds(1, 1, 1, Some((0, 0, 4))),
+            Step::PutsBack,
+            Step::Holds(1, 2, 3, Some((2, 0, 1))),
+            Step::PutsBack,
+            Step::Deletes(0, Some((0, 0, 4))),
+            Step::Deletes(0, Some((3, 0, 2))),
+            Step::Holds(1, 1, 1, Some((4, 0, 3))),
+            Step::PutsBack,
+            Step::Holds(1, 2, 1, Some((2, 0, 1))),
+        ],
+    },
+];
+
+#[test]
+fn what_flushes_and_spies_move(rt: HostRuntime) {
+    for script in MOVED {
+        assert!(rt; passes::<21>(&rt, rt.alloc(), script));
+    }
+}

@@ -1,0 +1,172 @@
+//! Mixed calls of the members of a board, made in one thread, while now and then one of them holds a
+//! part: each answer is that of a plain board, and so is the account in the end.
+
+use super::crew::Crew;
+use super::plain::Plain;
+use crate::rules::Pick;
+use klsm_board::TryInsertError;
+use klsm_parts::{First, Last, Random};
+use rand_core::{Rng, SeedableRng};
+use rand_pcg::Pcg32;
+use std::alloc::Global;
+
+// How candidates are picked.
+#[derive(Clone, Copy)]
+enum Picks {
+    First,
+    Last,
+    Random,
+}
+
+// A board, the plain one beside it, and what the steps are drawn by.
+#[derive(Drop)]
+struct Both {
+    crew: Crew<21>,
+    plain: Plain,
+    mix: Pcg32,
+    picks: Picks,
+}
+
+fn both_of(alloc: Global, threads: u32, k: usize, picks: Picks) -> Option<Both> {
+    Some(Both {
+        crew: Crew::new(alloc, threads as usize, k, 1000).ok()?,
+        plain: Plain::new(alloc, threads, k)?,
+        mix: Pcg32::seed_from_u64(12),
+        picks,
+    })
+}
+
+// A number below `bound`, or 0.
+fn below(mix: &mut Pcg32, bound: usize) -> usize {
+    mix.next_u32() as usize % bound.max(1)
+}
+
+impl Both {
+    // Whether an insertion ends alike. Keys are few, so that equal ones occur.
+    fn insert(&mut self, member: usize) -> Option<bool> {
+        let key = self.mix.next_u64() % 40;
+        let load = self.mix.next_u64();
+        let number = u32::try_from(member).ok()?;
+        let want = self.plain.insert(number, key, load)?;
+        let answer = self.crew.try_insert(member, key, load)?;
+        Some(answer == want.map_err(TryInsertError::Busy))
+    }
+
+    // How this deletion picks.
+    fn next_pick(&self) -> Option<Pick> {
+        Some(match self.picks {
+            Picks::First => Pick::Nth(0),
+            Picks::Last => Pick::Last,
+            Picks::Random => Pick::Nth(self.mix.clone().ok()?.next_u64()),
+        })
+    }
+
+    // Whether a deletion ends alike.
+    fn delete(&mut self, member: usize) -> Option<bool> {
+        let pick = self.next_pick()?;
+        let number = u32::try_from(member).ok()?;
+        let want = self.plain.delete(number, pick)?;
+        let answer = match self.picks {
+            Picks::First => self.crew.try_delete_min(member, &mut First)?,
+            Picks::Last => self.crew.try_delete_min(member, &mut Last)?,
+            Picks::Random => {
+                let mut random = Random::new(&mut self.mix);
+                self.crew.try_delete_min(member, &mut random)?
+            }
+        };
+        Some(answer == want)
+    }
+
+    // Whether a try of the last member to hold a part ends alike, and it sees what there is.
+    fn hold(&mut self, lock: usize) -> Option<bool> {
+        let member = u32::try_from(self.crew.members.len())
+            .ok()?
+            .saturating_sub(1);
+        let (len, least) = self.plain.sight(lock).unwrap_or((0, None));
+        let want = self.plain.hold(member, lock);
+        let answer = self.crew.try_hold(lock)?;
+        let sees = want.is_err() || self.crew.holds(member, lock, len, least);
+        Some(answer == want && sees)
+    }
+
+    // Whether the part that is held goes back.
+    fn put_back(&mut self) -> bool {
+        self.plain.held = None;
+        self.crew.put_back().is_some()
+    }
+
+    // Some lock, as often as not that of the shared part, and some that are not there.
+    fn any_lock(&mut self) -> usize {
+        match below(&mut self.mix, 2) {
+            0 => 0,
+            _ => below(&mut self.mix, self.crew.board.threads().saturating_add(3)),
+        }
+    }
+
+    // Whether a part is held, or the one that is held tried once more or put back.
+    fn hold_or_put_back(&mut self) -> Option<bool> {
+        match self.plain.held {
+            Some(busy) if below(&mut self.mix, 3) == 0 => self.hold(busy.lock),
+            Some(_) => Some(self.put_back()),
+            None => {
+                let lock = self.any_lock();
+                self.hold(lock)
+            }
+        }
+    }
+
+    // Whether a call of some kind ends alike. Of 16 numbers those from 2 up to a bound are insertions.
+    fn step(&mut self, bound: u32) -> Option<bool> {
+        let free = self.crew.members.len();
+        if free == 0 {
+            return Some(self.put_back());
+        }
+        let member = below(&mut self.mix, free);
+        match self.mix.next_u32() % 16 {
+            0 | 1 => self.hold_or_put_back(),
+            kind if kind < bound => self.insert(member),
+            _ => self.delete(member),
+        }
+    }
+
+    // Whether each of 600 calls does: now more insertions, now more deletions.
+    fn steps(&mut self) -> Option<bool> {
+        for round in 0..600 {
+            let bound = if round % 100 < 50 { 11 } else { 4 };
+            if !self.step(bound)? {
+                return Some(false);
+            }
+        }
+        Some(true)
+    }
+
+    // Whether the account tells the same once the part that is held is back.
+    fn ends_alike(mut self, alloc: Global) -> Option<bool> {
+        if self.crew.held.is_some() {
+            self.put_back();
+        }
+        let Both { crew, plain, .. } = self;
+        plain.has_account(&crew.finish(alloc).ok()?)
+    }
+}
+
+// Whether all goes alike. Where there are others and own parts, some deletions have to go by the
+// front while the shared part is held, and some have to spy.
+fn goes_alike(alloc: Global, threads: u32, k: usize, picks: Picks) -> Option<bool> {
+    let mut both = both_of(alloc, threads, k, picks)?;
+    let steps = both.steps()?;
+    let others = threads > 1 && k > 0;
+    let ways = (both.plain.early > 4) == others && (both.plain.spied > 4) == others;
+    Some(steps && ways && both.ends_alike(alloc)?)
+}
+
+#[test]
+fn mixed_calls_end_as_those_of_a_plain_board(rt: HostRuntime) {
+    for threads in 1..=4 {
+        for k in 0..=4 {
+            for picks in [Picks::First, Picks::Last, Picks::Random] {
+                assert!(rt; goes_alike(rt.alloc(), threads, k, picks) == Some(true));
+            }
+        }
+    }
+}

@@ -1,0 +1,245 @@
+//! The plain board: the rules over lists of items, in one thread, as slow as they read. It calls
+//! nothing of the code under test.
+
+use crate::rules::{Blocks, Pick, add, chosen, remove, sorted, spied};
+use klsm_board::{Account, Busy, HoldError};
+use klsm_run::{Item, Stamp};
+use std::alloc::Global;
+
+/// What a member has for itself, and how many items it inserted.
+#[derive(Drop)]
+struct Own {
+    blocks: Blocks,
+    inserted: u64,
+}
+
+/// The members' own parts, the shared part, and which lock is held, if one is.
+#[derive(Drop)]
+pub(super) struct Plain {
+    alloc: Global,
+    k: usize,
+    owns: Vec<Own>,
+    /// Ascending.
+    shared: Vec<Item>,
+    /// As those are answered who try the lock.
+    pub held: Option<Busy>,
+    deleted: u64,
+    /// How many deletions there were by the front, while the shared part was held.
+    pub early: u64,
+    /// How often items moved from another member's part.
+    pub spied: u64,
+}
+
+impl Plain {
+    /// A board with no item.
+    pub(super) fn new(alloc: Global, threads: u32, k: usize) -> Option<Self> {
+        let mut owns = Vec::new(alloc);
+        for _ in 0..threads {
+            let blocks = Vec::new(alloc);
+            owns.push(Own {
+                blocks,
+                inserted: 0,
+            })
+            .ok()?;
+        }
+        Some(Plain {
+            alloc,
+            k,
+            owns,
+            shared: Vec::new(alloc),
+            held: None,
+            deleted: 0,
+            early: 0,
+            spied: 0,
+        })
+    }
+
+    // What one who tries a lock is answered, if it is held.
+    fn busy(&self, lock: usize) -> Option<Busy> {
+        match self.held {
+            Some(busy) if busy.lock == lock => Some(busy),
+            _ => None,
+        }
+    }
+
+    // The items of a member's own part, ascending.
+    fn own_items(&self, member: u32) -> Option<Vec<Item>> {
+        let own = self.owns.get(member as usize)?;
+        sorted(self.alloc, &own.blocks).ok()
+    }
+
+    // The key of the least shared item, and the greatest number where there is none.
+    fn front(&self) -> u64 {
+        match self.shared.first() {
+            Some(item) => item.key,
+            None => u64::MAX,
+        }
+    }
+
+    /// How a member's insertion ends.
+    pub(super) fn insert(
+        &mut self,
+        member: u32,
+        key: u64,
+        load: u64,
+    ) -> Option<Result<Stamp, Busy>> {
+        let is_full = self.own_items(member)?.len() >= self.k;
+        if let Some(busy) = self.busy(own_lock(member)) {
+            return Some(Err(busy));
+        }
+        if let Some(busy) = self.busy(0)
+            && is_full
+        {
+            return Some(Err(busy));
+        }
+        let own = self.owns.get_mut(member as usize)?;
+        let stamp = next_stamp(member, own);
+        let item = Item { key, stamp, load };
+        join(self.alloc, &mut own.blocks, &mut self.shared, is_full, item)?;
+        Some(Ok(stamp))
+    }
+
+    /// How a member's deletion ends, by a picker that picks so.
+    pub(super) fn delete(&mut self, member: u32, pick: Pick) -> Option<Result<Option<Item>, Busy>> {
+        if let Some(busy) = self.busy(own_lock(member)) {
+            return Some(Err(busy));
+        }
+        let least = self.own_items(member)?.first().copied();
+        if least.is_some_and(|own| own.key < self.front()) {
+            self.early = self.early.saturating_add(self.busy(0).is_some() as u64);
+            return Some(Ok(self.take_out(member, least)?));
+        }
+        if let Some(busy) = self.busy(0) {
+            return Some(Err(busy));
+        }
+        if least.is_none() && self.shared.is_empty() {
+            self.spy(member)?;
+        }
+        Some(Ok(self.take(member, pick)?))
+    }
+
+    // Takes what a deletion takes with both parts in hand.
+    fn take(&mut self, member: u32, pick: Pick) -> Option<Option<Item>> {
+        let least = self.own_items(member)?.first().copied();
+        let count = self.k.saturating_add(1).min(self.shared.len());
+        let item = chosen(least, &self.shared[..count], member, pick);
+        self.take_out(member, item)
+    }
+
+    // Takes an item out of the member's own part and the shared one, if there is one.
+    fn take_out(&mut self, member: u32, item: Option<Item>) -> Option<Option<Item>> {
+        if let Some(item) = item {
+            remove(&mut self.owns.get_mut(member as usize)?.blocks, item).ok()?;
+            self.shared.retain(|other| *other != item);
+            self.deleted = self.deleted.saturating_add(1);
+        }
+        Some(item)
+    }
+
+    // Moves items to a member's part, which is empty, from the first of the others that has some and
+    // is not held.
+    fn spy(&mut self, member: u32) -> Option<()> {
+        let threads = u32::try_from(self.owns.len()).ok()?;
+        for step in 1..threads {
+            let victim = member.saturating_add(step) % threads;
+            if self.busy(own_lock(victim)).is_none() && self.spy_on(member, victim)? {
+                return Some(());
+            }
+        }
+        Some(())
+    }
+
+    // Moves items from a victim's part, if it has some.
+    fn spy_on(&mut self, member: u32, victim: u32) -> Option<bool> {
+        let from = self.owns.get_mut(victim as usize)?;
+        let moved = spied(self.alloc, &mut from.blocks).ok()?;
+        if moved.is_empty() {
+            return Some(false);
+        }
+        self.owns.get_mut(member as usize)?.blocks.push(moved).ok()?;
+        self.spied = self.spied.saturating_add(1);
+        Some(true)
+    }
+
+    /// Whether a member cannot hold a part, and why.
+    pub(super) fn hold(&mut self, member: u32, lock: usize) -> Result<(), HoldError> {
+        if lock > self.owns.len() {
+            return Err(HoldError::NoSuchLock);
+        }
+        if let Some(busy) = self.busy(lock) {
+            return Err(HoldError::Busy(busy));
+        }
+        self.held = Some(Busy { lock, by: member });
+        Ok(())
+    }
+
+    /// How many items a part has, and the least.
+    pub(super) fn sight(&self, lock: usize) -> Option<(usize, Option<Item>)> {
+        let Some(member) = lock.checked_sub(1) else {
+            return Some((self.shared.len(), self.shared.first().copied()));
+        };
+        let items = self.own_items(u32::try_from(member).ok()?)?;
+        Some((items.len(), items.first().copied()))
+    }
+
+    // The items of all parts, ascending.
+    fn left(&self) -> Option<Vec<Item>> {
+        let mut left = self.shared.clone().ok()?;
+        for own in &self.owns {
+            left.extend_from_slice(sorted(self.alloc, &own.blocks).ok()?.as_slice())
+                .ok()?;
+        }
+        left.sort_unstable();
+        Some(left)
+    }
+
+    /// Whether an account tells of its insertions and deletions, and of what is left.
+    pub(super) fn has_account(&self, account: &Account) -> Option<bool> {
+        let mut inserted: u64 = 0;
+        for own in &self.owns {
+            inserted = inserted.saturating_add(own.inserted);
+        }
+        Some(
+            (account.inserted, account.deleted) == (inserted, self.deleted)
+                && account.left.as_slice() == self.left()?.as_slice(),
+        )
+    }
+}
+
+// The lock of a member's own part.
+fn own_lock(member: u32) -> usize {
+    (member as usize).saturating_add(1)
+}
+
+// The stamp of a member's next insertion, which is counted.
+fn next_stamp(owner: u32, own: &mut Own) -> Stamp {
+    let number = own.inserted;
+    own.inserted = number.saturating_add(1);
+    Stamp { owner, number }
+}
+
+// Puts an item into an own part. Where that is full its largest block moves to the shared part
+// before, or the item itself where it has no block.
+fn join(
+    alloc: Global,
+    own: &mut Blocks,
+    shared: &mut Vec<Item>,
+    is_full: bool,
+    item: Item,
+) -> Option<()> {
+    if is_full && own.is_empty() {
+        return share(shared, &[item]);
+    }
+    if is_full {
+        let largest = own.remove(0);
+        share(shared, largest.as_slice())?;
+    }
+    add(own, [item].to_vec(alloc).ok()?).ok()
+}
+
+// Adds items to the shared ones.
+fn share(shared: &mut Vec<Item>, moved: &[Item]) -> Option<()> {
+    shared.extend_from_slice(moved).ok()?;
+    shared.sort_unstable();
+    Some(())
+}
