@@ -3,7 +3,7 @@ pub mod DealtLemmas  -- the views together keep each list once
 pub mod PlaceLemmas  -- lock words that stand apart
 pub mod KeepLemmas  -- a seat that goes on with its list keeps the rule
 pub mod FrontLemmas  -- the steps on the front word keep the rule
-pub mod AcquireLemmas  -- a try to take a part keeps the rule
+pub mod AcquireLemmas  -- a try to acquire a part keeps the rule
 pub mod ReleaseLemmas  -- a release and a commit keep the rule
 pub mod SeatLemmas  -- what a member's seat has after a step
 pub mod OpeningLemmas  -- the rule at first, and where lists go from one seat to another

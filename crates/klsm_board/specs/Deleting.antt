@@ -9,8 +9,8 @@ use Rattle.klsm_world.specs.declared.step.Entry.TheVariants.{Acquired, Committed
 use Rattle.klsm_world.specs.OwnSteps.{own_part}
 use Rattle.klsm_world.specs.OwnListLaws.{SkipsFew, SkipsFewBy, KeepsOwnOrder, KeepsOwnOrderBy, LeavesFew}
 use Rattle.klsm_board.specs.declared.sizes.Sizes.{Sizes}
-use Rattle.klsm_board.specs.Rule.{limits_of}
-use Rattle.klsm_board.specs.Entries.{own_taken, both_taken, both_released}
+use Rattle.klsm_board.specs.Rule.{world_limits}
+use Rattle.klsm_board.specs.Entries.{own_acquired, both_acquired, both_released}
 use Rattle.klsm_board.specs.declared.errors.Busy.{Busy}
 use Rattle.klsm_board.specs.Inserting.{MissesOwn, MissesShared}
 use Rattle.klsm_board.specs.Choosing.{Chooses}
@@ -19,7 +19,7 @@ use Rattle.klsm_board.specs.Choosing.{Chooses}
 abbrev pub victim_of : ℕ → ℕ → ℕ → ℕ
 victim_of threads t n = if ltb (t + n) threads then t + n else (t + n) - threads
 
--- a victim was passed by: its lock was not free, or its part was empty and given back
+-- a victim was passed by: its lock was not free, or its part was empty and released
 abbrev pub PassesBy : ℕ → List Entry → Type 0
 PassesBy victim added =
     ((by : ℕ) × (added ≡ Missed (own_part victim) by ∷ []))
@@ -45,66 +45,66 @@ pub record SpiesAfter (threads t : ℕ) (es es' : List Entry) (moved : List Item
   pub passes : Passes threads t passed added
   pub spies : Spies (victim_of threads t (suc passed)) (es ++ added) es' moved
 
--- From the list `taken`, with both parts in hand: the item was taken out of one of them. It skips at
+-- From the list `acquired`, with both parts in hand: the item was taken out of one of them. It skips at
 -- most T·k items, and none of the two parts that the thread inserted.
-pub record TakesOut (m : Sizes) (t : ℕ) (own shared : List Item) (taken es' : List Entry) (x : Item) : Type 0 where
+pub record TakesOut (m : Sizes) (t : ℕ) (own shared : List Item) (acquired es' : List Entry) (x : Item) : Type 0 where
   pub may : MayTake m.k t own shared x
-  pub skips : SkipsFew (limits_of m) t taken x
-  pub keeps : KeepsOwnOrder (limits_of m) t taken x
-  pub steps : es' ≡ taken ++ Committed (Take x) ∷ both_released t
+  pub skips : SkipsFew (world_limits m) t acquired x
+  pub keeps : KeepsOwnOrder (world_limits m) t acquired x
+  pub steps : es' ≡ acquired ++ Committed (Take x) ∷ both_released t
 
--- From the list `taken`, with the own part in hand: the least own item was deleted, as its key is
+-- From the list `acquired`, with the own part in hand: the least own item was deleted, as its key is
 -- below the front that was read. In the worlds of that front it skips at most (T-1)·k items, and none
 -- of the two parts that the thread inserted.
-pub record TakesEarly (m : Sizes) (t : ℕ) (own : List Item) (taken es' : List Entry) (x : Item) : Type 0 where
+pub record TakesEarly (m : Sizes) (t : ℕ) (own : List Item) (acquired es' : List Entry) (x : Item) : Type 0 where
   pub front : ℕ
   pub may : MayTakeEarly own x front
-  pub skips : SkipsFewBy front (limits_of m) t taken x
-  pub keeps : KeepsOwnOrderBy front (limits_of m) t taken x
-  pub steps : es' ≡ taken ++ Committed (Early x front) ∷ Released (own_part t) ∷ []
+  pub skips : SkipsFewBy front (world_limits m) t acquired x
+  pub keeps : KeepsOwnOrderBy front (world_limits m) t acquired x
+  pub steps : es' ≡ acquired ++ Committed (Early x front) ∷ Released (own_part t) ∷ []
 
 -- Both parts were found empty. Some victims were passed by, items moved from the next one's part,
 -- and the least of them was taken. It skips at most T·k items, and none of the two parts that the
 -- thread inserted.
-pub record TakesSpied (m : Sizes) (t : ℕ) (own shared : List Item) (taken es' : List Entry) (x : Item) : Type 0 where
+pub record TakesSpied (m : Sizes) (t : ℕ) (own shared : List Item) (acquired es' : List Entry) (x : Item) : Type 0 where
   pub own_empty : own ≡ []
   pub shared_empty : shared ≡ []
   pub moved : List Item
   pub least : IsLeast x moved
   pub spied : List Entry
-  pub spies : SpiesAfter m.threads t taken spied moved
-  pub skips : SkipsFew (limits_of m) t spied x
-  pub keeps : KeepsOwnOrder (limits_of m) t spied x
+  pub spies : SpiesAfter m.threads t acquired spied moved
+  pub skips : SkipsFew (world_limits m) t spied x
+  pub keeps : KeepsOwnOrder (world_limits m) t spied x
   pub steps : es' ≡ spied ++ Committed (Take x) ∷ both_released t
 
 -- Both parts were found empty, and all victims were passed by. At most (T-1)·k items live.
-pub record FindsNothing (m : Sizes) (t : ℕ) (own shared : List Item) (taken es' : List Entry) : Type 0 where
+pub record FindsNothing (m : Sizes) (t : ℕ) (own shared : List Item) (acquired es' : List Entry) : Type 0 where
   pub own_empty : own ≡ []
   pub shared_empty : shared ≡ []
   pub added : List Entry
   pub passes : Passes m.threads t (m.threads - 1) added
-  pub leaves : LeavesFew (limits_of m) t (taken ++ added)
-  pub steps : es' ≡ (taken ++ added) ++ Committed Nothing ∷ both_released t
+  pub leaves : LeavesFew (world_limits m) t (acquired ++ added)
+  pub steps : es' ≡ (acquired ++ added) ++ Committed Nothing ∷ both_released t
 
 -- The item x was deleted by a member that found these contents, and the picker went from `before`
 -- to `after`.
 abbrev pub Deletes : {P : Type 0} → (P → ℕ → ℕ → P → Type 0) → P → P → Sizes → ℕ → List Item → List Item → List Entry → List Entry → Item → Type 0
-Deletes may_pick before after m t own shared taken es' x =
-    (TakesOut m t own shared taken es' x × Chooses may_pick before after m.k t own shared x)
-    ⊎ (TakesSpied m t own shared taken es' x × (after ≡ before))
+Deletes may_pick before after m t own shared acquired es' x =
+    (TakesOut m t own shared acquired es' x × Chooses may_pick before after m.k t own shared x)
+    ⊎ (TakesSpied m t own shared acquired es' x × (after ≡ before))
 
 -- A deletion answered, after these tries in vain of its locks. It deleted the least own item by
--- the front, with the own part in hand alone, and did not ask the picker. Or it took both parts.
+-- the front, with the own part in hand alone, and did not ask the picker. Or it acquired both parts.
 abbrev pub AnswersDeletion : {P : Type 0} → (P → ℕ → ℕ → P → Type 0) → P → P → Sizes → ℕ → List ℕ → List ℕ → List Entry → List Entry → Option Item → Type 0
 AnswersDeletion may_pick before after m t own_misses shared_misses es es' answer = (own : List Item)
-    × ((IsSomeAnd answer (λ x. TakesEarly m t own (own_taken t own_misses own es) es' x)
+    × ((IsSomeAnd answer (λ x. TakesEarly m t own (own_acquired t own_misses own es) es' x)
     × (after ≡ before))
     ⊎ ((shared : List Item) × MatchOption answer
-    (FindsNothing m t own shared (both_taken t own_misses shared_misses own shared es) es'
+    (FindsNothing m t own shared (both_acquired t own_misses shared_misses own shared es) es'
     × (after ≡ before))
     (Deletes may_pick before after m t own shared
-    (both_taken t own_misses shared_misses own shared es) es')))
+    (both_acquired t own_misses shared_misses own shared es) es')))
 
--- A lock was not free: the own one, or the shared one, and then the own part was given back.
+-- A lock was not free: the own one, or the shared one, and then the own part was released.
 abbrev pub MissesDeletion : ℕ → List Entry → List Entry → Busy → Type 0
 MissesDeletion t es es' busy = MissesOwn t es es' busy ⊎ MissesShared t es es' busy (λ own. Unit {0})

@@ -16,7 +16,7 @@ use Rattle.klsm_world.specs.Laws.{IsWithinQuota, event_by}
 use Rattle.klsm_board.specs.declared.sizes.Sizes.{Sizes}
 use Rattle.klsm_board.specs.declared.board.Member.{Member}
 use Rattle.klsm_board.specs.declared.rule.View.{View}
-use Rattle.klsm_board.specs.Rule.{limits_of, own}
+use Rattle.klsm_board.specs.Rule.{world_limits, own}
 use Rattle.klsm_board.specs.Boards.{own_steps}
 
 -- these are the lists of all threads in one world to which some schedule of legal steps leads, and
@@ -25,12 +25,12 @@ use Rattle.klsm_board.specs.Boards.{own_steps}
 pub record AreListsAtEnd (m : Sizes) (lists : List (List Entry)) : Type 0 where
   pub world : World
   pub schedule : List WorldStep
-  pub leads : Leads (limits_of m) schedule world
-  pub within : IsWithinQuota (limits_of m) m.quota world
+  pub leads : Leads (world_limits m) schedule world
+  pub within : IsWithinQuota (world_limits m) m.quota world
   pub lists_are : world.lists ≡ lists
   pub in_order : (t : ℕ) → t < m.threads
       → flat_map event_at (steps_of world t) ≡ flat_map (event_by t) (reverse schedule)
-  pub run : IsRun (limits_of m) (events_of schedule)
+  pub run : IsRun (world_limits m) (events_of schedule)
 
 -- each item was inserted once, if at all, and then it is either deleted, once, or left, once
 abbrev pub AreEachOnce : List (List Entry) → Type 0
@@ -41,18 +41,18 @@ AreEachOnce lists = (x : Item)
 
 module _ {CAP LEVELS : ℕ} where
   -- one of these members has the number
-  abbrev pub IsNumbered : List (Member CAP LEVELS) → ℕ → Type 0
-  IsNumbered members t = (i : ℕ) × (member : Member CAP LEVELS)
+  abbrev pub HasMember : List (Member CAP LEVELS) → ℕ → Type 0
+  HasMember members t = (i : ℕ) × (member : Member CAP LEVELS)
       × (get_elem? members i ≡ some member) × (member.number ≡ t)
 
   -- each number below T has a member
   abbrev pub AreAll : List (Member CAP LEVELS) → ℕ → Type 0
-  AreAll members threads = (t : ℕ) → t < threads → IsNumbered members t
+  AreAll members threads = (t : ℕ) → t < threads → HasMember members t
 
   -- the least number below T that no member has
   abbrev pub IsLeastAbsent : List (Member CAP LEVELS) → ℕ → ℕ → Type 0
-  IsLeastAbsent members threads number = (number < threads) × (IsNumbered members number → ⊥)
-      × ((t : ℕ) → t < number → IsNumbered members t)
+  IsLeastAbsent members threads number = (number < threads) × (HasMember members number → ⊥)
+      × ((t : ℕ) → t < number → HasMember members t)
 
   -- the own steps of the member with this number
   abbrev pub steps_among : List (Member CAP LEVELS) → ℕ → List Entry

@@ -14,7 +14,7 @@ use Rattle.klsm_board.specs.declared.errors.TryInsertError.{TryInsertError}
 use Rattle.klsm_board.specs.declared.errors.TryInsertError.TheVariants as try_insert
 use Rattle.klsm_board.specs.declared.errors.InsertError.{InsertError}
 use Rattle.klsm_board.specs.declared.errors.InsertError.TheVariants as insert
-use Rattle.klsm_board.specs.Entries.{own_taken, both_taken, both_released}
+use Rattle.klsm_board.specs.Entries.{own_acquired, both_acquired, both_released}
 
 -- the stamp of a member's next insertion, and the item that it inserts
 abbrev pub stamp_of : ℕ → ℕ → Stamp
@@ -27,7 +27,7 @@ stamped key stamp load = record { key = key; stamp = stamp; load = load }
 pub record Puts (k t : ℕ) (misses : List ℕ) (es es' : List Entry) (x : Item) : Type 0 where
   pub own : List Item
   pub room : MayPut k own
-  pub steps : es' ≡ own_taken t misses own es ++ Committed (Put x) ∷ Released (own_part t) ∷ []
+  pub steps : es' ≡ own_acquired t misses own es ++ Committed (Put x) ∷ Released (own_part t) ∷ []
 
 -- The own part was found with k items, and some moved to the shared part, which had room for them.
 pub record Flushes (levels k t : ℕ) (own_misses shared_misses : List ℕ) (es es' : List Entry) (x : Item) : Type 0 where
@@ -37,20 +37,20 @@ pub record Flushes (levels k t : ℕ) (own_misses shared_misses : List ℕ) (es 
   pub full : length own ≡ k
   pub may : MayFlush k own x moved
   pub within : length shared + length moved ≤ limit_of levels heap_room
-  pub steps : es' ≡ both_taken t own_misses shared_misses own shared es ++ Committed (Flush x moved) ∷ both_released t
+  pub steps : es' ≡ both_acquired t own_misses shared_misses own shared es ++ Committed (Flush x moved) ∷ both_released t
 
 -- an insertion after so many misses
 abbrev pub Inserts : ℕ → ℕ → ℕ → List ℕ → List ℕ → List Entry → List Entry → Item → Type 0
 Inserts levels k t own_misses shared_misses es es' x =
     Puts k t own_misses es es' x ⊎ Flushes levels k t own_misses shared_misses es es' x
 
--- The own part was found with k items; both parts were taken and given back.
+-- The own part was found with k items; both parts were acquired and released.
 pub record GivesUp (k t : ℕ) (own_misses shared_misses : List ℕ) (es es' : List Entry) (Lacks : List Item → Type 0) : Type 0 where
   pub own : List Item
   pub shared : List Item
   pub full : length own ≡ k
   pub lacks : Lacks shared
-  pub steps : es' ≡ both_taken t own_misses shared_misses own shared es ++ both_released t
+  pub steps : es' ≡ both_acquired t own_misses shared_misses own shared es ++ both_released t
 
 -- the shared part has no room for a whole own part, or for the item where k is 0
 abbrev pub LacksRoom : ℕ → ℕ → List Item → Type 0
@@ -66,7 +66,7 @@ pub record MissesShared (t : ℕ) (es es' : List Entry) (busy : Busy) (Found : L
   pub own : List Item
   pub found : Found own
   pub lock : busy.lock ≡ shared_part
-  pub steps : es' ≡ own_taken t [] own es ++ Missed shared_part busy.by ∷ Released (own_part t) ∷ []
+  pub steps : es' ≡ own_acquired t [] own es ++ Missed shared_part busy.by ∷ Released (own_part t) ∷ []
 
 -- why an insertion that waits for nobody is refused
 abbrev pub RefusesInsert : Type 0 → ℕ → ℕ → ℕ → List Entry → List Entry → TryInsertError → Type 0
@@ -77,9 +77,9 @@ RefusesInsert IsSpent levels k t es es' try_insert.Full = GivesUp k t [] [] es e
 RefusesInsert IsSpent levels k t es es' try_insert.NoMemory = GivesUp k t [] [] es es' (λ shared. Unit {0})
 
 -- why one that may wait is refused
-abbrev pub RefusesInsertInTime : Type 0 → ℕ → ℕ → ℕ → List Entry → List Entry → InsertError → Type 0
-RefusesInsertInTime IsSpent levels k t es es' insert.Spent = IsSpent × (es' ≡ es)
-RefusesInsertInTime IsSpent levels k t es es' insert.Full =
+abbrev pub RefusesInsertWaiting : Type 0 → ℕ → ℕ → ℕ → List Entry → List Entry → InsertError → Type 0
+RefusesInsertWaiting IsSpent levels k t es es' insert.Spent = IsSpent × (es' ≡ es)
+RefusesInsertWaiting IsSpent levels k t es es' insert.Full =
     (own_misses : List ℕ) × (shared_misses : List ℕ) × GivesUp k t own_misses shared_misses es es' (LacksRoom levels k)
-RefusesInsertInTime IsSpent levels k t es es' insert.NoMemory =
+RefusesInsertWaiting IsSpent levels k t es es' insert.NoMemory =
     (own_misses : List ℕ) × (shared_misses : List ℕ) × GivesUp k t own_misses shared_misses es es' (λ shared. Unit {0})

@@ -1,6 +1,6 @@
 -- The definitions, in the order in which they are best read.
 pub mod Rule  -- the rule of the table
-pub mod Entries  -- what stands in a list where parts are taken
+pub mod Entries  -- what stands in a list where parts are acquired
 pub mod Inserting  -- what an insertion adds to its member's list
 pub mod Choosing  -- how a deletion chooses
 pub mod Deleting  -- what a deletion adds

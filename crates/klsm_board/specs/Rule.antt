@@ -25,8 +25,8 @@ abbrev pub view : List Own → View
 view os = record { lists = os }
 
 -- the limits of the world that a board stands for
-abbrev pub limits_of : Sizes → Limits
-limits_of m = record { threads = m.threads; k = m.k }
+abbrev pub world_limits : Sizes → Limits
+world_limits m = record { threads = m.threads; k = m.k }
 
 -- the word of the table that is the lock of a part; behind them comes the front word
 abbrev pub place : ℕ → ℕ
@@ -55,13 +55,13 @@ abbrev pub everyone : Sizes → View
 everyone m = view (fresh 0 m.threads)
 
 -- how many lists of thread t are among these
-abbrev pub lists_of : ℕ → List Own → ℕ
-lists_of t [] = 0
-lists_of t (o ∷ os) = (if o.thread == t then 1 else 0) + lists_of t os
+abbrev pub list_count : ℕ → List Own → ℕ
+list_count t [] = 0
+list_count t (o ∷ os) = (if o.thread == t then 1 else 0) + list_count t os
 
-abbrev pub lists_in : ℕ → List View → ℕ
-lists_in t [] = 0
-lists_in t (v ∷ vs) = lists_of t v.lists + lists_in t vs
+abbrev pub list_count_in : ℕ → List View → ℕ
+list_count_in t [] = 0
+list_count_in t (v ∷ vs) = list_count t v.lists + list_count_in t vs
 
 module _ {S : Type 0} (content : S → List Item) where
   -- the content of a slot, where its part is at home
@@ -70,8 +70,8 @@ module _ {S : Type 0} (content : S → List Item) where
   content_at (some y) = Some (content y)
 
   -- a world, out of its lock words, its front word, the slots and the lists
-  abbrev pub world_of : List ℕ → ℕ → List (Maybe S) → List (List Entry) → World
-  world_of ws front os ls = record { words = ws; front = front; homes = map content_at os; lists = ls }
+  abbrev pub board_world : List ℕ → ℕ → List (Maybe S) → List (List Entry) → World
+  board_world ws front os ls = record { words = ws; front = front; homes = map content_at os; lists = ls }
 
 pub record Ruled {S : Type 0} (content : S → List Item) (suits : ℕ → ℕ → S → Type 0) (m : Sizes) (s : State S View) : Type 0 where
   pub lists : List (List Entry)
@@ -80,12 +80,12 @@ pub record Ruled {S : Type 0} (content : S → List Item) (suits : ℕ → ℕ �
   -- a word that is no lock and not the front stays 0
   pub between : (i : ℕ) → ((p : ℕ) → i ≢ place p) → slice_index s.words i ≡ 0
   -- the schedule leads to this world
-  pub leads : Leads (limits_of m) schedule (world_of content (lock_words m s.words) (front_word m s.words) s.homes lists)
+  pub leads : Leads (world_limits m) schedule (board_world content (lock_words m s.words) (front_word m s.words) s.homes lists)
   -- the views have the world's lists, and together each of them once
   pub dealt : (j : ℕ) (v : View) → get_elem? s.views j ≡ some v
       → (i : ℕ) (o : Own) → get_elem? v.lists i ≡ some o
       → get_elem? lists o.thread ≡ some o.steps
-  pub once : (t : ℕ) → t < m.threads → lists_in t s.views ≡ 1
+  pub once : (t : ℕ) → t < m.threads → list_count_in t s.views ≡ 1
   -- each part that is at home is in its slot
   pub suited : (p : ℕ) (y : S) → get_elem? s.homes p ≡ some (some y) → suits m.k p y
   -- no list has more insertions than the quota
@@ -97,8 +97,8 @@ pub record Ruled {S : Type 0} (content : S → List Item) (suits : ℕ → ℕ �
 pub record IsReached (m : Sizes) (t : ℕ) (es : List Entry) : Type 0 where
   pub world : World
   pub schedule : List WorldStep
-  pub leads : Leads (limits_of m) schedule world
-  pub within : IsWithinQuota (limits_of m) m.quota world
+  pub leads : Leads (world_limits m) schedule world
+  pub within : IsWithinQuota (world_limits m) m.quota world
   pub list_is : steps_of world t ≡ es
   pub thread : t < m.threads
 

@@ -39,7 +39,7 @@ module _ {S : Type 0} (content : S → List Item) (suits : ℕ → ℕ → S →
   AreSuited [] = ⊤
   AreSuited (x ∷ xs) = suits m.k x.0 x.1 × AreSuited xs
 
-  -- the seat is thread t's, and carries these parts, the last taken first
+  -- the seat is thread t's, and carries these parts, the last acquired first
   pub record Carries (hand : Hand) (me : Me S View) : Type 0 where
     pub alone : IsMine me.0 t
     pub contents_are : contents me.1 ≡ hand
@@ -98,5 +98,5 @@ SetsFront t hand Nothing front = ⊥
 SetsFront t hand (Spy victim moved) front = ⊥
 
 -- where an event inserts an item, the quota has room for it
-abbrev pub HasRoom : ℕ → List Entry → Event → Type 0
-HasRoom quota es event = 0 < length (inserted_by event) → length (inserted es) < quota
+abbrev pub QuotaAllows : ℕ → List Entry → Event → Type 0
+QuotaAllows quota es event = 0 < length (inserted_by event) → length (inserted es) < quota

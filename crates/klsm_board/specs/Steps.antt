@@ -42,20 +42,20 @@ module _ {S : Type 0} where
   is_reached m t me' = IsReached m t (mine me'.0)
 
   -- the part was free, and came to the seat; or another thread held it
-  abbrev pub acquired : (S → List Item) → (ℕ → ℕ → S → Type 0) → Sizes → ℕ → Step S → Me S View → ℕ → Me S View → Type 0
-  acquired content suits m t st me n me' =
+  abbrev pub attempted : (S → List Item) → (ℕ → ℕ → S → Type 0) → Sizes → ℕ → Step S → Me S View → ℕ → Me S View → Type 0
+  attempted content suits m t st me n me' =
       MatchBool (n == 0)
       ((y : S) × suits m.k st.word y
       × (me' ≡ (gain me.0 (Acquired st.word (content y)), (st.word, y) ∷ me.1)))
       ((me' ≡ (gain me.0 (Missed st.word (n - 1)), me.1)) × (n ≤ m.threads))
       × is_reached m t me'
 
-  -- the part was given back
+  -- the part was released
   abbrev pub released : Sizes → ℕ → Step S → Me S View → ℕ → Me S View → Type 0
   released m t st me n me' =
       (me' ≡ (gain me.0 (Released st.word), rest me.1)) × is_reached m t me'
 
-  -- some event that fits was committed, and the part given back
+  -- some event that fits was committed, and the part released
   abbrev pub committed : (Event → Type 0) → Sizes → ℕ → Step S → Me S View → ℕ → Me S View → Type 0
   committed fits m t st me n me' = (e : Event) × fits e
       × (me' ≡ (gain (gain me.0 (Committed e)) (Released st.word), rest me.1))

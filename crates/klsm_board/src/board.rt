@@ -46,7 +46,7 @@ pub struct Member<const CAP: usize, const LEVELS: usize> {
     pub ghost levels: { IsLevelCount LEVELS },
 }
 
-/// A member that holds one part. No other member can take that part. A `Held` that is dropped leaves
+/// A member that holds one part. No other member can acquire that part. A `Held` that is dropped leaves
 /// the lock held for good.
 #[derive(Drop)]
 pub struct Held<const CAP: usize, const LEVELS: usize> {

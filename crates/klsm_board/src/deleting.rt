@@ -1,5 +1,5 @@
 //! Deletion. It takes effect where the front is looked at, where it is set, or where the shared lock is
-//! given back.
+//! released.
 ghost use Rattle.std.specs.Prelude.{◌≡◌, ◌≢◌, ◌≤◌, ◌++◌, ℕ, List, [], ◌∷◌, length, IfOk, IfErr, MatchOption};
 ghost use Rattle.klsm_run.specs.declared.item.Item.{Item};
 ghost use Rattle.klsm_run.specs.Content.{ShareNone};
@@ -8,21 +8,21 @@ ghost use Rattle.klsm_world.specs.declared.step.Event.TheVariants.{Take};
 ghost use Rattle.klsm_world.specs.declared.step.Entry.TheVariants.{Committed};
 ghost use Rattle.klsm_world.specs.OwnSteps.{shared_part, hand_of};
 ghost use Rattle.klsm_world.specs.OwnListLaws.{SkipsFew, KeepsOwnOrder};
-ghost use Rattle.klsm_board.specs.Rule.{limits_of};
+ghost use Rattle.klsm_board.specs.Rule.{world_limits};
 ghost use Rattle.klsm_board.specs.Steps.{mine};
-ghost use Rattle.klsm_board.specs.Seats.{Carries, Stands, Has, CarriedOut, HasRoom, LeavesShared, SetsFront, IsSeatOf, both_in_hand};
+ghost use Rattle.klsm_board.specs.Seats.{Carries, Stands, Has, CarriedOut, QuotaAllows, LeavesShared, SetsFront, IsSeatOf, both_in_hand};
 ghost use Rattle.klsm_board.specs.Entries.{both_released};
 ghost use Rattle.klsm_board.specs.Choosing.{Chooses};
 ghost use Rattle.klsm_board.specs.Deleting.{AnswersDeletion, Deletes, FindsNothing, MissesDeletion};
 
+use crate::acquiring::{acquire_waiting, try_acquire};
 use crate::early::delete_early;
 use crate::errors::Busy;
 use crate::lending::{lend_shared, return_shared};
 use crate::rule::{Locks, MemberSeat};
 use crate::slot::PartSlot;
 use crate::spying::search_victims;
-use crate::steps::{commit_by_front, commit_event, give_part};
-use crate::taking::{take_in_time, take_now};
+use crate::steps::{commit_by_front, commit_event, release_part};
 use klsm_parts::Picker;
 use klsm_run::Item;
 use klsm_world::Event;
@@ -47,19 +47,19 @@ pub(crate) fn delete_now<S: PartSlot, P: Picker>(
     ensures busy { IfErr result (λ busy. (picker.new ≡ picker.old)
         × MissesDeletion thread (mine seat.old.me.0) (mine seat.new.me.0) busy) }
 {
-    take_now(table, seat, thread + 1, thread)?;
+    try_acquire(table, seat, thread + 1, thread)?;
     if let Some(item) = delete_early(table, seat, thread, threads) {
         return Ok(Some(item));
     }
-    if let Err(busy) = take_now(table, seat, 0, thread) {
-        give_part(table, seat, thread + 1, thread);
+    if let Err(busy) = try_acquire(table, seat, 0, thread) {
+        release_part(table, seat, thread + 1, thread);
         return Err(busy);
     }
-    Ok(delete_taken(table, seat, thread, threads, picker))
+    Ok(delete_under_both(table, seat, thread, threads, picker))
 }
 
 /// Deletes an item, and waits for the locks that it needs.
-pub(crate) fn delete_in_time<S: PartSlot, P: Picker>(
+pub(crate) fn delete_waiting<S: PartSlot, P: Picker>(
     rt: &impl Wait,
     table: &Locks<S>,
     seat: &mut MemberSeat<S>,
@@ -77,17 +77,17 @@ pub(crate) fn delete_in_time<S: PartSlot, P: Picker>(
         × AnswersDeletion P.may_pick picker.old picker.new table.now.key thread own_misses
         shared_misses (mine seat.old.me.0) (mine seat.new.me.0) result }
 {
-    take_in_time(rt, table, seat, thread + 1, thread);
+    acquire_waiting(rt, table, seat, thread + 1, thread);
     if let Some(item) = delete_early(table, seat, thread, threads) {
         return Some(item);
     }
-    take_in_time(rt, table, seat, 0, thread);
-    delete_taken(table, seat, thread, threads, picker)
+    acquire_waiting(rt, table, seat, 0, thread);
+    delete_under_both(table, seat, thread, threads, picker)
 }
 
-// Deletes an item, with both parts in hand, and gives them back. Where they are empty, others' parts
+// Deletes an item, with both parts in hand, and releases them. Where they are empty, others' parts
 // are searched first.
-fn delete_taken<S: PartSlot, P: Picker>(
+fn delete_under_both<S: PartSlot, P: Picker>(
     table: &Locks<S>,
     seat: &mut MemberSeat<S>,
     thread: usize,
@@ -115,11 +115,11 @@ fn delete_taken<S: PartSlot, P: Picker>(
     if search_victims(table, seat, thread, threads) {
         return take_both_out(table, seat, thread, threads, picker);
     }
-    give_committed(table, seat, thread, &Event::Nothing);
+    release_committed(table, seat, thread, &Event::Nothing);
     None
 }
 
-// Takes an item out of the two parts in hand and gives them back. Where both are empty, the seat
+// Takes an item out of the two parts in hand and releases them. Where both are empty, the seat
 // keeps them.
 fn take_both_out<S: PartSlot, P: Picker>(
     table: &Locks<S>,
@@ -143,22 +143,22 @@ fn take_both_out<S: PartSlot, P: Picker>(
         (λ item. Has S.content S.suits table.now.key thread [] seat.new.me
         × MayTake table.now.key.k thread own shared item
         × Chooses P.may_pick picker.old picker.new table.now.key.k thread own shared item
-        × SkipsFew (limits_of table.now.key) thread (mine seat.old.me.0) item
-        × KeepsOwnOrder (limits_of table.now.key) thread (mine seat.old.me.0) item
+        × SkipsFew (world_limits table.now.key) thread (mine seat.old.me.0) item
+        × KeepsOwnOrder (world_limits table.now.key) thread (mine seat.old.me.0) item
         × (mine seat.new.me.0
         ≡ mine seat.old.me.0 ++ Committed (Take item) ∷ both_released thread)) }
 {
     let (item, front) = take_out(table, seat, thread, picker)?;
     match front {
-        Some(front) => give_by_front(table, seat, threads, thread, front, &Event::Take(item)),
-        None => give_committed(table, seat, thread, &Event::Take(item)),
+        Some(front) => release_by_front(table, seat, threads, thread, front, &Event::Take(item)),
+        None => release_committed(table, seat, thread, &Event::Take(item)),
     }
     Some(item)
 }
 
-// Commits an event that was carried out in the two parts in hand by setting the front, and gives them
-// back.
-fn give_by_front<S: PartSlot>(
+// Commits an event that was carried out in the two parts in hand by setting the front, and releases
+// them.
+fn release_by_front<S: PartSlot>(
     table: &Locks<S>,
     seat: &mut MemberSeat<S>,
     threads: usize,
@@ -168,7 +168,7 @@ fn give_by_front<S: PartSlot>(
 )
     requires seat { IsSeatOf seat.old.table_id table.now.table_id table.now.key thread }
     requires threads { threads ≡ table.now.key.threads }
-    requires room { HasRoom table.now.key.quota (mine seat.old.me.0) event.now }
+    requires room { QuotaAllows table.now.key.quota (mine seat.old.me.0) event.now }
     requires sets { SetsFront thread (hand_of thread (mine seat.old.me.0)) event.now front }
     requires out { (own : List Item) × (shared : List Item)
         × CarriedOut S.content S.suits table.now.key thread event.now
@@ -179,20 +179,20 @@ fn give_by_front<S: PartSlot>(
         ≡ mine seat.old.me.0 ++ Committed event.now ∷ both_released thread }
 {
     commit_by_front(table, seat, threads, thread, front, event);
-    give_part(table, seat, 0, thread);
-    give_part(table, seat, thread + 1, thread);
+    release_part(table, seat, 0, thread);
+    release_part(table, seat, thread + 1, thread);
 }
 
 // Commits an event that inserts nothing, leaves the shared part and was carried out in the two parts in
-// hand, and gives them back.
-fn give_committed<S: PartSlot>(
+// hand, and releases them.
+fn release_committed<S: PartSlot>(
     table: &Locks<S>,
     seat: &mut MemberSeat<S>,
     thread: usize,
     event: &Event,
 )
     requires seat { IsSeatOf seat.old.table_id table.now.table_id table.now.key thread }
-    requires room { HasRoom table.now.key.quota (mine seat.old.me.0) event.now }
+    requires room { QuotaAllows table.now.key.quota (mine seat.old.me.0) event.now }
     requires leaves { LeavesShared thread (hand_of thread (mine seat.old.me.0)) event.now }
     requires out { (own : List Item) × (shared : List Item)
         × CarriedOut S.content S.suits table.now.key thread event.now
@@ -203,7 +203,7 @@ fn give_committed<S: PartSlot>(
         ≡ mine seat.old.me.0 ++ Committed event.now ∷ both_released thread }
 {
     commit_event(table, seat, 0, thread, event);
-    give_part(table, seat, thread + 1, thread);
+    release_part(table, seat, thread + 1, thread);
 }
 
 // Takes an item out of the two parts that the seat carries, and answers it with the front of what the

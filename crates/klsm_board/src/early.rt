@@ -8,11 +8,11 @@ ghost use Rattle.klsm_board.specs.Deleting.{TakesEarly};
 
 use crate::rule::{Locks, MemberSeat};
 use crate::slot::PartSlot;
-use crate::steps::{give_part, look_at_front};
+use crate::steps::{look_at_front, release_part};
 use klsm_run::Item;
 
-/// Deletes the least own item, with the own part in hand, where its key is below the front, and gives
-/// the part back. Else the seat keeps the part.
+/// Deletes the least own item, with the own part in hand, where its key is below the front, and releases
+/// the part. Else the seat keeps the part.
 pub(crate) fn delete_early<S: PartSlot>(
     table: &Locks<S>,
     seat: &mut MemberSeat<S>,
@@ -37,7 +37,7 @@ pub(crate) fn delete_early<S: PartSlot>(
         return None;
     }
     let item = seat.slot_mut(table, thread + 1).take_least();
-    give_part(table, seat, thread + 1, thread);
+    release_part(table, seat, thread + 1, thread);
     Some(item)
 }
 

@@ -2,7 +2,7 @@
 
 use thiserror::Error;
 
-/// The first lock in the order of taking that was not free, and the member that held it.
+/// The first lock in the order of acquiring that was not free, and the member that held it.
 #[derive(Clone, Copy, Debug, PartialEq, Eq, Error)]
 #[error("lock {lock} is held by member {by}")]
 pub struct Busy {

@@ -9,7 +9,7 @@ ghost use Rattle.klsm_run.specs.Content.{sorted};
 ghost use Rattle.klsm_world.specs.OwnSteps.{inserted, deleted};
 ghost use Rattle.klsm_world.specs.Account.{account};
 ghost use Rattle.klsm_board.specs.Boards.{IsOf, own_steps};
-ghost use Rattle.klsm_board.specs.Finishing.{AreAll, AreEachOnce, AreListsAtEnd, IsLeastAbsent, IsNumbered, Knows, lists_of, steps_among};
+ghost use Rattle.klsm_board.specs.Finishing.{AreAll, AreEachOnce, AreListsAtEnd, IsLeastAbsent, HasMember, Knows, lists_of, steps_among};
 
 use crate::board::{Board, Member};
 use crate::errors::FinishError;
@@ -134,11 +134,11 @@ fn counts_of<const CAP: usize, const LEVELS: usize>(
     members: &[Member<CAP, LEVELS>],
     number: u32,
 ) -> Option<Totals>
-    ensures found { IfSome result (λ counts. IsNumbered members.now number
+    ensures found { IfSome result (λ counts. HasMember members.now number
         × (counts.inserted ≡ length (inserted (steps_among members.now number)))
         × (counts.deleted ≡ length (deleted (steps_among members.now number)))
         × (counts.inserted ≤ 281474976710656) × (counts.deleted ≤ 4503599627370496)) }
-    ensures none { result ≡ None → IsNumbered members.now number → ⊥ }
+    ensures none { result ≡ None → HasMember members.now number → ⊥ }
 {
     for member in members {
         if member.number == number {

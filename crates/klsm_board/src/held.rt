@@ -8,16 +8,16 @@ ghost use Rattle.klsm_board.specs.declared.errors.Busy.{Busy};
 ghost use Rattle.klsm_board.specs.Seats.{Carries};
 ghost use Rattle.klsm_board.specs.Boards.{IsHeldBy, IsHeldOf, IsOf, IsSame, RefusesHold, held_content, held_steps, own_steps};
 
+use crate::acquiring::try_acquire;
 use crate::board::{Board, Held, HoldRefused, Member};
 use crate::errors::HoldError;
 use crate::rule::{Locks, MemberSeat};
 use crate::slot::PartSlot;
-use crate::steps::give_part;
-use crate::taking::take_now;
+use crate::steps::release_part;
 use klsm_run::Item;
 
 impl<const CAP: usize, const LEVELS: usize> Member<CAP, LEVELS> {
-    /// Takes any one part, in order to look at it: lock 0 has the shared part, and lock `t + 1` has
+    /// Acquires any one part, in order to look at it: lock 0 has the shared part, and lock `t + 1` has
     /// member t's own. It waits for nobody.
     pub fn try_hold(
         self,
@@ -63,7 +63,7 @@ impl<const CAP: usize, const LEVELS: usize> Member<CAP, LEVELS> {
             mut seat,
         } = self;
         let table = &board.table.shared;
-        if let Err(busy) = take_now(table, &mut seat, lock, number as usize) {
+        if let Err(busy) = try_acquire(table, &mut seat, lock, number as usize) {
             return Err(HoldRefused {
                 why: HoldError::Busy(busy),
                 member: Member {
@@ -133,7 +133,7 @@ impl<const CAP: usize, const LEVELS: usize> Held<CAP, LEVELS> {
         self.least
     }
 
-    /// Gives the part back, as it was.
+    /// Releases the part, as it was.
     pub fn put_back(self, board: &Board<CAP, LEVELS>) -> Member<CAP, LEVELS>
         requires { IsHeldOf self board.now }
         ensures same { IsHeldBy result self.entry }
@@ -149,7 +149,7 @@ impl<const CAP: usize, const LEVELS: usize> Held<CAP, LEVELS> {
             least: _,
             mut seat,
         } = self;
-        give_part(&board.table.shared, &mut seat, lock, number as usize);
+        release_part(&board.table.shared, &mut seat, lock, number as usize);
         Member {
             number,
             sizes,
@@ -160,7 +160,7 @@ impl<const CAP: usize, const LEVELS: usize> Held<CAP, LEVELS> {
     }
 }
 
-// How many items a part has that the seat took, and the least of them.
+// How many items a part has that the seat acquired, and the least of them.
 fn look<S: PartSlot>(
     table: &Locks<S>,
     seat: &mut MemberSeat<S>,

@@ -1,4 +1,4 @@
-//! Insertion. It takes effect where the own lock is given back or, where items move to the shared part,
+//! Insertion. It takes effect where the own lock is released or, where items move to the shared part,
 //! where the front is set.
 ghost use Rattle.std.specs.Prelude.{◌≡◌, ◌<◌, ◌≤◌, ◌+◌, ℕ, List, [], ◌∷◌, ◌++◌, length, IfErr, IfOk, OnOk, OnErr, MatchBool};
 ghost use Rattle.std.specs.List.{Contains};
@@ -14,14 +14,14 @@ ghost use Rattle.klsm_world.specs.LegalSteps.{BearsStamp};
 ghost use Rattle.klsm_board.specs.Steps.{mine};
 ghost use Rattle.klsm_board.specs.Seats.{Carries, Stands, Has, CarriedOut, IsSeatOf, own_in_hand, both_in_hand};
 ghost use Rattle.klsm_board.specs.Entries.{both_released};
-ghost use Rattle.klsm_board.specs.Inserting.{Inserts, LacksRoom, RefusesInsert, RefusesInsertInTime};
+ghost use Rattle.klsm_board.specs.Inserting.{Inserts, LacksRoom, RefusesInsert, RefusesInsertWaiting};
 
+use crate::acquiring::{acquire_waiting, try_acquire};
 use crate::errors::{InsertError, TryInsertError};
 use crate::lending::{lend_shared, return_shared};
 use crate::rule::{Locks, MemberSeat};
 use crate::slot::PartSlot;
-use crate::steps::{commit_event, commit_moving_by_front, give_part};
-use crate::taking::{take_in_time, take_now};
+use crate::steps::{commit_event, commit_moving_by_front, release_part};
 use klsm_parts::LsmError;
 use klsm_run::Item;
 use klsm_world::Event;
@@ -48,14 +48,14 @@ pub(crate) fn insert_now<S: PartSlot>(
     ensures refused { IfErr result (RefusesInsert ⊥ S.levels table.now.key.k thread
         (mine seat.old.me.0) (mine seat.new.me.0)) }
 {
-    if let Err(busy) = take_now(table, seat, thread + 1, thread) {
+    if let Err(busy) = try_acquire(table, seat, thread + 1, thread) {
         return Err(TryInsertError::Busy(busy));
     }
     if put_own(table, seat, thread, item) {
         return Ok(());
     }
-    if let Err(busy) = take_now(table, seat, 0, thread) {
-        give_part(table, seat, thread + 1, thread);
+    if let Err(busy) = try_acquire(table, seat, 0, thread) {
+        release_part(table, seat, thread + 1, thread);
         return Err(TryInsertError::Busy(busy));
     }
     match flush_both(table, seat, thread, threads, item) {
@@ -66,7 +66,7 @@ pub(crate) fn insert_now<S: PartSlot>(
 }
 
 /// Inserts an item, and waits for the locks that it needs.
-pub(crate) fn insert_in_time<S: PartSlot>(
+pub(crate) fn insert_waiting<S: PartSlot>(
     rt: &impl Wait,
     table: &Locks<S>,
     seat: &mut MemberSeat<S>,
@@ -85,14 +85,14 @@ pub(crate) fn insert_in_time<S: PartSlot>(
     ensures ok { OnOk result ((own_misses : List ℕ) × (shared_misses : List ℕ)
         × Inserts S.levels table.now.key.k thread own_misses shared_misses (mine seat.old.me.0)
         (mine seat.new.me.0) item) }
-    ensures refused { IfErr result (RefusesInsertInTime ⊥ S.levels table.now.key.k thread
+    ensures refused { IfErr result (RefusesInsertWaiting ⊥ S.levels table.now.key.k thread
         (mine seat.old.me.0) (mine seat.new.me.0)) }
 {
-    take_in_time(rt, table, seat, thread + 1, thread);
+    acquire_waiting(rt, table, seat, thread + 1, thread);
     if put_own(table, seat, thread, item) {
         return Ok(());
     }
-    take_in_time(rt, table, seat, 0, thread);
+    acquire_waiting(rt, table, seat, 0, thread);
     match flush_both(table, seat, thread, threads, item) {
         Ok(()) => Ok(()),
         Err(LsmError::Full) => Err(InsertError::Full),
@@ -100,7 +100,7 @@ pub(crate) fn insert_in_time<S: PartSlot>(
     }
 }
 
-// Puts the item into the own part and gives it back, if there is room.
+// Puts the item into the own part and releases that, if there is room.
 fn put_own<S: PartSlot>(
     table: &Locks<S>,
     seat: &mut MemberSeat<S>,
@@ -158,7 +158,7 @@ fn put_in<S: PartSlot>(
 }
 
 // Puts the item into the own part, which is full, moves what has to move to the shared part, and
-// gives both back.
+// releases both.
 fn flush_both<S: PartSlot>(
     table: &Locks<S>,
     seat: &mut MemberSeat<S>,
@@ -191,13 +191,13 @@ fn flush_both<S: PartSlot>(
     match flush_in(table, seat, thread, item) {
         Ok(front) => {
             commit_moving_by_front(table, seat, threads, thread, front, &item);
-            give_part(table, seat, 0, thread);
-            give_part(table, seat, thread + 1, thread);
+            release_part(table, seat, 0, thread);
+            release_part(table, seat, thread + 1, thread);
             Ok(())
         }
         Err(why) => {
-            give_part(table, seat, 0, thread);
-            give_part(table, seat, thread + 1, thread);
+            release_part(table, seat, 0, thread);
+            release_part(table, seat, thread + 1, thread);
             Err(why)
         }
     }

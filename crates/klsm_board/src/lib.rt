@@ -1,11 +1,11 @@
 //! The running board: a k-LSM with locks, for up to sixteen members, each of which may be used by a
 //! thread of its own.
 //!
-//! Each member has an own part, of at most k items, and all share one part more. An insertion takes
-//! the member's own lock alone, and the shared one only where the own part is full. A deletion takes
+//! Each member has an own part, of at most k items, and all share one part more. An insertion acquires
+//! the member's own lock alone, and the shared one only where the own part is full. A deletion acquires
 //! the own lock too, and then looks at one word, the front, which has the key of the least shared
-//! item. Where the least own key is below it, that item goes, and no other lock is taken. Else the
-//! deletion takes the shared lock as well, and gives the least own item or one of the k+1 least
+//! item. Where the least own key is below it, that item goes, and no other lock is acquired. Else the
+//! deletion acquires the shared lock as well, and gives the least own item or one of the k+1 least
 //! shared ones, whichever is smaller, but passes over none that the member itself inserted. Where
 //! both parts are empty it spies items from another member's part. So members seldom meet, and in
 //! return a deletion may skip as many as T·k smaller items.
@@ -21,11 +21,11 @@
 //! }
 //! ```
 //!
-//! `try_insert` and `try_delete_min` wait for nobody: where a lock is held they give back what they
-//! took, and say who held it. `try_hold` takes one part in order to look at it.
+//! `try_insert` and `try_delete_min` wait for nobody: where a lock is held they release what they
+//! acquired, and say who held it. `try_hold` acquires one part in order to look at it.
 //!
 //! **What a member promises** is told by its list of own steps, which is for the proof alone: which
-//! parts it took and what it found there, what it committed, what it gave back. The contract of each
+//! parts it acquired and what it found there, what it committed, what it released. The contract of each
 //! call says which entries the call adds.
 //!
 //! - **The board is a world.** Whatever the threads do, the lock words, the front word, the parts that
@@ -50,15 +50,16 @@
 //! - **Deletions take no memory**, and are refused for want of none. An insertion takes some only where
 //!   items move to the shared part.
 //!
-//! How the locks are taken, what commits and why a stale look does no harm is told in
+//! How the locks are acquired, what commits and why a stale look does no harm is told in
 //! docs/ARCHITECTURE.md, "How a locked call becomes steps of a schedule".
 //!
 //! The files, from the atomic steps up: `rule` and `plays` (what always holds, and what a step tells),
 //! `steps` (acquire, release, the two commits, the look at the front), `slot` (what is done to the parts),
-//! `lending`, `taking` (one try, or as many as it needs), `inserting`, `spying`, `early` (deletions by the
+//! `lending`, `acquiring` (one try, or as many as it needs), `inserting`, `spying`, `early` (deletions by the
 //! front), `deleting`, and the public calls in `making`, `member`, `held` and `finishing`. `gate` is for programs that run members in threads.
 #![tactic(auto)]
 
+mod acquiring;
 mod board;
 mod boxed;
 mod deleting;
@@ -77,7 +78,6 @@ mod sizes;
 mod slot;
 mod spying;
 mod steps;
-mod taking;
 
 pub use board::{Board, Held, HoldRefused, Member};
 pub use errors::{Busy, FinishError, HoldError, InsertError, MakeError, TryInsertError};

@@ -5,13 +5,13 @@ ghost use Rattle.klsm_run.specs.declared.item.Item.{Item};
 ghost use Rattle.klsm_world.specs.OwnSteps.{inserted, deleted};
 ghost use Rattle.klsm_board.specs.Rule.{IsReached};
 ghost use Rattle.klsm_board.specs.Boards.{Adds, IsOf, IsSame, own_steps};
-ghost use Rattle.klsm_board.specs.Inserting.{Inserts, RefusesInsert, RefusesInsertInTime, stamp_of, stamped};
+ghost use Rattle.klsm_board.specs.Inserting.{Inserts, RefusesInsert, RefusesInsertWaiting, stamp_of, stamped};
 ghost use Rattle.klsm_board.specs.Deleting.{AnswersDeletion, MissesDeletion};
 
 use crate::board::{Board, Member};
-use crate::deleting::{delete_in_time, delete_now};
+use crate::deleting::{delete_now, delete_waiting};
 use crate::errors::{Busy, InsertError, TryInsertError};
-use crate::inserting::{insert_in_time, insert_now};
+use crate::inserting::{insert_now, insert_waiting};
 use klsm_parts::Picker;
 use klsm_run::{Item, Stamp};
 use std::sync::Wait;
@@ -60,7 +60,7 @@ impl<const CAP: usize, const LEVELS: usize> Member<CAP, LEVELS> {
 
     /// Inserts a key with a load, and answers the item's stamp. It waits for nobody.
     ///
-    /// An insertion takes the own lock and, where the own part has k items, the shared one, which
+    /// An insertion acquires the own lock and, where the own part has k items, the shared one, which
     /// items then move to.
     pub fn try_insert(
         &mut self,
@@ -114,7 +114,7 @@ impl<const CAP: usize, const LEVELS: usize> Member<CAP, LEVELS> {
         ensures adds { IfOk result (λ stamp. Adds self.old self.new
             (stamped key stamp load ∷ []) []) }
         ensures refused { IfErr result (λ why. Adds self.old self.new [] []
-            × RefusesInsertInTime (length (inserted (own_steps self.old)) ≡ self.old.sizes.quota)
+            × RefusesInsertWaiting (length (inserted (own_steps self.old)) ≡ self.old.sizes.quota)
             LEVELS self.old.sizes.k self.old.number (own_steps self.old) (own_steps self.new)
             why) }
         ensures spent { IsErrAnd result (λ why. why ≡ InsertError.Spent)
@@ -126,7 +126,7 @@ impl<const CAP: usize, const LEVELS: usize> Member<CAP, LEVELS> {
         let item = self.next_item(key, load);
         let thread = self.number as usize;
         let threads = self.sizes.threads;
-        insert_in_time(
+        insert_waiting(
             rt,
             &board.table.shared,
             &mut self.seat,
@@ -141,9 +141,9 @@ impl<const CAP: usize, const LEVELS: usize> Member<CAP, LEVELS> {
     /// Deletes a small item and answers it. It waits for nobody. `None` where the own part, the
     /// shared one and each other part that could be looked into were empty.
     ///
-    /// It takes the own lock and, unless its least item has a key below the front, the shared one. At
+    /// It acquires the own lock and, unless its least item has a key below the front, the shared one. At
     /// most T·k smaller items live then, in all parts together, at most (T-1)·k where the shared lock
-    /// was not taken, and none of its own in the two parts; where the answer is `None`, at most (T-1)·k
+    /// was not acquired, and none of its own in the two parts; where the answer is `None`, at most (T-1)·k
     /// items live.
     pub fn try_delete_min<P: Picker>(
         &mut self,
@@ -185,7 +185,7 @@ impl<const CAP: usize, const LEVELS: usize> Member<CAP, LEVELS> {
     {
         let thread = self.number as usize;
         let threads = self.sizes.threads;
-        let answer = delete_in_time(
+        let answer = delete_waiting(
             rt,
             &board.table.shared,
             &mut self.seat,

@@ -32,18 +32,18 @@ impl Told for Brand {
     ghost least = { record { key = 0; stamp = record { owner = 0; number = 0 }; load = 0 } };
 }
 
-/// A part is taken, or tried in vain.
+/// A part is acquired, or tried in vain.
 pub(crate) struct Acquire<D> {
     of: PhantomData<D>,
 }
 
 impl<S: Holding, D: Told> Play<S, View> for Acquire<D> {
-    ghost use Rattle.klsm_board.specs.Steps.{acquired, on_part};
+    ghost use Rattle.klsm_board.specs.Steps.{attempted, on_part};
 
-    ghost then = { on_part (acquired S.content S.suits D.sizes D.thread) };
+    ghost then = { on_part (attempted S.content S.suits D.sizes D.thread) };
 }
 
-/// The part that was taken last is given back.
+/// The part that was acquired last is released.
 pub(crate) struct Release<D> {
     of: PhantomData<D>,
 }
@@ -54,7 +54,7 @@ impl<S: Holding, D: Told> Play<S, View> for Release<D> {
     ghost then = { on_part (released D.sizes D.thread) };
 }
 
-/// An event takes effect, and the part that was taken last is given back.
+/// An event takes effect, and the part that was acquired last is released.
 pub(crate) struct Commit<D> {
     of: PhantomData<D>,
 }

@@ -19,7 +19,7 @@ use std::alloc::AllocError;
 
 /// What the calls of a board do to the parts in its slots.
 ///
-/// It says of contents alone what `klsm_parts` says of parts, so that whoever takes locks need not
+/// It says of contents alone what `klsm_parts` says of parts, so that whoever acquires locks need not
 /// know how a part is made.
 pub trait PartSlot: Holding + Drop {
     /// How many levels the shared part has.
@@ -156,7 +156,7 @@ pub trait PartSlot: Holding + Drop {
             × (Self.content victim.new ≡ Self.content victim.old)) };
 }
 
-/// A part on the heap, so that a call that takes it moves a tag and a pointer.
+/// A part on the heap, so that a call that acquires it moves a tag and a pointer.
 #[derive(Drop)]
 pub enum Slot<L, S> {
     /// The part of one member.

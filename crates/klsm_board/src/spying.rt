@@ -12,7 +12,7 @@ ghost use Rattle.klsm_board.specs.Deleting.{Passes, PassesBy, Spies, SpiesAfter,
 
 use crate::rule::{Locks, MemberSeat};
 use crate::slot::PartSlot;
-use crate::steps::{commit_moving, give_part, take_part};
+use crate::steps::{acquire_part, commit_moving, release_part};
 
 /// Tries each other member's part once, from the next member's on, until items came: true where
 /// they did. The seat has both its parts before and after.
@@ -84,18 +84,18 @@ fn try_victim<S: PartSlot>(
         × (mine seat.new.me.0 ≡ mine seat.old.me.0 ++ added))) }
 {
     let lock = victim as usize + 1;
-    if take_part(table, seat, lock, thread) != 0 {
+    if acquire_part(table, seat, lock, thread) != 0 {
         return false;
     }
     if !spy_in(table, seat, thread, lock) {
-        give_part(table, seat, lock, thread);
+        release_part(table, seat, lock, thread);
         return false;
     }
     commit_moving(table, seat, lock, thread, &victim);
     true
 }
 
-// Moves items from the victim's part, which the seat took last, to the own one, which is empty: true
+// Moves items from the victim's part, which the seat acquired last, to the own one, which is empty: true
 // where some moved.
 fn spy_in<S: PartSlot>(
     table: &Locks<S>,

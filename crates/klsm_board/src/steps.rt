@@ -9,8 +9,8 @@ ghost use Rattle.klsm_world.specs.OwnSteps.{Hand, Holds, own_part, found_in, aft
 ghost use Rattle.klsm_parts.specs.Least.{IsLeast};
 ghost use Rattle.klsm_board.specs.Rule.{place};
 ghost use Rattle.klsm_world.specs.LegalSteps.{MayCommit};
-ghost use Rattle.klsm_board.specs.Steps.{mine, IsMine, acquired, released, committed, looked, set_front};
-ghost use Rattle.klsm_board.specs.Seats.{Carries, Stands, Has, CarriedOut, HasRoom, LeavesShared, SetsFront, IsSeatOf, own_in_hand};
+ghost use Rattle.klsm_board.specs.Steps.{mine, IsMine, attempted, released, committed, looked, set_front};
+ghost use Rattle.klsm_board.specs.Seats.{Carries, Stands, Has, CarriedOut, QuotaAllows, LeavesShared, SetsFront, IsSeatOf, own_in_hand};
 
 use crate::plays::{Acquire, Commit, Look, Release, SetFront, Told};
 use crate::rule::{Holding, Locks, MemberSeat, STRIDE};
@@ -18,7 +18,7 @@ use klsm_run::Item;
 use klsm_world::Event;
 use std::marker::Brand;
 
-// A try to take a part. The word found is 0 where it came to the seat.
+// A try to acquire a part. The word found is 0 where it came to the seat.
 fn acquire<S: Holding, D: Told>(
     table: &Locks<S>,
     seat: &mut MemberSeat<S>,
@@ -31,14 +31,14 @@ fn acquire<S: Holding, D: Told>(
     requires view { IsMine seat.old.me.0 thread }
     requires away { found_in (hand_of thread (mine seat.old.me.0)) part ≡ None }
     ensures same { (seat.new.table_id ≡ seat.old.table_id) × (seat.new.id ≡ seat.old.id) }
-    ensures told { acquired S.content S.suits table.now.key thread
+    ensures told { attempted S.content S.suits table.now.key thread
         (step table.now.table_id.slots part 0 (thread + 1) none) seat.old.me result seat.new.me }
 {
     let free = 0;
     table.compare_exchange::<Acquire<D>>(seat, part * STRIDE, free, thread as u64 + 1)
 }
 
-// Gives back the part that was taken last, with the content that the seat's list says.
+// Releases the part that was acquired last, with the content that the seat's list says.
 fn release<S: Holding, D: Told>(
     table: &Locks<S>,
     seat: &mut MemberSeat<S>,
@@ -60,7 +60,7 @@ fn release<S: Holding, D: Told>(
     table.store::<Release<D>>(seat, part * STRIDE, 0);
 }
 
-// Commits some event that D fits, and gives back the part that was taken last, with the content
+// Commits some event that D fits, and releases the part that was acquired last, with the content
 // that the event leaves it. The caller knows the event by what it fits, and D by what the event is
 // about.
 fn commit<S: Holding, D: Told, T>(
@@ -77,7 +77,7 @@ fn commit<S: Holding, D: Told, T>(
     requires event { (e : Event) × D.fits e
         × MayCommit table.now.key.k thread (hand_of thread (mine seat.old.me.0))
         (length (inserted (mine seat.old.me.0))) e
-        × HasRoom table.now.key.quota (mine seat.old.me.0) e
+        × QuotaAllows table.now.key.quota (mine seat.old.me.0) e
         × LeavesShared thread (hand_of thread (mine seat.old.me.0)) e
         × ((y : S) × (seat.old.me.1 ≡ (part, y) ∷ rest seat.old.me.1)
         × S.suits table.now.key.k part y
@@ -107,7 +107,7 @@ fn store_front<S: Holding, D: Told, T>(
     requires event { (e : Event) × D.fits e
         × MayCommit table.now.key.k thread (hand_of thread (mine seat.old.me.0))
         (length (inserted (mine seat.old.me.0))) e
-        × HasRoom table.now.key.quota (mine seat.old.me.0) e
+        × QuotaAllows table.now.key.quota (mine seat.old.me.0) e
         × SetsFront thread (hand_of thread (mine seat.old.me.0)) e front }
     ensures same { (seat.new.table_id ≡ seat.old.table_id) × (seat.new.id ≡ seat.old.id) }
     ensures told { set_front D.fits table.now.key thread
@@ -143,8 +143,8 @@ fn load_front<S: Holding, D: Told>(
     table.load::<Look<D>>(seat, (threads + 1) * STRIDE)
 }
 
-/// A try to take a part. The word found is 0 where it came to the seat, and else names its holder.
-pub(crate) fn take_part<S: Holding>(
+/// A try to acquire a part. The word found is 0 where it came to the seat, and else names its holder.
+pub(crate) fn acquire_part<S: Holding>(
     table: &Locks<S>,
     seat: &mut MemberSeat<S>,
     part: usize,
@@ -167,8 +167,8 @@ pub(crate) fn take_part<S: Holding>(
     acquire::<S, Brand>(table, seat, part, thread)
 }
 
-/// Gives back the part that was taken last.
-pub(crate) fn give_part<S: Holding>(
+/// Releases the part that was acquired last.
+pub(crate) fn release_part<S: Holding>(
     table: &Locks<S>,
     seat: &mut MemberSeat<S>,
     part: usize,
@@ -180,7 +180,7 @@ pub(crate) fn give_part<S: Holding>(
         × Stands S.content S.suits table.now.key thread ((part, found) ∷ hand) seat.old.me
         × (found_in hand part ≡ None) }
     ensures same { (seat.new.table_id ≡ seat.old.table_id) × (seat.new.id ≡ seat.old.id) }
-    ensures gave { (found : List Item) → (hand : Hand)
+    ensures released { (found : List Item) → (hand : Hand)
         → Stands S.content S.suits table.now.key thread ((part, found) ∷ hand) seat.old.me
         → found_in hand part ≡ None
         → Has S.content S.suits table.now.key thread hand seat.new.me }
@@ -189,8 +189,8 @@ pub(crate) fn give_part<S: Holding>(
     release::<S, Brand>(table, seat, part, thread);
 }
 
-/// Commits an event that was carried out in the parts that the seat carries, and gives back the one
-/// that was taken last.
+/// Commits an event that was carried out in the parts that the seat carries, and releases the one that
+/// was acquired last.
 pub(crate) fn commit_event<S: Holding>(
     table: &Locks<S>,
     seat: &mut MemberSeat<S>,
@@ -200,14 +200,14 @@ pub(crate) fn commit_event<S: Holding>(
 )
     requires seat { IsSeatOf seat.old.table_id table.now.table_id table.now.key thread }
     requires part { part ≤ table.now.key.threads }
-    requires room { HasRoom table.now.key.quota (mine seat.old.me.0) event.now }
+    requires room { QuotaAllows table.now.key.quota (mine seat.old.me.0) event.now }
     requires leaves { LeavesShared thread (hand_of thread (mine seat.old.me.0)) event.now }
     requires out { (left : List Item) × (hand : Hand)
         × CarriedOut S.content S.suits table.now.key thread event.now ((part, left) ∷ hand)
         seat.old.me
         × (found_in hand part ≡ None) }
     ensures same { (seat.new.table_id ≡ seat.old.table_id) × (seat.new.id ≡ seat.old.id) }
-    ensures gave { (left : List Item) → (hand : Hand)
+    ensures released { (left : List Item) → (hand : Hand)
         → Carries S.content S.suits table.now.key thread ((part, left) ∷ hand) seat.old.me
         → found_in hand part ≡ None
         → Has S.content S.suits table.now.key thread hand seat.new.me }
@@ -241,7 +241,7 @@ impl Moving for u32 {
     ghost event = { Spy };
 }
 
-/// Commits an event by which items moved, and gives back the part that was taken last. The caller
+/// Commits an event by which items moved, and releases the part that was acquired last. The caller
 /// learns of the items that its list names that their moving leaves what the seat carried.
 pub(crate) fn commit_moving<S: Holding, T: Moving>(
     table: &Locks<S>,
@@ -253,7 +253,7 @@ pub(crate) fn commit_moving<S: Holding, T: Moving>(
     requires seat { IsSeatOf seat.old.table_id table.now.table_id table.now.key thread }
     requires part { part ≤ table.now.key.threads }
     requires room { (moved : List Item)
-        → HasRoom table.now.key.quota (mine seat.old.me.0) (T.event about.now moved) }
+        → QuotaAllows table.now.key.quota (mine seat.old.me.0) (T.event about.now moved) }
     requires leaves { (moved : List Item)
         → LeavesShared thread (hand_of thread (mine seat.old.me.0)) (T.event about.now moved) }
     requires out { (moved : List Item) × (left : List Item) × (hand : Hand)
@@ -261,7 +261,7 @@ pub(crate) fn commit_moving<S: Holding, T: Moving>(
         ((part, left) ∷ hand) seat.old.me
         × (found_in hand part ≡ None) }
     ensures same { (seat.new.table_id ≡ seat.old.table_id) × (seat.new.id ≡ seat.old.id) }
-    ensures gave { (left : List Item) → (hand : Hand)
+    ensures released { (left : List Item) → (hand : Hand)
         → Carries S.content S.suits table.now.key thread ((part, left) ∷ hand) seat.old.me
         → found_in hand part ≡ None
         → Has S.content S.suits table.now.key thread hand seat.new.me }
@@ -288,7 +288,7 @@ pub(crate) fn commit_by_front<S: Holding>(
 )
     requires seat { IsSeatOf seat.old.table_id table.now.table_id table.now.key thread }
     requires threads { threads ≡ table.now.key.threads }
-    requires room { HasRoom table.now.key.quota (mine seat.old.me.0) event.now }
+    requires room { QuotaAllows table.now.key.quota (mine seat.old.me.0) event.now }
     requires sets { SetsFront thread (hand_of thread (mine seat.old.me.0)) event.now front }
     requires out { (hand : Hand)
         × CarriedOut S.content S.suits table.now.key thread event.now hand seat.old.me }
@@ -313,7 +313,7 @@ pub(crate) fn commit_moving_by_front<S: Holding, T: Moving>(
     requires seat { IsSeatOf seat.old.table_id table.now.table_id table.now.key thread }
     requires threads { threads ≡ table.now.key.threads }
     requires room { (moved : List Item)
-        → HasRoom table.now.key.quota (mine seat.old.me.0) (T.event about.now moved) }
+        → QuotaAllows table.now.key.quota (mine seat.old.me.0) (T.event about.now moved) }
     requires out { (moved : List Item) × (hand : Hand)
         × CarriedOut S.content S.suits table.now.key thread (T.event about.now moved) hand
         seat.old.me

@@ -9,7 +9,7 @@ use Rattle.klsm_instance.specs.declared.errors.ReadError.TheVariants as read_err
 use Rattle.klsm_instance.specs.Selections.{Problem}
 use Rattle.klsm_instance.specs.Limits.{IsThing, IsInRange}
 use Rattle.klsm_rows.specs.Rows.{Row, AreFirstRows}
-use Rattle.klsm_instance.specs.Format.{capacity_of, thing_of, Give, AreGood, Refuses, RefusesInput}
+use Rattle.klsm_instance.specs.Format.{capacity_of, thing_of, Give, AreGood, RefusesRow, RefusesInput}
 
 -- the two fields that were looked at are the row
 pub two : (row : Row) (a b : Bor (List ℕ)) → length row ≡ 2 → Some a.now ≡ field_at row 0 → Some b.now ≡ field_at row 1 → row ≡ a.now ∷ b.now ∷ []
@@ -43,7 +43,7 @@ give_more (first ∷ rows) row c xs x give many is =
     let same : length xs ≡ length rows = omega (arith, many) in
     (record { capacity = c; things = xs }, x, give, subst (λ (n : ℕ). thing_of n row ≡ Ok x) same is, refl)
 
-pub refuses_next : (rows : List Row) (row : Row) (c : ℕ) (xs : List Thing) (why : ReadError) → Give rows record { capacity = c; things = xs } → length rows ≡ length xs + 1 → thing_of (length xs) row ≡ Err why → Refuses rows row why
+pub refuses_next : (rows : List Row) (row : Row) (c : ℕ) (xs : List Thing) (why : ReadError) → Give rows record { capacity = c; things = xs } → length rows ≡ length xs + 1 → thing_of (length xs) row ≡ Err why → RefusesRow rows row why
 refuses_next [] row c xs why give many is = absurd give
 refuses_next (first ∷ rows) row c xs why give many is =
     let same : length xs ≡ length rows = omega (arith, many) in
@@ -54,7 +54,7 @@ good [] p give = absurd give
 good (row ∷ rows) p give = (p, give)
 
 -- a row is refused, and those before it are not
-pub refused_row : (input : Option (List ℕ)) (rows : List Row) (row : Row) (why : ReadError) → AreFirstRows input rows → AreFirstRows input (row ∷ rows) → AreGood rows → Refuses rows row why → RefusesInput input why
+pub refused_row : (input : Option (List ℕ)) (rows : List Row) (row : Row) (why : ReadError) → AreFirstRows input rows → AreFirstRows input (row ∷ rows) → AreGood rows → RefusesRow rows row why → RefusesInput input why
 refused_row input rows row (read_error.BadRow r) before first is refuses = inl (rows, row, first, is, refuses)
 refused_row input rows row read_error.TooMany before first is refuses = inl (rows, row, first, is, refuses)
 refused_row input rows row (read_error.BadNumber r) before first is refuses = inl (rows, row, first, is, refuses)

@@ -56,15 +56,15 @@ AreGood [] = ⊤
 AreGood (row ∷ rows) = (p : Problem) × Give (row ∷ rows) p
 
 -- the row behind these is refused
-abbrev pub Refuses : List Row → Row → ReadError → Type 0
-Refuses [] row why = capacity_of row ≡ Err why
-Refuses (first ∷ rows) row why = thing_of (length rows) row ≡ Err why
+abbrev pub RefusesRow : List Row → Row → ReadError → Type 0
+RefusesRow [] row why = capacity_of row ≡ Err why
+RefusesRow (first ∷ rows) row why = thing_of (length rows) row ≡ Err why
 
 -- a row of the input is refused, and none before it is; or there is no row
 abbrev pub IsRefused : Option (List ℕ) → ReadError → Type 0
 IsRefused input why =
     ((rows : List Row) × (row : Row) × AreFirstRows input (row ∷ rows) × AreGood rows
-    × Refuses rows row why)
+    × RefusesRow rows row why)
     ⊎ (AreAllRows input [] × (why ≡ read_error.BadRow 1))
 
 -- why an input is not read. Where the reader failed, or a growth was refused, the rows before that

@@ -6,7 +6,7 @@ use Rattle.klsm_run.specs.declared.item.Item.{Item}
 use Rattle.klsm_instance.specs.Selections.{Problem}
 use Rattle.klsm_instance.specs.Nodes.{NoneAbove, level_in, picks_in}
 use Rattle.klsm_knapsack.specs.Numbers.{value_in}
-use Rattle.klsm_knapsack.specs.Work.{IsNodeItem, Has, Work, IsDone, HasWorked, IsWorkedOff, NothingIsMissed, all_inserted}
+use Rattle.klsm_knapsack.specs.Work.{IsNodeItem, HasNode, Work, IsDone, HasWorked, IsWorkedOff, NothingIsMissed, all_inserted}
 use Rattle.klsm_instance.proofs.NodeLemmas.{completes_root}
 use Rattle.klsm_instance.proofs.SearchLemmas.{covers_both, covers_more}
 
@@ -42,11 +42,11 @@ one_of p (w ∷ works) value list x worked found there =
         }
 
 -- where items are among others, so is each node of theirs
-pub wider : (xs ys : List Item) (level picks : ℕ) → ((y : Item) → Contains xs y → Contains ys y) → Has xs level picks → Has ys level picks
+pub wider : (xs ys : List Item) (level picks : ℕ) → ((y : Item) → Contains xs y → Contains ys y) → HasNode xs level picks → HasNode ys level picks
 wider xs ys level picks within (y, there, is_level, is_picks) = (y, within y there, is_level, is_picks)
 
 -- each item inserted is covered, by the number of things that its node leaves free
-covered : (p : Problem) (works : List Work) (left : List Item) (value : ℕ) → IsWorkedOff p works left value → (n level picks : ℕ) → length p.things < level + n → Has (all_inserted works) level picks → NoneAbove p level picks value
+covered : (p : Problem) (works : List Work) (left : List Item) (value : ℕ) → IsWorkedOff p works left value → (n level picks : ℕ) → length p.things < level + n → HasNode (all_inserted works) level picks → NoneAbove p level picks value
 covered p works left value off zero level picks free (x, there, is_level, is_picks) =
     let one = one_of p works value (λ w. w.inserted) x off.have_worked off.found there in
     absurd (omega (arith, (one.has_worked.inserts_nodes x one.here).node.of_things))
@@ -54,16 +54,16 @@ covered p works left value off (suc n) level picks free (x, there, is_level, is_
     let all = all_inserted works in
     let inserter = one_of p works value (λ w. w.inserted) x off.have_worked off.found there in
     let node : IsNodeItem p x = inserter.has_worked.inserts_nodes x inserter.here in
-    let below : (q : ℕ) → Has all (level + 1) q → NoneAbove p (level + 1) q value = λ q has. covered p works left value off n (level + 1) q (omega arith) has in
+    let below : (q : ℕ) → HasNode all (level + 1) q → NoneAbove p (level + 1) q value = λ q has. covered p works left value off n (level + 1) q (omega arith) has in
     let here : NoneAbove p (level_in x.load) (picks_in x.load) value = elim (off.none_lost x there) [
       | inl gone ↦
           let one = one_of p works value (λ w. w.deleted) x off.have_worked off.found gone in
-          by_work p works value x one (one.has_worked.is_done x one.here node) (subst (λ (l : ℕ). (q : ℕ) → Has all (l + 1) q → NoneAbove p (l + 1) q value) (sym is_level) below)
+          by_work p works value x one (one.has_worked.is_done x one.here node) (subst (λ (l : ℕ). (q : ℕ) → HasNode all (l + 1) q → NoneAbove p (l + 1) q value) (sym is_level) below)
       | inr rest ↦ off.finished x rest node
     ] in
     subst (λ (l : ℕ). NoneAbove p l picks value) is_level (subst (λ (q : ℕ). NoneAbove p (level_in x.load) q value) is_picks here)
   where
-    by_work : (p : Problem) (works : List Work) (value : ℕ) (x : Item) (one : One p works value (λ w. w.deleted) x) → IsDone p one.worker x → ((q : ℕ) → Has (all_inserted works) (level_in x.load + 1) q → NoneAbove p (level_in x.load + 1) q value) → NoneAbove p (level_in x.load) (picks_in x.load) value
+    by_work : (p : Problem) (works : List Work) (value : ℕ) (x : Item) (one : One p works value (λ w. w.deleted) x) → IsDone p one.worker x → ((q : ℕ) → HasNode (all_inserted works) (level_in x.load + 1) q → NoneAbove p (level_in x.load + 1) q value) → NoneAbove p (level_in x.load) (picks_in x.load) value
     by_work p works value x one (inl closed) below = covers_more p (level_in x.load) (picks_in x.load) (value_in one.worker.found) value one.below closed
     by_work p works value x one (inr split) below =
         covers_both p (level_in x.load) (picks_in x.load) value

@@ -18,9 +18,9 @@ use Rattle.klsm_knapsack.specs.declared.errors.Refusal.{Refusal}
 use Rattle.klsm_instance.specs.Selections.{Problem}
 use Rattle.klsm_instance.specs.Nodes.{level_in, picks_in}
 use Rattle.klsm_knapsack.specs.Watching.{found_by}
-use Rattle.klsm_knapsack.specs.Work.{Has, HasWorked, IsNodeItem}
+use Rattle.klsm_knapsack.specs.Work.{HasNode, HasWorked, IsNodeItem}
 use Rattle.klsm_knapsack.specs.Ends.{EndsAnswered, HasEnded, first_refusal}
-use Rattle.klsm_knapsack.specs.Workers.{HasEndedSo, HasRun, HaveWorked, IsAtWork, IsCrew, IsNew, IsSameWorker, IsWorkerOf, work_of}
+use Rattle.klsm_knapsack.specs.Workers.{HasEndedSo, HasRun, HaveWorked, IsAtWork, AreWorkersOf, IsNew, IsSameWorker, IsWorkerOf, work_of}
 use Rattle.klsm_knapsack.proofs.CoverageLemmas.{wider}
 use Rattle.klsm_knapsack.proofs.WorkLemmas.{inserts_one, has_last}
 
@@ -70,7 +70,7 @@ module _ {LEVELS : ℕ} where
 
   -- after which it is at work
   pub root_at_work : (p : Problem) (before after : Worker LEVELS) (x : Item) → IsNew before → IsNodeItem p x → level_in x.load ≡ 0 → picks_in x.load ≡ 0 → (work_of after).inserted ≡ (work_of before).inserted ++ x ∷ []
-      → (work_of after).deleted ≡ (work_of before).deleted → EndsAnswered after.member.number (own_steps after.member) → IsAtWork p after × Has (work_of after).inserted 0 0
+      → (work_of after).deleted ≡ (work_of before).deleted → EndsAnswered after.member.number (own_steps after.member) → IsAtWork p after × HasNode (work_of after).inserted 0 0
   root_at_work p before after x new node level picks is same answered = (record { worked = worked; answered = answered }, has_last _ _ x 0 0 is level picks)
     where
       only : (work_of after).inserted ≡ x ∷ []
@@ -141,7 +141,7 @@ module _ {LEVELS : ℕ} where
 
   -- where each worker ran and none was refused, they have worked
   pub all_worked : (p : Problem) (old new : List (Worker LEVELS)) (d : Worker LEVELS) → 0 < length old → length new ≡ length old
-      → ((i : ℕ) (e : Worker LEVELS) → i < length old → HasRun p (get_or old i e) (get_or new i e)) → Has (work_of (get_or old 0 d)).inserted 0 0
+      → ((i : ℕ) (e : Worker LEVELS) → i < length old → HasRun p (get_or old i e) (get_or new i e)) → HasNode (work_of (get_or old 0 d)).inserted 0 0
       → All (λ (w : Worker LEVELS). w.refused ≡ None) new → HaveWorked p new
   all_worked p [] new d some_worker many runs root none = absurd (omega (arith, some_worker))
   all_worked p (w ∷ old) [] d some_worker many runs root none = absurd (omega (arith, many))
@@ -161,7 +161,7 @@ module _ {LEVELS : ℕ} where
     }
 
     -- the first worker has begun
-    pub crew_begun : (crew : List (Worker LEVELS)) (d after : Worker LEVELS) → IsCrew common crew → IsSameWorker (get_or crew 0 d) after → IsCrew common (set crew 0 after)
+    pub crew_begun : (crew : List (Worker LEVELS)) (d after : Worker LEVELS) → AreWorkersOf common crew → IsSameWorker (get_or crew 0 d) after → AreWorkersOf common (set crew 0 after)
     crew_begun [] d after is same = absurd (omega (arith, is.some_worker))
     crew_begun (w ∷ crew) d after is same = record { of = of; many = is.many; some_worker = is.some_worker; numbered = numbered }
       where
@@ -174,7 +174,7 @@ module _ {LEVELS : ℕ} where
         numbered (suc i) v there = is.numbered (suc i) v there
 
     -- and all are ready to run
-    pub crew_ready : (p : Problem) (crew : List (Worker LEVELS)) (d after : Worker LEVELS) → IsCrew common crew → All IsNew crew → IsSameWorker (get_or crew 0 d) after → IsAtWork p after
+    pub crew_ready : (p : Problem) (crew : List (Worker LEVELS)) (d after : Worker LEVELS) → AreWorkersOf common crew → All IsNew crew → IsSameWorker (get_or crew 0 d) after → IsAtWork p after
         → All (λ (w : Worker LEVELS). IsWorkerOf common w × IsAtWork p w) (set crew 0 after)
     crew_ready p [] d after is new same begun = absurd (omega (arith, is.some_worker))
     crew_ready p (w ∷ crew) d after is new same begun = ready
@@ -185,7 +185,7 @@ module _ {LEVELS : ℕ} where
 
     -- a crew that ran is one still
     pub crew_run : (p : Problem) (old new : List (Worker LEVELS)) → length new ≡ length old → ((i : ℕ) (e : Worker LEVELS) → i < length old → HasRun p (get_or old i e) (get_or new i e))
-        → IsCrew common old → IsCrew common new
+        → AreWorkersOf common old → AreWorkersOf common new
     crew_run p old new many runs is = record {
       of = λ k e lt. same_of (get_or old k e) (get_or new k e) (is.of k e (omega (arith, lt, many))) (runs k e (omega (arith, lt, many))).same;
       many = many ∙ is.many;

@@ -24,10 +24,10 @@ use Rattle.klsm_knapsack.specs.declared.errors.Refusal.{Refusal}
 use Rattle.klsm_knapsack.specs.declared.errors.Refusal.TheVariants as refusal
 use Rattle.klsm_knapsack.specs.declared.errors.SolveError.TheVariants.{BadThreads, BadK, NoMemory}
 use Rattle.klsm_instance.specs.Selections.{Problem}
-use Rattle.klsm_knapsack.specs.Watching.{IsOf, found_by}
-use Rattle.klsm_knapsack.specs.Work.{Has, HasWorked, all_inserted, all_deleted}
+use Rattle.klsm_knapsack.specs.Watching.{IsWatchedBy, found_by}
+use Rattle.klsm_knapsack.specs.Work.{HasNode, HasWorked, all_inserted, all_deleted}
 use Rattle.klsm_knapsack.specs.Ends.{End, HasEnded, IsLeastRefusal, first_refusal}
-use Rattle.klsm_knapsack.specs.Workers.{HasEndedSo, HaveWorked, IsCrew, IsNew, IsSearched, IsWorkerOf, work_of}
+use Rattle.klsm_knapsack.specs.Workers.{HasEndedSo, HaveWorked, AreWorkersOf, IsNew, IsSearched, IsWorkerOf, work_of}
 use Rattle.klsm_knapsack.specs.Refusals.{RefusesSearch, error_of, sizes_of}
 use Rattle.klsm_knapsack.proofs.CrewLemmas.{stands_at}
 
@@ -77,7 +77,7 @@ module _ {LEVELS : ℕ} where
 
   module _ (common : Common LEVELS) (crew : List (Worker LEVELS)) (members : List (Member 64 LEVELS)) (are : map (λ (w : Worker LEVELS). w.member) crew ≡ members)
       (of : All (λ (m : Member 64 LEVELS). IsMemberOf m common.board) members) (many : length members ≡ common.board.sizes.threads) (some_thread : 0 < common.board.sizes.threads) (numbered : AreNumbered members)
-      (seats : All (λ (w : Worker LEVELS). IsOf common.incumbent w.watcher × (found_by w.watcher ≡ 0) × (w.refused ≡ None)) crew) where
+      (seats : All (λ (w : Worker LEVELS). IsWatchedBy common.incumbent w.watcher × (found_by w.watcher ≡ 0) × (w.refused ≡ None)) crew) where
     stands : (i : ℕ) (w : Worker LEVELS) → get_elem? crew i ≡ some w → get_elem? members i ≡ some w.member
     stands i w there = ap (λ ms. get_elem? ms i) (sym are) ∙ map_at member_of crew i w there
 
@@ -85,7 +85,7 @@ module _ {LEVELS : ℕ} where
     long = sym (length-map crew member_of) ∙ ap length are
 
     -- the workers that were recruited are a crew
-    pub recruited : IsCrew common crew
+    pub recruited : AreWorkersOf common crew
     recruited = record {
       of = λ i d lt.
           let w = get_or crew i d in
@@ -103,7 +103,7 @@ module _ {LEVELS : ℕ} where
         let there = stands i w (stands_at crew i d lt) in
         record { steps = (numbered i w.member there).1; found = (seats i d lt).1; refused = (seats i d lt).2 }
 
-  module _ (common : Common LEVELS) (crew : List (Worker LEVELS)) (is : IsCrew common crew) where
+  module _ (common : Common LEVELS) (crew : List (Worker LEVELS)) (is : AreWorkersOf common crew) where
     -- the members are those of the board
     pub members_of : All (λ (m : Member 64 LEVELS). IsMemberOf m common.board) (map (λ (w : Worker LEVELS). w.member) crew)
     members_of = All-map (λ (m : Member 64 LEVELS). IsMemberOf m common.board) member_of crew (λ k d lt. (is.of k d lt).member)
@@ -149,7 +149,7 @@ module _ {LEVELS : ℕ} where
         → left ≡ (account (lists_of common.board.sizes.threads members)).left → IsSearched p number left
     searched p found number members left back worked below le all once left_is = record {
       works = map work_of crew;
-      root = subst (λ (xs : List Item). Has xs 0 0) (sym (flat_of_map work_of (λ w. w.inserted) crew)) worked.root;
+      root = subst (λ (xs : List Item). HasNode xs 0 0) (sym (flat_of_map work_of (λ w. w.inserted) crew)) worked.root;
       none_lost = none_lost;
       have_worked = recursion_from_All (HasWorked p) (map work_of crew) (All-map (HasWorked p) work_of crew worked.each);
       found = recursion_from_All (λ w. w.found ≤ number) (map work_of crew) (All-map (λ w. w.found ≤ number) work_of crew (λ k d lt. omega (arith, below k d lt, le)));

@@ -10,7 +10,7 @@ use Rattle.klsm_knapsack.specs.declared.common.Worker.{Worker}
 use Rattle.klsm_instance.specs.Selections.{Problem}
 use Rattle.klsm_instance.specs.Nodes.{level_in, picks_in}
 use Rattle.klsm_knapsack.specs.Numbers.{value_in}
-use Rattle.klsm_knapsack.specs.Work.{Work, Has, IsNodeItem, IsSplit, IsDone, HasWorked}
+use Rattle.klsm_knapsack.specs.Work.{Work, HasNode, IsNodeItem, IsSplit, IsDone, HasWorked}
 use Rattle.klsm_knapsack.specs.Workers.{InsertsNodes, Extends, IsSameWorker}
 use Rattle.klsm_instance.proofs.SearchLemmas.{covers_more}
 use Rattle.klsm_knapsack.proofs.CoverageLemmas.{wider}
@@ -87,7 +87,7 @@ worked_on p before between after x worked same more still extends done = record 
     by_place y node (inl old) = done_more p before after y inserts finds (worked.is_done y old node)
     by_place y node (inr same) = subst (λ (z : Item). IsDone p after z) same (done (subst (λ (z : Item). IsNodeItem p z) (sym same) node))
 
-pub has_last : (xs ys : List Item) (x : Item) (level picks : ℕ) → ys ≡ xs ++ x ∷ [] → level_in x.load ≡ level → picks_in x.load ≡ picks → Has ys level picks
+pub has_last : (xs ys : List Item) (x : Item) (level picks : ℕ) → ys ≡ xs ++ x ∷ [] → level_in x.load ≡ level → picks_in x.load ≡ picks → HasNode ys level picks
 has_last xs ys x level picks is is_level is_picks = (x, subst (λ (zs : List Item). Contains zs x) (sym is) (Contains-push xs x), is_level, is_picks)
 
 module _ {LEVELS : ℕ} where

@@ -9,7 +9,7 @@ use Rattle.klsm_world.specs.OwnSteps.{own_part}
 use Rattle.klsm_board.specs.declared.sizes.Sizes.{Sizes}
 use Rattle.klsm_board.specs.declared.errors.InsertError.TheVariants as insert
 use Rattle.klsm_board.specs.Entries.{both_released}
-use Rattle.klsm_board.specs.Inserting.{RefusesInsertInTime}
+use Rattle.klsm_board.specs.Inserting.{RefusesInsertWaiting}
 use Rattle.klsm_board.specs.Rule.{IsReached}
 use Rattle.klsm_knapsack.specs.declared.errors.Refusal.{Refusal}
 use Rattle.klsm_knapsack.specs.declared.errors.Refusal.TheVariants as refusal
@@ -24,9 +24,9 @@ EndsAnswered t es = (es ≡ [])
 -- it ends with an insertion that was given up: the shared part had no room, or a growth was refused
 abbrev pub EndsRefused : ℕ → ℕ → ℕ → List Entry → Refusal → Type 0
 EndsRefused levels k t es refusal.Full =
-    (before : List Entry) × RefusesInsertInTime ⊥ levels k t before es insert.Full
+    (before : List Entry) × RefusesInsertWaiting ⊥ levels k t before es insert.Full
 EndsRefused levels k t es refusal.NoMemory =
-    (before : List Entry) × RefusesInsertInTime ⊥ levels k t before es insert.NoMemory
+    (before : List Entry) × RefusesInsertWaiting ⊥ levels k t before es insert.NoMemory
 
 -- how a worker ended: with this refusal, or with none
 abbrev pub HasEnded : ℕ → ℕ → ℕ → List Entry → Option Refusal → Type 0

@@ -13,8 +13,8 @@ abbrev pub raised_by : Watcher → List ℕ
 raised_by w = w.seat.me.0.raised
 
 -- the seat is one at this incumbent
-abbrev pub IsOf : Incumbent → Watcher → Type 0
-IsOf i w = w.seat.table_id ≡ i.table.shared.table_id
+abbrev pub IsWatchedBy : Incumbent → Watcher → Type 0
+IsWatchedBy i w = w.seat.table_id ≡ i.table.shared.table_id
 
 -- the problem whose selections the incumbent has
 abbrev pub problem_of : Incumbent → Problem

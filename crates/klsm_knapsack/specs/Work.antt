@@ -13,17 +13,17 @@ pub record IsNodeItem (p : Problem) (x : Item) : Type 0 where
       × (x.key + bound ≡ 32000000)
 
 -- an item of this node is among the items
-abbrev pub Has : List Item → ℕ → ℕ → Type 0
-Has items level picks = (x : Item) × Contains items x × (level_in x.load ≡ level)
+abbrev pub HasNode : List Item → ℕ → ℕ → Type 0
+HasNode items level picks = (x : Item) × Contains items x × (level_in x.load ≡ level)
     × (picks_in x.load ≡ picks)
 
 -- both children of a node are among the items: the one that leaves the next thing and, where that
 -- fits, the one that takes it
 pub record IsSplit (p : Problem) (items : List Item) (level picks : ℕ) : Type 0 where
   pub one_more : level < length p.things
-  pub leaves : Has items (level + 1) picks
+  pub leaves : HasNode items (level + 1) picks
   pub takes : weight_of p (picks + 2 ^ level) ≤ p.capacity
-      → Has items (level + 1) (picks + 2 ^ level)
+      → HasNode items (level + 1) (picks + 2 ^ level)
 
 -- what one worker inserted and deleted, and the greatest number of the incumbent that it found
 pub record Work : Type 0 where
@@ -55,7 +55,7 @@ all_deleted works = flat_map (λ w. w.deleted) works
 pub record IsWorkedOff (p : Problem) (works : List Work) (left : List Item) (value : ℕ)
     : Type 0 where
   -- the root is among the items inserted
-  pub root : Has (all_inserted works) 0 0
+  pub root : HasNode (all_inserted works) 0 0
   -- what was inserted was deleted or is left
   pub none_lost : (x : Item) → Contains (all_inserted works) x
       → Contains (all_deleted works) x ⊎ Contains left x

@@ -11,8 +11,8 @@ use Rattle.klsm_knapsack.specs.declared.common.Common.{Common}
 use Rattle.klsm_knapsack.specs.declared.common.Worker.{Worker}
 use Rattle.klsm_instance.specs.Selections.{Problem}
 use Rattle.klsm_instance.specs.Nodes.{NoneAbove, level_in, picks_in}
-use Rattle.klsm_knapsack.specs.Watching.{IsOf, found_by}
-use Rattle.klsm_knapsack.specs.Work.{Work, Has, HasWorked, IsNodeItem, all_inserted, all_deleted}
+use Rattle.klsm_knapsack.specs.Watching.{IsWatchedBy, found_by}
+use Rattle.klsm_knapsack.specs.Work.{Work, HasNode, HasWorked, IsNodeItem, all_inserted, all_deleted}
 use Rattle.klsm_knapsack.specs.Ends.{EndsAnswered, HasEnded}
 
 -- only nodes were inserted since
@@ -38,7 +38,7 @@ module _ {LEVELS : ℕ} where
   -- the worker's member is one of the board, and its seat one at the incumbent
   pub record IsWorkerOf (common : Common LEVELS) (w : Worker LEVELS) : Type 0 where
     pub member : IsMemberOf w.member common.board
-    pub watcher : IsOf common.incumbent w.watcher
+    pub watcher : IsWatchedBy common.incumbent w.watcher
 
   -- it is the same worker
   pub record IsSameWorker (before after : Worker LEVELS) : Type 0 where
@@ -63,7 +63,7 @@ module _ {LEVELS : ℕ} where
         → InsertsNodes p (work_of before).inserted (work_of after).inserted
 
   -- the workers of a search, in the order of their numbers
-  pub record IsCrew (common : Common LEVELS) (crew : List (Worker LEVELS)) : Type 0 where
+  pub record AreWorkersOf (common : Common LEVELS) (crew : List (Worker LEVELS)) : Type 0 where
     pub of : All (IsWorkerOf common) crew
     pub many : length crew ≡ common.board.sizes.threads
     pub some_worker : 0 < length crew
@@ -77,7 +77,7 @@ module _ {LEVELS : ℕ} where
 
   -- no worker was refused, and together they are done with all nodes but those left, the root first
   pub record HaveWorked (p : Problem) (crew : List (Worker LEVELS)) : Type 0 where
-    pub root : Has (flat_map (λ w. (work_of w).inserted) crew) 0 0
+    pub root : HasNode (flat_map (λ w. (work_of w).inserted) crew) 0 0
     pub each : All (λ w. HasWorked p (work_of w)) crew
 
 -- the first n of the nodes left are finished: no completion is above the value
@@ -89,7 +89,7 @@ AreFinished p left n value = (k : ℕ) (x : Item) → k < n → slice_get left k
 -- they inserted and did not delete is left. No number that they found is above the last one.
 pub record IsSearched (p : Problem) (number : ℕ) (left : List Item) : Type 0 where
   pub works : List Work
-  pub root : Has (all_inserted works) 0 0
+  pub root : HasNode (all_inserted works) 0 0
   pub none_lost : (x : Item) → Contains (all_inserted works) x
       → Contains (all_deleted works) x ⊎ Contains left x
   pub have_worked : AllByRecursion (HasWorked p) works

@@ -4,9 +4,9 @@ ghost use Rattle.klsm_board.specs.declared.board.Member.{Member};
 ghost use Rattle.klsm_board.specs.Boards.{own_steps};
 ghost use Rattle.klsm_world.specs.OwnSteps.{inserted};
 ghost use Rattle.klsm_knapsack.specs.declared.common.Worker.{Worker};
-ghost use Rattle.klsm_knapsack.specs.Watching.{IsOf, found_by, problem_of};
+ghost use Rattle.klsm_knapsack.specs.Watching.{IsWatchedBy, found_by, problem_of};
 ghost use Rattle.klsm_knapsack.specs.Ends.{first_refusal};
-ghost use Rattle.klsm_knapsack.specs.Workers.{HasEndedSo, HasRun, HaveWorked, IsAtWork, IsCrew, IsNew, IsWorkerOf};
+ghost use Rattle.klsm_knapsack.specs.Workers.{HasEndedSo, HasRun, HaveWorked, IsAtWork, AreWorkersOf, IsNew, IsWorkerOf};
 
 use crate::common::{Common, Worker};
 use crate::errors::Refusal;
@@ -26,11 +26,11 @@ pub(crate) fn recruit<const LEVELS: usize>(
     first: &mut Watcher,
     members: Vec<Member<64, LEVELS>>,
 ) -> Result<Vec<Worker<LEVELS>>, AllocError>
-    requires { IsOf incumbent.now first.old }
-    ensures first { IsOf incumbent.now first.new }
+    requires { IsWatchedBy incumbent.now first.old }
+    ensures first { IsWatchedBy incumbent.now first.new }
     ensures members { IfOk result (λ crew.
         map (λ w. w.member) crew.items ≡ members.entry.items) }
-    ensures seats { IfOk result (λ crew. All (λ w. IsOf incumbent.now w.watcher
+    ensures seats { IfOk result (λ crew. All (λ w. IsWatchedBy incumbent.now w.watcher
         × (found_by w.watcher ≡ 0) × (w.refused ≡ None)) crew.items) }
 {
     let mut crew = Vec::new(alloc);
@@ -60,10 +60,10 @@ pub(crate) fn search<R: Threads + Wait + Sync, G: Gate, const LEVELS: usize>(
     gate: &G,
 )
     requires problem { problem_of common.now.incumbent ≡ instance.now }
-    requires crew { IsCrew common.now crew.old }
+    requires crew { AreWorkersOf common.now crew.old }
     requires new { All IsNew crew.old }
     requires room { 2 ≤ common.now.board.sizes.quota }
-    ensures crew { IsCrew common.now crew.new }
+    ensures crew { AreWorkersOf common.now crew.new }
     ensures ended { All HasEndedSo crew.new }
     ensures worked { All (λ w. w.refused ≡ None) crew.new → HaveWorked instance.now crew.new }
 {
@@ -110,11 +110,11 @@ pub(crate) fn dismiss<const LEVELS: usize>(
     crew: Vec<Worker<LEVELS>>,
     back: &mut Vec<Member<64, LEVELS>>,
 ) -> Result<(), Refusal>
-    requires first { IsOf incumbent.now first.old }
-    requires seats { All (λ w. IsOf incumbent.now w.watcher) crew.items }
+    requires first { IsWatchedBy incumbent.now first.old }
+    requires seats { All (λ w. IsWatchedBy incumbent.now w.watcher) crew.items }
     requires empty { back.old.items ≡ [] }
     requires room { length crew.items ≤ vec_capacity back.old }
-    ensures first { IsOf incumbent.now first.new }
+    ensures first { IsWatchedBy incumbent.now first.new }
     ensures members { IfOk result (λ _. back.new.items ≡ map (λ w. w.member) crew.entry.items) }
     ensures found { IfOk result (λ _.
         All (λ w. found_by w.watcher ≤ found_by first.new) crew.entry.items) }

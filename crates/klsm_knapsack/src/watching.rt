@@ -3,7 +3,7 @@ ghost use Rattle.std.specs.Prelude.{ℕ, ◌≡◌, ◌≤◌, ◌<◌, ◌⊎�
 ghost use Rattle.klsm_instance.specs.Selections.{Problem};
 ghost use Rattle.klsm_knapsack.specs.Numbers.{IsIncumbent};
 ghost use Rattle.klsm_knapsack.specs.Highest.{nothing_yet, together, LastSeen};
-ghost use Rattle.klsm_knapsack.specs.Watching.{found_by, raised_by, IsOf, problem_of};
+ghost use Rattle.klsm_knapsack.specs.Watching.{found_by, raised_by, IsWatchedBy, problem_of};
 
 use crate::incumbent::{Incumbent, Watcher};
 use crate::rule::{Another, Found, Raised, Together};
@@ -14,7 +14,7 @@ use std::alloc::{AllocError, Global};
 impl Incumbent {
     /// An incumbent of value 0 that takes nothing, and its first seat.
     pub fn new(alloc: Global, instance: &Instance) -> Result<(Incumbent, Watcher), AllocError>
-        ensures { IfOk result (λ r. (problem_of r.0 ≡ instance.now) × IsOf r.0 r.1
+        ensures { IfOk result (λ r. (problem_of r.0 ≡ instance.now) × IsWatchedBy r.0 r.1
             × (r.1.seat.me.0 ≡ nothing_yet)) }
     {
         let (table, seat) = Table::of_words(alloc, &[0], instance)?;
@@ -23,10 +23,10 @@ impl Incumbent {
 
     /// A seat for one thread more, which knows nothing yet.
     pub fn split(&self, watcher: &mut Watcher) -> Watcher
-        requires { IsOf self.now watcher.old }
+        requires { IsWatchedBy self.now watcher.old }
         ensures same { watcher.new.seat.table_id ≡ watcher.old.seat.table_id }
         ensures kept { watcher.new.seat.me.0 ≡ watcher.old.seat.me.0 }
-        ensures new { IsOf self.now result × (result.seat.me.0 ≡ nothing_yet) }
+        ensures new { IsWatchedBy self.now result × (result.seat.me.0 ≡ nothing_yet) }
     {
         Watcher {
             seat: self.table.shared.split_seat::<Another>(&mut watcher.seat),
@@ -35,8 +35,8 @@ impl Incumbent {
 
     /// What two seats knew is known to one.
     pub fn join(&self, watcher: &mut Watcher, other: Watcher)
-        requires one { IsOf self.now watcher.old }
-        requires other { IsOf self.now other }
+        requires one { IsWatchedBy self.now watcher.old }
+        requires other { IsWatchedBy self.now other }
         ensures same { watcher.new.seat.table_id ≡ watcher.old.seat.table_id }
         ensures both { watcher.new.seat.me.0 ≡ together watcher.old.seat.me.0 other.seat.me.0 }
     {
@@ -49,7 +49,7 @@ impl Incumbent {
     /// The number that the word has.
     #[inline]
     pub fn load(&self, watcher: &mut Watcher) -> u64
-        requires { IsOf self.now watcher.old }
+        requires { IsWatchedBy self.now watcher.old }
         ensures same { watcher.new.seat.table_id ≡ watcher.old.seat.table_id }
         ensures found { (found_by watcher.new ≡ result) × (found_by watcher.old ≤ result) }
         ensures raised { raised_by watcher.new ≡ raised_by watcher.old }
@@ -63,7 +63,7 @@ impl Incumbent {
     /// to all.
     #[inline]
     pub fn raise(&self, watcher: &mut Watcher, number: u64) -> u64
-        requires watcher { IsOf self.now watcher.old }
+        requires watcher { IsWatchedBy self.now watcher.old }
         requires number { IsIncumbent (problem_of self.now) number }
         ensures same { watcher.new.seat.table_id ≡ watcher.old.seat.table_id }
         ensures found { (found_by watcher.new ≡ result) × (found_by watcher.old ≤ result)
@@ -81,7 +81,7 @@ impl Incumbent {
 
     // Raises the word by one step.
     fn fetch_max(&self, watcher: &mut Watcher, number: u64) -> u64
-        requires watcher { IsOf self.now watcher.old }
+        requires watcher { IsWatchedBy self.now watcher.old }
         requires number { IsIncumbent (problem_of self.now) number }
         ensures same { watcher.new.seat.table_id ≡ watcher.old.seat.table_id }
         ensures found { (found_by watcher.new ≡ result) × (found_by watcher.old ≤ result)
@@ -97,7 +97,7 @@ impl Incumbent {
 
     /// The number at the end: of a feasible selection, and no less than any that the seat found.
     pub fn finish(self, watcher: Watcher) -> u64
-        requires { IsOf self watcher }
+        requires { IsWatchedBy self watcher }
         ensures rule { LastSeen (Unit {0}) (problem_of self) watcher.seat.id watcher.seat.me.0
             result }
         ensures incumbent { IsIncumbent (problem_of self) result }

@@ -7,7 +7,7 @@ ghost use Rattle.klsm_instance.specs.Selections.{value_of, weight_of};
 ghost use Rattle.klsm_instance.specs.Limits.{IsInRange};
 ghost use Rattle.klsm_instance.specs.Nodes.{IsNodeOf, level_in, picks_in};
 ghost use Rattle.klsm_knapsack.specs.Watching.{problem_of};
-ghost use Rattle.klsm_knapsack.specs.Work.{Has, IsNodeItem, IsSplit, IsDone, HasWorked};
+ghost use Rattle.klsm_knapsack.specs.Work.{HasNode, IsNodeItem, IsSplit, IsDone, HasWorked};
 ghost use Rattle.klsm_knapsack.specs.Ends.{EndsAnswered, EndsRefused};
 ghost use Rattle.klsm_knapsack.specs.Workers.{Extends, HasEndedSo, HasRun, InsertsNodes, IsAtWork, IsNew, IsSameWorker, IsWorkerOf, work_of};
 
@@ -31,7 +31,7 @@ impl<const LEVELS: usize> Worker<LEVELS> {
         ensures same { IsSameWorker self.old self.new }
         ensures ended { HasEndedSo self.new }
         ensures begun { MatchBool result
-            (IsAtWork instance.now self.new × Has (work_of self.new).inserted 0 0)
+            (IsAtWork instance.now self.new × HasNode (work_of self.new).inserted 0 0)
             (self.new.refused ≡ None → ⊥) }
     {
         match self.insert(rt, common, instance, &instance.root()) {

@@ -16,18 +16,18 @@ use Rattle.klsm_lsm.proofs.AddLemmas.{length_add, sorted_add}
 use Rattle.klsm_lsm.proofs.CutLemmas.{length_cut}
 use Rattle.klsm_parts.specs.declared.ranks.Place.{Place}
 use Rattle.klsm_parts.specs.LeastPlaces.{IsLeastPlace}
-use Rattle.klsm_parts.specs.Parts.{IsLeastBlock, IsOwn}
+use Rattle.klsm_parts.specs.Parts.{HasLeastFirst, IsOwn}
 
 -- one run holds all items of an own part, and so has its LSM room for them
 pub has_room : (capacity count : ℕ) → count < capacity → capacity ≤ 128 → count < limit_of 8 capacity
 has_room capacity count less few = omega arith
 
 -- no block was found
-pub none_found : (bs : List (List Item)) (at : ℕ) → None ≡ Some at → IsLeastBlock bs at
+pub none_found : (bs : List (List Item)) (at : ℕ) → None ≡ Some at → HasLeastFirst bs at
 none_found bs at bad = absurd (none-some at bad)
 
 -- the first item of the block that has the least one stands in its place
-pub place_if_block : (bs : List (List Item)) (at : ℕ) (place : Place) → place.block ≡ at → place.index ≡ 0 → slice_get (get_or bs at []) 0 ≡ Some place.item → IsLeastBlock bs at → IsLeastPlace bs (Some place)
+pub place_if_block : (bs : List (List Item)) (at : ℕ) (place : Place) → place.block ≡ at → place.index ≡ 0 → slice_get (get_or bs at []) 0 ≡ Some place.item → HasLeastFirst bs at → IsLeastPlace bs (Some place)
 place_if_block bs at place block index item least =
     let here : slice_get (get_or bs place.block []) place.index ≡ Some place.item = rw (block, index) item in
     record { item = sym item ∙ least.first; place = (rw block least.inside, here); first = index }

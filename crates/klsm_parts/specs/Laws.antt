@@ -8,8 +8,8 @@ use Rattle.klsm_parts.specs.Parts.{PartState, items_in, least_in, candidates_of}
 use Rattle.klsm_parts.specs.Taking.{own_first, lesser_of}
 
 -- a deletion skips at most k items of the two parts
-abbrev pub TakesSkipFew : Type 0
-TakesSkipFew = (k owner : ℕ) (own shared : List Item) (x : Item) → MayTake k owner own shared x → skipped (own ++ shared) x ≤ k
+abbrev pub TakesSkipFewOfBoth : Type 0
+TakesSkipFewOfBoth = (k owner : ℕ) (own shared : List Item) (x : Item) → MayTake k owner own shared x → skipped (own ++ shared) x ≤ k
 
 -- the candidate that goes by the rule of own order, or the least own item in its place, is one that may be taken
 abbrev pub OwnOrderMayTake : Type 0

@@ -27,7 +27,7 @@ abbrev pub candidates_of : PartState → List Item
 candidates_of shared = least (shared.k + 1) (content shared.blocks)
 
 -- the least item is the first one of this block
-pub record IsLeastBlock (blocks : List (List Item)) (at : ℕ) : Type 0 where
+pub record HasLeastFirst (blocks : List (List Item)) (at : ℕ) : Type 0 where
   pub inside : at < length blocks
   pub first : slice_get (slice_index_or blocks at []) 0 ≡ slice_get (sorted (content blocks)) 0
 
@@ -36,7 +36,7 @@ pub record IsOwn (capacity : ℕ) (part : PartState) (found : Option ℕ) : Type
   pub few : length (content part.blocks) ≤ part.k
   pub k_in_range : part.k ≤ capacity
   pub capacity_in_range : IsCapacity capacity
-  pub found_is : (at : ℕ) → found ≡ Some at → IsLeastBlock part.blocks at
+  pub found_is : (at : ℕ) → found ≡ Some at → HasLeastFirst part.blocks at
 
 -- a shared part is a lawful LSM with exact pivots of its least k+1 items, of which the blocks and the owners' low bytes are known in
 -- their order, and the least one itself

@@ -1,11 +1,11 @@
 //! Laws of the definitions that the contracts cite. The functions do nothing: what they ensure is a
 //! theorem.
-ghost use Rattle.klsm_parts.specs.Laws.{TakesSkipFew, OwnOrderMayTake, EarliesSkipNone, FirstGivesLeast};
+ghost use Rattle.klsm_parts.specs.Laws.{TakesSkipFewOfBoth, OwnOrderMayTake, EarliesSkipNone, FirstGivesLeast};
 
 /// Whatever the parts hold and whichever candidate is picked, a deletion skips at most k items of
 /// the two.
 pub fn takes_skip_few()
-    ensures { TakesSkipFew }
+    ensures { TakesSkipFewOfBoth }
 {}
 
 /// Whichever candidate is picked: the first before it that the owner inserted, or else that one

@@ -15,8 +15,8 @@ use Rattle.klsm_text.specs.declared.thread_rows.ThreadRow.{ThreadRow}
 use Rattle.klsm_text.specs.declared.script.Script.{Script}
 use Rattle.klsm_rows.specs.Rows.{Row}
 use Rattle.klsm_text.specs.Script.{request_of, request_after, row_limit}
-use Rattle.klsm_text.specs.Reading.{HasRead, ReadStops}
-use Rattle.klsm_text.specs.Keeping.{AreKept, HasEnded, KeepsOn, KeepsOne, asked_in, kept_for}
+use Rattle.klsm_text.specs.Reading.{HasReadScript, ReadStops}
+use Rattle.klsm_text.specs.Keeping.{AreKept, KeepsNoMore, KeepsOn, KeepsOne, asked_in, kept_for}
 use Rattle.klsm_text.specs.ThreadRows.{AreAccepted, Asked, StopsReading, asked_of, asks}
 use Rattle.klsm_text.proofs.ScriptLemmas.{first_read, judged}
 
@@ -65,7 +65,7 @@ kept_next threads number rows row request lists lists' number_is asks_for kept o
 }
 
 pub row_kept : {R : Type 0} (rem : R → Option (List ℕ)) (threads many number : ℕ) (input : Option (List ℕ)) (rows : List Row) (a b : Script R) (row : Row) (request : Request) (lists lists' : List (List ThreadRow)) (result : Result (Unit {0}) Stop)
-    → length lists ≡ many → HasRead rem input rows a → AreAccepted threads rows → length rows < row_limit → number ≡ length rows + 1 → AreKept threads rows lists → HasRead rem input (row ∷ rows) b → request_of many row ≡ Ok request
+    → length lists ≡ many → HasReadScript rem input rows a → AreAccepted threads rows → length rows < row_limit → number ≡ length rows + 1 → AreKept threads rows lists → HasReadScript rem input (row ∷ rows) b → request_of many row ≡ Ok request
     → IfOk result (λ _. KeepsOne number request lists lists') → IfErr result (λ why. why ≡ stop.NoMemory) → KeepsOn rem threads input rows lists' b result
 row_kept rem threads many number input rows a b row request lists lists' (Ok done) so_many was accepted below number_is kept read asks_for one memory =
     let asks : request_of threads row ≡ Ok request = ap (λ n. request_of n row) (sym kept.many ∙ so_many) ∙ asks_for in
@@ -76,7 +76,7 @@ row_kept rem threads many number input rows a b row request lists lists' (Err wh
 )
 
 -- a row that is read and refused
-pub row_refused : {R : Type 0} (rem : R → Option (List ℕ)) (threads : ℕ) (input : Option (List ℕ)) (rows : List Row) (b : Script R) (row : Row) (why : Refusal) (many : ℕ) (before lists : List (List ThreadRow)) → length before ≡ many → AreKept threads rows before → length rows < row_limit → HasRead rem input (row ∷ rows) b → request_of many row ≡ Err why
+pub row_refused : {R : Type 0} (rem : R → Option (List ℕ)) (threads : ℕ) (input : Option (List ℕ)) (rows : List Row) (b : Script R) (row : Row) (why : Refusal) (many : ℕ) (before lists : List (List ThreadRow)) → length before ≡ many → AreKept threads rows before → length rows < row_limit → HasReadScript rem input (row ∷ rows) b → request_of many row ≡ Err why
     → KeepsOn rem threads input rows lists b (Err (stop.Refused why))
 row_refused rem threads input rows b row why many before lists so_many kept below read asks_for =
     let asks : request_of threads row ≡ Err why = ap (λ n. request_of n row) (sym kept.many ∙ so_many) ∙ asks_for in
@@ -96,7 +96,7 @@ pub row_stops : {R : Type 0} (rem : R → Option (List ℕ)) (failed : Bool) (th
 row_stops rem failed threads input rows b why lists kept stops = (stops_reading failed threads input rows why stops, λ end. kept)
 
 -- one row too many
-pub beyond : {R : Type 0} (rem : R → Option (List ℕ)) (threads : ℕ) (input : Option (List ℕ)) (rows : List Row) (b : Script R) (row : Row) → length rows ≡ row_limit → HasRead rem input (row ∷ rows) b → StopsReading threads input rows (stop.Refused refusal.Rows)
+pub beyond : {R : Type 0} (rem : R → Option (List ℕ)) (threads : ℕ) (input : Option (List ℕ)) (rows : List Row) (b : Script R) (row : Row) → length rows ≡ row_limit → HasReadScript rem input (row ∷ rows) b → StopsReading threads input rows (stop.Refused refusal.Rows)
 beyond rem threads input rows b row all read =
     let at_limit : eqb (length rows) row_limit ≡ true = grind (arith, nat_tests) in
     let refuses : request_after threads rows row ≡ Err refusal.Rows = rw at_limit refl in
@@ -119,7 +119,7 @@ asked_few threads t (row ∷ rows) =
 
 -- reading has ended
 pub ended : (threads number : ℕ) (input : Option (List ℕ)) (rows : List Row) (lists : List (List ThreadRow)) (why : Stop) → AreAccepted threads rows → StopsReading threads input rows why → (why ≡ stop.AtEnd → AreKept threads rows lists) → length rows ≤ row_limit → number ≡ length rows + 1
-    → HasEnded threads input lists number why
+    → KeepsNoMore threads input lists number why
 ended threads number input rows lists why accepted stops kept few number_is = record { rows = rows; accepted = accepted; stops = stops; kept = kept; few = few; number_is = number_is }
 
 -- none is kept for a thread beyond the last

@@ -7,7 +7,7 @@ use Rattle.klsm_text.specs.declared.output.Output.{Output}
 use Rattle.klsm_text.specs.declared.report.End.{End}
 use Rattle.klsm_text.specs.declared.stop.Stop.{Stop}
 use Rattle.klsm_text.specs.declared.stop.Stop.TheVariants as stop
-use Rattle.klsm_text.specs.Output.{Adds, Puts, pending, put_count}
+use Rattle.klsm_text.specs.Output.{AddsText, PutsText, pending, put_count}
 use Rattle.klsm_text.specs.Reports.{GoesOrFails, IsCut}
 
 -- two pieces one after the other
@@ -55,13 +55,13 @@ goes_after before now after gone rest text first written written' good result fr
     inr (cut.0, cut_after before now after gone rest text first written written' front count all cut.1)
 
 -- a text that is added counts
-pub adds_count : (before after : Option (List ℕ)) (text : List ℕ) (output output' : Output) → Adds before after text output output' → put_count output' ≡ put_count output + length text
+pub adds_count : (before after : Option (List ℕ)) (text : List ℕ) (output output' : Output) → AddsText before after text output output' → put_count output' ≡ put_count output + length text
 adds_count before after text output output' adds =
     let all : length adds.0 + length (pending output') ≡ length (pending output) + length text = sym (length-append adds.0 (pending output')) ∙ (ap length adds.3 ∙ length-append (pending output) text) in
     omega (arith, adds.2, all)
 
 -- a text adds at most its length
-pub puts_at_most : (before after : Option (List ℕ)) (text : List ℕ) (output output' : Output) (result : Result (Unit {0}) Stop) → Puts before after text output output' result → put_count output' ≤ put_count output + length text
+pub puts_at_most : (before after : Option (List ℕ)) (text : List ℕ) (output output' : Output) (result : Result (Unit {0}) Stop) → PutsText before after text output output' result → put_count output' ≤ put_count output + length text
 puts_at_most before after text output output' (Ok done) puts = omega (arith, adds_count before after text output output' puts)
 puts_at_most before after text output output' (Err stop.NoMemory) puts = omega (arith, puts.1, ap length puts.2)
 puts_at_most before after text output output' (Err stop.WriteFault) puts = omega (arith, puts.0.1, puts.0.3, ap length puts.1, length-append (pending output) text)

@@ -5,7 +5,7 @@ use Rattle.csv.specs.Records.{field_at}
 use Rattle.klsm_rows.specs.Rows.{Row, AreFirstRows}
 use Rattle.klsm_rows.proofs.RowLemmas.{first_rows}
 use Rattle.klsm_text.specs.declared.script.Script.{Script}
-use Rattle.klsm_text.specs.Reading.{HasRead, left_within}
+use Rattle.klsm_text.specs.Reading.{HasReadScript, left_within}
 use Rattle.klsm_text.specs.Script.{request_of, request_after, row_limit}
 
 -- the four fields that were looked at are the row
@@ -23,5 +23,5 @@ pub judged : (threads : ℕ) (rows : List Row) (row : Row) → length rows < row
 judged threads rows row below = let other : eqb (length rows) row_limit ≡ false = grind (arith, nat_tests) in rw other refl
 
 -- the rows that were read are the first of the input
-pub first_read : {R : Type 0} (rem : R → Option (List ℕ)) (input : Option (List ℕ)) (rows : List Row) (script : Script R) → HasRead rem input rows script → AreFirstRows input rows
+pub first_read : {R : Type 0} (rem : R → Option (List ℕ)) (input : Option (List ℕ)) (rows : List Row) (script : Script R) → HasReadScript rem input rows script → AreFirstRows input rows
 first_read rem input rows script read = first_rows (left_within rem) input rows script.rows read

@@ -22,9 +22,9 @@ live_after live Nothing = live
 
 -- the live items after some lines: the items of the insertion lines without those of the deletion
 -- lines
-abbrev pub live : List Line → List Item
-live [] = []
-live (line ∷ earlier) = live_after (live earlier) line.answer
+abbrev pub live_by : List Line → List Item
+live_by [] = []
+live_by (line ∷ earlier) = live_after (live_by earlier) line.answer
 
 -- how many live items a deletion skips
 abbrev pub skip_of : List Item → Answer → ℕ
@@ -34,7 +34,7 @@ skip_of live Nothing = 0
 
 abbrev pub greatest_skip : List Line → ℕ
 greatest_skip [] = 0
-greatest_skip (line ∷ earlier) = max (greatest_skip earlier) (skip_of (live earlier) line.answer)
+greatest_skip (line ∷ earlier) = max (greatest_skip earlier) (skip_of (live_by earlier) line.answer)
 
 -- owner, a dot and number
 abbrev pub stamp_text : Stamp → List ℕ
@@ -55,7 +55,7 @@ abbrev pub lines_text : List Line → List ℕ
 lines_text [] = []
 lines_text (line ∷ earlier) =
     lines_text earlier
-    ++ answer_text line.thread line.answer (skip_of (live earlier) line.answer)
+    ++ answer_text line.thread line.answer (skip_of (live_by earlier) line.answer)
 
 abbrev pub refusal_word : Refusal → List ℕ
 refusal_word refusal.Rows = codes "rows"

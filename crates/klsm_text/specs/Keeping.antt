@@ -10,7 +10,7 @@ use Rattle.klsm_text.specs.declared.thread_rows.ThreadRow.{ThreadRow}
 use Rattle.klsm_text.specs.declared.script.Script.{Script}
 use Rattle.klsm_rows.specs.Rows.{Row}
 use Rattle.klsm_text.specs.Script.{row_limit}
-use Rattle.klsm_text.specs.Reading.{HasRead}
+use Rattle.klsm_text.specs.Reading.{HasReadScript}
 use Rattle.klsm_text.specs.ThreadRows.{AreAccepted, Asked, StopsReading, asked_of, asks}
 
 -- what a kept row asks for
@@ -39,13 +39,13 @@ pub record KeepsOne (number : ℕ) (request : Request) (lists lists' : List (Lis
 abbrev pub KeepsOn : {R : Type 0} → (R → Option (List ℕ)) → ℕ → Option (List ℕ) → List Row
     → List (List ThreadRow) → Script R → Result (Unit {0}) Stop → Type 0
 KeepsOn rem threads input rows lists script (Ok done) =
-    (row : Row) × HasRead rem input (row ∷ rows) script × AreAccepted threads (row ∷ rows)
+    (row : Row) × HasReadScript rem input (row ∷ rows) script × AreAccepted threads (row ∷ rows)
     × AreKept threads (row ∷ rows) lists
 KeepsOn rem threads input rows lists script (Err why) =
     StopsReading threads input rows why × (why ≡ stop.AtEnd → AreKept threads rows lists)
 
 -- no further row is kept, and this is the number of the next one
-pub record HasEnded (threads : ℕ) (input : Option (List ℕ)) (lists : List (List ThreadRow))
+pub record KeepsNoMore (threads : ℕ) (input : Option (List ℕ)) (lists : List (List ThreadRow))
     (number : ℕ) (why : Stop) : Type 0 where
   pub rows : List Row
   pub accepted : AreAccepted threads rows

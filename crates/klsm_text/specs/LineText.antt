@@ -7,5 +7,5 @@ abbrev pub made : LineText → List ℕ
 made line = drop line.start line.bytes
 
 -- it begins within its bytes
-abbrev pub IsWithin : LineText → Type 0
-IsWithin line = line.start ≤ 160
+abbrev pub BeginsWithin : LineText → Type 0
+BeginsWithin line = line.start ≤ 160

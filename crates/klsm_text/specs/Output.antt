@@ -20,8 +20,8 @@ abbrev pub put_count : Output → ℕ
 put_count output = output.written + length (pending output)
 
 -- of what was pending and the text, a front went out, and the rest is pending
-abbrev pub Adds : Option (List ℕ) → Option (List ℕ) → List ℕ → Output → Output → Type 0
-Adds before after text output output' =
+abbrev pub AddsText : Option (List ℕ) → Option (List ℕ) → List ℕ → Output → Output → Type 0
+AddsText before after text output output' =
     (gone : List ℕ) × Appends before after gone
     × (output'.written ≡ output.written + length gone)
     × (gone ++ pending output' ≡ pending output ++ text)
@@ -36,18 +36,18 @@ Stops before after text output output' why = ⊥
 
 -- the text was added; or it was not made, for want of memory; or the writer failed before its end,
 -- and nothing is pending
-abbrev pub Puts : Option (List ℕ) → Option (List ℕ) → List ℕ → Output → Output
+abbrev pub PutsText : Option (List ℕ) → Option (List ℕ) → List ℕ → Output → Output
     → Result (Unit {0}) Stop → Type 0
-Puts before after text output output' (Ok done) = Adds before after text output output'
-Puts before after text output output' (Err why) = Stops before after text output output' why
+PutsText before after text output output' (Ok done) = AddsText before after text output output'
+PutsText before after text output output' (Err why) = Stops before after text output output' why
 
 -- what was pending went out, or the writer failed before its end; nothing is pending
-abbrev pub Flushes : Option (List ℕ) → Option (List ℕ) → Output → Output → Result (Unit {0}) Stop
+abbrev pub FlushesText : Option (List ℕ) → Option (List ℕ) → Output → Output → Result (Unit {0}) Stop
     → Type 0
-Flushes before after output output' (Ok done) =
+FlushesText before after output output' (Ok done) =
     Appends before after (pending output)
     × (output'.written ≡ put_count output) × (pending output' ≡ [])
-Flushes before after output output' (Err why) =
+FlushesText before after output output' (Err why) =
     (why ≡ stop.WriteFault) × IsCut before after (pending output) output.written output'.written
     × (pending output' ≡ [])
 

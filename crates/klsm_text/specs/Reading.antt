@@ -12,9 +12,9 @@ abbrev pub left_within : {R : Type 0} → (R → Option (List ℕ)) → Watched 
 left_within rem watched = rem watched.inner
 
 -- the rows are the first of the input, and the script stands behind them
-abbrev pub HasRead : {R : Type 0} → (R → Option (List ℕ)) → Option (List ℕ) → List Row → Script R
+abbrev pub HasReadScript : {R : Type 0} → (R → Option (List ℕ)) → Option (List ℕ) → List Row → Script R
     → Type 0
-HasRead rem input rows script = HasReadRows (left_within rem) input rows script.rows
+HasReadScript rem input rows script = HasReadRows (left_within rem) input rows script.rows
 
 -- whether the reader of the script has failed
 abbrev pub reader_failed : {R : Type 0} → Script R → Bool

@@ -1,7 +1,7 @@
 //! The answers to a script's rows, and their text.
 ghost use Rattle.std.specs.Prelude.{◌≡◌};
 ghost use Rattle.klsm_text.specs.AnswerText.{answer_text};
-ghost use Rattle.klsm_text.specs.LineText.{IsWithin, made};
+ghost use Rattle.klsm_text.specs.LineText.{BeginsWithin, made};
 
 use crate::line_text::LineText;
 use klsm_run::Item;
@@ -34,7 +34,7 @@ pub struct Printed {
 impl Printed {
     /// The line as it goes out.
     pub fn text(&self) -> LineText
-        ensures within { IsWithin result }
+        ensures within { BeginsWithin result }
         ensures text { made result
             ≡ answer_text self.now.line.thread self.now.line.answer self.now.skip }
     {

@@ -2,7 +2,7 @@
 ghost use Rattle.std.specs.Prelude.{◌≡◌, ◌+◌, ◌≤◌, ◌++◌, [], length};
 ghost use Rattle.std.specs.Fmt.{decimal};
 ghost use Rattle.klsm_text.specs.AnswerText.{stamp_text};
-ghost use Rattle.klsm_text.specs.LineText.{IsWithin, made};
+ghost use Rattle.klsm_text.specs.LineText.{BeginsWithin, made};
 
 use itoa::write_digits;
 use klsm_run::Stamp;
@@ -34,7 +34,7 @@ impl LineText {
     /// What was made so far.
     #[inline]
     pub fn as_bytes(&self) -> &[u8]
-        requires { IsWithin self.now }
+        requires { BeginsWithin self.now }
         ensures text { result.now ≡ made self.now }
         ensures short { length result.now ≤ 160 }
     {

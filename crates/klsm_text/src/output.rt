@@ -2,7 +2,7 @@
 ghost use Rattle.std.specs.Prelude.{◌≡◌, ◌+◌, ◌<◌, ◌≤◌, ◌^◌, [], length, take};
 ghost use Rattle.std.specs.Prelude.{IfOk};
 ghost use Rattle.std.specs.Io.KnownBytes.{Appends};
-ghost use Rattle.klsm_text.specs.Output.{Puts, Flushes, Closes, pending, put_count};
+ghost use Rattle.klsm_text.specs.Output.{PutsText, FlushesText, Closes, pending, put_count};
 ghost use Rattle.klsm_text.specs.Reports.{GoesOrFails};
 
 use crate::line_text::LINE_ROOM;
@@ -36,7 +36,7 @@ impl Output {
     /// Adds one line to what is pending, and sends it all where it is much.
     pub fn put<W: Write>(&mut self, writer: &mut W, line: &[u8]) -> Result<(), Stop>
         requires { put_count self.old + length line.now < 2 ^ 64 }
-        ensures { Puts (W.contents writer.old) (W.contents writer.new) line.now self.old self.new
+        ensures { PutsText (W.contents writer.old) (W.contents writer.new) line.now self.old self.new
             result }
     {
         if self.buffer.extend_from_slice(line).is_err() {
@@ -51,7 +51,7 @@ impl Output {
     /// Sends all that is pending. Where the writer fails, the rest is dropped.
     pub fn flush<W: Write>(&mut self, writer: &mut W) -> Result<(), Stop>
         requires { put_count self.old < 2 ^ 64 }
-        ensures { Flushes (W.contents writer.old) (W.contents writer.new) self.old self.new
+        ensures { FlushesText (W.contents writer.old) (W.contents writer.new) self.old self.new
             result }
     {
         let out = write_text(writer, self.buffer.as_slice());

@@ -2,7 +2,7 @@
 ghost use Rattle.std.specs.Prelude.{ℕ, List, [], ◌∷◌, Option, MatchResult};
 ghost use Rattle.csv.specs.Records.{fields_of};
 ghost use Rattle.klsm_rows.specs.Rows.{Row};
-ghost use Rattle.klsm_text.specs.Reading.{HasRead, ReadStops, reader_failed};
+ghost use Rattle.klsm_text.specs.Reading.{HasReadScript, ReadStops, reader_failed};
 
 use crate::stop::Stop;
 use crate::watched::Watched;
@@ -21,7 +21,7 @@ pub struct Script<R> {
 impl<R: Read + Drop> Script<R> {
     /// The script that `reader` gives, of which no row was read yet.
     pub fn new(alloc: Global, reader: R) -> Self
-        ensures { HasRead R.remaining (R.remaining reader) [] result }
+        ensures { HasReadScript R.remaining (R.remaining reader) [] result }
     {
         Script {
             rows: rows_of(alloc, Watched::new(reader)),
@@ -38,9 +38,9 @@ impl<R: Read + Drop> Script<R> {
     /// Reads the next row into `row`, and answers why not where there is none.
     pub fn advance(&mut self) -> Result<(), Stop>
         ensures { (input : Option (List ℕ)) (rows : List Row)
-            → HasRead R.remaining input rows self.old
+            → HasReadScript R.remaining input rows self.old
             → MatchResult result
-            (λ _. HasRead R.remaining input (fields_of self.new.row ∷ rows) self.new)
+            (λ _. HasReadScript R.remaining input (fields_of self.new.row ∷ rows) self.new)
             (ReadStops (reader_failed self.new) input rows) }
     {
         match read_row(&mut self.rows, &mut self.row) {

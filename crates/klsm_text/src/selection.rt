@@ -1,7 +1,7 @@
 //! The lines of `klsm knapsack`.
 ghost use Rattle.std.specs.Prelude.{◌≡◌, ◌≤◌, ◌<◌, ◌^◌, ◌++◌, length, IfOk};
 ghost use Rattle.klsm_text.specs.SelectionText.{best_text, head_of, pick_text, picks_text, read_text};
-ghost use Rattle.klsm_text.specs.LineText.{IsWithin, made};
+ghost use Rattle.klsm_text.specs.LineText.{BeginsWithin, made};
 
 use crate::line_text::LineText;
 use crate::stop::refused_row;
@@ -26,7 +26,7 @@ pub fn selection_text(
 }
 
 fn head_text(value: u64, weight: u64) -> LineText
-    ensures within { IsWithin result }
+    ensures within { BeginsWithin result }
     ensures text { made result ≡ head_of value weight }
 {
     let mut text = LineText::new();
@@ -64,7 +64,7 @@ fn put_pick(text: &mut Vec<u8>, number: u64, is_picked: bool) -> Result<(), Allo
 
 /// The line of an instance that is not read.
 pub fn refusal_text(why: ReadError) -> LineText
-    ensures within { IsWithin result }
+    ensures within { BeginsWithin result }
     ensures text { made result ≡ read_text why }
 {
     match why {
@@ -79,7 +79,7 @@ pub fn refusal_text(why: ReadError) -> LineText
 
 fn only(piece: &[u8]) -> LineText
     requires { length piece.now ≤ 160 }
-    ensures within { IsWithin result }
+    ensures within { BeginsWithin result }
     ensures text { made result ≡ piece.now }
 {
     let mut text = LineText::new();

@@ -1,7 +1,7 @@
 //! Why no further row is answered, and the line that says so.
 ghost use Rattle.std.specs.Prelude.{◌≡◌, ◌≤◌, length};
 ghost use Rattle.klsm_text.specs.AnswerText.{row_text};
-ghost use Rattle.klsm_text.specs.LineText.{IsWithin, made};
+ghost use Rattle.klsm_text.specs.LineText.{BeginsWithin, made};
 
 use crate::line_text::LineText;
 use crate::report::End;
@@ -49,7 +49,7 @@ pub const NO_MEMORY: &[u8] = b"no memory\n";
 /// The line of a row that is refused, with the word for what is wrong with it.
 pub(crate) fn refused_row(row: u64, word: &[u8]) -> LineText
     requires { length word.now ≤ 20 }
-    ensures within { IsWithin result }
+    ensures within { BeginsWithin result }
     ensures text { made result ≡ row_text row word.now }
 {
     let mut text = LineText::new();
@@ -77,7 +77,7 @@ pub struct Closing {
 impl Closing {
     ghost use Rattle.std.specs.Prelude.{◌≡◌};
     ghost use Rattle.klsm_text.specs.AnswerText.{closing_text};
-    ghost use Rattle.klsm_text.specs.LineText.{IsWithin, made};
+    ghost use Rattle.klsm_text.specs.LineText.{BeginsWithin, made};
 
     /// That of a run which prints no skips.
     pub fn at(stop: Stop, row: u64) -> Closing
@@ -94,7 +94,7 @@ impl Closing {
 
     /// The line as it goes out.
     pub fn text(&self) -> LineText
-        ensures within { IsWithin result }
+        ensures within { BeginsWithin result }
         ensures text { made result
             ≡ closing_text self.now.row self.now.most self.now.bound self.now.stop }
     {

@@ -2,8 +2,8 @@
 ghost use Rattle.std.specs.Prelude.{◌≡◌, ◌<◌, ◌≤◌, ◌+◌, ℕ, List, [], length, map, Option, IfOk, IfErr};
 ghost use Rattle.klsm_rows.specs.Rows.{Row};
 ghost use Rattle.klsm_text.specs.Script.{row_limit};
-ghost use Rattle.klsm_text.specs.Reading.{HasRead};
-ghost use Rattle.klsm_text.specs.Keeping.{AreKept, HasEnded, KeepsOn, KeepsOne};
+ghost use Rattle.klsm_text.specs.Reading.{HasReadScript};
+ghost use Rattle.klsm_text.specs.Keeping.{AreKept, KeepsNoMore, KeepsOn, KeepsOne};
 ghost use Rattle.klsm_text.specs.ThreadRows.{AreAccepted};
 
 use crate::judge::request_of;
@@ -87,9 +87,9 @@ pub fn keep_rows<R: Read + Drop>(
 ) -> Closing
     requires { length lists.old ≤ 16 }
     ensures { (threads : ℕ) (input : Option (List ℕ))
-        → HasRead R.remaining input [] script.old
+        → HasReadScript R.remaining input [] script.old
         → AreKept threads [] (map (λ list. list.items) lists.old)
-        → HasEnded threads input (map (λ list. list.items) lists.new) result.row result.stop }
+        → KeepsNoMore threads input (map (λ list. list.items) lists.new) result.row result.stop }
 {
     let mut pace = Pace::new();
     for number in 0..ROW_LIMIT {
@@ -113,7 +113,7 @@ fn keep_row<R: Read + Drop>(
 ) -> Result<(), Stop>
     requires { length lists.old ≤ 16 }
     ensures { (threads : ℕ) (input : Option (List ℕ)) (rows : List Row)
-        → HasRead R.remaining input rows script.old → AreAccepted threads rows
+        → HasReadScript R.remaining input rows script.old → AreAccepted threads rows
         → length rows < row_limit → number ≡ length rows + 1
         → AreKept threads rows (map (λ list. list.items) lists.old)
         → KeepsOn R.remaining threads input rows (map (λ list. list.items) lists.new)

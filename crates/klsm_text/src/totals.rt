@@ -1,7 +1,7 @@
 //! The totals of a script that was run by threads, and their line.
 ghost use Rattle.std.specs.Prelude.{◌≡◌};
 ghost use Rattle.klsm_text.specs.TotalsText.{totals_text};
-ghost use Rattle.klsm_text.specs.LineText.{IsWithin, made};
+ghost use Rattle.klsm_text.specs.LineText.{BeginsWithin, made};
 
 use crate::line_text::LineText;
 
@@ -16,7 +16,7 @@ pub struct Totals {
 impl Totals {
     /// The line as it goes out.
     pub fn text(&self) -> LineText
-        ensures within { IsWithin result }
+        ensures within { BeginsWithin result }
         ensures text { made result ≡ totals_text self.now }
     {
         let mut text = LineText::new();

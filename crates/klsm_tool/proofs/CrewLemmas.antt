@@ -19,7 +19,7 @@ use Rattle.klsm_text.specs.declared.answer.Answer.{Answer}
 use Rattle.klsm_text.specs.declared.stop.Stop.{Stop}
 use Rattle.klsm_tool.specs.Crews.{AreMembers, Goes, lists_in, steps_in}
 use Rattle.klsm_tool.specs.Shown.{shown_in}
-use Rattle.klsm_tool.specs.Turns.{GivesUp}
+use Rattle.klsm_tool.specs.Turns.{StopsInsertion}
 
 -- what follows for what is answered
 pub ok_then : {A E : Type 0} (r : Result A E) {P Q : A → Type 0} → ((a : A) → P a → Q a) → IfOk r P → IfOk r Q
@@ -98,11 +98,11 @@ module _ {CAP LEVELS : ℕ} where
     }
 
     -- and why it gave up is told of the list among all
-    pub gives_up_by : (why : Stop) → GivesUp LEVELS before.sizes.k before.number (own_steps after) why → GivesUp LEVELS board.sizes.k t (steps_in (lists_in (slice_set members t after)) t) why
+    pub gives_up_by : (why : Stop) → StopsInsertion LEVELS before.sizes.k before.number (own_steps after) why → StopsInsertion LEVELS board.sizes.k t (steps_in (lists_in (slice_set members t after)) t) why
     gives_up_by why told =
-        subst (λ z. GivesUp LEVELS board.sizes.k t z why) (sym list_after)
-        (subst (λ n. GivesUp LEVELS board.sizes.k n (own_steps after) why) has_number
-        (subst (λ k. GivesUp LEVELS k before.number (own_steps after) why) (ap (λ z. z.k) is_of.1) told))
+        subst (λ z. StopsInsertion LEVELS board.sizes.k t z why) (sym list_after)
+        (subst (λ n. StopsInsertion LEVELS board.sizes.k n (own_steps after) why) has_number
+        (subst (λ k. StopsInsertion LEVELS k before.number (own_steps after) why) (ap (λ z. z.k) is_of.1) told))
 
   -- the members of a new board, none of which shows anything
   pub new_crew : (board : Board CAP LEVELS) (members : List (Member CAP LEVELS)) → All (λ member. IsOf member board) members → length members ≡ board.sizes.threads → IsCrew members → AreMembers board members

@@ -25,7 +25,7 @@ use Rattle.klsm_rows.specs.Rows.{AreAllRows, Row}
 use Rattle.klsm_tool.specs.Shown.{shown_in}
 use Rattle.klsm_text.specs.ThreadRows.{AreAccepted, Asked, asked_of}
 use Rattle.klsm_tool.specs.Turns.{AreAnswers}
-use Rattle.klsm_tool.specs.Working.{AreAccounted, HasRun, HasRunAt, IsReady, IsReadyAt, Works, gave_up_at, ready, steps_at}
+use Rattle.klsm_tool.specs.Working.{AreAccounted, HasRunRows, HasRunAt, IsReady, IsReadyAt, Works, gave_up_at, ready, steps_at}
 use Rattle.klsm_tool.proofs.ClosingLemmas.{all_are_first}
 use Rattle.klsm_tool.proofs.TotalLemmas.{adds_up, insertions_are}
 
@@ -94,7 +94,7 @@ all_ran board asked (Some worker ∷ crew) n each =
     let here = each 0 None (omega arith) in
     let rest = all_ran board asked crew (n + 1) (λ t d below. let told = each (suc t) d (omega (arith, below)) in
     (subst (λ j. HasRunAt board j (asked j) (slice_index_or crew t d)) (let e : n + suc t ≡ (n + 1) + t = omega arith in e) told.0, told.1)) in
-    let first : HasRun board n (asked n) worker = subst (λ j. HasRun board j (asked j) worker) (let e : n + 0 ≡ n = omega arith in e) here.0 in
+    let first : HasRunRows board n (asked n) worker = subst (λ j. HasRunRows board j (asked j) worker) (let e : n + 0 ≡ n = omega arith in e) here.0 in
     let same : Some worker ≡ ready worker.member = ap (λ (g : Option GaveUp). Some (record { member = worker.member; gave_up = g })) here.1 in
     let works : AreAnswers (asked n) (shown_in (own_steps worker.member)) = subst (Works board.sizes.k n (asked n) (own_steps worker.member)) here.1 first.works in (
       ap (λ (z : Option Worker). z ∷ crew) same ∙ ap (λ (z : List (Option Worker)). ready worker.member ∷ z) rest.0,

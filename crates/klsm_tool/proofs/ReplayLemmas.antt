@@ -24,14 +24,14 @@ use Rattle.klsm_text.specs.declared.stop.Stop.TheVariants as stop
 use Rattle.klsm_text.specs.declared.script.Script.{Script}
 use Rattle.klsm_rows.specs.Rows.{Row}
 use Rattle.klsm_text.specs.Script.{request_of, request_after, row_limit}
-use Rattle.klsm_text.specs.AnswerText.{greatest_skip, live, live_after, skip_of}
+use Rattle.klsm_text.specs.AnswerText.{greatest_skip, live_by, live_after, skip_of}
 use Rattle.klsm_tool.specs.Answering.{Answers}
 use Rattle.klsm_tool.specs.Crews.{AreFew, Goes, steps_in}
 use Rattle.klsm_tool.specs.Shown.{AreShown, answers_of, shown_in}
-use Rattle.klsm_tool.specs.Turns.{GivesUp}
+use Rattle.klsm_tool.specs.Turns.{StopsInsertion}
 use Rattle.klsm_tool.specs.Replay.{Stopped}
-use Rattle.klsm_text.specs.Reading.{HasRead, ReadStops}
-use Rattle.klsm_tool.specs.Progress.{Stands, StopsBefore}
+use Rattle.klsm_text.specs.Reading.{HasReadScript, ReadStops}
+use Rattle.klsm_tool.specs.Progress.{StandsAfter, StopsBefore}
 use Rattle.klsm_text.proofs.ScriptLemmas.{first_read, judged}
 
 -- where no row could be read, no further row is answered
@@ -86,17 +86,17 @@ few_same threads n lists few u below = omega (arith, few u below)
 
 -- a row that was read and answered
 pub next_stands : {R : Type 0} (rem : R → Option (List ℕ)) (threads : ℕ) (lists lists' : List (List Entry)) (input : Option (List ℕ)) (rows : List Row) (lines : List Line) (a b : Script R) (items items' : List Item) (most most' : ℕ) (row : Row) (request : Request) (printed : Printed)
-    → Stands rem threads lists input rows lines a items most → length rows < row_limit → HasRead rem input (row ∷ rows) b → request_of threads row ≡ Ok request
+    → StandsAfter rem threads lists input rows lines a items most → length rows < row_limit → HasReadScript rem input (row ∷ rows) b → request_of threads row ≡ Ok request
     → Answers request lists lists' items items' most most' printed
-    → (row : Row) × Stands rem threads lists' input (row ∷ rows) (printed.line ∷ lines) b items' most' × (printed.skip ≡ skip_of (live lines) printed.line.answer)
+    → (row : Row) × StandsAfter rem threads lists' input (row ∷ rows) (printed.line ∷ lines) b items' most' × (printed.skip ≡ skip_of (live_by lines) printed.line.answer)
 next_stands rem threads lists lists' input rows lines a b items items' most most' row request printed now below read asks answers =
-    let skip = answers.skip ∙ skip_alike items (live lines) printed.line.answer now.items_are in (
+    let skip = answers.skip ∙ skip_alike items (live_by lines) printed.line.answer now.items_are in (
       row,
       record {
         answered = ((request, judged threads rows row below ∙ asks, answers.thread, answers.answer), now.answered);
         shown = shown_next threads lists lists' lines printed.line now.shown (subst (λ t. Goes t lists lists' (printed.line.answer ∷ [])) (sym answers.thread) answers.goes);
         read = read;
-        items_are = answers.live_is ∙ live_alike items (live lines) printed.line.answer now.items_are;
+        items_are = answers.live_is ∙ live_alike items (live_by lines) printed.line.answer now.items_are;
         most_is = answers.most_is ∙ (ap (λ n. max n printed.skip) now.most_is ∙ ap (max (greatest_skip lines)) skip);
       },
       skip,
@@ -104,7 +104,7 @@ next_stands rem threads lists lists' input rows lines a b items items' most most
 
 -- a row that was read and refused
 pub refused : {R : Type 0} (rem : R → Option (List ℕ)) (threads k : ℕ) (lists : List (List Entry)) (input : Option (List ℕ)) (rows : List Row) (lines : List Line) (a b : Script R) (items : List Item) (most : ℕ) (row : Row) (why : Refusal)
-    → Stands rem threads lists input rows lines a items most → length rows < row_limit → HasRead rem input (row ∷ rows) b → request_of threads row ≡ Err why → StopsBefore threads k lists input rows lines most (stop.Refused why)
+    → StandsAfter rem threads lists input rows lines a items most → length rows < row_limit → HasReadScript rem input (row ∷ rows) b → request_of threads row ≡ Err why → StopsBefore threads k lists input rows lines most (stop.Refused why)
 refused rem threads k lists input rows lines a b items most row why now below read asks = record {
   stopped = (row, first_read rem input (row ∷ rows) b read, judged threads rows row below ∙ asks);
   shown = now.shown;
@@ -114,16 +114,16 @@ refused rem threads k lists input rows lines a b items most row why now below re
 
 -- a row that was read and is not answered
 pub given_up : {R : Type 0} (rem : R → Option (List ℕ)) (threads k : ℕ) (lists lists' : List (List Entry)) (input : Option (List ℕ)) (rows : List Row) (lines : List Line) (a b : Script R) (items : List Item) (most most' : ℕ) (row : Row) (request : Request) (why : Stop)
-    → Stands rem threads lists input rows lines a items most → length rows < row_limit → HasRead rem input (row ∷ rows) b → request_of threads row ≡ Ok request
-    → Goes request.thread lists lists' [] → most' ≡ most → GivesUp 21 k request.thread (steps_in lists' request.thread) why → StopsBefore threads k lists' input rows lines most' why
+    → StandsAfter rem threads lists input rows lines a items most → length rows < row_limit → HasReadScript rem input (row ∷ rows) b → request_of threads row ≡ Ok request
+    → Goes request.thread lists lists' [] → most' ≡ most → StopsInsertion 21 k request.thread (steps_in lists' request.thread) why → StopsBefore threads k lists' input rows lines most' why
 given_up rem threads k lists lists' input rows lines a b items most most' row request why now below read asks goes same gives = record {
   stopped = by_cause why gives;
   shown = shown_same threads request.thread lists lists' lines now.shown goes;
   most_is = same ∙ now.most_is;
-  other = λ e. subst (GivesUp 21 k request.thread (steps_in lists' request.thread)) e gives;
+  other = λ e. subst (StopsInsertion 21 k request.thread (steps_in lists' request.thread)) e gives;
 }
   where
-    by_cause : (why : Stop) → GivesUp 21 k request.thread (steps_in lists' request.thread) why → Stopped threads k lists' input rows why
+    by_cause : (why : Stop) → StopsInsertion 21 k request.thread (steps_in lists' request.thread) why → Stopped threads k lists' input rows why
     by_cause stop.AtEnd h = absurd h
     by_cause (stop.Refused refusal) h = absurd h
     by_cause stop.Full h = (row, request, first_read rem input (row ∷ rows) b read, judged threads rows row below ∙ asks, h)
@@ -133,9 +133,9 @@ given_up rem threads k lists lists' input rows lines a b items most most' row re
 
 -- a row that was read, by how its thread's member answers
 pub row_after : {R : Type 0} (rem : R → Option (List ℕ)) (threads k : ℕ) (lists lists' : List (List Entry)) (input : Option (List ℕ)) (rows : List Row) (lines : List Line) (a b : Script R) (items items' : List Item) (most most' : ℕ) (row : Row) (request : Request) (result : Result Printed Stop)
-    → Stands rem threads lists input rows lines a items most → length rows < row_limit → HasRead rem input (row ∷ rows) b → request_of threads row ≡ Ok request
-    → IfOk result (Answers request lists lists' items items' most most') → IfErr result (λ why. Goes request.thread lists lists' [] × (most' ≡ most) × GivesUp 21 k request.thread (steps_in lists' request.thread) why)
-    → MatchResult result (λ printed. (row : Row) × Stands rem threads lists' input (row ∷ rows) (printed.line ∷ lines) b items' most' × (printed.skip ≡ skip_of (live lines) printed.line.answer)) (StopsBefore threads k lists' input rows lines most')
+    → StandsAfter rem threads lists input rows lines a items most → length rows < row_limit → HasReadScript rem input (row ∷ rows) b → request_of threads row ≡ Ok request
+    → IfOk result (Answers request lists lists' items items' most most') → IfErr result (λ why. Goes request.thread lists lists' [] × (most' ≡ most) × StopsInsertion 21 k request.thread (steps_in lists' request.thread) why)
+    → MatchResult result (λ printed. (row : Row) × StandsAfter rem threads lists' input (row ∷ rows) (printed.line ∷ lines) b items' most' × (printed.skip ≡ skip_of (live_by lines) printed.line.answer)) (StopsBefore threads k lists' input rows lines most')
 row_after rem threads k lists lists' input rows lines a b items items' most most' row request (Ok printed) now below read asks ok err =
     next_stands rem threads lists lists' input rows lines a b items items' most most' row request printed now below read asks ok
 row_after rem threads k lists lists' input rows lines a b items items' most most' row request (Err why) now below read asks ok err =
@@ -143,14 +143,14 @@ row_after rem threads k lists lists' input rows lines a b items items' most most
 
 -- and the lists show at most one answer more
 pub few_after : (threads k n : ℕ) (lists lists' : List (List Entry)) (items items' : List Item) (most most' : ℕ) (request : Request) (result : Result Printed Stop) → AreFew threads n lists
-    → IfOk result (Answers request lists lists' items items' most most') → IfErr result (λ why. Goes request.thread lists lists' [] × (most' ≡ most) × GivesUp 21 k request.thread (steps_in lists' request.thread) why)
+    → IfOk result (Answers request lists lists' items items' most most') → IfErr result (λ why. Goes request.thread lists lists' [] × (most' ≡ most) × StopsInsertion 21 k request.thread (steps_in lists' request.thread) why)
     → AreFew threads (n + 1) lists'
 few_after threads k n lists lists' items items' most most' request (Ok printed) few ok err = few_next threads request.thread n lists lists' (printed.line.answer ∷ []) (omega arith) few ok.goes
 few_after threads k n lists lists' items items' most most' request (Err why) few ok err = few_next threads request.thread n lists lists' [] (omega arith) few err.0
 
 -- a row beyond the limit is refused for that
 pub too_many : {R : Type 0} (rem : R → Option (List ℕ)) (threads k : ℕ) (lists : List (List Entry)) (input : Option (List ℕ)) (rows : List Row) (b : Script R) (row : Row)
-    → length rows ≡ row_limit → HasRead rem input (row ∷ rows) b → Stopped threads k lists input rows (stop.Refused refusal.Rows) × (stop.Refused refusal.Rows ≢ stop.WriteFault)
+    → length rows ≡ row_limit → HasReadScript rem input (row ∷ rows) b → Stopped threads k lists input rows (stop.Refused refusal.Rows) × (stop.Refused refusal.Rows ≢ stop.WriteFault)
 too_many rem threads k lists input rows b row all read =
     let beyond : eqb (length rows) row_limit ≡ true = grind (arith, nat_tests) in
     let asks : request_after threads rows row ≡ Err refusal.Rows = rw beyond refl in

@@ -10,12 +10,12 @@ use Rattle.klsm_world.specs.declared.step.Entry.{Entry}
 use Rattle.klsm_world.specs.OwnSteps.{inserted, inserted_by}
 use Rattle.klsm_board.specs.declared.sizes.Sizes.{Sizes}
 use Rattle.klsm_board.specs.declared.errors.InsertError.{InsertError}
-use Rattle.klsm_board.specs.Entries.{own_taken, both_taken}
-use Rattle.klsm_board.specs.Inserting.{Inserts, RefusesInsertInTime}
+use Rattle.klsm_board.specs.Entries.{own_acquired, both_acquired}
+use Rattle.klsm_board.specs.Inserting.{Inserts, RefusesInsertWaiting}
 use Rattle.klsm_board.specs.Deleting.{Deletes, FindsNothing, AnswersDeletion, victim_of}
 use Rattle.klsm_board.proofs.calls.EventLemmas.{events}
 use Rattle.klsm_board.proofs.calls.AddLemmas.{own_quiet, both_quiet}
-use Rattle.klsm_board.proofs.calls.AddedLemmas.{puts_events, flushes_events, refused_in_time_events}
+use Rattle.klsm_board.proofs.calls.AddedLemmas.{puts_events, flushes_events, refused_waiting_events}
 use Rattle.klsm_board.proofs.calls.DeletedLemmas.{takes_events, early_events, spied_events, nothing_events}
 use Rattle.klsm_text.specs.declared.answer.Answer.TheVariants.{Inserted, Deleted, Nothing}
 use Rattle.klsm_tool.specs.Shown.{shown, shown_in}
@@ -51,12 +51,12 @@ insertion_shows levels k t own_misses shared_misses es es' x (inr flushes) =
     shows_more es es' (event.Flush x flushes.moved ∷ []) (flushes_events levels k t own_misses shared_misses es es' x flushes)
 
 -- one that is refused shows nothing
-pub refusal_shows : (levels k t : ℕ) (es es' : List Entry) (why : InsertError) → RefusesInsertInTime ⊥ levels k t es es' why → shown_in es' ≡ shown_in es
-refusal_shows levels k t es es' why told = ap (flat_map shown) (refused_in_time_events levels k t es es' why told)
+pub refusal_shows : (levels k t : ℕ) (es es' : List Entry) (why : InsertError) → RefusesInsertWaiting ⊥ levels k t es es' why → shown_in es' ≡ shown_in es
+refusal_shows levels k t es es' why told = ap (flat_map shown) (refused_waiting_events levels k t es es' why told)
 
 module _ (m : Sizes) (t : ℕ) (own_misses shared_misses : List ℕ) (own shared : List Item) (es es' : List Entry) where
   abbrev taken : List Entry
-  taken = both_taken t own_misses shared_misses own shared es
+  taken = both_acquired t own_misses shared_misses own shared es
 
   quiet : events taken ≡ events es
   quiet = both_quiet t own_misses shared_misses own shared es
@@ -75,7 +75,7 @@ module _ (m : Sizes) (t : ℕ) (own_misses shared_misses : List ℕ) (own shared
 -- what a deletion answered is what it shows
 module _ {P : Type 0} (may_pick : P → ℕ → ℕ → P → Type 0) (before after : P) (m : Sizes) (t : ℕ) (own_misses shared_misses : List ℕ) (es es' : List Entry) where
   pub item_shows : (x : Item) → AnswersDeletion may_pick before after m t own_misses shared_misses es es' (Some x) → shown_in es' ≡ shown_in es ++ Deleted x ∷ []
-  item_shows x (own, inl early) = shows_more es es' (event.Early x early.0.front ∷ []) (early_events m t own es (own_taken t own_misses own es) es' x (own_quiet t own_misses own es) early.0)
+  item_shows x (own, inl early) = shows_more es es' (event.Early x early.0.front ∷ []) (early_events m t own es (own_acquired t own_misses own es) es' x (own_quiet t own_misses own es) early.0)
   item_shows x (own, inr both) = deletion_shows m t own_misses shared_misses own both.0 es es' may_pick before after x both.1
 
   pub none_shows : AnswersDeletion may_pick before after m t own_misses shared_misses es es' None → shown_in es' ≡ shown_in es ++ Nothing ∷ []

@@ -12,11 +12,11 @@ use Rattle.klsm_text.specs.declared.stop.Stop.{Stop}
 use Rattle.klsm_text.specs.declared.stop.Stop.TheVariants as stop
 use Rattle.klsm_text.specs.declared.script.Script.{Script}
 use Rattle.klsm_rows.specs.Rows.{Row}
-use Rattle.klsm_text.specs.AnswerText.{answer_text, lines_text, live, skip_of}
+use Rattle.klsm_text.specs.AnswerText.{answer_text, lines_text, live_by, skip_of}
 use Rattle.klsm_tool.specs.Shown.{AreShown}
-use Rattle.klsm_text.specs.Output.{Adds, Flushes, Puts, pending}
-use Rattle.klsm_text.specs.Reading.{HasRead}
-use Rattle.klsm_tool.specs.Progress.{HasStopped, IsCutOff, IsTold, IsToldUntil, Stands, StopsBefore}
+use Rattle.klsm_text.specs.Output.{AddsText, FlushesText, PutsText, pending}
+use Rattle.klsm_text.specs.Reading.{HasReadScript}
+use Rattle.klsm_tool.specs.Progress.{HasStopped, IsCutOff, IsTold, IsToldUntil, StandsAfter, StopsBefore}
 use Rattle.klsm_tool.specs.Replay.{Answered, AreShownUntil}
 use Rattle.klsm_text.specs.Reports.{IsCut}
 use Rattle.klsm_text.proofs.ScriptLemmas.{first_read}
@@ -62,7 +62,7 @@ stops_told threads k lists input before now rows lines most output why answered 
 
 -- no further row is answered, since the lines were cut off
 pub stops_cut : {R : Type 0} (rem : R → Option (List ℕ)) (threads k : ℕ) (lists : List (List Entry)) (input before now : Option (List ℕ)) (rows : List Row) (lines : List Line) (reader : Script R) (number most : ℕ) (output : Output)
-    → Answered threads rows lines → AreShown threads lists lines → HasRead rem input rows reader → IsCutOff before now lines output.written → HasStopped threads k lists input before now number most output stop.WriteFault
+    → Answered threads rows lines → AreShown threads lists lines → HasReadScript rem input rows reader → IsCutOff before now lines output.written → HasStopped threads k lists input before now number most output stop.WriteFault
 stops_cut rem threads k lists input before now rows lines reader number most output answered shown read cut = record {
   rows = rows;
   lines = lines;
@@ -75,10 +75,10 @@ stops_cut rem threads k lists input before now rows lines reader number most out
 }
 
 -- the next line's text
-next_text : (printed : Printed) (lines : List Line) → printed.skip ≡ skip_of (live lines) printed.line.answer → lines_text lines ++ answer_text printed.line.thread printed.line.answer printed.skip ≡ lines_text (printed.line ∷ lines)
+next_text : (printed : Printed) (lines : List Line) → printed.skip ≡ skip_of (live_by lines) printed.line.answer → lines_text lines ++ answer_text printed.line.thread printed.line.answer printed.skip ≡ lines_text (printed.line ∷ lines)
 next_text printed lines is = ap (λ skip. lines_text lines ++ answer_text printed.line.thread printed.line.answer skip) is
 
-told_next : (before now after : Option (List ℕ)) (lines lines' : List Line) (text : List ℕ) (output output' : Output) → lines_text lines ++ text ≡ lines_text lines' → IsTold before now lines output → Adds now after text output output' → IsTold before after lines' output'
+told_next : (before now after : Option (List ℕ)) (lines lines' : List Line) (text : List ℕ) (output output' : Output) → lines_text lines ++ text ≡ lines_text lines' → IsTold before now lines output → AddsText now after text output output' → IsTold before after lines' output'
 told_next before now after lines lines' text output output' next told adds = record {
   gone = told.gone ++ adds.0;
   appended = appends_more before now after told.gone adds.0 told.appended adds.1;
@@ -102,7 +102,7 @@ cut_next before now after lines lines' text output written next told cut =
     }
 
 -- what is pending is sent
-pub told_flushed : (before now after : Option (List ℕ)) (lines : List Line) (output output' : Output) (result : Result (Unit {0}) Stop) → IsTold before now lines output → Flushes now after output output' result
+pub told_flushed : (before now after : Option (List ℕ)) (lines : List Line) (output output' : Output) (result : Result (Unit {0}) Stop) → IsTold before now lines output → FlushesText now after output output' result
     → MatchResult result (λ _. IsTold before after lines output') (λ why. (why ≡ stop.WriteFault) × IsCutOff before after lines output'.written)
 told_flushed before now after lines output output' (Ok done) told sent =
     let same : pending output ++ pending output' ≡ pending output ++ [] = ap (λ rest. pending output ++ rest) sent.2 in
@@ -112,9 +112,9 @@ told_flushed before now after lines output output' (Err why) told failed =
 
 -- the line of a row that was answered is put
 pub line_put : {R : Type 0} (rem : R → Option (List ℕ)) (threads k : ℕ) (lists lists' : List (List Entry)) (input before now after : Option (List ℕ)) (rows : List Row) (lines : List Line) (a b : Script R) (items items' : List Item) (most most' : ℕ) (output output' : Output) (row : Row) (printed : Printed) (result : Result (Unit {0}) Stop)
-    → Stands rem threads lists input rows lines a items most → Stands rem threads lists' input (row ∷ rows) (printed.line ∷ lines) b items' most' → printed.skip ≡ skip_of (live lines) printed.line.answer → IsTold before now lines output
-    → Puts now after (answer_text printed.line.thread printed.line.answer printed.skip) output output' result
-    → MatchResult result (λ _. (row : Row) × (line : Line) × Stands rem threads lists' input (row ∷ rows) (line ∷ lines) b items' most' × IsTold before after (line ∷ lines) output')
+    → StandsAfter rem threads lists input rows lines a items most → StandsAfter rem threads lists' input (row ∷ rows) (printed.line ∷ lines) b items' most' → printed.skip ≡ skip_of (live_by lines) printed.line.answer → IsTold before now lines output
+    → PutsText now after (answer_text printed.line.thread printed.line.answer printed.skip) output output' result
+    → MatchResult result (λ _. (row : Row) × (line : Line) × StandsAfter rem threads lists' input (row ∷ rows) (line ∷ lines) b items' most' × IsTold before after (line ∷ lines) output')
     (λ why. HasStopped threads k lists' input before after (length rows + 1) most' output' why)
 line_put rem threads k lists lists' input before now after rows lines a b items items' most most' output output' row printed (Ok done) was is skip told puts =
     (row, printed.line, is, told_next before now after lines (printed.line ∷ lines) _ output output' (next_text printed lines skip) told puts)

@@ -13,7 +13,7 @@ use Rattle.klsm_world.proofs.hands.HandLemmas.{choice_hit, choice_miss}
 use Rattle.klsm_world.proofs.theorems.AccountLemmas.{accounts_add_up}
 use Rattle.klsm_world.proofs.theorems.RunLemmas.{schedules_keep_lawful}
 use Rattle.klsm_board.specs.declared.sizes.Sizes.{Sizes}
-use Rattle.klsm_board.specs.Rule.{limits_of}
+use Rattle.klsm_board.specs.Rule.{world_limits}
 use Rattle.klsm_board.specs.Finishing.{AreListsAtEnd}
 use Rattle.klsm_text.specs.declared.answer.Answer.{Answer}
 use Rattle.klsm_text.specs.declared.answer.Answer.TheVariants.{Inserted, Deleted, Nothing}
@@ -26,7 +26,7 @@ use Rattle.klsm_rows.specs.Rows.{Row}
 use Rattle.klsm_text.specs.Script.{asked, asked_below, request_after, request_of, row_limit}
 use Rattle.klsm_tool.specs.Crews.{steps_in}
 use Rattle.klsm_tool.specs.Shown.{shown, shown_in}
-use Rattle.klsm_tool.specs.Turns.{IsAnswer}
+use Rattle.klsm_tool.specs.Turns.{IsAnswerTo}
 use Rattle.klsm_text.specs.ThreadRows.{AreAccepted, Asked, asked_of, asks, insertion_rows, insertions_at, insertions_in, insertions_of}
 use Rattle.klsm_tool.specs.Turns.{AreAnswers}
 
@@ -63,7 +63,7 @@ answers_insert [] (a ∷ answers) all = absurd all
 answers_insert (x ∷ rows) [] all = absurd all
 answers_insert (x ∷ rows) (a ∷ answers) all = one x.operation a all.0 ∙ ap (λ n. insertions_at x.operation + n) (answers_insert rows answers all.1)
   where
-    one : (operation : Operation) (answer : Answer) → IsAnswer operation answer → insertion_answers (answer ∷ answers) ≡ insertions_at operation + insertion_answers answers
+    one : (operation : Operation) (answer : Answer) → IsAnswerTo operation answer → insertion_answers (answer ∷ answers) ≡ insertions_at operation + insertion_answers answers
     one (Insert key load) (Inserted y) is = omega arith
     one (Insert key load) (Deleted y) is = absurd is
     one (Insert key load) Nothing is = absurd is
@@ -172,4 +172,4 @@ insertions_are threads rows lists accepted many answers =
 pub adds_up : (m : Sizes) (lists : List (List Entry)) → AreListsAtEnd m lists → (account lists).inserted ≡ (account lists).deleted + length (account lists).left
 adds_up m lists at_end =
     subst (λ (z : List (List Entry)). (account z).inserted ≡ (account z).deleted + length (account z).left) at_end.lists_are
-    (accounts_add_up (limits_of m) at_end.world (schedules_keep_lawful (limits_of m) at_end.schedule at_end.world at_end.leads))
+    (accounts_add_up (world_limits m) at_end.world (schedules_keep_lawful (world_limits m) at_end.schedule at_end.world at_end.leads))

@@ -10,10 +10,10 @@ use Rattle.klsm_tool.specs.Live.{GaveUpAt}
 use Rattle.klsm_tool.specs.Shown.{shown_in}
 use Rattle.klsm_tool.specs.Turns.{AreAnswers}
 use Rattle.klsm_text.specs.ThreadRows.{Asked}
-use Rattle.klsm_tool.specs.Turns.{GivesUp, IsAnswer}
+use Rattle.klsm_tool.specs.Turns.{StopsInsertion, IsAnswerTo}
 
 -- one answer more
-pub answers_more : (asked : List Asked) (answers : List Answer) (next : Asked) (answer : Answer) → AreAnswers asked answers → IsAnswer next.operation answer → AreAnswers (asked ++ next ∷ []) (answers ++ answer ∷ [])
+pub answers_more : (asked : List Asked) (answers : List Answer) (next : Asked) (answer : Answer) → AreAnswers asked answers → IsAnswerTo next.operation answer → AreAnswers (asked ++ next ∷ []) (answers ++ answer ∷ [])
 answers_more [] [] next answer all is = (is, tt)
 answers_more [] (a ∷ answers) next answer all is = absurd all
 answers_more (x ∷ asked) [] next answer all is = absurd all
@@ -38,13 +38,13 @@ all_are (r ∷ rows) (suc i) d below = ap (λ z. asked_in r ∷ z) (all_are rows
 
 module _ (rows : List ThreadRow) (i : ℕ) (d : ThreadRow) (within : i < length rows) where
   -- the row is answered
-  pub row_answered : (es es' : List Entry) (answer : Answer) → AreAnswers (map asked_in (take i rows)) (shown_in es) → IsAnswer (operation_in (get_or rows i d)) answer → shown_in es' ≡ shown_in es ++ answer ∷ [] → AreAnswers (map asked_in (take (i + 1) rows)) (shown_in es')
+  pub row_answered : (es es' : List Entry) (answer : Answer) → AreAnswers (map asked_in (take i rows)) (shown_in es) → IsAnswerTo (operation_in (get_or rows i d)) answer → shown_in es' ≡ shown_in es ++ answer ∷ [] → AreAnswers (map asked_in (take (i + 1) rows)) (shown_in es')
   row_answered es es' answer before is_answer shows =
       let more : map asked_in (take (i + 1) rows) ≡ map asked_in (take i rows) ++ asked_in (get_or rows i d) ∷ [] = map_more asked_in rows i d within in
       rw (more, shows) (answers_more (map asked_in (take i rows)) (shown_in es) (asked_in (get_or rows i d)) answer before is_answer)
 
   -- the worker gives up at it
-  pub row_given_up : (k t : ℕ) (es es' : List Entry) (why : Stop) → AreAnswers (map asked_in (take i rows)) (shown_in es) → shown_in es' ≡ shown_in es → GivesUp 21 k t es' why → GaveUpAt k t (map asked_in rows) es' (get_or rows i d).number why
+  pub row_given_up : (k t : ℕ) (es es' : List Entry) (why : Stop) → AreAnswers (map asked_in (take i rows)) (shown_in es) → shown_in es' ≡ shown_in es → StopsInsertion 21 k t es' why → GaveUpAt k t (map asked_in rows) es' (get_or rows i d).number why
   row_given_up k t es es' why before same gives = record {
     earlier = map asked_in (take i rows);
     here = asked_in (get_or rows i d);

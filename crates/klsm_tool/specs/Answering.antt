@@ -9,7 +9,7 @@ use Rattle.klsm_text.specs.declared.request.Request.{Request}
 use Rattle.klsm_text.specs.AnswerText.{live_after, skip_of}
 use Rattle.klsm_tool.specs.Crews.{Goes}
 use Rattle.klsm_tool.specs.LiveItems.{live_content}
-use Rattle.klsm_tool.specs.Turns.{IsAnswer}
+use Rattle.klsm_tool.specs.Turns.{IsAnswerTo}
 
 -- how many pickers there are
 abbrev pub picker_count : Beside → ℕ
@@ -24,7 +24,7 @@ live_beside beside = live_content beside.live
 pub record Answers (request : Request) (lists lists' : List (List Entry)) (live live' : List Item)
     (most most' : ℕ) (printed : Printed) : Type 0 where
   pub thread : printed.line.thread ≡ request.thread
-  pub answer : IsAnswer request.operation printed.line.answer
+  pub answer : IsAnswerTo request.operation printed.line.answer
   pub goes : Goes request.thread lists lists' (printed.line.answer ∷ [])
   pub live_is : sorted live' ≡ sorted (live_after live printed.line.answer)
   pub skip : printed.skip ≡ skip_of live printed.line.answer

@@ -16,7 +16,7 @@ use Rattle.klsm_text.specs.AnswerText.{closing_text}
 use Rattle.klsm_text.specs.TotalsText.{totals_text}
 use Rattle.klsm_tool.specs.Shown.{shown_in}
 use Rattle.klsm_tool.specs.Crews.{steps_in}
-use Rattle.klsm_tool.specs.Turns.{GivesUp}
+use Rattle.klsm_tool.specs.Turns.{StopsInsertion}
 use Rattle.klsm_text.specs.Reports.{GoesOrFails, end_of}
 use Rattle.klsm_tool.specs.Replay.{sizes_of}
 use Rattle.klsm_text.specs.ThreadRows.{AreAccepted, Asked, StopsReading, asked_of, insertion_rows}
@@ -31,7 +31,7 @@ pub record GaveUpAt (k t : ℕ) (asked : List Asked) (es : List Entry) (number :
   pub all : asked ≡ earlier ++ here ∷ later
   pub answers : AreAnswers earlier (shown_in es)
   pub number_is : here.number ≡ number
-  pub gives_up : GivesUp 21 k t es why
+  pub gives_up : StopsInsertion 21 k t es why
 
 -- of the threads that gave up this is the one of the least number: those before it answer all that
 -- they were asked for

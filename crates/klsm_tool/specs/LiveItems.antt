@@ -9,5 +9,5 @@ abbrev pub live_content : LiveItems → List Item
 live_content live = live.ascending.keys ++ live.apart.items
 
 -- one more item finds room
-abbrev pub HasRoom : LiveItems → Type 0
-HasRoom live = vec_len live.apart < vec_capacity live.apart
+abbrev pub HasRoomForOne : LiveItems → Type 0
+HasRoomForOne live = vec_len live.apart < vec_capacity live.apart

@@ -10,8 +10,8 @@ use Rattle.klsm_text.specs.declared.stop.Stop.{Stop}
 use Rattle.klsm_text.specs.declared.stop.Stop.TheVariants as stop
 use Rattle.klsm_text.specs.declared.script.Script.{Script}
 use Rattle.klsm_rows.specs.Rows.{Row}
-use Rattle.klsm_text.specs.Reading.{HasRead}
-use Rattle.klsm_text.specs.AnswerText.{live, lines_text, greatest_skip}
+use Rattle.klsm_text.specs.Reading.{HasReadScript}
+use Rattle.klsm_text.specs.AnswerText.{live_by, lines_text, greatest_skip}
 use Rattle.klsm_tool.specs.Replay.{Answered, AreShownUntil, Stopped}
 use Rattle.klsm_tool.specs.Shown.{AreShown}
 use Rattle.klsm_text.specs.Output.{pending}
@@ -29,13 +29,13 @@ pub record IsCutOff (before now : Option (List ℕ)) (lines : List Line) (writte
   pub short : written < length (lines_text lines)
 
 -- the rows that were read are answered, and what is kept beside the board is that of their lines
-pub record Stands {R : Type 0} (rem : R → Option (List ℕ)) (threads : ℕ)
+pub record StandsAfter {R : Type 0} (rem : R → Option (List ℕ)) (threads : ℕ)
     (lists : List (List Entry)) (input : Option (List ℕ)) (rows : List Row) (lines : List Line)
     (script : Script R) (items : List Item) (most : ℕ) : Type 0 where
   pub answered : Answered threads rows lines
   pub shown : AreShown threads lists lines
-  pub read : HasRead rem input rows script
-  pub items_are : sorted items ≡ sorted (live lines)
+  pub read : HasReadScript rem input rows script
+  pub items_are : sorted items ≡ sorted (live_by lines)
   pub most_is : most ≡ greatest_skip lines
 
 -- what went out where no further row is answered

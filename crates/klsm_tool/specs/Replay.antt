@@ -18,7 +18,7 @@ use Rattle.klsm_text.specs.Reports.{GoesOrFails, end_of}
 use Rattle.klsm_text.specs.AnswerText.{text_of}
 use Rattle.klsm_tool.specs.Shown.{AreShown}
 use Rattle.klsm_tool.specs.Crews.{steps_in}
-use Rattle.klsm_tool.specs.Turns.{EndsFull, IsAnswer}
+use Rattle.klsm_tool.specs.Turns.{EndsFull, IsAnswerTo}
 
 -- the sizes of the board that a replay makes
 abbrev pub sizes_of : ℕ → ℕ → Sizes
@@ -31,7 +31,7 @@ Answered threads [] (line ∷ lines) = ⊥
 Answered threads (row ∷ rows) [] = ⊥
 Answered threads (row ∷ rows) (line ∷ lines) =
     ((request : Request) × (request_after threads rows row ≡ Ok request)
-    × (line.thread ≡ request.thread) × IsAnswer request.operation line.answer)
+    × (line.thread ≡ request.thread) × IsAnswerTo request.operation line.answer)
     × Answered threads rows lines
 
 -- the answers are those of the members' lists; only where memory was wanted the last one may have

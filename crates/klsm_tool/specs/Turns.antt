@@ -1,7 +1,7 @@
 -- What a member may answer to a row, and why it may not.
 use Rattle.std.specs.Prelude.{ℕ, ⊤, ◌≡◌, List, [], ◌∷◌}
 use Rattle.klsm_world.specs.declared.step.Entry.{Entry}
-use Rattle.klsm_board.specs.Inserting.{RefusesInsertInTime}
+use Rattle.klsm_board.specs.Inserting.{RefusesInsertWaiting}
 use Rattle.klsm_board.specs.declared.errors.InsertError.TheVariants as insert
 use Rattle.klsm_text.specs.declared.answer.Answer.{Answer}
 use Rattle.klsm_text.specs.declared.answer.Answer.TheVariants.{Inserted, Deleted, Nothing}
@@ -24,9 +24,9 @@ IsInsertion key load (Deleted x) = ⊥
 IsInsertion key load Nothing = ⊥
 
 -- an answer to what a row asks for
-abbrev pub IsAnswer : Operation → Answer → Type 0
-IsAnswer (Insert key load) answer = IsInsertion key load answer
-IsAnswer Delete answer = IsDeletion answer
+abbrev pub IsAnswerTo : Operation → Answer → Type 0
+IsAnswerTo (Insert key load) answer = IsInsertion key load answer
+IsAnswerTo Delete answer = IsDeletion answer
 
 -- the answers are those to what a thread is asked for, one by one
 abbrev pub AreAnswers : List Asked → List Answer → Type 0
@@ -34,17 +34,17 @@ AreAnswers [] [] = Unit {0}
 AreAnswers [] (answer ∷ answers) = ⊥
 AreAnswers (asked ∷ more) [] = ⊥
 AreAnswers (asked ∷ more) (answer ∷ answers) =
-    IsAnswer asked.operation answer × AreAnswers more answers
+    IsAnswerTo asked.operation answer × AreAnswers more answers
 
 -- a list of own steps ends with an insertion for which the shared part had no room
 abbrev pub EndsFull : ℕ → ℕ → ℕ → List Entry → Type 0
-EndsFull levels k t es = (before : List Entry) × RefusesInsertInTime ⊥ levels k t before es insert.Full
+EndsFull levels k t es = (before : List Entry) × RefusesInsertWaiting ⊥ levels k t before es insert.Full
 
 -- why an insertion is not answered
-abbrev pub GivesUp : ℕ → ℕ → ℕ → List Entry → Stop → Type 0
-GivesUp levels k t es stop.AtEnd = ⊥
-GivesUp levels k t es (stop.Refused why) = ⊥
-GivesUp levels k t es stop.Full = EndsFull levels k t es
-GivesUp levels k t es stop.NoMemory = ⊤
-GivesUp levels k t es stop.ReadFault = ⊥
-GivesUp levels k t es stop.WriteFault = ⊥
+abbrev pub StopsInsertion : ℕ → ℕ → ℕ → List Entry → Stop → Type 0
+StopsInsertion levels k t es stop.AtEnd = ⊥
+StopsInsertion levels k t es (stop.Refused why) = ⊥
+StopsInsertion levels k t es stop.Full = EndsFull levels k t es
+StopsInsertion levels k t es stop.NoMemory = ⊤
+StopsInsertion levels k t es stop.ReadFault = ⊥
+StopsInsertion levels k t es stop.WriteFault = ⊥

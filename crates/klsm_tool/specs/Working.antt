@@ -31,7 +31,7 @@ pub record IsReady (board : Board 64 21) (t : ℕ) (member : Member 64 21) : Typ
   pub shows_none : shown_in (own_steps member) ≡ []
 
 -- it is, and has run what it was asked for
-pub record HasRun (board : Board 64 21) (t : ℕ) (asked : List Asked) (worker : Worker)
+pub record HasRunRows (board : Board 64 21) (t : ℕ) (asked : List Asked) (worker : Worker)
     : Type 0 where
   pub of : IsOf worker.member board
   pub number : worker.member.number ≡ t
@@ -44,7 +44,7 @@ IsReadyAt board t (Some worker) = IsReady board t worker.member
 
 abbrev pub HasRunAt : Board 64 21 → ℕ → List Asked → Option Worker → Type 0
 HasRunAt board t asked None = ⊥
-HasRunAt board t asked (Some worker) = HasRun board t asked worker
+HasRunAt board t asked (Some worker) = HasRunRows board t asked worker
 
 -- its list
 abbrev pub steps_at : Option Worker → List Entry

@@ -5,7 +5,7 @@ ghost use Rattle.klsm_world.specs.OwnSteps.{inserted};
 ghost use Rattle.klsm_text.specs.AnswerText.{live_after, skip_of};
 ghost use Rattle.klsm_tool.specs.Crews.{AreMembers, Goes, lists_in, steps_in};
 ghost use Rattle.klsm_tool.specs.Answering.{Answers, picker_count, live_beside};
-ghost use Rattle.klsm_tool.specs.Turns.{GivesUp, IsDeletion};
+ghost use Rattle.klsm_tool.specs.Turns.{StopsInsertion, IsDeletion};
 ghost use Rattle.klsm_text.specs.declared.answer.Answer.TheVariants.{Inserted};
 
 use crate::live_items::LiveItems;
@@ -60,7 +60,7 @@ impl Beside {
         ensures refused { IfErr result (λ why.
             Goes request.thread (lists_in members.old) (lists_in members.new) []
             × (self.new.most ≡ self.old.most)
-            × GivesUp 21 board.now.sizes.k request.thread
+            × StopsInsertion 21 board.now.sizes.k request.thread
             (steps_in (lists_in members.new) request.thread) why) }
     {
         let Request { thread, operation } = request;
@@ -108,7 +108,7 @@ impl Beside {
             ≡ sorted (x ∷ live_beside self.old)) }
         ensures refused { IfErr result (λ why.
             Goes thread (lists_in members.old) (lists_in members.new) []
-            × GivesUp 21 board.now.sizes.k thread (steps_in (lists_in members.new) thread) why) }
+            × StopsInsertion 21 board.now.sizes.k thread (steps_in (lists_in members.new) thread) why) }
     {
         if self.live.reserve().is_err() {
             return Err(Stop::NoMemory);

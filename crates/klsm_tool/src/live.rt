@@ -6,7 +6,7 @@ ghost use Rattle.klsm_text.specs.Script.{row_limit};
 ghost use Rattle.klsm_text.specs.Reports.{GoesOrFails};
 ghost use Rattle.klsm_tool.specs.Crews.{AreMembers, lists_in};
 ghost use Rattle.klsm_text.specs.ThreadRows.{AreAccepted};
-ghost use Rattle.klsm_text.specs.Keeping.{AreKept, HasEnded, kept_for};
+ghost use Rattle.klsm_text.specs.Keeping.{AreKept, KeepsNoMore, kept_for};
 ghost use Rattle.klsm_tool.specs.Working.{AreAccounted, HasRunAt, IsReadyAt, gave_up_at, ready};
 ghost use Rattle.klsm_tool.specs.Live.{Lives, RunsScript, outcome_end, outcome_text};
 ghost use Rattle.klsm_tool.specs.declared.worker.Worker.{Worker};
@@ -95,7 +95,7 @@ fn read_rows<R: Read + Drop>(
 ) -> Closing
     requires { length lists.old ≤ 16 }
     ensures { (threads : ℕ) → AreKept threads [] (map (λ list. list.items) lists.old)
-        → HasEnded threads (R.remaining reader) (map (λ list. list.items) lists.new)
+        → KeepsNoMore threads (R.remaining reader) (map (λ list. list.items) lists.new)
         result.row result.stop }
 {
     let mut script = Script::new(alloc, reader);

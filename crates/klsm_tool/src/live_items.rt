@@ -18,7 +18,7 @@ pub(crate) struct LiveItems {
 }
 
 impl LiveItems {
-    ghost use Rattle.klsm_tool.specs.LiveItems.{live_content, HasRoom};
+    ghost use Rattle.klsm_tool.specs.LiveItems.{live_content, HasRoomForOne};
 
     /// No items.
     pub(crate) fn new(alloc: Global) -> Self
@@ -33,14 +33,14 @@ impl LiveItems {
     /// Reserves room for one more item.
     pub(crate) fn reserve(&mut self) -> Result<(), AllocError>
         ensures content { live_content self.new ≡ live_content self.old }
-        ensures room { OnOk result (HasRoom self.new) }
+        ensures room { OnOk result (HasRoomForOne self.new) }
     {
         self.apart.reserve(1)
     }
 
     /// Adds an item, for which room was reserved.
     pub(crate) fn insert(&mut self, item: Item)
-        requires { HasRoom self.old }
+        requires { HasRoomForOne self.old }
         ensures { sorted (live_content self.new) ≡ sorted (item ∷ live_content self.old) }
     {
         if !adds(&mut self.ascending, item) {

@@ -6,15 +6,15 @@ ghost use Rattle.klsm_run.specs.declared.item.Item.{Item};
 ghost use Rattle.klsm_world.specs.declared.step.Entry.{Entry};
 ghost use Rattle.klsm_board.specs.Boards.{IsCrew, IsOf};
 ghost use Rattle.klsm_text.specs.Output.{pending, put_count};
-ghost use Rattle.klsm_text.specs.AnswerText.{live, skip_of};
+ghost use Rattle.klsm_text.specs.AnswerText.{live_by, skip_of};
 ghost use Rattle.klsm_text.specs.declared.answer.Line.{Line};
 ghost use Rattle.klsm_text.specs.declared.stop.Stop.TheVariants as stop;
 ghost use Rattle.klsm_rows.specs.Rows.{Row};
 ghost use Rattle.klsm_text.specs.Script.{row_limit};
 ghost use Rattle.klsm_tool.specs.Crews.{AreFew, AreMembers, lists_in};
 ghost use Rattle.klsm_tool.specs.Answering.{live_beside, picker_count};
-ghost use Rattle.klsm_text.specs.Reading.{HasRead};
-ghost use Rattle.klsm_tool.specs.Progress.{HasStopped, IsCutOff, IsTold, Stands};
+ghost use Rattle.klsm_text.specs.Reading.{HasReadScript};
+ghost use Rattle.klsm_tool.specs.Progress.{HasStopped, IsCutOff, IsTold, StandsAfter};
 ghost use Rattle.klsm_tool.specs.Progress.{StopsBefore};
 ghost use Rattle.klsm_tool.specs.Replay.{Replays, ReplaysAlone, sizes_of};
 
@@ -100,7 +100,7 @@ struct Replay<R> {
 impl<R: Read + Drop> Replay<R> {
     fn new(alloc: Global, reader: R, settings: &Settings) -> Result<Self, AllocError>
         ensures read { IfOk result (λ replay.
-            HasRead R.remaining (R.remaining reader) [] replay.script) }
+            HasReadScript R.remaining (R.remaining reader) [] replay.script) }
         ensures pickers { IfOk result (λ replay.
             picker_count replay.beside ≡ settings.now.threads) }
         ensures live { IfOk result (λ replay. live_beside replay.beside ≡ []) }
@@ -136,7 +136,7 @@ impl<R: Read + Drop> Replay<R> {
         ensures row { result.row ≤ row_limit + 1 }
         ensures bound { result.bound ≡ settings.now.threads * settings.now.k }
         ensures stops { (input before : Option (List ℕ)) →
-            Stands R.remaining settings.now.threads (lists_in members.old) input [] []
+            StandsAfter R.remaining settings.now.threads (lists_in members.old) input [] []
             self.old.script (live_beside self.old.beside) self.old.beside.most
             → IsTold before (W.contents writer.old) [] self.old.output
             → HasStopped settings.now.threads settings.now.k (lists_in members.new) input before
@@ -180,13 +180,13 @@ impl<R: Read + Drop> Replay<R> {
             → AreFew board.now.sizes.threads (n + 1) (lists_in members.new) }
         ensures put { put_count self.new.output ≤ put_count self.old.output + 160 }
         ensures step { (input before : Option (List ℕ)) (rows : List Row) (lines : List Line) →
-            Stands R.remaining board.now.sizes.threads (lists_in members.old) input rows lines
+            StandsAfter R.remaining board.now.sizes.threads (lists_in members.old) input rows lines
             self.old.script (live_beside self.old.beside) self.old.beside.most
             → length rows < row_limit
             → IsTold before (W.contents writer.old) lines self.old.output
             → MatchResult result
             (λ _. (row : Row) × (line : Line)
-            × Stands R.remaining board.now.sizes.threads (lists_in members.new) input (row ∷ rows)
+            × StandsAfter R.remaining board.now.sizes.threads (lists_in members.new) input (row ∷ rows)
             (line ∷ lines) self.new.script (live_beside self.new.beside) self.new.beside.most
             × IsTold before (W.contents writer.new) (line ∷ lines) self.new.output)
             (λ why. HasStopped board.now.sizes.threads board.now.sizes.k (lists_in members.new)
@@ -238,14 +238,14 @@ fn next_line<R: Read + Drop>(
     ensures few { (n : ℕ) → AreFew board.now.sizes.threads n (lists_in members.old)
         → AreFew board.now.sizes.threads (n + 1) (lists_in members.new) }
     ensures step { (input : Option (List ℕ)) (rows : List Row) (lines : List Line) →
-        Stands R.remaining board.now.sizes.threads (lists_in members.old) input rows lines
+        StandsAfter R.remaining board.now.sizes.threads (lists_in members.old) input rows lines
         script.old (live_beside beside.old) beside.old.most
         → length rows < row_limit
         → MatchResult result
         (λ printed. (row : Row)
-        × Stands R.remaining board.now.sizes.threads (lists_in members.new) input (row ∷ rows)
+        × StandsAfter R.remaining board.now.sizes.threads (lists_in members.new) input (row ∷ rows)
         (printed.line ∷ lines) script.new (live_beside beside.new) beside.new.most
-        × (printed.skip ≡ skip_of (live lines) printed.line.answer))
+        × (printed.skip ≡ skip_of (live_by lines) printed.line.answer))
         (StopsBefore board.now.sizes.threads board.now.sizes.k (lists_in members.new) input rows
         lines beside.new.most) }
 {
@@ -266,7 +266,7 @@ fn stop_behind<R: Read + Drop, W: Write>(
     ensures put { put_count output.new ≤ put_count output.old }
     ensures stops { (threads k : ℕ) (lists : List (List Entry)) (input before : Option (List ℕ))
         (rows : List Row) (lines : List Line) (items : List Item) (most : ℕ) →
-        Stands R.remaining threads lists input rows lines script.old items most
+        StandsAfter R.remaining threads lists input rows lines script.old items most
         → length rows ≡ row_limit → IsTold before (W.contents writer.old) lines output.old
         → HasStopped threads k lists input before (W.contents writer.new) (length rows + 1) most
         output.new result }

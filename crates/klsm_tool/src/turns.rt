@@ -6,7 +6,7 @@ ghost use Rattle.klsm_board.specs.Boards.{IsOf, IsSame, own_steps};
 ghost use Rattle.klsm_text.specs.declared.answer.Answer.TheVariants.{Inserted};
 ghost use Rattle.klsm_tool.specs.Crews.{AreMembers, Goes, lists_in, steps_in};
 ghost use Rattle.klsm_tool.specs.Shown.{shown_in};
-ghost use Rattle.klsm_tool.specs.Turns.{GivesUp, IsDeletion};
+ghost use Rattle.klsm_tool.specs.Turns.{StopsInsertion, IsDeletion};
 
 use klsm_board::{Board, InsertError, Member};
 use klsm_parts::Picker;
@@ -30,7 +30,7 @@ pub(crate) fn insert<const CAP: usize, const LEVELS: usize>(
         shown_in (own_steps member.new) ≡ shown_in (own_steps member.old) ++ Inserted x ∷ []) }
     ensures refused { IfErr result (λ why.
         (shown_in (own_steps member.new) ≡ shown_in (own_steps member.old))
-        × GivesUp LEVELS member.old.sizes.k member.old.number (own_steps member.new) why) }
+        × StopsInsertion LEVELS member.old.sizes.k member.old.number (own_steps member.new) why) }
 {
     match member.insert(rt, board, key, load) {
         Ok(stamp) => Ok(Item { key, stamp, load }),
@@ -78,7 +78,7 @@ pub(crate) fn insert_by<const CAP: usize, const LEVELS: usize>(
         Goes thread (lists_in members.old) (lists_in members.new) (Inserted x ∷ [])) }
     ensures refused { IfErr result (λ why.
         Goes thread (lists_in members.old) (lists_in members.new) []
-        × GivesUp LEVELS board.now.sizes.k thread (steps_in (lists_in members.new) thread) why) }
+        × StopsInsertion LEVELS board.now.sizes.k thread (steps_in (lists_in members.new) thread) why) }
 {
     insert(rt, board, &mut members[thread as usize], key, load)
 }

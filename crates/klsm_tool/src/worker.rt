@@ -3,9 +3,9 @@ ghost use Rattle.std.specs.Prelude.{◌≡◌, ◌<◌, ◌++◌, [], ◌∷◌,
 ghost use Rattle.klsm_world.specs.OwnSteps.{inserted};
 ghost use Rattle.klsm_board.specs.Boards.{IsOf, IsSame, own_steps};
 ghost use Rattle.klsm_tool.specs.Shown.{shown_in};
-ghost use Rattle.klsm_tool.specs.Turns.{GivesUp, IsAnswer};
+ghost use Rattle.klsm_tool.specs.Turns.{StopsInsertion, IsAnswerTo};
 ghost use Rattle.klsm_text.specs.Keeping.{asked_in};
-ghost use Rattle.klsm_tool.specs.Working.{HasRun, IsReady, Works};
+ghost use Rattle.klsm_tool.specs.Working.{HasRunRows, IsReady, Works};
 
 use crate::picking::ThreadPicker;
 use crate::turns::{delete, insert};
@@ -39,7 +39,7 @@ impl Worker {
     ) -> Worker
         requires ready { IsReady board.now self.member.number self.member }
         requires few { length rows.now < board.now.sizes.quota }
-        ensures { HasRun board.now self.member.number (map asked_in rows.now) result }
+        ensures { HasRunRows board.now self.member.number (map asked_in rows.now) result }
     {
         let Worker { mut member, .. } = self;
         let gave_up = answer_all(rt, board, &mut member, &mut picker, rows, progress);
@@ -85,12 +85,12 @@ fn answer(
     requires of { IsOf member.old board.now }
     requires room { length (inserted (own_steps member.old)) < member.old.sizes.quota }
     ensures same { IsSame member.old member.new }
-    ensures answer { IfOk result (IsAnswer operation) }
+    ensures answer { IfOk result (IsAnswerTo operation) }
     ensures shown { IfOk result (λ answer.
         shown_in (own_steps member.new) ≡ shown_in (own_steps member.old) ++ answer ∷ []) }
     ensures refused { IfErr result (λ why.
         (shown_in (own_steps member.new) ≡ shown_in (own_steps member.old))
-        × GivesUp 21 member.old.sizes.k member.old.number (own_steps member.new) why) }
+        × StopsInsertion 21 member.old.sizes.k member.old.number (own_steps member.new) why) }
 {
     match operation {
         Operation::Insert { key, load } => match insert(rt, board, member, key, load) {

@@ -80,10 +80,10 @@ unfoldable pub action_in : List (List ℕ) → Option Action
 action_in words = action_under (subcommand_of klsm_command words)
 
 -- the options let its settings through
-abbrev pub IsInRange : Action → Type 0
-IsInRange (Replay settings) = AreInRange settings
-IsInRange (Live settings) = AreInRange settings
-IsInRange (Knapsack search) = IsSearchInRange search
+abbrev pub IsActionInRange : Action → Type 0
+IsActionInRange (Replay settings) = AreInRange settings
+IsActionInRange (Live settings) = AreInRange settings
+IsActionInRange (Knapsack search) = IsSearchInRange search
 
 -- where no option is given
 abbrev pub usual_settings : Settings

@@ -3,7 +3,7 @@ ghost use Rattle.std.specs.Prelude.{◌≡◌, Some, IfErr, IfOk, IfSome, OnOk, 
 ghost use Rattle.std.specs.List.{All};
 ghost use Rattle.clap.specs.Words.{app_of, found_of, kind_of, rows_of, subcommand_rows_of};
 ghost use Rattle.clap.specs.declared.builder.command.Command.TheViews.{out-Command as fields_of};
-ghost use Rattle.klsm_words.specs.CommandLine.{Explains, IsCommand, IsFaultIn, IsInRange, action_in as action_in_words};
+ghost use Rattle.klsm_words.specs.CommandLine.{Explains, IsCommand, IsFaultIn, IsActionInRange, action_in as action_in_words};
 ghost use Rattle.klsm_words.specs.CommandLine.{action_of, action_under, bare_app, klsm_command, knapsack_app};
 ghost use Rattle.klsm_words.specs.CommandLine.{command_over_rows, command_over_scripts, live_app, replay_app, script_action};
 ghost use Rattle.klsm_words.specs.Options.{AreInRange};
@@ -54,7 +54,7 @@ pub fn parse(alloc: Global, words: &[Vec<u8>]) -> Result<Action, Fault>
     ensures asked { OnOk result (IsCommand (map (λ word. word.items) words.now)) }
     ensures action { IfOk result (λ action.
         action_in_words (map (λ word. word.items) words.now) ≡ Some action) }
-    ensures range { IfOk result IsInRange }
+    ensures range { IfOk result IsActionInRange }
 {
     let texts = texts_of(alloc, words)?;
     let Ok(command) = command(alloc) else {
@@ -69,7 +69,7 @@ pub fn parse(alloc: Global, words: &[Vec<u8>]) -> Result<Action, Fault>
 // What the command that the words name does, with its options.
 fn action_in(matches: &ArgMatches) -> Option<Action>
     ensures action { result ≡ action_under (subcommand_rows_of matches.now) }
-    ensures range { IfSome result IsInRange }
+    ensures range { IfSome result IsActionInRange }
 {
     let (name, options) = matches.subcommand()?;
     action_named(name, options)
@@ -77,7 +77,7 @@ fn action_in(matches: &ArgMatches) -> Option<Action>
 
 fn action_named(name: &str, options: &ArgMatches) -> Option<Action>
     ensures action { result ≡ action_of name.now (rows_of (found_of options.now)) }
-    ensures range { IfSome result IsInRange }
+    ensures range { IfSome result IsActionInRange }
 {
     match name {
         "knapsack" => Some(Action::Knapsack(search_of(options))),
@@ -88,7 +88,7 @@ fn action_named(name: &str, options: &ArgMatches) -> Option<Action>
 fn over_scripts(name: &str, settings: Settings) -> Action
     requires { AreInRange settings }
     ensures action { result ≡ script_action name.now settings }
-    ensures range { IsInRange result }
+    ensures range { IsActionInRange result }
 {
     match name {
         "live" => Action::Live(settings),

@@ -10,7 +10,7 @@ use Rattle.klsm_world.specs.declared.step.Event.TheVariants.{Put, Flush, Take, E
 use Rattle.klsm_world.specs.declared.step.Entry.{Entry}
 use Rattle.klsm_world.specs.declared.step.Entry.TheVariants.{Acquired, Committed, Released, Missed}
 
--- a hand: the parts held with their contents, the last taken first
+-- a hand: the parts held with their contents, the last acquired first
 abbrev pub Hand : Type 0
 Hand = List (ℕ × List Item)
 
@@ -44,9 +44,9 @@ changed [] p c = []
 changed (held ∷ hand) p c = if held.0 == p then (p, c) ∷ hand else held ∷ changed hand p c
 
 -- a hand without a part
-abbrev pub given_back : Hand → ℕ → Hand
-given_back [] p = []
-given_back (held ∷ hand) p = if held.0 == p then given_back hand p else held ∷ given_back hand p
+abbrev pub without_part : Hand → ℕ → Hand
+without_part [] p = []
+without_part (held ∷ hand) p = if held.0 == p then without_part hand p else held ∷ without_part hand p
 
 -- thread t's hand after an event
 abbrev pub after_event : ℕ → Hand → Event → Hand
@@ -72,7 +72,7 @@ after_event t hand (Spy victim moved) =
 abbrev pub after_entry : ℕ → Hand → Entry → Hand
 after_entry t hand (Acquired p found) = (p, found) ∷ hand
 after_entry t hand (Committed event) = after_event t hand event
-after_entry t hand (Released p) = given_back hand p
+after_entry t hand (Released p) = without_part hand p
 after_entry t hand (Missed p by) = hand
 
 -- thread t's hand, which is empty at first, after all its own steps

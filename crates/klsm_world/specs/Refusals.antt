@@ -47,7 +47,7 @@ LacksPart w (Commit t event) = LacksOne w t (parts_for t event)
 LacksPart w (Release t p) = LacksOne w t (p ∷ [])
 LacksPart w (Miss t p) = ⊥
 
--- the part to be taken is held by this thread
+-- the part to be acquired is held by this thread
 abbrev pub FindsHeld : World → Step → ℕ → Type 0
 FindsHeld w (Acquire t p) by = word_of w p ≡ by + 1
 FindsHeld w (Commit t event) by = ⊥

@@ -12,7 +12,7 @@ use Rattle.klsm_world.specs.OwnSteps.{Hand, HoldsSome, shared_part, content_in, 
 use Rattle.klsm_world.specs.LegalSteps.{MayCommit}
 use Rattle.klsm_world.specs.Worlds.{Limits, World, word_of, home_of, holder_of, steps_of, hand_in, first_world}
 
--- thread t may take part p, which is free
+-- thread t may acquire part p, which is free
 pub record MayAcquire (limits : Limits) (w : World) (t p : ℕ) : Type 0 where
   pub thread : t < limits.threads
   pub part : p ≤ limits.threads
@@ -33,7 +33,7 @@ pub record MayTakeEffect (limits : Limits) (w : World) (t : ℕ) (event : Event)
   pub commit : MayCommit limits.k t (hand_in w t) (length (inserted (steps_of w t))) event
   pub front : NamesFront w.front event
 
--- thread t may give part p back, which it holds
+-- thread t may release part p, which it holds
 pub record MayRelease (limits : Limits) (w : World) (t p : ℕ) : Type 0 where
   pub thread : t < limits.threads
   pub held : HoldsSome (hand_in w t) p
@@ -68,7 +68,7 @@ front_after word t hand (Early x front) = word
 front_after word t hand Nothing = word
 front_after word t hand (Spy victim moved) = word
 
--- the world after thread t took part p, of which its list records this content
+-- the world after thread t acquired part p, of which its list records this content
 abbrev pub acquired : World → ℕ → ℕ → List Item → World
 acquired w t p found = record {
   words = slice_set w.words p (t + 1);

@@ -8,7 +8,7 @@ pub enum StepError {
     /// It names a thread, a part or a victim that is not there, or the thread itself as the victim.
     #[error("no such thread, part or victim")]
     NoSuchPart,
-    /// The part to be taken is held by this thread, which may be the one that steps.
+    /// The part to be acquired is held by this thread, which may be the one that steps.
     #[error("the part is held by thread {0}")]
     Held(u32),
     /// The thread does not hold a part that the step needs.

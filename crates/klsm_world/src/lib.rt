@@ -1,9 +1,9 @@
-//! The pure world of a k-LSM: threads that take parts, commit events and give the parts back, one
+//! The pure world of a k-LSM: threads that acquire parts, commit events and release the parts, one
 //! step after another.
 //!
 //! A queue with locks is as good as the interleavings of its locked steps. This crate says what
 //! these are, apart from any lock that runs: a world has T threads, T + 1 parts, the shared part 0
-//! and thread t's own part t + 1, and a front word. A step takes a free part, gives one back, tries
+//! and thread t's own part t + 1, and a front word. A step acquires a free part, releases one, tries
 //! one in vain, or commits an event on parts in hand. A list of legal steps is a schedule. Whoever
 //! wants to know what a relaxed queue can do reads `specs/`, and whoever wants to try a schedule
 //! runs it:

@@ -40,11 +40,11 @@ pub enum Event {
 /// A step of one thread. Part 0 is the shared one, and part t + 1 is thread t's own.
 #[derive(Debug, PartialEq, Eq, Drop)]
 pub enum Step {
-    /// The thread takes a part that is free.
+    /// The thread acquires a part that is free.
     Acquire {
         /// The thread that steps.
         thread: u32,
-        /// The part that it takes.
+        /// The part that it acquires.
         part: u32,
     },
     /// An event takes effect on parts that the thread holds.
@@ -54,11 +54,11 @@ pub enum Step {
         /// What takes effect.
         event: Event,
     },
-    /// The thread gives a part back.
+    /// The thread releases a part.
     Release {
         /// The thread that steps.
         thread: u32,
-        /// The part that it gives back.
+        /// The part that it releases.
         part: u32,
     },
     /// The thread tries a part that another holds.
@@ -73,16 +73,16 @@ pub enum Step {
 /// One of a thread's own steps, as its list has it.
 #[derive(Debug, PartialEq, Eq, Drop)]
 pub enum Entry {
-    /// The part was taken.
+    /// The part was acquired.
     Acquired {
-        /// The part taken.
+        /// The part acquired.
         part: u32,
         /// Its content, ascending.
         found: Items,
     },
     /// The event took effect.
     Committed(Event),
-    /// The part was given back.
+    /// The part was released.
     Released(u32),
     /// The part was tried in vain.
     Missed {

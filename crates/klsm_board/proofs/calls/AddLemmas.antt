@@ -7,8 +7,8 @@ use Rattle.klsm_world.specs.declared.step.Event.{Event}
 use Rattle.klsm_world.specs.declared.step.Entry.{Entry}
 use Rattle.klsm_world.specs.declared.step.Entry.TheVariants.{Acquired}
 use Rattle.klsm_world.specs.OwnSteps.{inserted, inserted_by, deleted, deleted_by, own_part}
-use Rattle.klsm_board.specs.Entries.{missed, own_taken, both_taken}
-use Rattle.klsm_board.proofs.calls.EventLemmas.{events, events_append, same_events, taking_is_quiet}
+use Rattle.klsm_board.specs.Entries.{missed, own_acquired, both_acquired}
+use Rattle.klsm_board.proofs.calls.EventLemmas.{events, events_append, same_events, acquiring_is_quiet}
 
 -- a list that goes on, from one with the same events, by entries with these events
 pub goes_on : (es mid fs es' : List Entry) → events mid ≡ events es → es' ≡ mid ++ fs → events es' ≡ events es ++ events fs
@@ -20,11 +20,11 @@ inserts es es' added is = ap (flat_map inserted_by) is ∙ flat_map-append inser
 pub deletes : (es es' : List Entry) (added : List Event) → events es' ≡ events es ++ added → deleted es' ≡ deleted es ++ flat_map deleted_by added
 deletes es es' added is = ap (flat_map deleted_by) is ∙ flat_map-append deleted_by (events es) added
 
--- parts that are taken bring no event
-pub own_quiet : (t : ℕ) (misses : List ℕ) (own : List Item) (es : List Entry) → events (own_taken t misses own es) ≡ events es
-own_quiet t misses own es = same_events es (missed (own_part t) misses ++ Acquired (own_part t) own ∷ []) (own_taken t misses own es) refl (taking_is_quiet (own_part t) misses own)
+-- parts that are acquired bring no event
+pub own_quiet : (t : ℕ) (misses : List ℕ) (own : List Item) (es : List Entry) → events (own_acquired t misses own es) ≡ events es
+own_quiet t misses own es = same_events es (missed (own_part t) misses ++ Acquired (own_part t) own ∷ []) (own_acquired t misses own es) refl (acquiring_is_quiet (own_part t) misses own)
 
-pub both_quiet : (t : ℕ) (own_misses shared_misses : List ℕ) (own shared : List Item) (es : List Entry) → events (both_taken t own_misses shared_misses own shared es) ≡ events es
+pub both_quiet : (t : ℕ) (own_misses shared_misses : List ℕ) (own shared : List Item) (es : List Entry) → events (both_acquired t own_misses shared_misses own shared es) ≡ events es
 both_quiet t own_misses shared_misses own shared es =
-    same_events (own_taken t own_misses own es) (missed 0 shared_misses ++ Acquired 0 shared ∷ []) (both_taken t own_misses shared_misses own shared es) refl (taking_is_quiet 0 shared_misses shared)
+    same_events (own_acquired t own_misses own es) (missed 0 shared_misses ++ Acquired 0 shared ∷ []) (both_acquired t own_misses shared_misses own shared es) refl (acquiring_is_quiet 0 shared_misses shared)
     ∙ own_quiet t own_misses own es

@@ -12,8 +12,8 @@ use Rattle.klsm_board.specs.declared.errors.TryInsertError.{TryInsertError}
 use Rattle.klsm_board.specs.declared.errors.TryInsertError.TheVariants as try_insert
 use Rattle.klsm_board.specs.declared.errors.InsertError.{InsertError}
 use Rattle.klsm_board.specs.declared.errors.InsertError.TheVariants as insert
-use Rattle.klsm_board.specs.Entries.{own_taken, both_taken, both_released}
-use Rattle.klsm_board.specs.Inserting.{Puts, Flushes, GivesUp, Inserts, LacksRoom, RefusesInsert, RefusesInsertInTime}
+use Rattle.klsm_board.specs.Entries.{own_acquired, both_acquired, both_released}
+use Rattle.klsm_board.specs.Inserting.{Puts, Flushes, GivesUp, Inserts, LacksRoom, RefusesInsert, RefusesInsertWaiting}
 use Rattle.klsm_board.proofs.calls.EventLemmas.{events, IsQuiet, same_events}
 use Rattle.klsm_board.proofs.calls.AddLemmas.{goes_on, inserts, deletes, own_quiet, both_quiet}
 
@@ -25,7 +25,7 @@ pub record Gains (es es' : List Entry) (ins dels : List Item) : Type 0 where
 -- an insertion
 pub puts_events : (k t : ℕ) (misses : List ℕ) (es es' : List Entry) (x : Item) → Puts k t misses es es' x → events es' ≡ events es ++ Put x ∷ []
 puts_events k t misses es es' x puts =
-    goes_on es (own_taken t misses puts.own es) (Committed (Put x) ∷ Released (own_part t) ∷ []) es' (own_quiet t misses puts.own es) puts.steps
+    goes_on es (own_acquired t misses puts.own es) (Committed (Put x) ∷ Released (own_part t) ∷ []) es' (own_quiet t misses puts.own es) puts.steps
 
 puts_gain : (k t : ℕ) (misses : List ℕ) (es es' : List Entry) (x : Item) → Puts k t misses es es' x → Gains es es' (x ∷ []) []
 puts_gain k t misses es es' x puts =
@@ -35,7 +35,7 @@ puts_gain k t misses es es' x puts =
 
 pub flushes_events : (levels k t : ℕ) (own_misses shared_misses : List ℕ) (es es' : List Entry) (x : Item) → (f : Flushes levels k t own_misses shared_misses es es' x) → events es' ≡ events es ++ Flush x f.moved ∷ []
 flushes_events levels k t own_misses shared_misses es es' x f =
-    goes_on es (both_taken t own_misses shared_misses f.own f.shared es) (Committed (Flush x f.moved) ∷ both_released t) es' (both_quiet t own_misses shared_misses f.own f.shared es) f.steps
+    goes_on es (both_acquired t own_misses shared_misses f.own f.shared es) (Committed (Flush x f.moved) ∷ both_released t) es' (both_quiet t own_misses shared_misses f.own f.shared es) f.steps
 
 flushes_gain : (levels k t : ℕ) (own_misses shared_misses : List ℕ) (es es' : List Entry) (x : Item) → Flushes levels k t own_misses shared_misses es es' x → Gains es es' (x ∷ []) []
 flushes_gain levels k t own_misses shared_misses es es' x f =
@@ -66,7 +66,7 @@ quiet_same es fs es' is quiet =
 -- a call that gave up
 gives_up_events : (k t : ℕ) (own_misses shared_misses : List ℕ) (es es' : List Entry) (Lacks : List Item → Type 0) → GivesUp k t own_misses shared_misses es es' Lacks → events es' ≡ events es
 gives_up_events k t own_misses shared_misses es es' Lacks up =
-    same_events (both_taken t own_misses shared_misses up.own up.shared es) (both_released t) es' up.steps refl ∙ both_quiet t own_misses shared_misses up.own up.shared es
+    same_events (both_acquired t own_misses shared_misses up.own up.shared es) (both_released t) es' up.steps refl ∙ both_quiet t own_misses shared_misses up.own up.shared es
 
 gives_up_gains : (k t : ℕ) (own_misses shared_misses : List ℕ) (es es' : List Entry) (Lacks : List Item → Type 0) → GivesUp k t own_misses shared_misses es es' Lacks → Gains es es' [] []
 gives_up_gains k t own_misses shared_misses es es' Lacks up = quiet_gains es es' (gives_up_events k t own_misses shared_misses es es' Lacks up)
@@ -84,18 +84,18 @@ pub refused_gains : (levels k t : ℕ) (es es' : List Entry) (why : TryInsertErr
 refused_gains levels k t es es' try_insert.Spent told = absurd told.0
 refused_gains levels k t es es' (try_insert.Busy busy) (inl own) = quiet_gains es es' (same_events es (Missed (own_part t) busy.by ∷ []) es' own.steps refl)
 refused_gains levels k t es es' (try_insert.Busy busy) (inr shared) =
-    quiet_gains es es' (same_events (own_taken t [] shared.own es) (Missed 0 busy.by ∷ Released (own_part t) ∷ []) es' shared.steps refl ∙ own_quiet t [] shared.own es)
+    quiet_gains es es' (same_events (own_acquired t [] shared.own es) (Missed 0 busy.by ∷ Released (own_part t) ∷ []) es' shared.steps refl ∙ own_quiet t [] shared.own es)
 refused_gains levels k t es es' try_insert.Full told = gives_up_gains k t [] [] es es' (LacksRoom levels k) told
 refused_gains levels k t es es' try_insert.NoMemory told = gives_up_gains k t [] [] es es' (λ shared. Unit {0}) told
 
 -- the same of an insertion that may wait
-pub refused_in_time_events : (levels k t : ℕ) (es es' : List Entry) (why : InsertError) → RefusesInsertInTime ⊥ levels k t es es' why → events es' ≡ events es
-refused_in_time_events levels k t es es' insert.Spent told = absurd told.0
-refused_in_time_events levels k t es es' insert.Full told = gives_up_events k t told.0 told.1 es es' (LacksRoom levels k) told.2
-refused_in_time_events levels k t es es' insert.NoMemory told = gives_up_events k t told.0 told.1 es es' (λ shared. Unit {0}) told.2
+pub refused_waiting_events : (levels k t : ℕ) (es es' : List Entry) (why : InsertError) → RefusesInsertWaiting ⊥ levels k t es es' why → events es' ≡ events es
+refused_waiting_events levels k t es es' insert.Spent told = absurd told.0
+refused_waiting_events levels k t es es' insert.Full told = gives_up_events k t told.0 told.1 es es' (LacksRoom levels k) told.2
+refused_waiting_events levels k t es es' insert.NoMemory told = gives_up_events k t told.0 told.1 es es' (λ shared. Unit {0}) told.2
 
-pub refused_in_time_gains : (levels k t : ℕ) (es es' : List Entry) (why : InsertError) → RefusesInsertInTime ⊥ levels k t es es' why → Gains es es' [] []
-refused_in_time_gains levels k t es es' why told = quiet_gains es es' (refused_in_time_events levels k t es es' why told)
+pub refused_waiting_gains : (levels k t : ℕ) (es es' : List Entry) (why : InsertError) → RefusesInsertWaiting ⊥ levels k t es es' why → Gains es es' [] []
+refused_waiting_gains levels k t es es' why told = quiet_gains es es' (refused_waiting_events levels k t es es' why told)
 
 -- a member that began the call is not one that may insert no more
 pub began : (Spent : Type 0) (levels k t : ℕ) (es es' : List Entry) (why : TryInsertError) → RefusesInsert ⊥ levels k t es es' why → RefusesInsert Spent levels k t es es' why
@@ -104,10 +104,10 @@ began Spent levels k t es es' (try_insert.Busy busy) told = told
 began Spent levels k t es es' try_insert.Full told = told
 began Spent levels k t es es' try_insert.NoMemory told = told
 
-pub began_in_time : (Spent : Type 0) (levels k t : ℕ) (es es' : List Entry) (why : InsertError) → RefusesInsertInTime ⊥ levels k t es es' why → RefusesInsertInTime Spent levels k t es es' why
-began_in_time Spent levels k t es es' insert.Spent told = absurd told.0
-began_in_time Spent levels k t es es' insert.Full told = told
-began_in_time Spent levels k t es es' insert.NoMemory told = told
+pub began_waiting : (Spent : Type 0) (levels k t : ℕ) (es es' : List Entry) (why : InsertError) → RefusesInsertWaiting ⊥ levels k t es es' why → RefusesInsertWaiting Spent levels k t es es' why
+began_waiting Spent levels k t es es' insert.Spent told = absurd told.0
+began_waiting Spent levels k t es es' insert.Full told = told
+began_waiting Spent levels k t es es' insert.NoMemory told = told
 
 -- what is said of an error that was passed on
 pub passed_on : {T E : Type 0} (r : Result T E) (Q P : E → Type 0) → IsErrAnd r Q → ((why : E) → Q why → P why) → IfErr r P

@@ -51,12 +51,12 @@ module _ {S : Type 0} (content : S → List Item) (suits : ℕ → ℕ → S →
 
     -- and what the deletion adds to the list
     pub takes_early : (es' : List Entry) → es' ≡ mine me'.0 ++ Released (own_part t) ∷ [] → TakesEarly m t own (mine me.0) es' x
-    takes_early es' gave = let may : MayTakeEarly own x n = record { least = least; below = below } in let alone = has.carries.alone in record {
+    takes_early es' released = let may : MayTakeEarly own x n = record { least = least; below = below } in let alone = has.carries.alone in record {
       front = n;
       may = may;
       skips = early_skips_few content suits m t own me x n has may;
       keeps = early_keeps_order content suits m t own me x n has may;
-      steps = gave ∙ (ap (λ z. z ++ Released (own_part t) ∷ []) (mine_set content suits m t (Early x n) me me' alone (looked_below x n me me' below told).0)
+      steps = released ∙ (ap (λ z. z ++ Released (own_part t) ∷ []) (mine_set content suits m t (Early x n) me me' alone (looked_below x n me me' below told).0)
           ∙ append_assoc (mine me.0) (Committed (Early x n) ∷ []) (Released (own_part t) ∷ []));
     }
 

@@ -30,9 +30,9 @@ misses_are_quiet : (p : ℕ) (bys : List ℕ) → IsQuiet (missed p bys)
 misses_are_quiet p [] = refl
 misses_are_quiet p (by ∷ bys) = flat_map-cons event_at (Missed p by) (missed p bys) ∙ misses_are_quiet p bys
 
--- tries in vain, and then the part was taken
-pub taking_is_quiet : (p : ℕ) (bys : List ℕ) (found : List Item) → IsQuiet (missed p bys ++ Acquired p found ∷ [])
-taking_is_quiet p bys found = quiet_append (missed p bys) (Acquired p found ∷ []) (misses_are_quiet p bys) refl
+-- tries in vain, and then the part was acquired
+pub acquiring_is_quiet : (p : ℕ) (bys : List ℕ) (found : List Item) → IsQuiet (missed p bys ++ Acquired p found ∷ [])
+acquiring_is_quiet p bys found = quiet_append (missed p bys) (Acquired p found ∷ []) (misses_are_quiet p bys) refl
 
 -- a list that goes on quietly has the same events
 pub same_events : (es fs es' : List Entry) → es' ≡ es ++ fs → IsQuiet fs → events es' ≡ events es

@@ -1,4 +1,4 @@
--- An insertion that found its own part full, and took the shared one too.
+-- An insertion that found its own part full, and acquired the shared one too.
 use Rattle.std.proofs.Common.{◌≡◌, ℕ, ◌+◌, ◌≤◌, List, [], ◌∷◌, ◌++◌, length, ap, ◌∙◌}
 use Rattle.atomic_table.specs.Table.{Me}
 use Rattle.klsm_run.specs.declared.item.Item.{Item}
@@ -13,7 +13,7 @@ use Rattle.klsm_board.specs.declared.sizes.Sizes.{Sizes}
 use Rattle.klsm_board.specs.declared.rule.View.{View}
 use Rattle.klsm_board.specs.Steps.{mine}
 use Rattle.klsm_board.specs.Seats.{Has, Stands, own_in_hand, both_in_hand}
-use Rattle.klsm_board.specs.Entries.{missed, both_taken, both_released}
+use Rattle.klsm_board.specs.Entries.{missed, both_acquired, both_released}
 use Rattle.klsm_board.specs.Inserting.{Flushes, GivesUp}
 use Rattle.klsm_board.proofs.seats.StandLemmas.{stands}
 use Rattle.klsm_board.proofs.calls.EventLemmas.{events}
@@ -26,15 +26,15 @@ module _ {S : Type 0} (content : S → List Item) (suits : ℕ → ℕ → S →
     pub shared : List Item
     pub has : Has content suits m t (both_in_hand t own shared) me
     pub full : length own ≡ m.k
-    pub list : mine me.0 ≡ both_taken t own_misses shared_misses own shared es
+    pub list : mine me.0 ≡ both_acquired t own_misses shared_misses own shared es
 
   -- by one try each: what the first told, what was found of the own part, what the second told
-  pub full_now : (me own_taken_me kept both : Me S View) → Stands content suits m t [] me
-      → ((hand : Hand) → Stands content suits m t hand me → (found : List Item) × Has content suits m t ((own_part t, found) ∷ hand) own_taken_me × (mine own_taken_me.0 ≡ mine me.0 ++ Acquired (own_part t) found ∷ []))
-      → ((own : List Item) → Has content suits m t (own_in_hand t own) own_taken_me → (length own ≡ m.k) × Has content suits m t (own_in_hand t own) kept × (mine kept.0 ≡ mine own_taken_me.0))
+  pub full_now : (me own_acquired_me kept both : Me S View) → Stands content suits m t [] me
+      → ((hand : Hand) → Stands content suits m t hand me → (found : List Item) × Has content suits m t ((own_part t, found) ∷ hand) own_acquired_me × (mine own_acquired_me.0 ≡ mine me.0 ++ Acquired (own_part t) found ∷ []))
+      → ((own : List Item) → Has content suits m t (own_in_hand t own) own_acquired_me → (length own ≡ m.k) × Has content suits m t (own_in_hand t own) kept × (mine kept.0 ≡ mine own_acquired_me.0))
       → ((hand : Hand) → Stands content suits m t hand kept → (found : List Item) × Has content suits m t ((shared_part, found) ∷ hand) both × (mine both.0 ≡ mine kept.0 ++ Acquired shared_part found ∷ []))
       → Full [] [] (mine me.0) both
-  full_now me own_taken_me kept both at_rest first full second =
+  full_now me own_acquired_me kept both at_rest first full second =
       let own = first [] at_rest in
       let found = full own.0 own.1 in
       let shared = second (own_in_hand t own.0) (stands found.1) in
@@ -47,17 +47,17 @@ module _ {S : Type 0} (content : S → List Item) (suits : ℕ → ℕ → S →
       }
 
   -- the same by tries after misses
-  pub record FullInTime (es : List Entry) (me : Me S View) : Type 0 where
+  pub record FullWaiting (es : List Entry) (me : Me S View) : Type 0 where
     pub own_misses : List ℕ
     pub shared_misses : List ℕ
     pub both : Full own_misses shared_misses es me
 
-  pub full_in_time : (me own_taken_me kept both : Me S View) → Stands content suits m t [] me
-      → ((hand : Hand) → Stands content suits m t hand me → (bys : List ℕ) × (found : List Item) × Has content suits m t ((own_part t, found) ∷ hand) own_taken_me × (mine own_taken_me.0 ≡ mine me.0 ++ (missed (own_part t) bys ++ Acquired (own_part t) found ∷ [])))
-      → ((own : List Item) → Has content suits m t (own_in_hand t own) own_taken_me → (length own ≡ m.k) × Has content suits m t (own_in_hand t own) kept × (mine kept.0 ≡ mine own_taken_me.0))
+  pub full_waiting : (me own_acquired_me kept both : Me S View) → Stands content suits m t [] me
+      → ((hand : Hand) → Stands content suits m t hand me → (bys : List ℕ) × (found : List Item) × Has content suits m t ((own_part t, found) ∷ hand) own_acquired_me × (mine own_acquired_me.0 ≡ mine me.0 ++ (missed (own_part t) bys ++ Acquired (own_part t) found ∷ [])))
+      → ((own : List Item) → Has content suits m t (own_in_hand t own) own_acquired_me → (length own ≡ m.k) × Has content suits m t (own_in_hand t own) kept × (mine kept.0 ≡ mine own_acquired_me.0))
       → ((hand : Hand) → Stands content suits m t hand kept → (bys : List ℕ) × (found : List Item) × Has content suits m t ((shared_part, found) ∷ hand) both × (mine both.0 ≡ mine kept.0 ++ (missed shared_part bys ++ Acquired shared_part found ∷ [])))
-      → FullInTime (mine me.0) both
-  full_in_time me own_taken_me kept both at_rest first full second =
+      → FullWaiting (mine me.0) both
+  full_waiting me own_acquired_me kept both at_rest first full second =
       let own = first [] at_rest in
       let found = full own.1 own.2 in
       let shared = second (own_in_hand t own.1) (stands found.1) in
@@ -91,7 +91,7 @@ module _ {S : Type 0} (content : S → List Item) (suits : ℕ → ℕ → S →
       steps = did.3 ∙ ap (λ z. z ++ Committed (Flush x did.0) ∷ both_released t) k.list;
     }
 
-    -- or both parts were given back
+    -- or both parts were released
     pub gave_up : (Lacks : List Item → Type 0) → Lacks k.shared → es' ≡ mine me.0 ++ both_released t → GivesUp m.k t own_misses shared_misses es es' Lacks
     gave_up Lacks lacks steps = record {
       own = k.own;

@@ -21,6 +21,6 @@ missed_more p by es mid es' so_far is = record {
   steps = is ∙ (ap (λ z. z ++ Missed p by ∷ []) so_far.steps ∙ (append_assoc es (missed p so_far.bys) (Missed p by ∷ []) ∙ ap (λ z. es ++ z) (sym (missed_last p by so_far.bys))));
 }
 
--- then the part was taken
-pub taken_after : (p : ℕ) (e : Entry) (es mid es' : List Entry) (so_far : Misses p es mid) → es' ≡ mid ++ e ∷ [] → es' ≡ es ++ (missed p so_far.bys ++ e ∷ [])
-taken_after p e es mid es' so_far is = is ∙ (ap (λ z. z ++ e ∷ []) so_far.steps ∙ append_assoc es (missed p so_far.bys) (e ∷ []))
+-- then the part was acquired
+pub acquired_after : (p : ℕ) (e : Entry) (es mid es' : List Entry) (so_far : Misses p es mid) → es' ≡ mid ++ e ∷ [] → es' ≡ es ++ (missed p so_far.bys ++ e ∷ [])
+acquired_after p e es mid es' so_far is = is ∙ (ap (λ z. z ++ e ∷ []) so_far.steps ∙ append_assoc es (missed p so_far.bys) (e ∷ []))

@@ -33,7 +33,7 @@ use Rattle.klsm_board.specs.declared.sizes.Sizes.{Sizes}
 use Rattle.klsm_board.specs.declared.slot.Slot.{Slot}
 use Rattle.klsm_board.specs.Boards.{own_steps}
 use Rattle.klsm_board.specs.Finishing.{AreAll, AreEachOnce, AreListsAtEnd, Knows, lists_of, steps_among}
-use Rattle.klsm_board.specs.Rule.{content_at, limits_of, own, Ruled}
+use Rattle.klsm_board.specs.Rule.{content_at, world_limits, own, Ruled}
 use Rattle.klsm_board.specs.Slots.{slot_content, IsSlotOf}
 use Rattle.klsm_board.proofs.table.KeepLemmas as keep
 use Rattle.klsm_board.proofs.ending.EndLemmas.{are_lists, found_first, list_at}
@@ -51,8 +51,8 @@ module _ {S : Type 0} (content : S → List Item) (suits : ℕ → ℕ → S →
   abbrev w : World
   w = keep.world content suits m s r.lists
 
-  lawful : IsLawful (limits_of m) w
-  lawful = schedules_keep_lawful (limits_of m) r.schedule w r.leads
+  lawful : IsLawful (world_limits m) w
+  lawful = schedules_keep_lawful (world_limits m) r.schedule w r.leads
 
   -- no hand has a part, so each is free
   is_free : (p : ℕ) → p ≤ m.threads → word_of w p ≡ 0
@@ -83,10 +83,10 @@ module _ {S : Type 0} (content : S → List Item) (suits : ℕ → ℕ → S →
 
   pub closes : (lists : List (List Entry)) → r.lists ≡ lists → IsClosed content m lists slots
   closes lists same = subst (λ (l : List (List Entry)). IsClosed content m l slots) same (record {
-    at_end = record { world = w; schedule = r.schedule; leads = r.leads; within = λ t below. keep.each_within m.quota r.lists r.within t; lists_are = refl; in_order = λ t below. lists_have_events (limits_of m) r.schedule w t r.leads below; run = schedules_are_runs (limits_of m) r.schedule w r.leads };
-    each_once = λ x. (inserted_once (limits_of m) w x lawful, lawful.each_once x ∙ ap (λ n. times x (flat_map deleted r.lists) + n) (sym (ap (times x) (left_is_live (limits_of m) w lawful) ∙ count_sorted (is_same x) (live w))));
-    left_are = left_is_live (limits_of m) w lawful ∙ ap sorted live_is;
-    adds_up = accounts_add_up (limits_of m) w lawful ∙ ap (λ n. (account r.lists).deleted + n) (ap length (left_is_live (limits_of m) w lawful ∙ ap sorted live_is) ∙ length_sorted (flat_map content slots));
+    at_end = record { world = w; schedule = r.schedule; leads = r.leads; within = λ t below. keep.each_within m.quota r.lists r.within t; lists_are = refl; in_order = λ t below. lists_have_events (world_limits m) r.schedule w t r.leads below; run = schedules_are_runs (world_limits m) r.schedule w r.leads };
+    each_once = λ x. (inserted_once (world_limits m) w x lawful, lawful.each_once x ∙ ap (λ n. times x (flat_map deleted r.lists) + n) (sym (ap (times x) (left_is_live (world_limits m) w lawful) ∙ count_sorted (is_same x) (live w))));
+    left_are = left_is_live (world_limits m) w lawful ∙ ap sorted live_is;
+    adds_up = accounts_add_up (world_limits m) w lawful ∙ ap (λ n. (account r.lists).deleted + n) (ap length (left_is_live (world_limits m) w lawful ∙ ap sorted live_is) ∙ length_sorted (flat_map content slots));
   })
 
 module _ {CAP LEVELS : ℕ} where
@@ -105,7 +105,7 @@ module _ {CAP LEVELS : ℕ} where
       r = final.1.0
 
       same : r.lists ≡ lists_of m.threads members
-      same = are_lists r.lists m.threads members (schedules_keep_lawful (limits_of m) r.schedule (keep.world slot_content IsSlotOf m s r.lists) r.leads).agreed.lists_are all
+      same = are_lists r.lists m.threads members (schedules_keep_lawful (world_limits m) r.schedule (keep.world slot_content IsSlotOf m s r.lists) r.leads).agreed.lists_are all
           (λ i member there. let k = knows i member there in r.dealt id v final.1.1 k.0 (own member.number (own_steps member)) k.1)
 
       empty : (t : ℕ) → t < m.threads → hand_of t (get_or r.lists t []) ≡ []

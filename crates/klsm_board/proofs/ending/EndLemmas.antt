@@ -9,7 +9,7 @@ use lib.ListN.{get_elem?}
 use Rattle.klsm_world.specs.declared.step.Entry.{Entry}
 use Rattle.klsm_board.specs.declared.board.Member.{Member}
 use Rattle.klsm_board.specs.Boards.{own_steps}
-use Rattle.klsm_board.specs.Finishing.{AreAll, IsLeastAbsent, IsNumbered, lists_of, steps_among}
+use Rattle.klsm_board.specs.Finishing.{AreAll, IsLeastAbsent, HasMember, lists_of, steps_among}
 use Rattle.klsm_board.proofs.ending.JoinLemmas.{at_end, at_front}
 use Rattle.klsm_board.proofs.ending.ListLemmas.{got}
 use Rattle.klsm_world.proofs.hands.HandLemmas.{choice_hit, choice_miss}
@@ -33,14 +33,14 @@ each_of P xs all i a there = subst P (got xs i a a there) (all i a (place_within
 
 module _ {CAP LEVELS : ℕ} where
   -- a number that some member has is that of the member whose steps are looked for
-  pub found_first : (members : List (Member CAP LEVELS)) (t : ℕ) → IsNumbered members t
+  pub found_first : (members : List (Member CAP LEVELS)) (t : ℕ) → HasMember members t
       → (i : ℕ) × (member : Member CAP LEVELS) × (get_elem? members i ≡ some member) × (member.number ≡ t) × (steps_among members t ≡ own_steps member)
   found_first [] t found = absurd (some-ne-none found.1 (sym found.2))
   found_first (m ∷ members) t found = dite (ℕ_discrete m.number t)
       (λ here. (0, m, refl, here, choice_hit m.number t (own_steps m) (steps_among members t) here))
       (λ other. behind other (found_first members t (later found.0 found.1 found.2 found.3 other)))
     where
-      later : (i : ℕ) (z : Member CAP LEVELS) → get_elem? (m ∷ members) i ≡ some z → z.number ≡ t → m.number ≢ t → IsNumbered members t
+      later : (i : ℕ) (z : Member CAP LEVELS) → get_elem? (m ∷ members) i ≡ some z → z.number ≡ t → m.number ≢ t → HasMember members t
       later zero z there is other = absurd (other (ap (λ (x : Member CAP LEVELS). x.number) (some-injective m z there) ∙ is))
       later (suc i) z there is other = (i, z, there, is)
 

@@ -8,7 +8,7 @@ use Rattle.klsm_world.proofs.hands.HandLemmas.{choice_hit, choice_miss}
 use Rattle.klsm_board.proofs.table.MakeLemmas.{found_at}
 use Rattle.klsm_board.specs.declared.board.Member.{Member}
 use Rattle.klsm_board.specs.Boards.{own_steps}
-use Rattle.klsm_board.specs.Finishing.{IsNumbered, steps_among}
+use Rattle.klsm_board.specs.Finishing.{HasMember, steps_among}
 
 module _ {CAP LEVELS : ℕ} where
   -- the item of a loop is the member of its place
@@ -32,7 +32,7 @@ module _ {CAP LEVELS : ℕ} where
       ∙ first_of_number members t n member there is (λ i z within at. before (suc i) z (omega (arith, within)) at)
 
   -- where no member has the number, none is found
-  pub none_numbered : (members : List (Member CAP LEVELS)) (t n : ℕ) → length members ≤ n → NoneBelow members t n → IsNumbered members t → ⊥
+  pub none_numbered : (members : List (Member CAP LEVELS)) (t n : ℕ) → length members ≤ n → NoneBelow members t n → HasMember members t → ⊥
   none_numbered members t n all none found = none found.0 found.1 (omega (arith, all, place_within members found.0 found.1 found.2)) found.2 found.3
     where
       place_within : (ms : List (Member CAP LEVELS)) (i : ℕ) (m : Member CAP LEVELS) → get_elem? ms i ≡ some m → i < length ms

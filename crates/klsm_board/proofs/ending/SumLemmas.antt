@@ -8,12 +8,12 @@ use Rattle.klsm_world.specs.declared.step.Entry.{Entry}
 use Rattle.klsm_world.specs.OwnSteps.{inserted, deleted}
 use Rattle.klsm_world.proofs.counts.ItemGrowthLemmas.{flat_map_more}
 use Rattle.klsm_board.specs.declared.board.Member.{Member}
-use Rattle.klsm_board.specs.Finishing.{IsNumbered, lists_of, steps_among}
+use Rattle.klsm_board.specs.Finishing.{HasMember, lists_of, steps_among}
 
 module _ {CAP LEVELS : ℕ} where
   -- the numbers below n have members, whose lists have so many insertions and deletions
   pub record AreSummed (members : List (Member CAP LEVELS)) (n insertions deletions : ℕ) : Type 0 where
-    pub all : (t : ℕ) → t < n → IsNumbered members t
+    pub all : (t : ℕ) → t < n → HasMember members t
     pub insertions_are : insertions ≡ length (flat_map inserted (lists_of n members))
     pub deletions_are : deletions ≡ length (flat_map deleted (lists_of n members))
     pub few_insertions : insertions ≤ n * 281474976710656
@@ -27,13 +27,13 @@ module _ {CAP LEVELS : ℕ} where
       ∙ (ap length (flat_map_more f (lists_of n members) (steps_among members n)) ∙ length-append (flat_map f (lists_of n members)) (f (steps_among members n)))
 
   -- one member more is counted
-  pub one_more : (members : List (Member CAP LEVELS)) (n insertions deletions i d : ℕ) → AreSummed members n insertions deletions → IsNumbered members n
+  pub one_more : (members : List (Member CAP LEVELS)) (n insertions deletions i d : ℕ) → AreSummed members n insertions deletions → HasMember members n
       → i ≡ length (inserted (steps_among members n)) → d ≡ length (deleted (steps_among members n)) → i ≤ 281474976710656 → d ≤ 4503599627370496
       → AreSummed members (n + 1) (insertions + i) (deletions + d)
   one_more members n insertions deletions i d summed there is js few fews =
       let a = more inserted members n in let b = more deleted members n in
       record {
-        all = λ t below. dite (ℕ_discrete t n) (λ here. subst (IsNumbered members) (sym here) there) (λ other. summed.all t (omega (arith, below, other)));
+        all = λ t below. dite (ℕ_discrete t n) (λ here. subst (HasMember members) (sym here) there) (λ other. summed.all t (omega (arith, below, other)));
         insertions_are = omega (arith, a, is, summed.insertions_are);
         deletions_are = omega (arith, b, js, summed.deletions_are);
         few_insertions = omega (arith, summed.few_insertions, few);

@@ -16,12 +16,12 @@ use Rattle.klsm_board.specs.Steps.{mine}
 use Rattle.klsm_board.specs.Seats.{Carries, Has, CarriedOut, LeavesShared, SetsFront, own_in_hand, both_in_hand, three_in_hand}
 use Rattle.klsm_board.proofs.hands.EventLemmas.{own_in_one, own_in_both, shared_in_both, own_in_three, victim_in_three, put_leaves, flush_leaves, take_leaves, early_leaves, spy_leaves}
 
--- the content of the part that was taken last
+-- the content of the part that was acquired last
 abbrev first_content : Hand → List Item
 first_content [] = []
 first_content (held ∷ hand) = held.1
 
--- and that of the one taken first of three
+-- and that of the one acquired first of three
 abbrev third_content : Hand → List Item
 third_content [] = []
 third_content (held ∷ []) = []

@@ -13,16 +13,16 @@ use Rattle.klsm_world.proofs.theorems.OwnListLemmas.{hands_are_apart, next_is_ne
 use Rattle.klsm_world.proofs.theorems.RunLemmas.{schedules_keep_lawful}
 use Rattle.klsm_board.specs.declared.sizes.Sizes.{Sizes}
 use Rattle.klsm_board.specs.declared.rule.View.{View}
-use Rattle.klsm_board.specs.Rule.{limits_of, IsReached}
+use Rattle.klsm_board.specs.Rule.{world_limits, IsReached}
 use Rattle.klsm_board.specs.Steps.{mine}
 use Rattle.klsm_board.specs.Seats.{Has, own_in_hand, both_in_hand}
 use Rattle.klsm_board.proofs.hands.EventLemmas.{own_in_one, own_in_both, shared_in_both}
 
 -- a world to which a schedule leads is lawful
-pub possible : (m : Sizes) (t : ℕ) (es : List Entry) → IsReached m t es → IsPossible (limits_of m) m.quota t es
+pub possible : (m : Sizes) (t : ℕ) (es : List Entry) → IsReached m t es → IsPossible (world_limits m) m.quota t es
 possible m t es reached = record {
   world = reached.world;
-  lawful = schedules_keep_lawful (limits_of m) reached.schedule reached.world reached.leads;
+  lawful = schedules_keep_lawful (world_limits m) reached.schedule reached.world reached.leads;
   within = reached.within;
   same = reached.list_is;
 }
@@ -32,20 +32,20 @@ module _ {S : Type 0} (content : S → List Item) (suits : ℕ → ℕ → S →
   pub apart_in_hand : (hand : Hand) (me : Me S View) (p q : ℕ) (c d : List Item) → Has content suits m t hand me → p ≢ q → Holds hand p c → Holds hand q d → ShareNone c d
   apart_in_hand hand me p q c d has apart holds holds' =
       let reached = has.reached in
-      hands_are_apart (limits_of m) m.quota t (mine me.0) p q c d (possible m t (mine me.0) reached) reached.thread apart
+      hands_are_apart (world_limits m) m.quota t (mine me.0) p q c d (possible m t (mine me.0) reached) reached.thread apart
       (ap (λ h. found_in h p) has.hand_is ∙ holds) (ap (λ h. found_in h q) has.hand_is ∙ holds')
 
   -- and the next item is in none of them
   pub new_in_hand : (hand : Hand) (me : Me S View) (p : ℕ) (c : List Item) (x : Item) → Has content suits m t hand me → BearsStamp t (length (inserted (mine me.0))) x → Holds hand p c → Contains c x → ⊥
   new_in_hand hand me p c x has bears holds =
       let reached = has.reached in
-      next_is_new_in_hand (limits_of m) m.quota t (mine me.0) p c x (possible m t (mine me.0) reached) reached.thread bears
+      next_is_new_in_hand (world_limits m) m.quota t (mine me.0) p c x (possible m t (mine me.0) reached) reached.thread bears
       (ap (λ h. found_in h p) has.hand_is ∙ holds)
 
   -- a deletion from both parts in hand skips few items
-  pub take_skips_few : (own shared : List Item) (me : Me S View) (x : Item) → Has content suits m t (both_in_hand t own shared) me → MayTake m.k t own shared x → SkipsFew (limits_of m) t (mine me.0) x
+  pub take_skips_few : (own shared : List Item) (me : Me S View) (x : Item) → Has content suits m t (both_in_hand t own shared) me → MayTake m.k t own shared x → SkipsFew (world_limits m) t (mine me.0) x
   take_skips_few own shared me x has may = let reached = has.reached in
-      lists_skip_few (limits_of m) t (mine me.0) x reached.thread (record {
+      lists_skip_few (world_limits m) t (mine me.0) x reached.thread (record {
         own = own;
         other = shared;
         holds_own = ap (λ h. found_in h (t + 1)) has.hand_is ∙ own_in_both t own shared;
@@ -54,9 +54,9 @@ module _ {S : Type 0} (content : S → List Item) (suits : ℕ → ℕ → S →
       })
 
   -- and none of the thread's own in them
-  pub take_keeps_order : (own shared : List Item) (me : Me S View) (x : Item) → Has content suits m t (both_in_hand t own shared) me → MayTake m.k t own shared x → KeepsOwnOrder (limits_of m) t (mine me.0) x
+  pub take_keeps_order : (own shared : List Item) (me : Me S View) (x : Item) → Has content suits m t (both_in_hand t own shared) me → MayTake m.k t own shared x → KeepsOwnOrder (world_limits m) t (mine me.0) x
   take_keeps_order own shared me x has may = let reached = has.reached in
-      lists_keep_order (limits_of m) t (mine me.0) x reached.thread (record {
+      lists_keep_order (world_limits m) t (mine me.0) x reached.thread (record {
         own = own;
         other = shared;
         holds_own = ap (λ h. found_in h (t + 1)) has.hand_is ∙ own_in_both t own shared;
@@ -65,26 +65,26 @@ module _ {S : Type 0} (content : S → List Item) (suits : ℕ → ℕ → S →
       })
 
   -- so does one by the front, in the worlds of that front, with the own part in hand
-  pub early_skips_few : (own : List Item) (me : Me S View) (x : Item) (front : ℕ) → Has content suits m t (own_in_hand t own) me → MayTakeEarly own x front → SkipsFewBy front (limits_of m) t (mine me.0) x
+  pub early_skips_few : (own : List Item) (me : Me S View) (x : Item) (front : ℕ) → Has content suits m t (own_in_hand t own) me → MayTakeEarly own x front → SkipsFewBy front (world_limits m) t (mine me.0) x
   early_skips_few own me x front has may = let reached = has.reached in
-      lists_skip_few_early (limits_of m) t (mine me.0) x front reached.thread (record {
+      lists_skip_few_early (world_limits m) t (mine me.0) x front reached.thread (record {
         own = own;
         holds_own = ap (λ h. found_in h (t + 1)) has.hand_is ∙ own_in_one t own;
         fits = may;
       })
 
-  pub early_keeps_order : (own : List Item) (me : Me S View) (x : Item) (front : ℕ) → Has content suits m t (own_in_hand t own) me → MayTakeEarly own x front → KeepsOwnOrderBy front (limits_of m) t (mine me.0) x
+  pub early_keeps_order : (own : List Item) (me : Me S View) (x : Item) (front : ℕ) → Has content suits m t (own_in_hand t own) me → MayTakeEarly own x front → KeepsOwnOrderBy front (world_limits m) t (mine me.0) x
   early_keeps_order own me x front has may = let reached = has.reached in
-      lists_keep_order_early (limits_of m) t (mine me.0) x front reached.thread (record {
+      lists_keep_order_early (world_limits m) t (mine me.0) x front reached.thread (record {
         own = own;
         holds_own = ap (λ h. found_in h (t + 1)) has.hand_is ∙ own_in_one t own;
         fits = may;
       })
 
   -- and where both are empty, few items live
-  pub nothing_leaves_few : (own shared : List Item) (me : Me S View) → Has content suits m t (both_in_hand t own shared) me → MayFindNothing own shared → LeavesFew (limits_of m) t (mine me.0)
+  pub nothing_leaves_few : (own shared : List Item) (me : Me S View) → Has content suits m t (both_in_hand t own shared) me → MayFindNothing own shared → LeavesFew (world_limits m) t (mine me.0)
   nothing_leaves_few own shared me has may = let reached = has.reached in
-      lists_leave_few (limits_of m) t (mine me.0) reached.thread (record {
+      lists_leave_few (world_limits m) t (mine me.0) reached.thread (record {
         own = own;
         other = shared;
         holds_own = ap (λ h. found_in h (t + 1)) has.hand_is ∙ own_in_both t own shared;

@@ -15,7 +15,7 @@ use Rattle.klsm_board.specs.declared.sizes.Sizes.{Sizes}
 use Rattle.klsm_board.specs.declared.rule.View.{View}
 use Rattle.klsm_board.specs.declared.slot.Slot.{Slot}
 use Rattle.klsm_board.specs.declared.slot.Slot.TheVariants.{Own, Common, Vacant}
-use Rattle.klsm_board.specs.Rule.{limits_of}
+use Rattle.klsm_board.specs.Rule.{world_limits}
 use Rattle.klsm_board.specs.Steps.{mine}
 use Rattle.klsm_board.specs.Seats.{AreSuited, Has, Stands, contents}
 use Rattle.klsm_board.specs.Slots.{slot_content, IsSlotOf}
@@ -55,7 +55,7 @@ module _ (capacity : ℕ) (m : Sizes) (sizes : AreSizes capacity m) (t : ℕ) wh
       let carries = has.carries in let reached = has.reached in
       let room : length (inserted (mine me.0)) ≤ m.quota = subst (λ es. length (inserted es) ≤ m.quota) reached.list_is (reached.within t reached.thread) in
       let most : ℕ = m.threads * m.quota in
-      let few : length (deleted (mine me.0)) ≤ most = own_deletions_are_few (limits_of m) m.quota t (mine me.0) (possible m t (mine me.0) reached) reached.thread in
+      let few : length (deleted (mine me.0)) ≤ most = own_deletions_are_few (world_limits m) m.quota t (mine me.0) (possible m t (mine me.0) reached) reached.thread in
       let more : ℕ = 16 * m.quota in
       let a : most ≤ more = mul-le-mul_right m.quota sizes.threads in
       let b : more ≤ 4503599627370496 = mul-le-mul_left 16 sizes.quota in
@@ -71,7 +71,7 @@ module _ (capacity : ℕ) (m : Sizes) (sizes : AreSizes capacity m) (t : ℕ) wh
         reached = ∣ reached ∣₁;
       }
 
-  -- a member that took a part holds it
+  -- a member that acquired a part holds it
   pub holds_after : (i d lock count : ℕ) (least : Option Item) (found : List Item) (me : Me (Slot PartState PartState) View) → Has slot_content IsSlotOf m t ((lock, found) ∷ []) me → lock ≤ m.threads
       → count ≡ length found → least ≡ slice_get found 0 → length (inserted (mine me.0)) ≡ i → length (deleted (mine me.0)) ≡ d
       → IsHolding m t i d lock count least me
@@ -92,7 +92,7 @@ module _ (capacity : ℕ) (m : Sizes) (sizes : AreSizes capacity m) (t : ℕ) wh
         least_is = least_is ∙ ap (λ (z : List Item). slice_get z 0) (sym same);
       }
 
-  -- it stands with that part, and can give it back
+  -- it stands with that part, and can release it
   pub stands_holding : (i d lock count : ℕ) (least : Option Item) (me : Me (Slot PartState PartState) View) → IsHolding m t i d lock count least me
       → Stands slot_content IsSlotOf m t ((lock, content_in (hand_of t (mine me.0)) lock) ∷ []) me
   stands_holding i d lock count least me holds = record {

@@ -1,4 +1,4 @@
--- A try to take a part keeps the rule.
+-- A try to acquire a part keeps the rule.
 use Rattle.std.proofs.Common.{◌≡◌, ◌≢◌, ℕ, ◌+◌, ◌-◌, ◌<◌, ◌≤◌, ◌==◌, List, [], ◌∷◌, ◌++◌, map, get_or, set, sym, refl, ap, ◌∙◌, subst, ⊎_elim, eq-eqb, ne_eqb, arith}
 use Rattle.std.specs.Prelude.{MatchBool, Some, None}
 use mathlib.Core.Option.{none, some, some-ne-none}
@@ -19,8 +19,8 @@ use Rattle.klsm_world.specs.Schedules.{Leads}
 use Rattle.std.specs.Prelude.{unwrap_or}
 use Rattle.klsm_board.specs.declared.sizes.Sizes.{Sizes}
 use Rattle.klsm_board.specs.declared.rule.View.{View}
-use Rattle.klsm_board.specs.Rule.{place, lock_words, front_word, limits_of, content_at, world_of, Ruled, IsReached}
-use Rattle.klsm_board.specs.Steps.{on_part, gain, acquired}
+use Rattle.klsm_board.specs.Rule.{place, lock_words, front_word, world_limits, content_at, board_world, Ruled, IsReached}
+use Rattle.klsm_board.specs.Steps.{on_part, gain, attempted}
 use Rattle.klsm_board.proofs.table.PlaceLemmas.{at_place, front_stays}
 use Rattle.klsm_board.proofs.table.KeepLemmas.{Goes, world, alone, home_back, keeps_rule, keeps_reached, agrees, same_steps, inside, few_more, word_is, word_set, stays}
 
@@ -34,7 +34,7 @@ module _ {S : Type 0} (content : S → List Item) (suits : ℕ → ℕ → S →
     me0 = (alone content suits m t xs, cs)
 
     abbrev Told : ℕ → Me S View → Type 0
-    Told = on_part (acquired content suits m t) (step slots (place p) 0 (t + 1) none) me0
+    Told = on_part (attempted content suits m t) (step slots (place p) 0 (t + 1) none) me0
 
     -- the part is free, and comes to the seat
     wins : get_or s.words (place p) 0 ≡ 0 → Goes content suits m s id p cs Told (t + 1)
@@ -50,7 +50,7 @@ module _ {S : Type 0} (content : S → List Item) (suits : ℕ → ℕ → S →
         let ms : List WorldStep = Acquire t p ∷ r.schedule in
         let ws : List ℕ = set s.words (place p) (t + 1) in
         let hc : content y ≡ unwrap_or (home_of w0 p) [] = b.2 ∙ sym (ap (λ z. unwrap_or z []) f.1) in
-        let led : Leads (limits_of m) ms (world_of content (lock_words m ws) (front_word m ws) (set s.homes p none) ls) = record {
+        let led : Leads (world_limits m) ms (board_world content (lock_words m ws) (front_word m ws) (set s.homes p none) ls) = record {
           before = w0;
           led = r.leads;
           legal = record { thread = lt; part = le; free = free };
@@ -70,7 +70,7 @@ module _ {S : Type 0} (content : S → List Item) (suits : ℕ → ℕ → S →
           keeps_rule content suits m s r id t xs es at lt ws (set s.homes p none) ls ms (stays content suits m s r id t xs at lt p (t + 1)) led stands else
               (λ q z h. ⊎_elim (λ (k : (q ≡ p) × (none ≡ some z)). absurd (some-ne-none z (sym k.1))) (λ (k : (q ≢ p) × (get_elem? s.homes q ≡ some (some z))). old_suits q z k.1) (at_set s.homes p q none (some z) h))
               few,
-          at_place (λ q. acquired content suits m t (step slots q 0 (t + 1) none) me0 (get_or s.words (place p) 0) now) p (
+          at_place (λ q. attempted content suits m t (step slots q 0 (t + 1) none) me0 (get_or s.words (place p) 0) now) p (
             subst (λ b'. MatchBool b' ((z : S) × suits m.k p z × (now ≡ won z)) ((now ≡ lost) × (get_or s.words (place p) 0 ≤ m.threads)))
                 (sym (eq-eqb (get_or s.words (place p) 0) 0 e))
                 (y, old_suits p y b.1, refl),
@@ -96,7 +96,7 @@ module _ {S : Type 0} (content : S → List Item) (suits : ℕ → ℕ → S →
         let ls : List (List Entry) = set r.lists t es in
         let ms : List WorldStep = Miss t p ∷ r.schedule in
         let ws : List ℕ = set s.words (place p) n in
-        let led : Leads (limits_of m) ms (world_of content (lock_words m ws) (front_word m ws) s.homes ls) = record {
+        let led : Leads (world_limits m) ms (board_world content (lock_words m ws) (front_word m ws) s.homes ls) = record {
           before = w0;
           led = r.leads;
           legal = record { thread = lt; part = le; taken = ne'; by_another = λ e. other (sym same_word ∙ e) };
@@ -113,14 +113,14 @@ module _ {S : Type 0} (content : S → List Item) (suits : ℕ → ℕ → S →
           keeps,
           tt,
           keeps_rule content suits m s r id t xs es at lt ws s.homes ls ms (stays content suits m s r id t xs at lt p n) led stands else r.suited few,
-          at_place (λ q. acquired content suits m t (step slots q 0 (t + 1) none) me0 n now) p (
+          at_place (λ q. attempted content suits m t (step slots q 0 (t + 1) none) me0 n now) p (
             subst (λ b'. MatchBool b' ((z : S) × suits m.k p z × (now ≡ won z)) ((now ≡ lost) × (n ≤ m.threads)))
                 (sym (ne_eqb n 0 ne)) (refl, small),
             reached,
           ),
         )
 
-  -- a try to take a part that is not in the thread's hand
+  -- a try to acquire a part that is not in the thread's hand
   pub acquire_allows : (slots id p t : ℕ) (xs : List Entry) (cs : List (ℕ × S)) → t < m.threads → p ≤ m.threads → found_in (hand_of t xs) p ≡ None
-      → Allows (Ruled content suits m) slots id (alone content suits m t xs, cs) (place p) (λ n. either (n == 0) (t + 1) n) (on_part (acquired content suits m t) (step slots (place p) 0 (t + 1) none) (alone content suits m t xs, cs))
-  acquire_allows slots id p t xs cs lt le away s r deep at small = exchanged (get_or s.words (place p) 0) 0 (t + 1) (Goes content suits m s id p cs (on_part (acquired content suits m t) (step slots (place p) 0 (t + 1) none) (alone content suits m t xs, cs))) (wins s r id t xs at lt slots p cs le away) (loses s r id t xs at lt slots p cs le away)
+      → Allows (Ruled content suits m) slots id (alone content suits m t xs, cs) (place p) (λ n. either (n == 0) (t + 1) n) (on_part (attempted content suits m t) (step slots (place p) 0 (t + 1) none) (alone content suits m t xs, cs))
+  acquire_allows slots id p t xs cs lt le away s r deep at small = exchanged (get_or s.words (place p) 0) 0 (t + 1) (Goes content suits m s id p cs (on_part (attempted content suits m t) (step slots (place p) 0 (t + 1) none) (alone content suits m t xs, cs))) (wins s r id t xs at lt slots p cs le away) (loses s r id t xs at lt slots p cs le away)

@@ -24,9 +24,9 @@ use Rattle.klsm_world.specs.Schedules.{NamesFront, MayStep, front_after, Leads}
 use Rattle.klsm_world.proofs.hands.PartContentLemmas.{content_held}
 use Rattle.klsm_board.specs.declared.sizes.Sizes.{Sizes}
 use Rattle.klsm_board.specs.declared.rule.View.{View}
-use Rattle.klsm_board.specs.Rule.{place, lock_words, front_word, limits_of, content_at, world_of, Ruled, IsReached}
+use Rattle.klsm_board.specs.Rule.{place, lock_words, front_word, world_limits, content_at, board_world, Ruled, IsReached}
 use Rattle.klsm_board.specs.Steps.{gain, looked, set_front}
-use Rattle.klsm_board.specs.Seats.{HasRoom, LeavesShared, SetsFront}
+use Rattle.klsm_board.specs.Seats.{QuotaAllows, LeavesShared, SetsFront}
 use Rattle.klsm_board.proofs.table.PlaceLemmas.{locks_stay, front_set_at}
 use Rattle.klsm_board.proofs.table.KeepLemmas.{Goes, world, alone, keeps_rule, keeps_reached, here, same_steps, inside, few_now, few_more, room_for, stays}
 
@@ -76,7 +76,7 @@ module _ {S : Type 0} (content : S → List Item) (suits : ℕ → ℕ → S →
     w0 = world content suits m s r.lists
 
     -- the front is set, and some event that fits is committed by it
-    sets : (fits : Event → Type 0) (e : Event) (front : ℕ) → fits e → MayCommit m.k t (hand_of t xs) (length (inserted xs)) e → HasRoom m.quota xs e → SetsFront t (hand_of t xs) e front
+    sets : (fits : Event → Type 0) (e : Event) (front : ℕ) → fits e → MayCommit m.k t (hand_of t xs) (length (inserted xs)) e → QuotaAllows m.quota xs e → SetsFront t (hand_of t xs) e front
         → Goes content suits m s id (m.threads + 1) cs (λ _. set_front fits m t (step slots (place (m.threads + 1)) front 0 none) (alone content suits m t xs, cs) front) front
     sets fits e front fit may room set_by =
         let same : steps_of w0 t ≡ xs = same_steps content suits m s r id t xs at lt in
@@ -86,7 +86,7 @@ module _ {S : Type 0} (content : S → List Item) (suits : ℕ → ℕ → S →
         let ws : List ℕ = set s.words (place (m.threads + 1)) front in
         let may' : MayCommit m.k t (hand_of t (steps_of w0 t)) (length (inserted (steps_of w0 t))) e = subst (λ z. MayCommit m.k t (hand_of t z) (length (inserted z)) e) (sym same) may in
         let set' : SetsFront t (hand_of t (steps_of w0 t)) e front = subst (λ z. SetsFront t (hand_of t z) e front) (sym same) set_by in
-        let led : Leads (limits_of m) ms (world_of content (lock_words m ws) (front_word m ws) s.homes ls) = record {
+        let led : Leads (world_limits m) ms (board_world content (lock_words m ws) (front_word m ws) s.homes ls) = record {
           before = w0;
           led = r.leads;
           legal = record { thread = lt; commit = may'; front = front_named w0.front t (hand_of t xs) e front set_by };
@@ -114,7 +114,7 @@ module _ {S : Type 0} (content : S → List Item) (suits : ℕ → ℕ → S →
         let ms : List WorldStep = Commit t e ∷ r.schedule in
         let ws : List ℕ = set s.words (place (m.threads + 1)) n in
         let holds' : Holds (hand_of t (steps_of w0 t)) (own_part t) own = ap (λ z. found_in (hand_of t z) (own_part t)) same ∙ holds in
-        let led : Leads (limits_of m) ms (world_of content (lock_words m ws) (front_word m ws) s.homes ls) = record {
+        let led : Leads (world_limits m) ms (board_world content (lock_words m ws) (front_word m ws) s.homes ls) = record {
           before = w0;
           led = r.leads;
           legal = record { thread = lt; commit = record { own = own; holds_own = holds'; fits = record { least = least; below = ltb-true x.key n below } }; front = refl };
@@ -141,8 +141,8 @@ module _ {S : Type 0} (content : S → List Item) (suits : ℕ → ℕ → S →
         let ws : List ℕ = set s.words (place (m.threads + 1)) n in
         let now : Me S View = (alone content suits m t xs, cs) in
         let Took : Type 0 = (now ≡ (gain (now.0) (Committed (Early x n)), cs)) × IsReached m t xs in
-        let led : Leads (limits_of m) r.schedule (world_of content (lock_words m ws) (front_word m ws) s.homes r.lists) =
-        subst (λ z. Leads (limits_of m) r.schedule (world_of content (lock_words m z) (front_word m z) s.homes r.lists)) (sym (set-get_or s.words (place (m.threads + 1)) 0)) r.leads in (
+        let led : Leads (world_limits m) r.schedule (board_world content (lock_words m ws) (front_word m ws) s.homes r.lists) =
+        subst (λ z. Leads (world_limits m) r.schedule (board_world content (lock_words m z) (front_word m z) s.homes r.lists)) (sym (set-get_or s.words (place (m.threads + 1)) 0)) r.leads in (
           alone content suits m t xs,
           keeps,
           tt,
@@ -152,7 +152,7 @@ module _ {S : Type 0} (content : S → List Item) (suits : ℕ → ℕ → S →
 
   -- an event that sets the front is committed by the store of it
   pub set_allows : (fits : Event → Type 0) (slots id t : ℕ) (xs : List Entry) (cs : List (ℕ × S)) (e : Event) (front : ℕ) → fits e → t < m.threads → MayCommit m.k t (hand_of t xs) (length (inserted xs)) e
-      → HasRoom m.quota xs e → SetsFront t (hand_of t xs) e front
+      → QuotaAllows m.quota xs e → SetsFront t (hand_of t xs) e front
       → Allows (Ruled content suits m) slots id (alone content suits m t xs, cs) (place (m.threads + 1)) (λ _. front) (λ _. set_front fits m t (step slots (place (m.threads + 1)) front 0 none) (alone content suits m t xs, cs) front)
   set_allows fits slots id t xs cs e front fit lt may room set_by s r deep at small = sets s r id t xs at lt slots cs fits e front fit may room set_by
 

@@ -24,8 +24,8 @@ use Rattle.klsm_world.proofs.counts.ItemGrowthLemmas.{items_grow}
 use Rattle.klsm_world.proofs.theorems.RunLemmas.{schedules_keep_lawful}
 use Rattle.klsm_board.specs.declared.sizes.Sizes.{Sizes}
 use Rattle.klsm_board.specs.declared.rule.View.{View}
-use Rattle.klsm_board.specs.Rule.{own, view, place, lock_words, front_word, limits_of, content_at, world_of, Ruled, IsReached}
-use Rattle.klsm_board.specs.Seats.{HasRoom}
+use Rattle.klsm_board.specs.Rule.{own, view, place, lock_words, front_word, world_limits, content_at, board_world, Ruled, IsReached}
+use Rattle.klsm_board.specs.Seats.{QuotaAllows}
 use Rattle.klsm_board.proofs.table.PlaceLemmas.{StayBetween, others_stay, word_at, word_set_at}
 use Rattle.klsm_board.proofs.table.DealtLemmas.{my_list, deals_on, once_on}
 
@@ -46,7 +46,7 @@ pub insertions_more : (es : List Entry) (e : Entry) → length (inserted (es ++ 
 insertions_more es e = ap length (items_grow inserted_by es e) ∙ length-append (inserted es) (flat_map inserted_by (event_at e))
 
 -- an event for which there is room keeps the list within the quota
-pub room_for : (quota : ℕ) (es : List Entry) (event : Event) → HasRoom quota es event → length (inserted es) ≤ quota → length (inserted (es ++ Committed event ∷ [])) ≤ quota
+pub room_for : (quota : ℕ) (es : List Entry) (event : Event) → QuotaAllows quota es event → length (inserted es) ≤ quota → length (inserted (es ++ Committed event ∷ [])) ≤ quota
 room_for quota es (Put x) room few = let a : length (inserted (es ++ Committed (Put x) ∷ [])) ≡ length (inserted es) + 1 = insertions_more es (Committed (Put x)) in let b : length (inserted es) < quota = room (omega arith) in omega (arith, a, b)
 room_for quota es (Flush x moved) room few = let a : length (inserted (es ++ Committed (Flush x moved) ∷ [])) ≡ length (inserted es) + 1 = insertions_more es (Committed (Flush x moved)) in let b : length (inserted es) < quota = room (omega arith) in omega (arith, a, b)
 room_for quota es (Take x) room few = let a : length (inserted (es ++ Committed (Take x) ∷ [])) ≡ length (inserted es) + 0 = insertions_more es (Committed (Take x)) in omega (arith, a, few)
@@ -62,7 +62,7 @@ module _ {S : Type 0} (content : S → List Item) (suits : ℕ → ℕ → S →
   Rule = Ruled content suits m
 
   abbrev pub world : St → List (List Entry) → World
-  world s ls = world_of content (lock_words m s.words) (front_word m s.words) s.homes ls
+  world s ls = board_world content (lock_words m s.words) (front_word m s.words) s.homes ls
 
   abbrev pub alone : ℕ → List Entry → View
   alone t es = view (own t es ∷ [])
@@ -84,7 +84,7 @@ module _ {S : Type 0} (content : S → List Item) (suits : ℕ → ℕ → S →
 
   -- a member's seat goes on with its list, and the schedule with it
   pub keeps_rule : (s : St) (r : Rule s) (id t : ℕ) (xs es : List Entry) → get_elem? s.views id ≡ some (alone t xs) → t < m.threads → (ws : List ℕ) (os : List (Maybe S)) (ls : List (List Entry)) (ms : List WorldStep)
-      → StayBetween s.words ws → Leads (limits_of m) ms (world_of content (lock_words m ws) (front_word m ws) os ls) → get_elem? ls t ≡ some es → ((u : ℕ) → u ≢ t → get_elem? ls u ≡ get_elem? r.lists u) → ((p : ℕ) (y : S) → get_elem? os p ≡ some (some y) → suits m.k p y)
+      → StayBetween s.words ws → Leads (world_limits m) ms (board_world content (lock_words m ws) (front_word m ws) os ls) → get_elem? ls t ≡ some es → ((u : ℕ) → u ≢ t → get_elem? ls u ≡ get_elem? r.lists u) → ((p : ℕ) (y : S) → get_elem? os p ≡ some (some y) → suits m.k p y)
       → length (inserted es) ≤ m.quota
       → Rule record { words = ws; homes = os; views = set s.views id (alone t es) }
   keeps_rule s r id t xs es at lt ws os ls ms stay leads here else suited few = record {
@@ -101,11 +101,11 @@ module _ {S : Type 0} (content : S → List Item) (suits : ℕ → ℕ → S →
 
   -- its list is then one of a world to which the schedule leads
   pub keeps_reached : (s : St) (r : Rule s) (t : ℕ) (es : List Entry) → t < m.threads → (ws : List ℕ) (os : List (Maybe S)) (ls : List (List Entry)) (ms : List WorldStep)
-      → Leads (limits_of m) ms (world_of content (lock_words m ws) (front_word m ws) os ls) → get_elem? ls t ≡ some es → ((u : ℕ) → u ≢ t → get_elem? ls u ≡ get_elem? r.lists u)
+      → Leads (world_limits m) ms (board_world content (lock_words m ws) (front_word m ws) os ls) → get_elem? ls t ≡ some es → ((u : ℕ) → u ≢ t → get_elem? ls u ≡ get_elem? r.lists u)
       → length (inserted es) ≤ m.quota
       → IsReached m t es
   keeps_reached s r t es lt ws os ls ms leads here else few = record {
-    world = world_of content (lock_words m ws) (front_word m ws) os ls;
+    world = board_world content (lock_words m ws) (front_word m ws) os ls;
     schedule = ms;
     leads = leads;
     within = λ u ltu. each_within m.quota ls (within_on t es r.lists ls here else few r.within) u;
@@ -119,8 +119,8 @@ module _ {S : Type 0} (content : S → List Item) (suits : ℕ → ℕ → S →
 
   -- where the rule holds, and a seat has thread t's list alone
   module _ (s : St) (r : Rule s) (id t : ℕ) (xs : List Entry) (at : get_elem? s.views id ≡ some (alone t xs)) (lt : t < m.threads) where
-    pub agrees : AreAgreed (limits_of m) (world s r.lists)
-    agrees = let l : IsLawful (limits_of m) (world s r.lists) = schedules_keep_lawful (limits_of m) r.schedule (world s r.lists) r.leads in l.agreed
+    pub agrees : AreAgreed (world_limits m) (world s r.lists)
+    agrees = let l : IsLawful (world_limits m) (world s r.lists) = schedules_keep_lawful (world_limits m) r.schedule (world s r.lists) r.leads in l.agreed
 
     pub here : get_elem? r.lists t ≡ some xs
     here = my_list m.threads r.lists s.views id (alone t xs) t xs r.dealt at refl

@@ -12,7 +12,7 @@ use Rattle.klsm_board.specs.declared.sizes.Sizes.{Sizes}
 use Rattle.klsm_board.specs.declared.rule.View.{View}
 use Rattle.klsm_board.specs.declared.slot.Slot.{Slot}
 use Rattle.klsm_board.specs.declared.slot.Slot.TheVariants.{Own, Common}
-use Rattle.klsm_board.specs.Rule.{own, fresh, view, limits_of, IsReached}
+use Rattle.klsm_board.specs.Rule.{own, fresh, view, world_limits, IsReached}
 use Rattle.klsm_board.specs.Slots.{slot_content, IsSlotOf}
 use Rattle.klsm_board.specs.Members.{IsResting}
 
@@ -47,7 +47,7 @@ blank (suc n) (suc t) = blank n t
 
 pub fresh_is_reached : (m : Sizes) (t : ℕ) → t < m.threads → IsReached m t []
 fresh_is_reached m t thread = record {
-  world = first_world (limits_of m);
+  world = first_world (world_limits m);
   schedule = [];
   leads = refl;
   within = λ u lt. let none : ◌≡◌ {A = ℕ} (length (inserted (get_or (replicate m.threads []) u []))) 0 = ap (λ es. length (inserted es)) (blank m.threads u) in omega (arith, none);

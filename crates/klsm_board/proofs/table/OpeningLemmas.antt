@@ -15,19 +15,19 @@ use Rattle.klsm_world.proofs.hands.HandLemmas.{choice_hit, choice_miss}
 use Rattle.klsm_board.specs.declared.sizes.Sizes.{Sizes}
 use Rattle.klsm_board.specs.declared.rule.Own.{Own}
 use Rattle.klsm_board.specs.declared.rule.View.{View}
-use Rattle.klsm_board.specs.Rule.{own, view, place, fresh, everyone, lists_of, lists_in, content_at, Ruled}
+use Rattle.klsm_board.specs.Rule.{own, view, place, fresh, everyone, list_count, list_count_in, content_at, Ruled}
 use Rattle.klsm_board.proofs.table.PlaceLemmas.{got_else, got_blank, locks_blank, locks_stay, front_set_at}
-use Rattle.klsm_board.proofs.table.DealtLemmas.{lists_in-set}
+use Rattle.klsm_board.proofs.table.DealtLemmas.{list_count_in-set}
 
 -- how many lists of a thread two rows of views have
-lists_in-append : (t : ℕ) (vs ws : List View) → lists_in t (vs ++ ws) ≡ lists_in t vs + lists_in t ws
-lists_in-append t [] ws = omega arith
-lists_in-append t (v ∷ vs) ws = let h = lists_in-append t vs ws in omega (arith, h)
+list_count_in-append : (t : ℕ) (vs ws : List View) → list_count_in t (vs ++ ws) ≡ list_count_in t vs + list_count_in t ws
+list_count_in-append t [] ws = omega arith
+list_count_in-append t (v ∷ vs) ws = let h = list_count_in-append t vs ws in omega (arith, h)
 
 -- and two rows of lists
-lists_of-append : (t : ℕ) (os ps : List Own) → lists_of t (os ++ ps) ≡ lists_of t os + lists_of t ps
-lists_of-append t [] ps = omega arith
-lists_of-append t (o ∷ os) ps = let h = lists_of-append t os ps in omega (arith, h)
+list_count-append : (t : ℕ) (os ps : List Own) → list_count t (os ++ ps) ≡ list_count t os + list_count t ps
+list_count-append t [] ps = omega arith
+list_count-append t (o ∷ os) ps = let h = list_count-append t os ps in omega (arith, h)
 
 -- an element of two lists stands in one of them
 at_either : {A : Type 0} (xs ys : List A) (i : ℕ) (a : A) → get_elem? (xs ++ ys) i ≡ some a → ((j : ℕ) × (get_elem? xs j ≡ some a)) ⊎ ((j : ℕ) × (get_elem? ys j ≡ some a))
@@ -41,11 +41,11 @@ fresh_at zero from i o e = absurd (some-ne-none o (sym e))
 fresh_at (suc n) from zero o e = let k = some-injective (own from []) o e in let a : from ≡ o.thread = ap (λ (z : Own). z.thread) k in (omega (arith, a), sym (ap (λ (z : Own). z.steps) k), omega arith)
 fresh_at (suc n) from (suc i) o e = let h = fresh_at n (suc from) i o e in let a = h.0 in let b = h.2 in (omega (arith, a), h.1, omega (arith, b))
 
-none_before : (n from t : ℕ) → t < from → ◌≡◌ {A = ℕ} (lists_of t (fresh from n)) 0
+none_before : (n from t : ℕ) → t < from → ◌≡◌ {A = ℕ} (list_count t (fresh from n)) 0
 none_before zero from t lt = refl
 none_before (suc n) from t lt = let h = none_before n (suc from) t (omega (arith, lt)) in let ne : from ≢ t = (λ e. omega (arith, e, lt)) in let k : ◌≡◌ {A = ℕ} (cond (eqb from t) 1 0) 0 = choice_miss from t 1 0 ne in omega (arith, h, k)
 
-fresh_once : (n from t : ℕ) → from ≤ t → t < from + n → ◌≡◌ {A = ℕ} (lists_of t (fresh from n)) 1
+fresh_once : (n from t : ℕ) → from ≤ t → t < from + n → ◌≡◌ {A = ℕ} (list_count t (fresh from n)) 1
 fresh_once zero from t le lt = absurd (omega (arith, le, lt))
 fresh_once (suc n) from t le lt = dite (ℕ_discrete from t)
     (λ e. let k : ◌≡◌ {A = ℕ} (cond (eqb from t) 1 0) 1 = choice_hit from t 1 0 e in let h = none_before n (suc from) t (omega (arith, e)) in omega (arith, k, h))
@@ -93,11 +93,11 @@ module _ {S : Type 0} (content : S → List Item) (suits : ℕ → ℕ → S →
             (at_snoc (set s.views id (view os)) (view (o ∷ [])) u j e);
         once = λ t lt.
             let one = r.once t lt in
-            let a = lists_in-set t s.views id v (view os) at in
-            let b = lists_in-append t (set s.views id (view os)) (view (o ∷ []) ∷ []) in
+            let a = list_count_in-set t s.views id v (view os) at in
+            let b = list_count_in-append t (set s.views id (view os)) (view (o ∷ []) ∷ []) in
             let x : ℕ = cond (eqb o.thread t) 1 0 in
-            let whole : lists_of t v.lists ≡ x + lists_of t os = ap (lists_of t) is in
-            let b' : lists_in t (set s.views id (view os) ++ view (o ∷ []) ∷ []) ≡ lists_in t (set s.views id (view os)) + ((x + 0) + 0) = b in
+            let whole : list_count t v.lists ≡ x + list_count t os = ap (list_count t) is in
+            let b' : list_count_in t (set s.views id (view os) ++ view (o ∷ []) ∷ []) ≡ list_count_in t (set s.views id (view os)) + ((x + 0) + 0) = b in
             omega (arith, one, a, b', whole);
         suited = r.suited;
         within = r.within;
@@ -129,10 +129,10 @@ module _ {S : Type 0} (content : S → List Item) (suits : ℕ → ℕ → S →
             (at_set (set s.views id both) other j (view []) u e);
         once = λ t lt.
             let one = r.once t lt in
-            let a = lists_in-set t s.views id v both at in
-            let b = lists_in-set t (set s.views id both) other w (view []) there in
-            let c : lists_of t both.lists ≡ lists_of t v.lists + lists_of t w.lists = lists_of-append t v.lists w.lists in
-            let b' : lists_in t (set (set s.views id both) other (view [])) + lists_of t w.lists ≡ lists_in t (set s.views id both) + 0 = b in
+            let a = list_count_in-set t s.views id v both at in
+            let b = list_count_in-set t (set s.views id both) other w (view []) there in
+            let c : list_count t both.lists ≡ list_count t v.lists + list_count t w.lists = list_count-append t v.lists w.lists in
+            let b' : list_count_in t (set (set s.views id both) other (view [])) + list_count t w.lists ≡ list_count_in t (set s.views id both) + 0 = b in
             omega (arith, one, a, b', c);
         suited = r.suited;
         within = r.within;

@@ -21,9 +21,9 @@ use Rattle.klsm_world.proofs.hands.NotedLemmas.{hand_of_more}
 use Rattle.std.specs.Prelude.{unwrap_or}
 use Rattle.klsm_board.specs.declared.sizes.Sizes.{Sizes}
 use Rattle.klsm_board.specs.declared.rule.View.{View}
-use Rattle.klsm_board.specs.Rule.{place, lock_words, front_word, limits_of, content_at, world_of, Ruled}
+use Rattle.klsm_board.specs.Rule.{place, lock_words, front_word, world_limits, content_at, board_world, Ruled}
 use Rattle.klsm_board.specs.Steps.{on_part, released, committed}
-use Rattle.klsm_board.specs.Seats.{HasRoom, LeavesShared}
+use Rattle.klsm_board.specs.Seats.{QuotaAllows, LeavesShared}
 use Rattle.klsm_board.proofs.table.PlaceLemmas.{at_place, front_stays}
 use Rattle.klsm_board.proofs.table.FrontLemmas.{no_front, front_left}
 use Rattle.klsm_board.proofs.table.KeepLemmas.{Goes, world, alone, list_at, insertions_more, room_for, keeps_rule, keeps_reached, here, same_steps, inside, few_now, few_more, word_set, stays}
@@ -36,9 +36,9 @@ module _ {S : Type 0} (content : S → List Item) (suits : ℕ → ℕ → S →
     ws = set s.words (place p) 0
 
     -- the part goes home, from a list to which the schedule has led
-    gives_back : (es : List Entry) (ls : List (List Entry)) (ms : List WorldStep) → Leads (limits_of m) ms (world content suits m s ls) → get_elem? ls t ≡ some es → Holds (hand_of t es) p (content y)
-        → Leads (limits_of m) (Release t p ∷ ms) (world_of content (lock_words m ws) (front_word m ws) (set s.homes p (some y)) (set ls t (es ++ Released p ∷ [])))
-    gives_back es ls ms led is has =
+    frees : (es : List Entry) (ls : List (List Entry)) (ms : List WorldStep) → Leads (world_limits m) ms (world content suits m s ls) → get_elem? ls t ≡ some es → Holds (hand_of t es) p (content y)
+        → Leads (world_limits m) (Release t p ∷ ms) (board_world content (lock_words m ws) (front_word m ws) (set s.homes p (some y)) (set ls t (es ++ Released p ∷ [])))
+    frees es ls ms led is has =
         let w1 : World = world content suits m s ls in
         let st : steps_of w1 t ≡ es = list_at ls t es is in
         let has' : Holds (hand_of t (steps_of w1 t)) p (content y) = ap (λ z. found_in (hand_of t z) p) st ∙ has in
@@ -59,7 +59,7 @@ module _ {S : Type 0} (content : S → List Item) (suits : ℕ → ℕ → S →
         let es : List Entry = xs ++ Released p ∷ [] in
         let ls : List (List Entry) = set r.lists t es in
         let ms : List WorldStep = Release t p ∷ r.schedule in
-        let led = gives_back xs r.lists r.schedule r.leads (here content suits m s r id t xs at lt) has in
+        let led = frees xs r.lists r.schedule r.leads (here content suits m s r id t xs at lt) has in
         let stands : get_elem? ls t ≡ some es = set_here r.lists t es (inside content suits m s r id t xs at lt) in
         let else : (u : ℕ) → u ≢ t → get_elem? ls u ≡ get_elem? r.lists u = (λ u d. set_else r.lists t u es d) in
         let few = few_more content suits m s r id t xs at lt (Released p) refl in (
@@ -71,7 +71,7 @@ module _ {S : Type 0} (content : S → List Item) (suits : ℕ → ℕ → S →
               (refl, keeps_reached content suits m s r t es lt ws (set s.homes p (some y)) ls ms led stands else few),
         )
 
-    commits : (fits : Event → Type 0) (e : Event) → fits e → MayCommit m.k t (hand_of t xs) (length (inserted xs)) e → HasRoom m.quota xs e → LeavesShared t (hand_of t xs) e → Holds (after_event t (hand_of t xs) e) p (content y)
+    commits : (fits : Event → Type 0) (e : Event) → fits e → MayCommit m.k t (hand_of t xs) (length (inserted xs)) e → QuotaAllows m.quota xs e → LeavesShared t (hand_of t xs) e → Holds (after_event t (hand_of t xs) e) p (content y)
         → Goes content suits m s id p ((p, y) ∷ cs) (λ _. on_part (committed fits m t) (step slots (place p) 0 0 none) (alone content suits m t xs, (p, y) ∷ cs) 0) 0
     commits fits e fit may room leaves has =
         let w0 : World = world content suits m s r.lists in
@@ -84,17 +84,17 @@ module _ {S : Type 0} (content : S → List Item) (suits : ℕ → ℕ → S →
         let ms1 : List WorldStep = Commit t e ∷ r.schedule in
         let here1 : get_elem? ls1 t ≡ some es1 = set_here r.lists t es1 within in
         let may' : MayCommit m.k t (hand_of t (steps_of w0 t)) (length (inserted (steps_of w0 t))) e = subst (λ z. MayCommit m.k t (hand_of t z) (length (inserted z)) e) (sym same) may in
-        let legal : MayStep (limits_of m) w0 (Commit t e) = record { thread = lt; commit = may'; front = no_front w0.front t (hand_of t xs) e leaves } in
+        let legal : MayStep (world_limits m) w0 (Commit t e) = record { thread = lt; commit = may'; front = no_front w0.front t (hand_of t xs) e leaves } in
         let kept : front_after w0.front t (hand_of t (steps_of w0 t)) e ≡ w0.front =
-        front_left (limits_of m) w0 t e (schedules_keep_lawful (limits_of m) r.schedule w0 r.leads) legal (subst (λ z. LeavesShared t (hand_of t z) e) (sym same) leaves) in
-        let led1 : Leads (limits_of m) ms1 (world content suits m s ls1) = record {
+        front_left (world_limits m) w0 t e (schedules_keep_lawful (world_limits m) r.schedule w0 r.leads) legal (subst (λ z. LeavesShared t (hand_of t z) e) (sym same) leaves) in
+        let led1 : Leads (world_limits m) ms1 (world content suits m s ls1) = record {
           before = w0;
           led = r.leads;
           legal = legal;
           after = λ i. record { words = lock_words m s.words; front = sym kept i; homes = map (content_at content) s.homes; lists = set r.lists t (sym same i ++ Committed e ∷ []) };
         } in
         let has1 : Holds (hand_of t es1) p (content y) = ap (λ z. found_in z p) (hand_of_more t xs (Committed e)) ∙ has in
-        let led = gives_back es1 ls1 ms1 led1 here1 has1 in
+        let led = frees es1 ls1 ms1 led1 here1 has1 in
         let stands : get_elem? ls t ≡ some es = set_here ls1 t es (let k : length ls1 ≡ length r.lists = length-set r.lists t es1 in omega (arith, k, within)) in
         let else : (u : ℕ) → u ≢ t → get_elem? ls u ≡ get_elem? r.lists u = (λ u d. set_else ls1 t u es d ∙ set_else r.lists t u es1 d) in
         let few : length (inserted es) ≤ m.quota = (let a : length (inserted es1) ≤ m.quota = room_for m.quota xs e room (few_now content suits m s r id t xs at lt) in let b : length (inserted es) ≡ length (inserted es1) + 0 = insertions_more es1 (Released p) in omega (arith, a, b)) in (
@@ -106,13 +106,13 @@ module _ {S : Type 0} (content : S → List Item) (suits : ℕ → ℕ → S →
               (e, fit, refl, keeps_reached content suits m s r t es lt ws (set s.homes p (some y)) ls (Release t p ∷ ms1) led stands else few),
         )
 
-  -- a part that the thread holds is given back
+  -- a part that the thread holds is released
   pub release_allows : (slots id p t : ℕ) (xs : List Entry) (y : S) (cs : List (ℕ × S)) → t < m.threads → p ≤ m.threads → suits m.k p y → Holds (hand_of t xs) p (content y)
       → Allows (Ruled content suits m) slots id (alone content suits m t xs, (p, y) ∷ cs) (place p) (λ _. 0) (λ _. on_part (released m t) (step slots (place p) 0 0 none) (alone content suits m t xs, (p, y) ∷ cs) 0)
   release_allows slots id p t xs y cs lt le suit has s r deep at small = releases s r id t xs at lt slots p y cs le suit has
 
-  -- an event that fits is committed, and a part that the thread holds is given back
+  -- an event that fits is committed, and a part that the thread holds is released
   pub commit_allows : (fits : Event → Type 0) (slots id p t : ℕ) (xs : List Entry) (y : S) (cs : List (ℕ × S)) (e : Event) → fits e → t < m.threads → p ≤ m.threads → suits m.k p y → MayCommit m.k t (hand_of t xs) (length (inserted xs)) e
-      → HasRoom m.quota xs e → LeavesShared t (hand_of t xs) e → Holds (after_event t (hand_of t xs) e) p (content y)
+      → QuotaAllows m.quota xs e → LeavesShared t (hand_of t xs) e → Holds (after_event t (hand_of t xs) e) p (content y)
       → Allows (Ruled content suits m) slots id (alone content suits m t xs, (p, y) ∷ cs) (place p) (λ _. 0) (λ _. on_part (committed fits m t) (step slots (place p) 0 0 none) (alone content suits m t xs, (p, y) ∷ cs) 0)
   commit_allows fits slots id p t xs y cs e fit lt le suit may room leaves has s r deep at small = commits s r id t xs at lt slots p y cs le suit fits e fit may room leaves has

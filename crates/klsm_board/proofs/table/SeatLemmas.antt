@@ -11,13 +11,13 @@ use Rattle.klsm_run.specs.declared.item.Item.{Item}
 use Rattle.klsm_world.specs.declared.step.Event.{Event}
 use Rattle.klsm_world.specs.declared.step.Entry.{Entry}
 use Rattle.klsm_world.specs.declared.step.Entry.TheVariants.{Acquired, Committed, Released, Missed}
-use Rattle.klsm_world.specs.OwnSteps.{Hand, Holds, hand_of, after_entry, after_event, found_in, given_back}
+use Rattle.klsm_world.specs.OwnSteps.{Hand, Holds, hand_of, after_entry, after_event, found_in, without_part}
 use Rattle.klsm_world.proofs.hands.HandLemmas.{choice_hit, choice_miss, found_first}
 use Rattle.klsm_world.proofs.hands.NotedLemmas.{hand_of_more}
 use Rattle.klsm_board.specs.declared.sizes.Sizes.{Sizes}
 use Rattle.klsm_board.specs.declared.rule.View.{View}
 use Rattle.klsm_board.specs.Rule.{own, IsReached}
-use Rattle.klsm_board.specs.Steps.{mine, mine_or, IsMine, gained, gain, acquired}
+use Rattle.klsm_board.specs.Steps.{mine, mine_or, IsMine, gained, gain, attempted}
 use Rattle.klsm_board.proofs.calls.TestLemmas.{where_zero, where_not_zero}
 use Rattle.klsm_board.specs.Seats.{Stands, contents, AreSuited, Carries, Has, CarriedOut}
 
@@ -28,17 +28,17 @@ mine_gain : (v : View) (t : ℕ) (e : Entry) → IsMine v t → mine (gain v e) 
 mine_gain v t e is = ap (λ z. mine_or (gained z e)) is
 
 -- a part that is not there is not taken away
-absent_stays : (h : Hand) (p : ℕ) → found_in h p ≡ None → given_back h p ≡ h
+absent_stays : (h : Hand) (p : ℕ) → found_in h p ≡ None → without_part h p ≡ h
 absent_stays [] p away = refl
 absent_stays (held ∷ h) p away = elim (cases_eq held.0 p) [
   | inl same ↦ absurd (none-some held.1 (sym away ∙ choice_hit held.0 p (Some held.1) (found_in h p) same))
-  | inr differ ↦ choice_miss held.0 p (given_back h p) (held ∷ given_back h p) differ
+  | inr differ ↦ choice_miss held.0 p (without_part h p) (held ∷ without_part h p) differ
       ∙ ap (λ (z : Hand). held ∷ z) (absent_stays h p (sym (choice_miss held.0 p (Some held.1) (found_in h p) differ) ∙ away))
 ]
 
--- the part taken last goes, and the others stay
-first_goes : (p : ℕ) (c : List Item) (h : Hand) → found_in h p ≡ None → given_back ((p, c) ∷ h) p ≡ h
-first_goes p c h away = choice_hit p p (given_back h p) ((p, c) ∷ given_back h p) refl ∙ absent_stays h p away
+-- the part acquired last goes, and the others stay
+first_goes : (p : ℕ) (c : List Item) (h : Hand) → found_in h p ≡ None → without_part ((p, c) ∷ h) p ≡ h
+first_goes p c h away = choice_hit p p (without_part h p) ((p, c) ∷ without_part h p) refl ∙ absent_stays h p away
 
 -- a hand without its first part
 abbrev pub others_of : Hand → Hand
@@ -50,7 +50,7 @@ module _ {S : Type 0} (content : S → List Item) (suits : ℕ → ℕ → S →
   hand_gain : (v : View) (e : Entry) → IsMine v t → hand_of t (mine (gain v e)) ≡ after_entry t (hand_of t (mine v)) e
   hand_gain v e is = ap (hand_of t) (mine_gain v t e is) ∙ hand_of_more t (mine v) e
 
-  -- a part was taken
+  -- a part was acquired
   has_won : (p : ℕ) (y : S) (hand : Hand) (me me' : Me S View) → Stands content suits m t hand me → suits m.k p y
       → me' ≡ (gain me.0 (Acquired p (content y)), (p, y) ∷ me.1) → IsReached m t (mine me'.0) → Has content suits m t ((p, content y) ∷ hand) me'
   has_won p y hand me me' has suit is reached =
@@ -96,15 +96,15 @@ module _ {S : Type 0} (content : S → List Item) (suits : ℕ → ℕ → S →
       first_content [] = []
       first_content (held ∷ h) = held.1
 
-  -- a seat that carries a part can give it back
+  -- a seat that carries a part can release it
   first_carried : (p : ℕ) (c : List Item) (hand : Hand) (me : Me S View) → Carries content suits m t ((p, c) ∷ hand) me
       → (y : S) × (me.1 ≡ (p, y) ∷ rest me.1) × suits m.k p y × (content y ≡ c) × (contents content suits m t (rest me.1) ≡ hand) × AreSuited content suits m t (rest me.1)
   first_carried p c hand me carries = front_slot me.1 p c hand carries.contents_are carries.suited
 
-  -- the part taken last was given back
-  pub has_given : (p : ℕ) (c : List Item) (hand : Hand) (me me' : Me S View) → Stands content suits m t ((p, c) ∷ hand) me → found_in hand p ≡ None
+  -- the part acquired last was released
+  pub has_released : (p : ℕ) (c : List Item) (hand : Hand) (me me' : Me S View) → Stands content suits m t ((p, c) ∷ hand) me → found_in hand p ≡ None
       → me' ≡ (gain me.0 (Released p), rest me.1) → IsReached m t (mine me'.0) → Has content suits m t hand me'
-  has_given p c hand me me' has away is reached =
+  has_released p c hand me me' has away is reached =
       let old = has.carries in let first = first_carried p c hand me old in
       subst (Has content suits m t hand) (sym is) (record {
         carries = record {
@@ -112,11 +112,11 @@ module _ {S : Type 0} (content : S → List Item) (suits : ℕ → ℕ → S →
           contents_are = first.4;
           suited = first.5;
         };
-        hand_is = hand_gain me.0 (Released p) old.alone ∙ (ap (λ h. given_back h p) has.hand_is ∙ first_goes p c hand away);
+        hand_is = hand_gain me.0 (Released p) old.alone ∙ (ap (λ h. without_part h p) has.hand_is ∙ first_goes p c hand away);
         reached = subst (λ (z : Me S View). IsReached m t (mine z.0)) is reached;
       })
 
-  -- an event was committed, and the part taken last given back
+  -- an event was committed, and the part acquired last released
   pub has_committed : (p : ℕ) (c : List Item) (event : Event) (hand : Hand) (me me' : Me S View) → CarriedOut content suits m t event ((p, c) ∷ hand) me → found_in hand p ≡ None
       → me' ≡ (gain (gain me.0 (Committed event)) (Released p), rest me.1) → IsReached m t (mine me'.0) → Has content suits m t hand me'
   has_committed p c event hand me me' out away is reached =
@@ -129,7 +129,7 @@ module _ {S : Type 0} (content : S → List Item) (suits : ℕ → ℕ → S →
           suited = first.5;
         };
         hand_is = hand_gain (gain me.0 (Committed event)) (Released p) mid
-            ∙ (ap (λ h. given_back h p) (hand_gain me.0 (Committed event) old.alone ∙ out.done) ∙ first_goes p c hand away);
+            ∙ (ap (λ h. without_part h p) (hand_gain me.0 (Committed event) old.alone ∙ out.done) ∙ first_goes p c hand away);
         reached = subst (λ (z : Me S View). IsReached m t (mine z.0)) is reached;
       })
 
@@ -141,7 +141,7 @@ module _ {S : Type 0} (content : S → List Item) (suits : ℕ → ℕ → S →
       ∙ (mine_gain (gain me.0 (Committed event)) t (Released p) mid
       ∙ (ap (λ z. z ++ Released p ∷ []) (mine_gain me.0 t (Committed event) alone) ∙ append_assoc (mine me.0) (Committed event ∷ []) (Released p ∷ [])))
 
-  -- an event was committed, and no part given back
+  -- an event was committed, and no part released
   pub has_set : (event : Event) (hand : Hand) (me me' : Me S View) → CarriedOut content suits m t event hand me
       → me' ≡ (gain me.0 (Committed event), me.1) → IsReached m t (mine me'.0) → Has content suits m t hand me'
   has_set event hand me me' out is reached =
@@ -159,10 +159,10 @@ module _ {S : Type 0} (content : S → List Item) (suits : ℕ → ℕ → S →
   pub mine_set : (event : Event) (me me' : Me S View) → IsMine me.0 t → me' ≡ (gain me.0 (Committed event), me.1) → mine me'.0 ≡ mine me.0 ++ Committed event ∷ []
   mine_set event me me' alone is = ap (λ (z : Me S View). mine z.0) is ∙ mine_gain me.0 t (Committed event) alone
 
-  -- a part that a seat has can be given back
-  pub can_give : (p : ℕ) (c : List Item) (hand : Hand) (me : Me S View) → Stands content suits m t ((p, c) ∷ hand) me
+  -- a part that a seat has can be released
+  pub can_release : (p : ℕ) (c : List Item) (hand : Hand) (me : Me S View) → Stands content suits m t ((p, c) ∷ hand) me
       → (y : S) × (me.1 ≡ (p, y) ∷ rest me.1) × suits m.k p y × Holds (hand_of t (mine me.0)) p (content y)
-  can_give p c hand me has =
+  can_release p c hand me has =
       let k = first_carried p c hand me has.carries in
       (k.0, k.1, k.2, ap (λ h. found_in h p) has.hand_is ∙ (found_first hand p c ∙ ap Some (sym k.3)))
 
@@ -189,8 +189,8 @@ module _ {S : Type 0} (content : S → List Item) (suits : ℕ → ℕ → S →
   pub as_carried : (hand : Hand) (me : Me S View) → Carries content suits m t hand me → Carries content suits m t (contents content suits m t me.1) me
   as_carried hand me carries = record { alone = carries.alone; contents_are = refl; suited = carries.suited }
 
-  -- what a seat has after a try to take a part
-  pub tried : (p slots n : ℕ) (hand : Hand) (me me' : Me S View) → Stands content suits m t hand me → acquired content suits m t (step slots p 0 (t + 1) none) me n me'
+  -- what a seat has after a try to acquire a part
+  pub tried : (p slots n : ℕ) (hand : Hand) (me me' : Me S View) → Stands content suits m t hand me → attempted content suits m t (step slots p 0 (t + 1) none) me n me'
       → MatchBool (n == 0)
       ((found : List Item) × Has content suits m t ((p, found) ∷ hand) me' × (mine me'.0 ≡ mine me.0 ++ Acquired p found ∷ []))
       (Has content suits m t hand me' × (mine me'.0 ≡ mine me.0 ++ Missed p (n - 1) ∷ []) × (n ≤ m.threads))

@@ -12,7 +12,7 @@ use Rattle.klsm_world.specs.OwnSteps.{Holds, found_in, content_in, after_entry, 
 use Rattle.klsm_world.specs.Worlds.{Limits, World, word_of, home_of, holder_of, steps_of, hand_in, content_of, first_world}
 use Rattle.klsm_world.specs.Schedules.{MayStep, noted, next}
 use Rattle.klsm_world.specs.LawfulWorlds.{AreAgreed}
-use Rattle.klsm_world.proofs.hands.HandLemmas.{found_first, found_behind, given_back_not_found, given_back_elsewhere, held_before_event, held_after_event}
+use Rattle.klsm_world.proofs.hands.HandLemmas.{found_first, found_behind, without_part_not_found, without_part_elsewhere, held_before_event, held_after_event}
 use Rattle.klsm_world.proofs.hands.NotedLemmas.{length_noted, hand_noted, hand_else}
 
 module _ (T : ℕ) where
@@ -62,9 +62,9 @@ module _ (T : ℕ) where
           held = (o.held.0, looks o.by q other ∙ o.held.1);
         }
 
-        -- thread t took it
-        take_fit : word p ≡ 0 → word' p ≡ t + 1 → home' p ≡ None → (c : List Item) → look' t p ≡ Some c → Fit word' home' look'
-        take_fit was now away c mine = record {
+        -- thread t acquired it
+        acquire_fit : word p ≡ 0 → word' p ≡ t + 1 → home' p ≡ None → (c : List Item) → look' t p ≡ Some c → Fit word' home' look'
+        acquire_fit was now away c mine = record {
           free = λ q within zeros. elim (cases_eq q p) [
             | inl same ↦ let bad : t + 1 ≡ 0 = sym now ∙ (ap word' (sym same) ∙ zeros) in absurd (omega (arith, bad))
             | inr other ↦ let o = old.free q within (sym (words q other) ∙ zeros) in (o.0, homes q other ∙ o.1)
@@ -87,9 +87,9 @@ module _ (T : ℕ) where
           ];
         }
 
-        -- thread t gave it back
-        give_fit : (c d : List Item) → look t p ≡ Some c → word' p ≡ 0 → home' p ≡ Some d → look' t p ≡ None → Fit word' home' look'
-        give_fit c d had now back gone = record {
+        -- thread t released it
+        release_fit : (c d : List Item) → look t p ≡ Some c → word' p ≡ 0 → home' p ≡ Some d → look' t p ≡ None → Fit word' home' look'
+        release_fit c d had now back gone = record {
           free = λ q within zeros. elim (cases_eq q p) [
             | inl same ↦ (d, ap home' same ∙ back)
             | inr other ↦ let o = old.free q within (sym (words q other) ∙ zeros) in (o.0, homes q other ∙ o.1)
@@ -185,7 +185,7 @@ agreed_kept limits w (Acquire t p) agreed may =
     let word_within : p < length w.words = omega (arith, agreed.words_are, may.part) in
     let home_within : p < length w.homes = omega (arith, agreed.homes_are, may.part) in
     agreed_of limits v (length-set w.words p (t + 1) ∙ agreed.words_are) (length-set w.homes p None ∙ agreed.homes_are) (length_noted w t entry ∙ agreed.lists_are)
-    (take_fit limits.threads (word_of w) (word_of v) (home_of w) (home_of v) (look_in w) (look_in v) (fit_of limits w agreed) t p may.thread may.part
+    (acquire_fit limits.threads (word_of w) (word_of v) (home_of w) (home_of v) (look_in w) (look_in v) (fit_of limits w agreed) t p may.thread may.part
     (λ q other. get_or-set_other w.words p q (t + 1) 0 other)
     (λ q other. get_or-set_other w.homes p q None None other)
     (λ u q other. look_same w v t entry q within refl (found_behind (hand_in w t) p q found other) u)
@@ -205,13 +205,13 @@ agreed_kept limits w (Release t p) agreed may =
     let word_within : p < length w.words = omega (arith, agreed.words_are, at_most) in
     let home_within : p < length w.homes = omega (arith, agreed.homes_are, at_most) in
     agreed_of limits v (length-set w.words p 0 ∙ agreed.words_are) (length-set w.homes p (Some c) ∙ agreed.homes_are) (length_noted w t entry ∙ agreed.lists_are)
-    (give_fit limits.threads (word_of w) (word_of v) (home_of w) (home_of v) (look_in w) (look_in v) (fit_of limits w agreed) t p may.thread at_most
+    (release_fit limits.threads (word_of w) (word_of v) (home_of w) (home_of v) (look_in w) (look_in v) (fit_of limits w agreed) t p may.thread at_most
     (λ q other. get_or-set_other w.words p q 0 0 other)
     (λ q other. get_or-set_other w.homes p q (Some c) None other)
-    (λ u q other. look_same w v t entry q within refl (given_back_elsewhere (hand_in w t) p q other) u)
+    (λ u q other. look_same w v t entry q within refl (without_part_elsewhere (hand_in w t) p q other) u)
     (λ u other. ap (λ h. found_in h p) (hand_else w v t u entry other refl))
     may.held.content c may.held.holds (get_or-set_same w.words p 0 0 word_within) (get_or-set_same w.homes p (Some c) None home_within)
-    (ap (λ h. found_in h p) (hand_noted w v t entry within refl) ∙ given_back_not_found (hand_in w t) p))
+    (ap (λ h. found_in h p) (hand_noted w v t entry within refl) ∙ without_part_not_found (hand_in w t) p))
 agreed_kept limits w (Miss t p) agreed may =
     stays limits w (next w (Miss t p)) t (Missed p (holder_of w p)) agreed may.thread refl refl refl (λ q c found. (c, found)) (λ q c found. (c, found))
 

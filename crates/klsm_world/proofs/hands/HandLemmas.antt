@@ -6,7 +6,7 @@ use Rattle.klsm_run.specs.declared.item.Item.{Item}
 use Rattle.klsm_parts.specs.Events.{own_after_put, own_after_flush, shared_after_flush, own_after_take, shared_after_take, own_after_early, own_after_spy, victim_after_spy}
 use Rattle.klsm_world.specs.declared.step.Event.{Event}
 use Rattle.klsm_world.specs.declared.step.Event.TheVariants.{Put, Flush, Take, Early, Nothing, Spy}
-use Rattle.klsm_world.specs.OwnSteps.{Hand, Holds, found_in, content_in, changed, given_back, after_event, own_part, shared_part}
+use Rattle.klsm_world.specs.OwnSteps.{Hand, Holds, found_in, content_in, changed, without_part, after_event, own_part, shared_part}
 
 -- by cases on whether two parts are one
 pub by_parts : {X : Type 0} (p q : ℕ) (x y : X) (F : X → Type 0) → (p ≡ q → F x) → (p ≢ q → F y) → F (cond (eqb p q) x y)
@@ -87,19 +87,19 @@ held_changed hand p c d found =
     same_Some c d (sym (found_changed hand p c before.0 before.1) ∙ found)
 
 -- a part given back is not held
-pub given_back_not_found : (hand : Hand) (p : ℕ) → found_in (given_back hand p) p ≡ None
-given_back_not_found [] p = refl
-given_back_not_found (held ∷ hand) p = by_parts held.0 p (given_back hand p) (held ∷ given_back hand p) (λ z. found_in z p ≡ None)
-    (λ same. given_back_not_found hand p)
-    (λ differ. choice_miss held.0 p (Some held.1) (found_in (given_back hand p) p) differ ∙ given_back_not_found hand p)
+pub without_part_not_found : (hand : Hand) (p : ℕ) → found_in (without_part hand p) p ≡ None
+without_part_not_found [] p = refl
+without_part_not_found (held ∷ hand) p = by_parts held.0 p (without_part hand p) (held ∷ without_part hand p) (λ z. found_in z p ≡ None)
+    (λ same. without_part_not_found hand p)
+    (λ differ. choice_miss held.0 p (Some held.1) (found_in (without_part hand p) p) differ ∙ without_part_not_found hand p)
 
 -- another part is found as it was before one was given back
-pub given_back_elsewhere : (hand : Hand) (p q : ℕ) → q ≢ p → found_in (given_back hand p) q ≡ found_in hand q
-given_back_elsewhere [] p q other = refl
-given_back_elsewhere (held ∷ hand) p q other =
-    by_parts held.0 p (given_back hand p) (held ∷ given_back hand p) (λ z. found_in z q ≡ cond (eqb held.0 q) (Some held.1) (found_in hand q))
-    (λ same. given_back_elsewhere hand p q other ∙ sym (choice_miss held.0 q (Some held.1) (found_in hand q) (λ e. other (sym e ∙ same))))
-    (λ differ. ap (λ z. cond (eqb held.0 q) (Some held.1) z) (given_back_elsewhere hand p q other))
+pub without_part_elsewhere : (hand : Hand) (p q : ℕ) → q ≢ p → found_in (without_part hand p) q ≡ found_in hand q
+without_part_elsewhere [] p q other = refl
+without_part_elsewhere (held ∷ hand) p q other =
+    by_parts held.0 p (without_part hand p) (held ∷ without_part hand p) (λ z. found_in z q ≡ cond (eqb held.0 q) (Some held.1) (found_in hand q))
+    (λ same. without_part_elsewhere hand p q other ∙ sym (choice_miss held.0 q (Some held.1) (found_in hand q) (λ e. other (sym e ∙ same))))
+    (λ differ. ap (λ z. cond (eqb held.0 q) (Some held.1) z) (without_part_elsewhere hand p q other))
 
 -- a part that is held after two changes was held before, and the other way round
 pub held_before_two : (hand : Hand) (p q r : ℕ) (c e d : List Item) → Holds (changed (changed hand p c) q e) r d → (f : List Item) × Holds hand r f

@@ -13,7 +13,7 @@ use Rattle.klsm_world.specs.Worlds.{Limits, World, word_of, home_of, hand_in, co
 use Rattle.klsm_world.specs.LawfulWorlds.{AreAgreed}
 use Rattle.klsm_world.specs.Schedules.{MayStep, noted, next}
 use Rattle.klsm_world.proofs.hands.AgreeLemmas.{content_at_home}
-use Rattle.klsm_world.proofs.hands.HandLemmas.{found_first, found_behind, given_back_elsewhere, held_before_event}
+use Rattle.klsm_world.proofs.hands.HandLemmas.{found_first, found_behind, without_part_elsewhere, held_before_event}
 use Rattle.klsm_world.proofs.hands.NotedLemmas.{hand_noted, hand_else}
 
 -- a part that is not at home, and whose word names a thread, has the content that the thread's hand says
@@ -85,7 +85,7 @@ content_released limits w t p q agreed may =
           subst (λ z. content_of v z ≡ content_of w z) (sym same) (content_at_home v p left home ∙ sym (content_away w t p away.2 away.1))
       | inr other ↦
           content_same w v q (get_or-set_other w.words p q 0 0 other) (get_or-set_other w.homes p q (Some left) None other)
-          (found_same w v t (Released p) q (listed limits w t agreed may.thread) refl (given_back_elsewhere (hand_in w t) p q other))
+          (found_same w v t (Released p) q (listed limits w t agreed may.thread) refl (without_part_elsewhere (hand_in w t) p q other))
     ]
 
 -- and a miss

@@ -15,24 +15,24 @@ item key owner number = record { key = key; stamp = record { owner = owner; numb
 abbrev one : Item
 one = item 1 0 0
 
-abbrev own_taken : World
-own_taken = next (first_world two_threads) (Acquire 0 1)
+abbrev own_acquired : World
+own_acquired = next (first_world two_threads) (Acquire 0 1)
 
 abbrev one_put : World
-one_put = next own_taken (Commit 0 (Put one))
+one_put = next own_acquired (Commit 0 (Put one))
 
 -- thread 1 takes its own part and the shared one, which are empty
-abbrev other_taken : World
-other_taken = next one_put (Acquire 1 2)
+abbrev other_acquired : World
+other_acquired = next one_put (Acquire 1 2)
 
-abbrev both_taken : World
-both_taken = next other_taken (Acquire 1 0)
+abbrev both_acquired : World
+both_acquired = next other_acquired (Acquire 1 0)
 
-abbrev to_both_taken : List Step
-to_both_taken = Acquire 1 0 ∷ Acquire 1 2 ∷ Commit 0 (Put one) ∷ Acquire 0 1 ∷ []
+abbrev to_both_acquired : List Step
+to_both_acquired = Acquire 1 0 ∷ Acquire 1 2 ∷ Commit 0 (Put one) ∷ Acquire 0 1 ∷ []
 
-leads_to_own_taken : Leads two_threads (Acquire 0 1 ∷ []) own_taken
-leads_to_own_taken = record {
+leads_to_own_acquired : Leads two_threads (Acquire 0 1 ∷ []) own_acquired
+leads_to_own_acquired = record {
   before = first_world two_threads;
   led = refl;
   legal = record { thread = omega arith; part = omega arith; free = refl };
@@ -41,8 +41,8 @@ leads_to_own_taken = record {
 
 leads_to_one_put : Leads two_threads (Commit 0 (Put one) ∷ Acquire 0 1 ∷ []) one_put
 leads_to_one_put = record {
-  before = own_taken;
-  led = leads_to_own_taken;
+  before = own_acquired;
+  led = leads_to_own_acquired;
   legal = record {
     thread = omega arith;
     commit = record { held = record { own = []; holds_own = refl; fits = omega arith }; stamp = record { owner = refl; number = refl } };
@@ -51,18 +51,18 @@ leads_to_one_put = record {
   after = refl;
 }
 
-leads_to_other_taken : Leads two_threads (Acquire 1 2 ∷ Commit 0 (Put one) ∷ Acquire 0 1 ∷ []) other_taken
-leads_to_other_taken = record {
+leads_to_other_acquired : Leads two_threads (Acquire 1 2 ∷ Commit 0 (Put one) ∷ Acquire 0 1 ∷ []) other_acquired
+leads_to_other_acquired = record {
   before = one_put;
   led = leads_to_one_put;
   legal = record { thread = omega arith; part = omega arith; free = refl };
   after = refl;
 }
 
-leads_to_both_taken : Leads two_threads to_both_taken both_taken
-leads_to_both_taken = record {
-  before = other_taken;
-  led = leads_to_other_taken;
+leads_to_both_acquired : Leads two_threads to_both_acquired both_acquired
+leads_to_both_acquired = record {
+  before = other_acquired;
+  led = leads_to_other_acquired;
   legal = record { thread = omega arith; part = omega arith; free = refl };
   after = refl;
 }
@@ -70,10 +70,10 @@ leads_to_both_taken = record {
 -- it may answer "nothing", though 1 lives
 pub most_left_is_reached : ReachesMostLeft two_threads
 most_left_is_reached = record {
-  steps = to_both_taken;
-  world = both_taken;
+  steps = to_both_acquired;
+  world = both_acquired;
   thread = 1;
-  leads = leads_to_both_taken;
+  leads = leads_to_both_acquired;
   legal = record {
     thread = omega arith;
     commit = record { own = []; other = []; holds_own = refl; holds_other = refl; fits = record { own_empty = refl; shared_empty = refl } };
@@ -87,12 +87,12 @@ abbrev two_of_other : Item
 two_of_other = item 2 1 0
 
 abbrev two_put : World
-two_put = next other_taken (Commit 1 (Put two_of_other))
+two_put = next other_acquired (Commit 1 (Put two_of_other))
 
 leads_to_two_put : Leads two_threads (Commit 1 (Put two_of_other) ∷ Acquire 1 2 ∷ Commit 0 (Put one) ∷ Acquire 0 1 ∷ []) two_put
 leads_to_two_put = record {
-  before = other_taken;
-  led = leads_to_other_taken;
+  before = other_acquired;
+  led = leads_to_other_acquired;
   legal = record {
     thread = omega arith;
     commit = record { held = record { own = []; holds_own = refl; fits = omega arith }; stamp = record { owner = refl; number = refl } };
@@ -127,11 +127,11 @@ two = item 2 0 1
 abbrev last : Item
 last = item 1 0 2
 
-abbrev shared_taken : World
-shared_taken = next own_taken (Acquire 0 0)
+abbrev shared_acquired : World
+shared_acquired = next own_acquired (Acquire 0 0)
 
 abbrev three_flushed : World
-three_flushed = next shared_taken (Commit 0 (Flush three (three ∷ [])))
+three_flushed = next shared_acquired (Commit 0 (Flush three (three ∷ [])))
 
 abbrev two_flushed : World
 two_flushed = next three_flushed (Commit 0 (Flush two (two ∷ [])))
@@ -139,36 +139,36 @@ two_flushed = next three_flushed (Commit 0 (Flush two (two ∷ [])))
 abbrev last_put : World
 last_put = next two_flushed (Commit 0 (Put last))
 
-abbrev shared_given : World
-shared_given = next last_put (Release 0 0)
+abbrev shared_released : World
+shared_released = next last_put (Release 0 0)
 
-abbrev other_own_taken : World
-other_own_taken = next shared_given (Acquire 1 2)
+abbrev other_own_acquired : World
+other_own_acquired = next shared_released (Acquire 1 2)
 
-abbrev other_both_taken : World
-other_both_taken = next other_own_taken (Acquire 1 0)
+abbrev other_both_acquired : World
+other_both_acquired = next other_own_acquired (Acquire 1 0)
 
-abbrev to_shared_taken : List Step
-to_shared_taken = Acquire 0 0 ∷ Acquire 0 1 ∷ []
+abbrev to_shared_acquired : List Step
+to_shared_acquired = Acquire 0 0 ∷ Acquire 0 1 ∷ []
 
 abbrev to_two_flushed : List Step
-to_two_flushed = Commit 0 (Flush two (two ∷ [])) ∷ Commit 0 (Flush three (three ∷ [])) ∷ to_shared_taken
+to_two_flushed = Commit 0 (Flush two (two ∷ [])) ∷ Commit 0 (Flush three (three ∷ [])) ∷ to_shared_acquired
 
-abbrev to_other_both_taken : List Step
-to_other_both_taken = Acquire 1 0 ∷ Acquire 1 2 ∷ Release 0 0 ∷ Commit 0 (Put last) ∷ to_two_flushed
+abbrev to_other_both_acquired : List Step
+to_other_both_acquired = Acquire 1 0 ∷ Acquire 1 2 ∷ Release 0 0 ∷ Commit 0 (Put last) ∷ to_two_flushed
 
-leads_to_shared_taken : Leads two_threads to_shared_taken shared_taken
-leads_to_shared_taken = record {
-  before = own_taken;
-  led = leads_to_own_taken;
+leads_to_shared_acquired : Leads two_threads to_shared_acquired shared_acquired
+leads_to_shared_acquired = record {
+  before = own_acquired;
+  led = leads_to_own_acquired;
   legal = record { thread = omega arith; part = omega arith; free = refl };
   after = refl;
 }
 
-leads_to_three_flushed : Leads two_threads (Commit 0 (Flush three (three ∷ [])) ∷ to_shared_taken) three_flushed
+leads_to_three_flushed : Leads two_threads (Commit 0 (Flush three (three ∷ [])) ∷ to_shared_acquired) three_flushed
 leads_to_three_flushed = record {
-  before = shared_taken;
-  led = leads_to_shared_taken;
+  before = shared_acquired;
+  led = leads_to_shared_acquired;
   legal = record {
     thread = omega arith;
     commit = record {
@@ -219,26 +219,26 @@ leads_to_last_put = record {
   after = refl;
 }
 
-leads_to_shared_given : Leads two_threads (Release 0 0 ∷ Commit 0 (Put last) ∷ to_two_flushed) shared_given
-leads_to_shared_given = record {
+leads_to_shared_released : Leads two_threads (Release 0 0 ∷ Commit 0 (Put last) ∷ to_two_flushed) shared_released
+leads_to_shared_released = record {
   before = last_put;
   led = leads_to_last_put;
   legal = record { thread = omega arith; held = record { content = two ∷ three ∷ []; holds = refl } };
   after = refl;
 }
 
-leads_to_other_own_taken : Leads two_threads (Acquire 1 2 ∷ Release 0 0 ∷ Commit 0 (Put last) ∷ to_two_flushed) other_own_taken
-leads_to_other_own_taken = record {
-  before = shared_given;
-  led = leads_to_shared_given;
+leads_to_other_own_acquired : Leads two_threads (Acquire 1 2 ∷ Release 0 0 ∷ Commit 0 (Put last) ∷ to_two_flushed) other_own_acquired
+leads_to_other_own_acquired = record {
+  before = shared_released;
+  led = leads_to_shared_released;
   legal = record { thread = omega arith; part = omega arith; free = refl };
   after = refl;
 }
 
-leads_to_other_both_taken : Leads two_threads to_other_both_taken other_both_taken
-leads_to_other_both_taken = record {
-  before = other_own_taken;
-  led = leads_to_other_own_taken;
+leads_to_other_both_acquired : Leads two_threads to_other_both_acquired other_both_acquired
+leads_to_other_both_acquired = record {
+  before = other_own_acquired;
+  led = leads_to_other_own_acquired;
   legal = record { thread = omega arith; part = omega arith; free = refl };
   after = refl;
 }
@@ -249,11 +249,11 @@ not_of_one same = omega (arith, same)
 -- then thread 1 may take 3, the second candidate, of which it inserted none, and skips 2 and 1
 pub most_skipped_is_reached : ReachesMostSkipped two_threads
 most_skipped_is_reached = record {
-  steps = to_other_both_taken;
-  world = other_both_taken;
+  steps = to_other_both_acquired;
+  world = other_both_acquired;
   thread = 1;
   item = three;
-  leads = leads_to_other_both_taken;
+  leads = leads_to_other_both_acquired;
   legal = record {
     thread = omega arith;
     commit = record {

@@ -3,70 +3,70 @@ use Rattle.std.specs.Prelude.{MatchOption}
 use Rattle.klsm_world.specs.declared.step.Entry.TheVariants.{Acquired, Released, Missed}
 use Rattle.klsm_board.specs.Steps.{mine}
 use Rattle.klsm_board.specs.Seats.{own_in_hand}
-use Rattle.klsm_board.specs.Entries.{own_taken, both_taken}
+use Rattle.klsm_board.specs.Entries.{own_acquired, both_acquired}
 use Rattle.klsm_board.specs.Deleting.{Deletes, FindsNothing, TakesEarly}
 use Rattle.klsm_board.proofs.seats.StandLemmas.{stands}
 use Rattle.klsm_board.proofs.hands.EventLemmas.{shared_not_in_one}
 use Rattle.klsm_board.proofs.deleting.delete_now.Goals as goal
 
 pub delete_early-requires-clause-has : goal.delete_early-requires-clause-has
-delete_early-requires-clause-has g c = let own = c.in_ok-take_now.ensures.ok [] c.requires.stands in (own.0, own.1)
+delete_early-requires-clause-has g c = let own = c.in_ok-try_acquire.ensures.ok [] c.requires.stands in (own.0, own.1)
 
 pub returns-in-Some-clause-has : goal.returns-in-Some-clause-has
-returns-in-Some-clause-has g c = let own = c.in_ok-take_now.ensures.ok [] c.requires.stands in (c.in-Some.ensures.done own.0 own.1).0
+returns-in-Some-clause-has g c = let own = c.in_ok-try_acquire.ensures.ok [] c.requires.stands in (c.in-Some.ensures.done own.0 own.1).0
 
 pub returns-in-Some-clause-ok : goal.returns-in-Some-clause-ok
 returns-in-Some-clause-ok g c =
-    let own = c.in_ok-take_now.ensures.ok [] c.requires.stands in let did = c.in-Some.ensures.done own.0 own.1 in
+    let own = c.in_ok-try_acquire.ensures.ok [] c.requires.stands in let did = c.in-Some.ensures.done own.0 own.1 in
     (own.0, inl (subst (λ z. TakesEarly c.args.table.now.key c.args.thread own.0 z (mine c.delete_early.new.seat.me.0) c.in-Some.item) own.2 did.1, refl))
 
-pub take_now-requires-2-clause-has : goal.take_now-requires-2-clause-has
-take_now-requires-2-clause-has g c =
-    let t = c.args.thread in let own = c.in_ok-take_now.ensures.ok [] c.requires.stands in let kept = c.in_default.ensures.done own.0 own.1 in
+pub try_acquire-requires-2-clause-has : goal.try_acquire-requires-2-clause-has
+try_acquire-requires-2-clause-has g c =
+    let t = c.args.thread in let own = c.in_ok-try_acquire.ensures.ok [] c.requires.stands in let kept = c.in_default.ensures.done own.0 own.1 in
     (own_in_hand t own.0, stands kept.0, shared_not_in_one t own.0)
 
-pub give_part-requires-clause-has : goal.give_part-requires-clause-has
-give_part-requires-clause-has g c =
-    let own = c.in_ok-take_now.ensures.ok [] c.requires.stands in let kept = c.in_default.ensures.done own.0 own.1 in let busy = c.in-Err.ensures.busy in
+pub release_part-requires-clause-has : goal.release_part-requires-clause-has
+release_part-requires-clause-has g c =
+    let own = c.in_ok-try_acquire.ensures.ok [] c.requires.stands in let kept = c.in_default.ensures.done own.0 own.1 in let busy = c.in-Err.ensures.busy in
     (own.0, [], stands (busy.1 (own_in_hand c.args.thread own.0) (stands kept.0)), refl)
 
 pub returns-in-Err-clause-has : goal.returns-in-Err-clause-has
 returns-in-Err-clause-has g c =
-    let own = c.in_ok-take_now.ensures.ok [] c.requires.stands in let kept = c.in_default.ensures.done own.0 own.1 in let busy = c.in-Err.ensures.busy in
-    c.give_part.ensures.gave own.0 [] (stands (busy.1 (own_in_hand c.args.thread own.0) (stands kept.0))) refl
+    let own = c.in_ok-try_acquire.ensures.ok [] c.requires.stands in let kept = c.in_default.ensures.done own.0 own.1 in let busy = c.in-Err.ensures.busy in
+    c.release_part.ensures.released own.0 [] (stands (busy.1 (own_in_hand c.args.thread own.0) (stands kept.0))) refl
 
 pub returns-in-Err-clause-busy : goal.returns-in-Err-clause-busy
 returns-in-Err-clause-busy g c =
     let t = c.args.thread in let by = c.in-Err.busy.by in
-    let own = c.in_ok-take_now.ensures.ok [] c.requires.stands in let kept = c.in_default.ensures.done own.0 own.1 in let busy = c.in-Err.ensures.busy in (
+    let own = c.in_ok-try_acquire.ensures.ok [] c.requires.stands in let kept = c.in_default.ensures.done own.0 own.1 in let busy = c.in-Err.ensures.busy in (
       refl,
       inr (record {
         own = own.0;
         found = tt;
         lock = busy.0;
-        steps = c.give_part.ensures.list ∙ (ap (λ z. z ++ Released (t + 1) ∷ []) (busy.2 ∙ ap (λ z. z ++ Missed 0 by ∷ []) (kept.1 ∙ own.2))
-            ∙ append_assoc (own_taken t [] own.0 (mine c.args.seat.now.me.0)) (Missed 0 by ∷ []) (Released (t + 1) ∷ []));
+        steps = c.release_part.ensures.list ∙ (ap (λ z. z ++ Released (t + 1) ∷ []) (busy.2 ∙ ap (λ z. z ++ Missed 0 by ∷ []) (kept.1 ∙ own.2))
+            ∙ append_assoc (own_acquired t [] own.0 (mine c.args.seat.now.me.0)) (Missed 0 by ∷ []) (Released (t + 1) ∷ []));
       }),
     )
 
-pub delete_taken-requires-clause-has : goal.delete_taken-requires-clause-has
-delete_taken-requires-clause-has g c =
-    let own = c.in_ok-take_now.ensures.ok [] c.requires.stands in let kept = c.in_default.ensures.done own.0 own.1 in
-    let shared = c.in_default-take_now.ensures.ok (own_in_hand c.args.thread own.0) (stands kept.0) in
+pub delete_under_both-requires-clause-has : goal.delete_under_both-requires-clause-has
+delete_under_both-requires-clause-has g c =
+    let own = c.in_ok-try_acquire.ensures.ok [] c.requires.stands in let kept = c.in_default.ensures.done own.0 own.1 in
+    let shared = c.in_default-try_acquire.ensures.ok (own_in_hand c.args.thread own.0) (stands kept.0) in
     (own.0, shared.0, shared.1)
 
 pub returns-clause-ok : goal.returns-clause-ok
 returns-clause-ok g c =
     let m = c.args.table.now.key in let t = c.args.thread in let es = mine c.args.seat.now.me.0 in
-    let own = c.in_ok-take_now.ensures.ok [] c.requires.stands in let kept = c.in_default.ensures.done own.0 own.1 in
-    let shared = c.in_default-take_now.ensures.ok (own_in_hand t own.0) (stands kept.0) in
-    let taken : mine c.take_now-2.new.seat.me.0 ≡ both_taken t [] [] own.0 shared.0 es = shared.2 ∙ ap (λ z. z ++ Acquired 0 shared.0 ∷ []) (kept.1 ∙ own.2) in
-    let did = c.delete_taken in let es' = mine did.new.seat.me.0 in (
+    let own = c.in_ok-try_acquire.ensures.ok [] c.requires.stands in let kept = c.in_default.ensures.done own.0 own.1 in
+    let shared = c.in_default-try_acquire.ensures.ok (own_in_hand t own.0) (stands kept.0) in
+    let acquired : mine c.try_acquire-2.new.seat.me.0 ≡ both_acquired t [] [] own.0 shared.0 es = shared.2 ∙ ap (λ z. z ++ Acquired 0 shared.0 ∷ []) (kept.1 ∙ own.2) in
+    let did = c.delete_under_both in let es' = mine did.new.seat.me.0 in (
       own.0,
       inr (
         shared.0,
         subst
             (λ z. MatchOption did.result (FindsNothing m t own.0 shared.0 z es' × (did.new.picker ≡ c.args.picker.now)) (Deletes g.P.Picker.may_pick c.args.picker.now did.new.picker m t own.0 shared.0 z es'))
-            taken (did.ensures.done own.0 shared.0 shared.1),
+            acquired (did.ensures.done own.0 shared.0 shared.1),
       ),
     )

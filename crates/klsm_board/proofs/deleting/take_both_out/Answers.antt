@@ -15,31 +15,31 @@ take_out-requires-clause-carries g c =
     let m = c.args.table.now.key in let t = c.args.thread in let k = c.requires.has in
     (k.0, k.1, k.2.carries, apart_in_hand content suits m t (both_in_hand t k.0 k.1) c.args.seat.now.me (t + 1) 0 k.0 k.1 k.2 (not_shared t) (own_in_both t k.0 k.1) (shared_in_both t k.0 k.1))
 
-pub give_by_front-requires-clause-sets : goal.give_by_front-requires-clause-sets
-give_by_front-requires-clause-sets g c =
+pub release_by_front-requires-clause-sets : goal.release_by_front-requires-clause-sets
+release_by_front-requires-clause-sets g c =
     let content = g.S.Holding.content in let suits = g.S.Holding.suits in
     let m = c.args.table.now.key in let t = c.args.thread in let k = c.requires.has in let item = c.in_ok-item.item in
     let took = c.in_ok-item.ensures.done k.0 k.1 k.2.carries in
     let front = subst (λ o. MatchOption o (shared_after_take k.0 k.1 item ≡ k.1) (λ front. (shared_after_take k.0 k.1 item ≢ k.1) × (front ≡ front_of (shared_after_take k.0 k.1 item)))) c.in-Some.is took.3 in
     take_sets_front content suits m t k.0 k.1 item c.in-Some.front c.args.seat.now.me c.take_out.new.seat.me k.2 c.take_out.ensures.same.2 front.0 front.1
 
-pub give_by_front-requires-clause-out : goal.give_by_front-requires-clause-out
-give_by_front-requires-clause-out g c =
+pub release_by_front-requires-clause-out : goal.release_by_front-requires-clause-out
+release_by_front-requires-clause-out g c =
     let content = g.S.Holding.content in let suits = g.S.Holding.suits in
     let m = c.args.table.now.key in let t = c.args.thread in let k = c.requires.has in let item = c.in_ok-item.item in
     let took = c.in_ok-item.ensures.done k.0 k.1 k.2.carries in
     (own_after_take k.0 item, shared_after_take k.0 k.1 item, take_done content suits m t k.0 k.1 item c.args.seat.now.me c.take_out.new.seat.me k.2 c.take_out.ensures.same.2 took.0 took.1)
 
-pub give_committed-requires-clause-leaves : goal.give_committed-requires-clause-leaves
-give_committed-requires-clause-leaves g c =
+pub release_committed-requires-clause-leaves : goal.release_committed-requires-clause-leaves
+release_committed-requires-clause-leaves g c =
     let content = g.S.Holding.content in let suits = g.S.Holding.suits in
     let m = c.args.table.now.key in let t = c.args.thread in let k = c.requires.has in let item = c.in_ok-item.item in
     let took = c.in_ok-item.ensures.done k.0 k.1 k.2.carries in
     let stays : shared_after_take k.0 k.1 item ≡ k.1 = subst (λ o. MatchOption o (shared_after_take k.0 k.1 item ≡ k.1) (λ front. (shared_after_take k.0 k.1 item ≢ k.1) × (front ≡ front_of (shared_after_take k.0 k.1 item)))) c.in-None.is took.3 in
     take_leaves_shared content suits m t k.0 k.1 item c.args.seat.now.me c.take_out.new.seat.me k.2 c.take_out.ensures.same.2 stays
 
-pub give_committed-requires-clause-out : goal.give_committed-requires-clause-out
-give_committed-requires-clause-out g c =
+pub release_committed-requires-clause-out : goal.release_committed-requires-clause-out
+release_committed-requires-clause-out g c =
     let content = g.S.Holding.content in let suits = g.S.Holding.suits in
     let m = c.args.table.now.key in let t = c.args.thread in let k = c.requires.has in let item = c.in_ok-item.item in
     let took = c.in_ok-item.ensures.done k.0 k.1 k.2.carries in
@@ -50,12 +50,12 @@ returns-in-Some-clause-done g c own shared has =
     let content = g.S.Holding.content in let suits = g.S.Holding.suits in
     let m = c.args.table.now.key in let t = c.args.thread in let me = c.args.seat.now.me in let item = c.in_ok-item.item in
     let took = c.in_ok-item.ensures.done own shared has.carries in (
-      c.give_by_front.ensures.has,
+      c.release_by_front.ensures.has,
       took.0,
       took.2,
       take_skips_few content suits m t own shared me item has took.0,
       take_keeps_order content suits m t own shared me item has took.0,
-      c.give_by_front.ensures.list ∙ ap (λ v. mine v ++ Committed (Take item) ∷ Released 0 ∷ Released (t + 1) ∷ []) c.take_out.ensures.same.2,
+      c.release_by_front.ensures.list ∙ ap (λ v. mine v ++ Committed (Take item) ∷ Released 0 ∷ Released (t + 1) ∷ []) c.take_out.ensures.same.2,
     )
 
 pub returns-in-None-clause-done : goal.returns-in-None-clause-done
@@ -63,10 +63,10 @@ returns-in-None-clause-done g c own shared has =
     let content = g.S.Holding.content in let suits = g.S.Holding.suits in
     let m = c.args.table.now.key in let t = c.args.thread in let me = c.args.seat.now.me in let item = c.in_ok-item.item in
     let took = c.in_ok-item.ensures.done own shared has.carries in (
-      c.give_committed.ensures.has,
+      c.release_committed.ensures.has,
       took.0,
       took.2,
       take_skips_few content suits m t own shared me item has took.0,
       take_keeps_order content suits m t own shared me item has took.0,
-      c.give_committed.ensures.list ∙ ap (λ v. mine v ++ Committed (Take item) ∷ Released 0 ∷ Released (t + 1) ∷ []) c.take_out.ensures.same.2,
+      c.release_committed.ensures.list ∙ ap (λ v. mine v ++ Committed (Take item) ∷ Released 0 ∷ Released (t + 1) ∷ []) c.take_out.ensures.same.2,
     )

@@ -43,8 +43,8 @@ take_least-item-requires-clause-some g c =
     let is = slot_is g.S.Holding.content g.S.Holding.suits c.args.table.now.key c.args.thread k.0 c.in_ok-least.least c.look_at_front.result c.least_own.new.seat.me c.look_at_front.new.seat.me did.0 did.1 below c.look_at_front.ensures.looked c.slot_mut.result.now c.slot_mut.ensures.value in
     (c.in_ok-least.least, subst (λ z. IsLeast c.in_ok-least.least z) (sym is.0) did.1)
 
-pub give_part-requires-clause-has : goal.give_part-requires-clause-has
-give_part-requires-clause-has g c =
+pub release_part-requires-clause-has : goal.release_part-requires-clause-has
+release_part-requires-clause-has g c =
     let content = g.S.Holding.content in let suits = g.S.Holding.suits in let m = c.args.table.now.key in let t = c.args.thread in
     let k = c.requires.has in let own = k.0 in let did = c.in_ok-least.ensures.looked own k.1 in
     let x = c.in_ok-least.least in let item = c.take_least-item.result in
@@ -68,8 +68,8 @@ returns-clause-done g c own has =
     let same : item ≡ x = same_Some item x (sym (subst (λ z. IsLeast item z) is.0 c.take_least-item.ensures.least) ∙ did.1) in
     let left : content c.take_least-item.new.self ≡ own_after_early own x = c.take_least-item.ensures.left ∙ λ i. own_after_early (is.0 i) (same i) in
     let out = early_out content suits m t own x c.look_at_front.result c.least_own.new.seat.me c.look_at_front.new.seat.me did.0 did.1 below c.look_at_front.ensures.looked c.take_least-item.new.self left (c.take_least-item.ensures.kind m.k t is.1) in
-    let did_take = takes_early content suits m t own x c.look_at_front.result c.least_own.new.seat.me c.look_at_front.new.seat.me did.0 did.1 below c.look_at_front.ensures.looked (mine c.give_part.new.seat.me.0) c.give_part.ensures.list in (
-      c.give_part.ensures.gave (own_after_early own x) [] (stands out) refl,
-      subst (λ z. TakesEarly m t own z (mine c.give_part.new.seat.me.0) item) (ap mine c.least_own.ensures.same.2)
-          (subst (λ z. TakesEarly m t own (mine c.least_own.new.seat.me.0) (mine c.give_part.new.seat.me.0) z) (sym same) did_take),
+    let did_take = takes_early content suits m t own x c.look_at_front.result c.least_own.new.seat.me c.look_at_front.new.seat.me did.0 did.1 below c.look_at_front.ensures.looked (mine c.release_part.new.seat.me.0) c.release_part.ensures.list in (
+      c.release_part.ensures.released (own_after_early own x) [] (stands out) refl,
+      subst (λ z. TakesEarly m t own z (mine c.release_part.new.seat.me.0) item) (ap mine c.least_own.ensures.same.2)
+          (subst (λ z. TakesEarly m t own (mine c.least_own.new.seat.me.0) (mine c.release_part.new.seat.me.0) z) (sym same) did_take),
     )

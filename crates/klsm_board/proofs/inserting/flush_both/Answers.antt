@@ -43,24 +43,24 @@ commit_moving_by_front-requires-clause-out g c =
       flush_sets_front content suits m t k.0 k.1 x did.0 c.in-Ok.front me me' k.2 same did.4,
     )
 
-pub give_part-requires-clause-has : goal.give_part-requires-clause-has
-give_part-requires-clause-has g c =
+pub release_part-requires-clause-has : goal.release_part-requires-clause-has
+release_part-requires-clause-has g c =
     let t = c.args.thread in let k = c.requires.has in
     let did = c.in-Ok.ensures.done k.0 k.1 k.2.carries in
     let left = own_after_flush k.0 c.args.item did.0 in
     let common = shared_after_flush k.1 did.0 in
     (common, own_in_hand t left, stands (c.commit_moving_by_front.ensures.has (both_in_hand t left common) did.2), shared_not_in_one t left)
 
-pub give_part-requires-in-Ok-clause-has : goal.give_part-requires-in-Ok-clause-has
-give_part-requires-in-Ok-clause-has g c =
+pub release_part-requires-in-Ok-clause-has : goal.release_part-requires-in-Ok-clause-has
+release_part-requires-in-Ok-clause-has g c =
     let t = c.args.thread in let k = c.requires.has in
     let did = c.in-Ok.ensures.done k.0 k.1 k.2.carries in
     let left = own_after_flush k.0 c.args.item did.0 in
     let common = shared_after_flush k.1 did.0 in
-    (left, [], stands (c.give_part.ensures.gave common (own_in_hand t left) (stands (c.commit_moving_by_front.ensures.has (both_in_hand t left common) did.2)) (shared_not_in_one t left)), refl)
+    (left, [], stands (c.release_part.ensures.released common (own_in_hand t left) (stands (c.commit_moving_by_front.ensures.has (both_in_hand t left common) did.2)) (shared_not_in_one t left)), refl)
 
-pub give_part-requires-in-Err-clause-has : goal.give_part-requires-in-Err-clause-has
-give_part-requires-in-Err-clause-has g c =
+pub release_part-requires-in-Err-clause-has : goal.release_part-requires-in-Err-clause-has
+release_part-requires-in-Err-clause-has g c =
     let content = g.S.Holding.content in let suits = g.S.Holding.suits in
     let m = c.args.table.now.key in let t = c.args.thread in let k = c.requires.has in (
       k.1,
@@ -69,12 +69,12 @@ give_part-requires-in-Err-clause-has g c =
       shared_not_in_one t k.0,
     )
 
-pub give_part-requires-in-Err-2-clause-has : goal.give_part-requires-in-Err-2-clause-has
-give_part-requires-in-Err-2-clause-has g c =
+pub release_part-requires-in-Err-2-clause-has : goal.release_part-requires-in-Err-2-clause-has
+release_part-requires-in-Err-2-clause-has g c =
     let content = g.S.Holding.content in let suits = g.S.Holding.suits in
     let m = c.args.table.now.key in let t = c.args.thread in let k = c.requires.has in
     let both = has_still content suits m t (both_in_hand t k.0 k.1) c.args.seat.now.me c.flush_in.new.seat.me k.2 c.flush_in.ensures.same.2 (c.in-Err.ensures.unchanged k.0 k.1 k.2.carries) in
-    (k.0, [], stands (c.give_part-in-Err.ensures.gave k.1 (own_in_hand t k.0) (stands both) (shared_not_in_one t k.0)), refl)
+    (k.0, [], stands (c.release_part-in-Err.ensures.released k.1 (own_in_hand t k.0) (stands both) (shared_not_in_one t k.0)), refl)
 
 pub returns-in-Ok-clause-has : goal.returns-in-Ok-clause-has
 returns-in-Ok-clause-has g c =
@@ -82,7 +82,7 @@ returns-in-Ok-clause-has g c =
     let did = c.in-Ok.ensures.done k.0 k.1 k.2.carries in
     let left = own_after_flush k.0 c.args.item did.0 in
     let common = shared_after_flush k.1 did.0 in
-    c.give_part-in-Ok.ensures.gave left [] (stands (c.give_part.ensures.gave common (own_in_hand t left) (stands (c.commit_moving_by_front.ensures.has (both_in_hand t left common) did.2)) (shared_not_in_one t left))) refl
+    c.release_part-in-Ok.ensures.released left [] (stands (c.release_part.ensures.released common (own_in_hand t left) (stands (c.commit_moving_by_front.ensures.has (both_in_hand t left common) did.2)) (shared_not_in_one t left))) refl
 
 pub returns-in-Ok-clause-done : goal.returns-in-Ok-clause-done
 returns-in-Ok-clause-done g c own shared has =
@@ -95,8 +95,8 @@ returns-in-Ok-clause-done g c own shared has =
       named.0,
       told.0,
       subst (λ n. length shared + n ≤ limit) (sym told.1) did.3,
-      c.give_part-in-Ok.ensures.list
-          ∙ (ap (λ z. z ++ Released (t + 1) ∷ []) (c.give_part.ensures.list ∙ ap (λ z. z ++ Released 0 ∷ []) (named.2 ∙ ap (λ v. mine v ++ Committed (Flush c.args.item named.0) ∷ []) c.flush_in.ensures.same.2))
+      c.release_part-in-Ok.ensures.list
+          ∙ (ap (λ z. z ++ Released (t + 1) ∷ []) (c.release_part.ensures.list ∙ ap (λ z. z ++ Released 0 ∷ []) (named.2 ∙ ap (λ v. mine v ++ Committed (Flush c.args.item named.0) ∷ []) c.flush_in.ensures.same.2))
           ∙ (append_assoc (mine me.0 ++ Committed (Flush c.args.item named.0) ∷ []) (Released 0 ∷ []) (Released (t + 1) ∷ [])
           ∙ append_assoc (mine me.0) (Committed (Flush c.args.item named.0) ∷ []) (Released 0 ∷ Released (t + 1) ∷ []))),
     )
@@ -106,7 +106,7 @@ returns-in-Err-clause-has g c =
     let content = g.S.Holding.content in let suits = g.S.Holding.suits in
     let m = c.args.table.now.key in let t = c.args.thread in let k = c.requires.has in
     let both = has_still content suits m t (both_in_hand t k.0 k.1) c.args.seat.now.me c.flush_in.new.seat.me k.2 c.flush_in.ensures.same.2 (c.in-Err.ensures.unchanged k.0 k.1 k.2.carries) in
-    c.give_part-in-Err-2.ensures.gave k.0 [] (stands (c.give_part-in-Err.ensures.gave k.1 (own_in_hand t k.0) (stands both) (shared_not_in_one t k.0))) refl
+    c.release_part-in-Err-2.ensures.released k.0 [] (stands (c.release_part-in-Err.ensures.released k.1 (own_in_hand t k.0) (stands both) (shared_not_in_one t k.0))) refl
 
 pub returns-in-Err-clause-full : goal.returns-in-Err-clause-full
 returns-in-Err-clause-full g c is own shared has = c.in-Err.ensures.full is own shared has.carries

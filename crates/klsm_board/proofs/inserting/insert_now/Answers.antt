@@ -3,7 +3,7 @@ use Rattle.klsm_world.specs.declared.step.Event.TheVariants.{Put}
 use Rattle.klsm_world.specs.declared.step.Entry.TheVariants.{Acquired, Committed, Released, Missed}
 use Rattle.klsm_board.specs.Steps.{mine}
 use Rattle.klsm_board.specs.Seats.{own_in_hand}
-use Rattle.klsm_board.specs.Entries.{own_taken}
+use Rattle.klsm_board.specs.Entries.{own_acquired}
 use Rattle.klsm_board.proofs.seats.StandLemmas.{stands}
 use Rattle.klsm_board.proofs.hands.EventLemmas.{shared_not_in_one}
 use Rattle.klsm_board.proofs.calls.EventLemmas.{same_events, stamp_kept, room_kept}
@@ -15,13 +15,13 @@ pub put_own-requires-clause-stamp : goal.put_own-requires-clause-stamp
 put_own-requires-clause-stamp g c =
     let t = c.args.thread in let es = mine c.args.seat.now.me.0 in
     let own = c.in_default.ensures.ok [] c.requires.stands in
-    stamp_kept t c.args.item es (mine c.take_now.new.seat.me.0) (same_events es (Acquired (t + 1) own.0 ∷ []) (mine c.take_now.new.seat.me.0) own.2 refl) c.requires.stamp
+    stamp_kept t c.args.item es (mine c.try_acquire.new.seat.me.0) (same_events es (Acquired (t + 1) own.0 ∷ []) (mine c.try_acquire.new.seat.me.0) own.2 refl) c.requires.stamp
 
 pub put_own-requires-clause-room : goal.put_own-requires-clause-room
 put_own-requires-clause-room g c =
     let t = c.args.thread in let es = mine c.args.seat.now.me.0 in
     let own = c.in_default.ensures.ok [] c.requires.stands in
-    room_kept c.args.table.now.key.quota es (mine c.take_now.new.seat.me.0) (same_events es (Acquired (t + 1) own.0 ∷ []) (mine c.take_now.new.seat.me.0) own.2 refl) c.requires.room
+    room_kept c.args.table.now.key.quota es (mine c.try_acquire.new.seat.me.0) (same_events es (Acquired (t + 1) own.0 ∷ []) (mine c.try_acquire.new.seat.me.0) own.2 refl) c.requires.room
 
 pub put_own-requires-clause-has : goal.put_own-requires-clause-has
 put_own-requires-clause-has g c = let own = c.in_default.ensures.ok [] c.requires.stands in (own.0, own.1)
@@ -38,81 +38,81 @@ returns-then-put_own-clause-ok g c =
     let put = c.if-put_own.ensures.done own.0 own.1 in
     inl (record { own = own.0; room = put.0; steps = put.2 ∙ ap (λ z. z ++ Committed (Put c.args.item) ∷ Released (t + 1) ∷ []) own.2 })
 
-pub take_now-requires-2-clause-has : goal.take_now-requires-2-clause-has
-take_now-requires-2-clause-has g c =
+pub try_acquire-requires-2-clause-has : goal.try_acquire-requires-2-clause-has
+try_acquire-requires-2-clause-has g c =
     let t = c.args.thread in let es = mine c.args.seat.now.me.0 in
     let own = c.in_default.ensures.ok [] c.requires.stands in
     let kept = c.if-put_own.ensures.done own.0 own.1 in
     (own_in_hand t own.0, stands kept.1, shared_not_in_one t own.0)
 
-pub give_part-requires-clause-has : goal.give_part-requires-clause-has
-give_part-requires-clause-has g c =
+pub release_part-requires-clause-has : goal.release_part-requires-clause-has
+release_part-requires-clause-has g c =
     let t = c.args.thread in let es = mine c.args.seat.now.me.0 in
     let own = c.in_default.ensures.ok [] c.requires.stands in
     let kept = c.if-put_own.ensures.done own.0 own.1 in
-    let busy = c.in-Err-take_now.ensures.busy in
+    let busy = c.in-Err-try_acquire.ensures.busy in
     (own.0, [], stands (busy.1 (own_in_hand t own.0) (stands kept.1)), refl)
 
-pub returns-in-Err-take_now-clause-has : goal.returns-in-Err-take_now-clause-has
-returns-in-Err-take_now-clause-has g c =
+pub returns-in-Err-try_acquire-clause-has : goal.returns-in-Err-try_acquire-clause-has
+returns-in-Err-try_acquire-clause-has g c =
     let t = c.args.thread in let es = mine c.args.seat.now.me.0 in
     let own = c.in_default.ensures.ok [] c.requires.stands in
     let kept = c.if-put_own.ensures.done own.0 own.1 in
-    let busy = c.in-Err-take_now.ensures.busy in
-    c.give_part.ensures.gave own.0 [] (stands (busy.1 (own_in_hand t own.0) (stands kept.1))) refl
+    let busy = c.in-Err-try_acquire.ensures.busy in
+    c.release_part.ensures.released own.0 [] (stands (busy.1 (own_in_hand t own.0) (stands kept.1))) refl
 
-pub returns-in-Err-take_now-clause-refused : goal.returns-in-Err-take_now-clause-refused
-returns-in-Err-take_now-clause-refused g c =
+pub returns-in-Err-try_acquire-clause-refused : goal.returns-in-Err-try_acquire-clause-refused
+returns-in-Err-try_acquire-clause-refused g c =
     let t = c.args.thread in let es = mine c.args.seat.now.me.0 in
     let own = c.in_default.ensures.ok [] c.requires.stands in
     let kept = c.if-put_own.ensures.done own.0 own.1 in
-    let busy = c.in-Err-take_now.ensures.busy in let by = c.in-Err-take_now.busy.by in
+    let busy = c.in-Err-try_acquire.ensures.busy in let by = c.in-Err-try_acquire.busy.by in
     inr (record {
       own = own.0;
       found = kept.0;
       lock = busy.0;
-      steps = c.give_part.ensures.list ∙ (ap (λ z. z ++ Released (t + 1) ∷ []) (busy.2 ∙ ap (λ z. z ++ Missed 0 by ∷ []) (kept.2 ∙ own.2))
-          ∙ append_assoc (own_taken t [] own.0 es) (Missed 0 by ∷ []) (Released (t + 1) ∷ []));
+      steps = c.release_part.ensures.list ∙ (ap (λ z. z ++ Released (t + 1) ∷ []) (busy.2 ∙ ap (λ z. z ++ Missed 0 by ∷ []) (kept.2 ∙ own.2))
+          ∙ append_assoc (own_acquired t [] own.0 es) (Missed 0 by ∷ []) (Released (t + 1) ∷ []));
     })
 
 pub flush_both-requires-clause-stamp : goal.flush_both-requires-clause-stamp
 flush_both-requires-clause-stamp g c =
     let content = g.S.Holding.content in let suits = g.S.Holding.suits in let m = c.args.table.now.key in let t = c.args.thread in
-    let me = c.args.seat.now.me in let both = c.take_now-2.new.seat.me in
-    let k = full_now content suits m t me c.take_now.new.seat.me c.put_own.new.seat.me both c.requires.stands c.in_default.ensures.ok c.if-put_own.ensures.done c.in_default-take_now.ensures.ok in
+    let me = c.args.seat.now.me in let both = c.try_acquire-2.new.seat.me in
+    let k = full_now content suits m t me c.try_acquire.new.seat.me c.put_own.new.seat.me both c.requires.stands c.in_default.ensures.ok c.if-put_own.ensures.done c.in_default-try_acquire.ensures.ok in
     stamp_kept t c.args.item (mine me.0) (mine both.0) (full_is_quiet content suits m t [] [] (mine me.0) (mine both.0) both k) c.requires.stamp
 
 pub flush_both-requires-clause-room : goal.flush_both-requires-clause-room
 flush_both-requires-clause-room g c =
     let content = g.S.Holding.content in let suits = g.S.Holding.suits in let m = c.args.table.now.key in let t = c.args.thread in
-    let me = c.args.seat.now.me in let both = c.take_now-2.new.seat.me in
-    let k = full_now content suits m t me c.take_now.new.seat.me c.put_own.new.seat.me both c.requires.stands c.in_default.ensures.ok c.if-put_own.ensures.done c.in_default-take_now.ensures.ok in
+    let me = c.args.seat.now.me in let both = c.try_acquire-2.new.seat.me in
+    let k = full_now content suits m t me c.try_acquire.new.seat.me c.put_own.new.seat.me both c.requires.stands c.in_default.ensures.ok c.if-put_own.ensures.done c.in_default-try_acquire.ensures.ok in
     room_kept m.quota (mine me.0) (mine both.0) (full_is_quiet content suits m t [] [] (mine me.0) (mine both.0) both k) c.requires.room
 
 pub flush_both-requires-clause-has : goal.flush_both-requires-clause-has
 flush_both-requires-clause-has g c =
     let content = g.S.Holding.content in let suits = g.S.Holding.suits in let m = c.args.table.now.key in let t = c.args.thread in
-    let me = c.args.seat.now.me in let both = c.take_now-2.new.seat.me in
-    let k = full_now content suits m t me c.take_now.new.seat.me c.put_own.new.seat.me both c.requires.stands c.in_default.ensures.ok c.if-put_own.ensures.done c.in_default-take_now.ensures.ok in
+    let me = c.args.seat.now.me in let both = c.try_acquire-2.new.seat.me in
+    let k = full_now content suits m t me c.try_acquire.new.seat.me c.put_own.new.seat.me both c.requires.stands c.in_default.ensures.ok c.if-put_own.ensures.done c.in_default-try_acquire.ensures.ok in
     (k.own, k.shared, k.has, k.full)
 
 pub returns-in-Ok-clause-ok : goal.returns-in-Ok-clause-ok
 returns-in-Ok-clause-ok g c =
     let content = g.S.Holding.content in let suits = g.S.Holding.suits in let m = c.args.table.now.key in let t = c.args.thread in
-    let me = c.args.seat.now.me in let both = c.take_now-2.new.seat.me in
-    let k = full_now content suits m t me c.take_now.new.seat.me c.put_own.new.seat.me both c.requires.stands c.in_default.ensures.ok c.if-put_own.ensures.done c.in_default-take_now.ensures.ok in
+    let me = c.args.seat.now.me in let both = c.try_acquire-2.new.seat.me in
+    let k = full_now content suits m t me c.try_acquire.new.seat.me c.put_own.new.seat.me both c.requires.stands c.in_default.ensures.ok c.if-put_own.ensures.done c.in_default-try_acquire.ensures.ok in
     inr (flushed content suits m t [] [] (mine me.0) (mine c.flush_both.new.seat.me.0) both k g.S.PartSlot.levels c.args.item (c.in-Ok.ensures.done k.own k.shared k.has))
 
 pub returns-in-Err-Full-clause-refused : goal.returns-in-Err-Full-clause-refused
 returns-in-Err-Full-clause-refused g c =
     let content = g.S.Holding.content in let suits = g.S.Holding.suits in let m = c.args.table.now.key in let t = c.args.thread in
-    let me = c.args.seat.now.me in let both = c.take_now-2.new.seat.me in
-    let k = full_now content suits m t me c.take_now.new.seat.me c.put_own.new.seat.me both c.requires.stands c.in_default.ensures.ok c.if-put_own.ensures.done c.in_default-take_now.ensures.ok in
+    let me = c.args.seat.now.me in let both = c.try_acquire-2.new.seat.me in
+    let k = full_now content suits m t me c.try_acquire.new.seat.me c.put_own.new.seat.me both c.requires.stands c.in_default.ensures.ok c.if-put_own.ensures.done c.in_default-try_acquire.ensures.ok in
     gave_up content suits m t [] [] (mine me.0) (mine c.flush_both.new.seat.me.0) both k (LacksRoom g.S.PartSlot.levels m.k) (c.in-Err-Full.ensures.full c.in-Err-Full.field-0-is k.own k.shared k.has) c.in-Err-Full.ensures.refused
 
 pub returns-in-Err-NoMemory-clause-refused : goal.returns-in-Err-NoMemory-clause-refused
 returns-in-Err-NoMemory-clause-refused g c =
     let content = g.S.Holding.content in let suits = g.S.Holding.suits in let m = c.args.table.now.key in let t = c.args.thread in
-    let me = c.args.seat.now.me in let both = c.take_now-2.new.seat.me in
-    let k = full_now content suits m t me c.take_now.new.seat.me c.put_own.new.seat.me both c.requires.stands c.in_default.ensures.ok c.if-put_own.ensures.done c.in_default-take_now.ensures.ok in
+    let me = c.args.seat.now.me in let both = c.try_acquire-2.new.seat.me in
+    let k = full_now content suits m t me c.try_acquire.new.seat.me c.put_own.new.seat.me both c.requires.stands c.in_default.ensures.ok c.if-put_own.ensures.done c.in_default-try_acquire.ensures.ok in
     gave_up content suits m t [] [] (mine me.0) (mine c.flush_both.new.seat.me.0) both k (λ shared. Unit {0}) tt c.in-Err-NoMemory.ensures.refused

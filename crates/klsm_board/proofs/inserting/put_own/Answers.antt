@@ -27,7 +27,7 @@ pub returns-then-put_in-clause-done : goal.returns-then-put_in-clause-done
 returns-then-put_in-clause-done g c own has =
     let put = (let h = c.put_in.ensures.done own has.carries in rw c.if-put_in.true at h) in (
       put.0,
-      c.commit_event.ensures.gave (own_after_put own c.args.item) [] put.1 refl,
+      c.commit_event.ensures.released (own_after_put own c.args.item) [] put.1 refl,
       c.commit_event.ensures.list ∙ ap (λ v. mine v ++ Committed (Put c.args.item) ∷ Released (own_part c.args.thread) ∷ []) c.put_in.ensures.same.2,
     )
 

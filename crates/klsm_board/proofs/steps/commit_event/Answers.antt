@@ -16,8 +16,8 @@ commit-requires-clause-event g c =
     let q = c.requires.out in let out = q.2 in
     (c.args.event.now, refl, out.may, c.requires.room, c.requires.leaves, can_commit g.S.Holding.content g.S.Holding.suits c.args.table.now.key c.args.thread c.args.part q.0 c.args.event.now q.1 c.args.seat.now.me out)
 
-pub returns-clause-gave : goal.returns-clause-gave
-returns-clause-gave g c = λ left hand carries away.
+pub returns-clause-released : goal.returns-clause-released
+returns-clause-released g c = λ left hand carries away.
     let me = c.args.seat.now.me in let me' = c.commit.new.seat.me in let p = c.args.part in
     let told = c.commit.ensures.told in let q = c.requires.out in let e = c.args.event.now in
     has_committed g.S.Holding.content g.S.Holding.suits c.args.table.now.key c.args.thread p left e hand me me' (out_of g.S.Holding.content g.S.Holding.suits c.args.table.now.key c.args.thread e ((p, q.0) ∷ q.1) ((p, left) ∷ hand) me q.2 carries) away

@@ -20,8 +20,8 @@ commit-requires-clause-event g c =
     let named = out_of g.S.Holding.content g.S.Holding.suits c.args.table.now.key c.args.thread e ((p, q.1) ∷ q.2) all me out (as_carried g.S.Holding.content g.S.Holding.suits c.args.table.now.key c.args.thread ((p, q.1) ∷ q.2) me out.carries) in
     (e, (q.0, refl, named), out.may, c.requires.room q.0, c.requires.leaves q.0, can_commit g.S.Holding.content g.S.Holding.suits c.args.table.now.key c.args.thread p q.1 e q.2 me out)
 
-pub returns-clause-gave : goal.returns-clause-gave
-returns-clause-gave g c = λ left hand carries away.
+pub returns-clause-released : goal.returns-clause-released
+returns-clause-released g c = λ left hand carries away.
     let me = c.args.seat.now.me in let me' = c.commit.new.seat.me in let p = c.args.part in
     let told = c.commit.ensures.told in let q = told.1 in let e = g.T.Moving.event c.args.about.now q.0 in
     has_committed g.S.Holding.content g.S.Holding.suits c.args.table.now.key c.args.thread p left e hand me me' (out_of g.S.Holding.content g.S.Holding.suits c.args.table.now.key c.args.thread e (contents g.S.Holding.content g.S.Holding.suits c.args.table.now.key c.args.thread me.1) ((p, left) ∷ hand) me q.2 carries) away

@@ -1,11 +1,11 @@
 use Rattle.std.proofs.Common.{◌≡◌, ◌≤◌, map, All, vec_capacity}
-use Rattle.klsm_knapsack.specs.Watching.{IsOf, found_by}
+use Rattle.klsm_knapsack.specs.Watching.{IsWatchedBy, found_by}
 use Rattle.klsm_knapsack.specs.Ends.{first_refusal}
 use Rattle.klsm_knapsack.proofs.crew.dismiss.Given as goal
 
 abbrev pub invariant-loop-worker : goal.invariant-loop-worker
 invariant-loop-worker g l = record {
-  first : IsOf l.incumbent l.first;
+  first : IsWatchedBy l.incumbent l.first;
   members : l.back.items ≡ map (λ w. w.member) l.yielded;
   room : vec_capacity l.fn.back ≤ vec_capacity l.back;
   found : All (λ w. found_by w.watcher ≤ found_by l.first) l.yielded;

@@ -4,7 +4,7 @@ use Rattle.std.proofs.lemmas.List.Elements.{All-append}
 use Rattle.klsm_board.specs.declared.board.Member.{Member}
 use Rattle.klsm_knapsack.specs.declared.common.Worker.{Worker}
 use Rattle.klsm_knapsack.specs.declared.rule.View.{View}
-use Rattle.klsm_knapsack.specs.Watching.{IsOf, found_by}
+use Rattle.klsm_knapsack.specs.Watching.{IsWatchedBy, found_by}
 use Rattle.klsm_knapsack.proofs.CrewLemmas.{sent_home, each_alone}
 use Rattle.klsm_knapsack.proofs.crew.recruit.Goals as goal
 
@@ -18,7 +18,7 @@ pub loop-member-preserved : goal.loop-member-preserved
 loop-member-preserved g c =
     let inv = c.loop-member.invariant in
     let w : Worker g.row.LEVELS = record { member = c.in-Some.member; watcher = c.split-watcher.result; picker = c.random_of-picker.result; refused = None } in
-    let is_seated = λ (v : Worker g.row.LEVELS). IsOf c.args.incumbent.now v.watcher × (found_by v.watcher ≡ 0) × (v.refused ≡ None) in
+    let is_seated = λ (v : Worker g.row.LEVELS). IsWatchedBy c.args.incumbent.now v.watcher × (found_by v.watcher ≡ 0) × (v.refused ≡ None) in
     let pushed : is_ok c.push.result ≡ true = c.is_err.ensures.negation ∙ ap not c.if-is_err.false in
     let items : c.push.new.self.items ≡ c.loop-member.crew.items ++ w ∷ [] = rw pushed at c.push.ensures.items in
     record {

@@ -1,10 +1,10 @@
 use Rattle.std.proofs.Common.{◌≡◌, map, All, None}
-use Rattle.klsm_knapsack.specs.Watching.{IsOf, found_by}
+use Rattle.klsm_knapsack.specs.Watching.{IsWatchedBy, found_by}
 use Rattle.klsm_knapsack.proofs.crew.recruit.Given as goal
 
 abbrev pub invariant-loop-member : goal.invariant-loop-member
 invariant-loop-member g l = record {
-  first : IsOf l.incumbent l.first;
+  first : IsWatchedBy l.incumbent l.first;
   members : map (λ w. w.member) l.crew.items ≡ l.yielded;
-  seats : All (λ w. IsOf l.incumbent w.watcher × (found_by w.watcher ≡ 0) × (w.refused ≡ None)) l.crew.items;
+  seats : All (λ w. IsWatchedBy l.incumbent w.watcher × (found_by w.watcher ≡ 0) × (w.refused ≡ None)) l.crew.items;
 }

@@ -1,7 +1,7 @@
 use Rattle.std.proofs.Common.{◌≡◌, ◌<◌, arith, length, get_or-set_same, get_or, set, None, lit<, sym, subst}
 use Rattle.std.proofs.lemmas.List.{length-set}
 use Rattle.klsm_knapsack.specs.declared.common.Worker.{Worker}
-use Rattle.klsm_knapsack.specs.Work.{Has}
+use Rattle.klsm_knapsack.specs.Work.{HasNode}
 use Rattle.klsm_knapsack.specs.Workers.{work_of}
 use Rattle.klsm_knapsack.proofs.CrewLemmas.{crew_begun, crew_ended, crew_ready, crew_run, all_worked}
 use Rattle.klsm_knapsack.proofs.crew.search.Goals as goal
@@ -24,7 +24,7 @@ returns-then-begin-clause-worked g c = λ none.
     let many : length c.run_all.new.crew ≡ length begun = c.run_all.auto.crew in
     let some_worker : 0 < length begun = omega (arith, length-set c.args.crew.now 0 c.begin.new.self, c.requires.crew.some_worker) in
     let first : get_or begun 0 d ≡ c.begin.new.self = get_or-set_same c.args.crew.now 0 c.begin.new.self d c.requires.crew.some_worker in
-    let root : Has (work_of (get_or begun 0 d)).inserted 0 0 = subst (λ (w : Worker g.row.LEVELS). Has (work_of w).inserted 0 0) (sym first) c.if-begin.ensures.begun.1 in
+    let root : HasNode (work_of (get_or begun 0 d)).inserted 0 0 = subst (λ (w : Worker g.row.LEVELS). HasNode (work_of w).inserted 0 0) (sym first) c.if-begin.ensures.begun.1 in
     all_worked c.args.instance.now begun c.run_all.new.crew d some_worker many c.run_all.ensures root none
 
 pub returns-else-begin-clause-crew : goal.returns-else-begin-clause-crew

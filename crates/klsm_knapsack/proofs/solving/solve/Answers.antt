@@ -5,10 +5,10 @@ use Rattle.klsm_board.specs.Boards.{IsOf as IsMemberOf}
 use Rattle.klsm_knapsack.specs.declared.common.Common.{Common}
 use Rattle.klsm_knapsack.specs.declared.common.Worker.{Worker}
 use Rattle.klsm_knapsack.specs.declared.errors.SolveError.{SolveError}
-use Rattle.klsm_knapsack.specs.Watching.{IsOf}
+use Rattle.klsm_knapsack.specs.Watching.{IsWatchedBy}
 use Rattle.klsm_knapsack.specs.Ends.{IsLeastRefusal}
 use Rattle.klsm_knapsack.specs.Refusals.{RefusesSearch}
-use Rattle.klsm_knapsack.specs.Workers.{IsCrew, IsNew, HaveWorked, IsSearched}
+use Rattle.klsm_knapsack.specs.Workers.{AreWorkersOf, IsNew, HaveWorked, IsSearched}
 use Rattle.klsm_knapsack.proofs.CrewLemmas.{none_refused}
 use Rattle.klsm_parts.proofs.FitLemmas.{shared_fits}
 use Rattle.klsm_knapsack.proofs.FinishLemmas.{good_threads, good_k, memory_is_not_threads, memory_is_not_k, whole, refuses, recruited, are_new, members_of, least_refusal, searched}
@@ -24,28 +24,28 @@ search-requires-after_bounds g c κs within =
     let quota : board.sizes.quota ≡ 281474976710656 = ap (λ (m : Sizes). m.quota) made.sizes in
     let many : length c.in_ok-board.members.items ≡ board.sizes.threads = made.count ∙ sym threads in
     let some_thread : 0 < board.sizes.threads = omega (arith, threads, made.in_range.0) in
-    let crew : IsCrew common workers = recruited common workers c.in_ok-board.members.items c.in-Ok-recruit.ensures.members made.of many some_thread made.crew c.in-Ok-recruit.ensures.seats in
+    let crew : AreWorkersOf common workers = recruited common workers c.in_ok-board.members.items c.in-Ok-recruit.ensures.members made.of many some_thread made.crew c.in-Ok-recruit.ensures.seats in
     let new : All IsNew workers = are_new common workers c.in_ok-board.members.items c.in-Ok-recruit.ensures.members made.of many some_thread made.crew c.in-Ok-recruit.ensures.seats in
     let lent : workers ≡ c.as_mut_slice.result.now = sym c.as_mut_slice.ensures.value in
-    (lit< tt, (lit< tt, (c.in-Ok.ensures.0, (subst (λ (ws : List (Worker g.row.LEVELS)). IsCrew common ws) lent crew, (subst (λ (ws : List (Worker g.row.LEVELS)). All IsNew ws) lent new, omega (arith, quota))))))
+    (lit< tt, (lit< tt, (c.in-Ok.ensures.0, (subst (λ (ws : List (Worker g.row.LEVELS)). AreWorkersOf common ws) lent crew, (subst (λ (ws : List (Worker g.row.LEVELS)). All IsNew ws) lent new, omega (arith, quota))))))
 
 pub dismiss-requires : goal.dismiss-requires
 dismiss-requires g c =
     let common : Common g.row.LEVELS = record { board = c.in_ok-board.board; incumbent = c.in-Ok.incumbent } in
     let after : List (Worker g.row.LEVELS) = c.search.new.crew in
-    let crew : IsCrew common after = c.search.ensures.crew in
+    let crew : AreWorkersOf common after = c.search.ensures.crew in
     let as_long : c.in-Ok-recruit.crew.len ≡ length after = search rules in
     let is : take c.in-Ok-recruit.crew.len (after ++ drop (length after) c.in-Ok-recruit.crew.items) ≡ after = whole c.in-Ok-recruit.crew.len after (drop (length after) c.in-Ok-recruit.crew.items) as_long in
     let threads : c.in_ok-board.board.sizes.threads ≡ c.args.threads = ap (λ (m : Sizes). m.threads) c.in_ok-board.ensures.sizes in
     let room : length after ≤ vec_capacity c.in-Ok-with_capacity.back = omega (arith, crew.many, threads, c.in-Ok-with_capacity.ensures.exact) in
-    let seats : All (λ (w : Worker g.row.LEVELS). IsOf c.in-Ok.incumbent w.watcher) after = λ k d lt. (crew.of k d lt).watcher in (
+    let seats : All (λ (w : Worker g.row.LEVELS). IsWatchedBy c.in-Ok.incumbent w.watcher) after = λ k d lt. (crew.of k d lt).watcher in (
       lit< tt,
       (
         lit< tt,
         (
           c.in-Ok-recruit.ensures.first,
           (
-            subst (λ (ws : List (Worker g.row.LEVELS)). All (λ (w : Worker g.row.LEVELS). IsOf c.in-Ok.incumbent w.watcher) ws) (sym is) seats,
+            subst (λ (ws : List (Worker g.row.LEVELS)). All (λ (w : Worker g.row.LEVELS). IsWatchedBy c.in-Ok.incumbent w.watcher) ws) (sym is) seats,
             (c.in-Ok-with_capacity.ensures.items, subst (λ (ws : List (Worker g.row.LEVELS)). length ws ≤ vec_capacity c.in-Ok-with_capacity.back) (sym is) room),
           ),
         ),

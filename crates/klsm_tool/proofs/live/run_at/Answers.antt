@@ -2,7 +2,7 @@ use Rattle.std.proofs.Common.{◌≡◌, ◌<◌, ◌∙◌, ℕ, List, [], map,
 use Rattle.std.proofs.lemmas.List.{get_or-map, length-map}
 use Rattle.klsm_text.specs.declared.thread_rows.ThreadRow.{ThreadRow}
 use Rattle.klsm_text.specs.Keeping.{asked_in, kept_for}
-use Rattle.klsm_tool.specs.Working.{HasRun, IsReadyAt}
+use Rattle.klsm_tool.specs.Working.{HasRunRows, IsReadyAt}
 use Rattle.klsm_tool.proofs.live.run_at.Goals as goal
 
 -- the rows of this place are those that are kept for it
@@ -18,8 +18,8 @@ pub returns : goal.returns
 returns g c =
     let same = rows_at c.args.rows.now c.index-rows-index.result c.args.index c.as_slice.result.now c.requires.below c.index-rows-index.is c.as_slice.ensures.value in
     let there = subst (IsReadyAt c.args.board.now c.args.index) (sym c.in-Some.ensures.value) c.requires.ready in
-    subst (λ t. HasRun c.args.board.now t (kept_for (map (λ list. list.items) c.args.rows.now) c.args.index) c.run.result) there.number
-    (subst (λ asked. HasRun c.args.board.now c.in-Some.worker.member.number asked c.run.result) same c.run.ensures)
+    subst (λ t. HasRunRows c.args.board.now t (kept_for (map (λ list. list.items) c.args.rows.now) c.args.index) c.run.result) there.number
+    (subst (λ asked. HasRunRows c.args.board.now c.in-Some.worker.member.number asked c.run.result) same c.run.ensures)
 
 pub unreachable-unreachable : goal.unreachable-unreachable
 unreachable-unreachable g c = c.unreachable.type_inv

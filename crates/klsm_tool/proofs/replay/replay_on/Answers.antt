@@ -2,7 +2,7 @@ use Rattle.std.proofs.Common.{[], arith, ap, sym, ◌∙◌, length}
 use Rattle.klsm_tool.specs.Answering.{live_beside}
 use Rattle.klsm_tool.specs.Crews.{lists_in}
 use Rattle.klsm_run.specs.Content.{sorted}
-use Rattle.klsm_tool.specs.Progress.{IsTold, Stands}
+use Rattle.klsm_tool.specs.Progress.{IsTold, StandsAfter}
 use Rattle.klsm_tool.proofs.CrewLemmas.{new_crew, new_crew_shows_none}
 use Rattle.klsm_text.proofs.OutputLemmas.{appends_nothing}
 use Rattle.klsm_tool.proofs.ClosingLemmas.{replays, replays_nothing}
@@ -27,7 +27,7 @@ answer_rows-closing-requires-clause-few g c t below = let none = ap (λ z. lengt
 pub returns-clause-replays : goal.returns-clause-replays
 returns-clause-replays g c =
     let e = c.answer_rows-closing.ensures in let threads = c.args.settings.now.threads in let k = c.args.settings.now.k in
-    let stands : Stands {R = g.row.R.Denot} g.R.Read.remaining threads (lists_in c.args.members.now) (g.R.Read.remaining c.args.reader) [] [] c.in-Ok.replay.script (live_beside c.in-Ok.replay.beside) c.in-Ok.replay.beside.most = record {
+    let stands : StandsAfter {R = g.row.R.Denot} g.R.Read.remaining threads (lists_in c.args.members.now) (g.R.Read.remaining c.args.reader) [] [] c.in-Ok.replay.script (live_beside c.in-Ok.replay.beside) c.in-Ok.replay.beside.most = record {
       answered = tt;
       shown = λ t below. sym (new_crew_shows_none c.args.members.now t c.requires.crew);
       read = c.in-Ok.ensures.read;

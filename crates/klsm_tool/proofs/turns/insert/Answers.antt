@@ -1,6 +1,6 @@
 use Rattle.std.proofs.Common.{◌≡◌, length, subst}
 use Rattle.klsm_world.specs.OwnSteps.{inserted}
-use Rattle.klsm_board.specs.Inserting.{RefusesInsertInTime}
+use Rattle.klsm_board.specs.Inserting.{RefusesInsertWaiting}
 use Rattle.klsm_board.specs.declared.errors.InsertError.TheVariants as insert
 use Rattle.klsm_board.specs.Boards.{own_steps}
 use Rattle.klsm_tool.proofs.ShownLemmas.{insertion_shows, refusal_shows}
@@ -14,13 +14,13 @@ returns-in-Ok-clause-shown g c =
 pub returns-in-Err-Full-clause-refused : goal.returns-in-Err-Full-clause-refused
 returns-in-Err-Full-clause-refused g c =
     let me = c.args.member.now in let spent : Type 0 = length (inserted (own_steps me)) ≡ me.sizes.quota in
-    let told = subst (RefusesInsertInTime spent g.row.LEVELS me.sizes.k me.number (own_steps me) (own_steps c.insert.new.self)) c.in-Err-Full.field-0-is c.in-Err-Full.ensures.refused.1 in
+    let told = subst (RefusesInsertWaiting spent g.row.LEVELS me.sizes.k me.number (own_steps me) (own_steps c.insert.new.self)) c.in-Err-Full.field-0-is c.in-Err-Full.ensures.refused.1 in
     (refusal_shows g.row.LEVELS me.sizes.k me.number (own_steps me) (own_steps c.insert.new.self) insert.Full told, (own_steps me, told))
 
 pub returns-in-Err-NoMemory-clause-refused : goal.returns-in-Err-NoMemory-clause-refused
 returns-in-Err-NoMemory-clause-refused g c =
     let me = c.args.member.now in let spent : Type 0 = length (inserted (own_steps me)) ≡ me.sizes.quota in
-    let told = subst (RefusesInsertInTime spent g.row.LEVELS me.sizes.k me.number (own_steps me) (own_steps c.insert.new.self)) c.in-Err-NoMemory.field-0-is c.in-Err-NoMemory.ensures.refused.1 in
+    let told = subst (RefusesInsertWaiting spent g.row.LEVELS me.sizes.k me.number (own_steps me) (own_steps c.insert.new.self)) c.in-Err-NoMemory.field-0-is c.in-Err-NoMemory.ensures.refused.1 in
     (refusal_shows g.row.LEVELS me.sizes.k me.number (own_steps me) (own_steps c.insert.new.self) insert.NoMemory told, tt)
 
 pub unreachable-unreachable : goal.unreachable-unreachable

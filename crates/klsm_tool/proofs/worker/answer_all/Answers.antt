@@ -3,7 +3,7 @@ use Rattle.std.proofs.lemmas.List.{take_all}
 use Rattle.klsm_board.specs.Boards.{own_steps}
 use Rattle.klsm_text.specs.declared.thread_rows.ThreadRow.{ThreadRow}
 use Rattle.klsm_tool.specs.Turns.{AreAnswers}
-use Rattle.klsm_tool.specs.Turns.{GivesUp, IsAnswer}
+use Rattle.klsm_tool.specs.Turns.{StopsInsertion, IsAnswerTo}
 use Rattle.klsm_tool.proofs.ShownLemmas.{inserted_within}
 use Rattle.klsm_tool.proofs.WorkLemmas.{row_answered, row_given_up, so_many}
 use Rattle.klsm_tool.proofs.worker.answer_all.Goals as goal
@@ -22,8 +22,8 @@ pub returns-in-Err-clause-works : goal.returns-in-Err-clause-works
 returns-in-Err-clause-works g c =
     let refused = c.in-Err.ensures.refused in let k = ap (λ m. m.k) (c.loop-row.invariant.same.1 ∙ c.requires.of.1) in
     row_given_up c.args.rows.now c.loop-row.row-index empty c.loop-row-test.true c.args.board.now.sizes.k c.args.member.now.number (own_steps c.loop-row.member) (own_steps c.answer.new.member) c.in-Err.stop c.loop-row.invariant.answers refused.0
-    (subst (λ t. GivesUp 21 c.args.board.now.sizes.k t (own_steps c.answer.new.member) c.in-Err.stop) c.loop-row.invariant.same.0
-    (subst (λ n. GivesUp 21 n c.loop-row.member.number (own_steps c.answer.new.member) c.in-Err.stop) k refused.1))
+    (subst (λ t. StopsInsertion 21 c.args.board.now.sizes.k t (own_steps c.answer.new.member) c.in-Err.stop) c.loop-row.invariant.same.0
+    (subst (λ n. StopsInsertion 21 n c.loop-row.member.number (own_steps c.answer.new.member) c.in-Err.stop) k refused.1))
 
 pub loop-row-preserved : goal.loop-row-preserved
 loop-row-preserved g c =
@@ -32,7 +32,7 @@ loop-row-preserved g c =
     record {
       same = (told.same.0 ∙ was.same.0, told.same.1 ∙ was.same.1, told.same.2 ∙ was.same.2);
       answers = row_answered c.args.rows.now c.loop-row.row-index empty c.loop-row-test.true (own_steps c.loop-row.member) (own_steps c.answer.new.member) c.in_default.field-0 was.answers
-          (subst (λ o. IsAnswer o c.in_default.field-0) c.operation.ensures told.answer) told.shown;
+          (subst (λ o. IsAnswerTo o c.in_default.field-0) c.operation.ensures told.answer) told.shown;
     }
 
 pub loop-row-init : goal.loop-row-init

@@ -9,7 +9,7 @@ use Rattle.clap.proofs.OnLiterals.{clap_on_literals}
 use Rattle.klsm_words.specs.declared.command_line.Fault.{Fault}
 use Rattle.klsm_words.specs.declared.command_line.Fault.TheVariants.{Said, UnknownPick, NotText, NoMemory}
 use Rattle.klsm_words.specs.declared.command_line.Action.{Action}
-use Rattle.klsm_words.specs.CommandLine.{IsCommand, IsInRange, action_in, action_under, found_in, klsm_command}
+use Rattle.klsm_words.specs.CommandLine.{IsCommand, IsActionInRange, action_in, action_under, found_in, klsm_command}
 use Rattle.klsm_words.specs.CommandLine.{Explains, IsFaultIn}
 use Rattle.klsm_words.proofs.command_line.parse.Goals as goal
 
@@ -75,9 +75,9 @@ returns-clause-fault c =
     explained _ _ c.fault_of.result c.in_ok-texts.ensures.readable (rw (found_is _ _ _ c.in-Ok.ensures same) at c.in-Err.ensures.kinds (command_simple _ c.in-Ok.ensures)) c.fault_of.ensures.fault c.fault_of.ensures.memory
 
 -- the options let its settings through
-range_asked : (asked : Option Action) (r : Result Action Fault) → r ≡ ok_or asked UnknownPick → IfSome asked IsInRange → IfOk r IsInRange
-range_asked None r is range = subst (λ (x : Result Action Fault). IfOk x IsInRange) (sym is) tt
-range_asked (Some action) r is range = subst (λ (x : Result Action Fault). IfOk x IsInRange) (sym is) range
+range_asked : (asked : Option Action) (r : Result Action Fault) → r ≡ ok_or asked UnknownPick → IfSome asked IsActionInRange → IfOk r IsActionInRange
+range_asked None r is range = subst (λ (x : Result Action Fault). IfOk x IsActionInRange) (sym is) tt
+range_asked (Some action) r is range = subst (λ (x : Result Action Fault). IfOk x IsActionInRange) (sym is) range
 
 pub returns-in-Ok-try_get_matches_from-clause-range : goal.returns-in-Ok-try_get_matches_from-clause-range
 returns-in-Ok-try_get_matches_from-clause-range c = range_asked c.action_in.result c.ok_or.result c.ok_or.ensures.value c.action_in.ensures.range

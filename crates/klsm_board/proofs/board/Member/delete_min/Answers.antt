@@ -12,7 +12,7 @@ use Rattle.klsm_board.proofs.board.Member.delete_min.Goals as goal
 
 pub invariant_of-self : goal.invariant_of-self
 invariant_of-self g c =
-    let me = c.args.self.now in let t = me.number in let es = mine me.seat.me.0 in let did = c.delete_in_time-answer in let es' = mine did.new.seat.me.0 in
+    let me = c.args.self.now in let t = me.number in let es = mine me.seat.me.0 in let did = c.delete_waiting-answer in let es' = mine did.new.seat.me.0 in
     let rests = me.rests in let board = c.args.board.now in let same = board.key ∙ sym c.requires.1 in
     let ok = did.ensures.ok in
     let gains : Gains es es' [] (option_to_list did.result) = answers_gain g.P.Picker.may_pick c.args.picker.now did.new.picker board.table.shared.key t ok.0 ok.1 es es' did.result ok.2 in
@@ -23,7 +23,7 @@ invariant_of-self g c =
 
 pub invariant_of-self-else-is_some : goal.invariant_of-self-else-is_some
 invariant_of-self-else-is_some g c =
-    let me = c.args.self.now in let t = me.number in let es = mine me.seat.me.0 in let did = c.delete_in_time-answer in let es' = mine did.new.seat.me.0 in
+    let me = c.args.self.now in let t = me.number in let es = mine me.seat.me.0 in let did = c.delete_waiting-answer in let es' = mine did.new.seat.me.0 in
     let rests = me.rests in let board = c.args.board.now in let same = board.key ∙ sym c.requires.1 in
     let ok = did.ensures.ok in
     let gains : Gains es es' [] (option_to_list did.result) = answers_gain g.P.Picker.may_pick c.args.picker.now did.new.picker board.table.shared.key t ok.0 ok.1 es es' did.result ok.2 in
@@ -34,7 +34,7 @@ invariant_of-self-else-is_some g c =
 
 pub returns-then-is_some-clause-adds : goal.returns-then-is_some-clause-adds
 returns-then-is_some-clause-adds g c =
-    let me = c.args.self.now in let t = me.number in let es = mine me.seat.me.0 in let did = c.delete_in_time-answer in let es' = mine did.new.seat.me.0 in
+    let me = c.args.self.now in let t = me.number in let es = mine me.seat.me.0 in let did = c.delete_waiting-answer in let es' = mine did.new.seat.me.0 in
     let rests = me.rests in let board = c.args.board.now in let same = board.key ∙ sym c.requires.1 in
     let ok = did.ensures.ok in
     let gains : Gains es es' [] (option_to_list did.result) = answers_gain g.P.Picker.may_pick c.args.picker.now did.new.picker board.table.shared.key t ok.0 ok.1 es es' did.result ok.2 in
@@ -42,23 +42,23 @@ returns-then-is_some-clause-adds g c =
 
 pub returns-else-is_some-clause-adds : goal.returns-else-is_some-clause-adds
 returns-else-is_some-clause-adds g c =
-    let me = c.args.self.now in let t = me.number in let es = mine me.seat.me.0 in let did = c.delete_in_time-answer in let es' = mine did.new.seat.me.0 in
+    let me = c.args.self.now in let t = me.number in let es = mine me.seat.me.0 in let did = c.delete_waiting-answer in let es' = mine did.new.seat.me.0 in
     let rests = me.rests in let board = c.args.board.now in let same = board.key ∙ sym c.requires.1 in
     let ok = did.ensures.ok in
     let gains : Gains es es' [] (option_to_list did.result) = answers_gain g.P.Picker.may_pick c.args.picker.now did.new.picker board.table.shared.key t ok.0 ok.1 es es' did.result ok.2 in
     record { inserted_are = gains.inserted_are; deleted_are = gains.deleted_are }
 
-pub delete_in_time-answer-requires-room-S-PartSlot : goal.delete_in_time-answer-requires-room-S-PartSlot
-delete_in_time-answer-requires-room-S-PartSlot g c κs within = local_fits _ c.args.self.now.capacity
+pub delete_waiting-answer-requires-room-S-PartSlot : goal.delete_waiting-answer-requires-room-S-PartSlot
+delete_waiting-answer-requires-room-S-PartSlot g c κs within = local_fits _ c.args.self.now.capacity
 
-pub delete_in_time-answer-requires-room-S-PartSlot-2 : goal.delete_in_time-answer-requires-room-S-PartSlot-2
-delete_in_time-answer-requires-room-S-PartSlot-2 g c κs within = shared_fits _ c.args.self.now.levels
+pub delete_waiting-answer-requires-room-S-PartSlot-2 : goal.delete_waiting-answer-requires-room-S-PartSlot-2
+delete_waiting-answer-requires-room-S-PartSlot-2 g c κs within = shared_fits _ c.args.self.now.levels
 
-pub delete_in_time-answer-requires-room-S-Holding : goal.delete_in_time-answer-requires-room-S-Holding
-delete_in_time-answer-requires-room-S-Holding g c κs within = local_fits _ c.args.self.now.capacity
+pub delete_waiting-answer-requires-room-S-Holding : goal.delete_waiting-answer-requires-room-S-Holding
+delete_waiting-answer-requires-room-S-Holding g c κs within = local_fits _ c.args.self.now.capacity
 
-pub delete_in_time-answer-requires-room-S-Holding-2 : goal.delete_in_time-answer-requires-room-S-Holding-2
-delete_in_time-answer-requires-room-S-Holding-2 g c κs within = shared_fits _ c.args.self.now.levels
+pub delete_waiting-answer-requires-room-S-Holding-2 : goal.delete_waiting-answer-requires-room-S-Holding-2
+delete_waiting-answer-requires-room-S-Holding-2 g c κs within = shared_fits _ c.args.self.now.levels
 
-pub delete_in_time-answer-requires-room-S-Destruct : goal.delete_in_time-answer-requires-room-S-Destruct
-delete_in_time-answer-requires-room-S-Destruct g c κs within = shared_fits _ c.args.self.now.levels
+pub delete_waiting-answer-requires-room-S-Destruct : goal.delete_waiting-answer-requires-room-S-Destruct
+delete_waiting-answer-requires-room-S-Destruct g c κs within = shared_fits _ c.args.self.now.levels

@@ -9,45 +9,45 @@ use Rattle.klsm_board.specs.declared.errors.InsertError.{InsertError}
 use Rattle.klsm_board.specs.declared.sizes.Sizes.{Sizes}
 use Rattle.klsm_board.specs.Rule.{IsSized}
 use Rattle.klsm_board.specs.Steps.{mine}
-use Rattle.klsm_board.specs.Inserting.{Inserts, RefusesInsertInTime, stamped}
+use Rattle.klsm_board.specs.Inserting.{Inserts, RefusesInsertWaiting, stamped}
 use Rattle.klsm_board.specs.Seats.{Has, Stands}
 use Rattle.klsm_board.specs.Slots.{slot_content, IsSlotOf}
 use Rattle.klsm_board.proofs.seats.RestLemmas.{stands_at_rest, rests_after}
-use Rattle.klsm_board.proofs.calls.AddedLemmas.{inserts_gain, refused_in_time_gains, gained_counts, began_in_time, passed_on, no_error}
+use Rattle.klsm_board.proofs.calls.AddedLemmas.{inserts_gain, refused_waiting_gains, gained_counts, began_waiting, passed_on, no_error}
 use Rattle.klsm_board.proofs.board.Member.insert.Goals as goal
 
 pub invariant_of-self : goal.invariant_of-self
 invariant_of-self g c =
-    let me = c.args.self.now in let t = me.number in let es = mine me.seat.me.0 in let es' = mine c.insert_in_time.new.seat.me.0 in
+    let me = c.args.self.now in let t = me.number in let es = mine me.seat.me.0 in let es' = mine c.insert_waiting.new.seat.me.0 in
     let rests = me.rests in let board = c.args.board.now in let same = board.key ∙ sym c.requires.1 in
-    let gains = refused_in_time_gains g.row.LEVELS c.args.board.now.table.shared.key.k t es es' _ c.in_err-insert_in_time.ensures.refused in
+    let gains = refused_waiting_gains g.row.LEVELS c.args.board.now.table.shared.key.k t es es' _ c.in_err-insert_waiting.ensures.refused in
     let counts = gained_counts es es' [] [] me.inserted me.deleted gains rests.insertions_are rests.deletions_are in
     let first : length (inserted es') ≡ me.inserted = omega (arith, counts.0) in let second : length (deleted es') ≡ me.deleted = omega (arith, counts.1) in
-    record { rests = rests_after g.row.CAP me.sizes me.in_range t me.inserted me.deleted c.insert_in_time.new.seat.me (subst (λ m. Has slot_content IsSlotOf m t [] c.insert_in_time.new.seat.me) same c.in_err-insert_in_time.ensures.has) first second; in_range = me.in_range; capacity = me.capacity; levels = me.levels }
+    record { rests = rests_after g.row.CAP me.sizes me.in_range t me.inserted me.deleted c.insert_waiting.new.seat.me (subst (λ m. Has slot_content IsSlotOf m t [] c.insert_waiting.new.seat.me) same c.in_err-insert_waiting.ensures.has) first second; in_range = me.in_range; capacity = me.capacity; levels = me.levels }
 
 pub invariant_of-self-2 : goal.invariant_of-self-2
 invariant_of-self-2 g c =
-    let me = c.args.self.now in let t = me.number in let es = mine me.seat.me.0 in let es' = mine c.insert_in_time.new.seat.me.0 in
-    let rests = me.rests in let board = c.args.board.now in let same = board.key ∙ sym c.requires.1 in let x = c.next_item-item.result in let ok = c.in_ok-insert_in_time.ensures.ok in
+    let me = c.args.self.now in let t = me.number in let es = mine me.seat.me.0 in let es' = mine c.insert_waiting.new.seat.me.0 in
+    let rests = me.rests in let board = c.args.board.now in let same = board.key ∙ sym c.requires.1 in let x = c.next_item-item.result in let ok = c.in_ok-insert_waiting.ensures.ok in
     let gains = inserts_gain g.row.LEVELS c.args.board.now.table.shared.key.k t ok.0 ok.1 es es' x ok.2 in
     let counts = gained_counts es es' (x ∷ []) [] me.inserted me.deleted gains rests.insertions_are rests.deletions_are in
     let first : length (inserted es') ≡ me.inserted + 1 = omega (arith, counts.0) in let second : length (deleted es') ≡ me.deleted = omega (arith, counts.1) in
-    record { rests = rests_after g.row.CAP me.sizes me.in_range t (me.inserted + 1) me.deleted c.insert_in_time.new.seat.me (subst (λ m. Has slot_content IsSlotOf m t [] c.insert_in_time.new.seat.me) same c.in_ok-insert_in_time.ensures.has) first second; in_range = me.in_range; capacity = me.capacity; levels = me.levels }
+    record { rests = rests_after g.row.CAP me.sizes me.in_range t (me.inserted + 1) me.deleted c.insert_waiting.new.seat.me (subst (λ m. Has slot_content IsSlotOf m t [] c.insert_waiting.new.seat.me) same c.in_ok-insert_waiting.ensures.has) first second; in_range = me.in_range; capacity = me.capacity; levels = me.levels }
 
-pub insert_in_time-requires-room-S-PartSlot : goal.insert_in_time-requires-room-S-PartSlot
-insert_in_time-requires-room-S-PartSlot g c κs within = local_fits _ c.args.self.now.capacity
+pub insert_waiting-requires-room-S-PartSlot : goal.insert_waiting-requires-room-S-PartSlot
+insert_waiting-requires-room-S-PartSlot g c κs within = local_fits _ c.args.self.now.capacity
 
-pub insert_in_time-requires-room-S-PartSlot-2 : goal.insert_in_time-requires-room-S-PartSlot-2
-insert_in_time-requires-room-S-PartSlot-2 g c κs within = shared_fits _ c.args.self.now.levels
+pub insert_waiting-requires-room-S-PartSlot-2 : goal.insert_waiting-requires-room-S-PartSlot-2
+insert_waiting-requires-room-S-PartSlot-2 g c κs within = shared_fits _ c.args.self.now.levels
 
-pub insert_in_time-requires-room-S-Holding : goal.insert_in_time-requires-room-S-Holding
-insert_in_time-requires-room-S-Holding g c κs within = local_fits _ c.args.self.now.capacity
+pub insert_waiting-requires-room-S-Holding : goal.insert_waiting-requires-room-S-Holding
+insert_waiting-requires-room-S-Holding g c κs within = local_fits _ c.args.self.now.capacity
 
-pub insert_in_time-requires-room-S-Holding-2 : goal.insert_in_time-requires-room-S-Holding-2
-insert_in_time-requires-room-S-Holding-2 g c κs within = shared_fits _ c.args.self.now.levels
+pub insert_waiting-requires-room-S-Holding-2 : goal.insert_waiting-requires-room-S-Holding-2
+insert_waiting-requires-room-S-Holding-2 g c κs within = shared_fits _ c.args.self.now.levels
 
-pub insert_in_time-requires-room-S-Destruct : goal.insert_in_time-requires-room-S-Destruct
-insert_in_time-requires-room-S-Destruct g c κs within = shared_fits _ c.args.self.now.levels
+pub insert_waiting-requires-room-S-Destruct : goal.insert_waiting-requires-room-S-Destruct
+insert_waiting-requires-room-S-Destruct g c κs within = shared_fits _ c.args.self.now.levels
 
 pub returns-then-self-clause-refused : goal.returns-then-self-clause-refused
 returns-then-self-clause-refused g c =
@@ -56,8 +56,8 @@ returns-then-self-clause-refused g c =
 
 pub returns-clause-ok : goal.returns-clause-ok
 returns-clause-ok g c =
-    let me = c.args.self.now in let es = mine me.seat.me.0 in let es' = mine c.insert_in_time.new.seat.me.0 in
-    let same = c.args.board.now.key ∙ sym c.requires.1 in let ok = c.in_ok-insert_in_time.ensures.ok in let is = c.next_item-item.ensures in
+    let me = c.args.self.now in let es = mine me.seat.me.0 in let es' = mine c.insert_waiting.new.seat.me.0 in
+    let same = c.args.board.now.key ∙ sym c.requires.1 in let ok = c.in_ok-insert_waiting.ensures.ok in let is = c.next_item-item.ensures in
     let item_is = is ∙ ap (λ (stamp : Stamp). stamped c.args.key stamp c.args.load) (sym (ap (λ (x : Item). x.stamp) is)) in (
       ok.0,
       ok.1,
@@ -83,51 +83,51 @@ returns-then-self-clause-adds g c = tt
 pub returns-then-self-clause-spent : goal.returns-then-self-clause-spent
 returns-then-self-clause-spent g c = (λ is. c.args.self.now.rests.insertions_are ∙ c.if-self.true, λ full. refl)
 
-pub insert_in_time-requires-clause-sized : goal.insert_in_time-requires-clause-sized
-insert_in_time-requires-clause-sized g c = (c.args.self.now.capacity, c.args.self.now.levels)
+pub insert_waiting-requires-clause-sized : goal.insert_waiting-requires-clause-sized
+insert_waiting-requires-clause-sized g c = (c.args.self.now.capacity, c.args.self.now.levels)
 
-pub insert_in_time-requires-clause-seat : goal.insert_in_time-requires-clause-seat
-insert_in_time-requires-clause-seat g c =
+pub insert_waiting-requires-clause-seat : goal.insert_waiting-requires-clause-seat
+insert_waiting-requires-clause-seat g c =
     let me = c.args.self.now in let board = c.args.board.now in let same = board.key ∙ sym c.requires.1 in
     (c.requires.0, subst (λ (m : Sizes). IsSized board.table.shared.table_id m) (sym board.key) board.sized, subst (λ (m : Sizes). me.number < m.threads) (sym same) me.rests.thread)
 
-pub insert_in_time-requires-clause-stamp : goal.insert_in_time-requires-clause-stamp
-insert_in_time-requires-clause-stamp g c =
+pub insert_waiting-requires-clause-stamp : goal.insert_waiting-requires-clause-stamp
+insert_waiting-requires-clause-stamp g c =
     let is = c.next_item-item.ensures in
     record { owner = ap (λ (x : Item). x.stamp.owner) is; number = ap (λ (x : Item). x.stamp.number) is }
 
-pub insert_in_time-requires-clause-room : goal.insert_in_time-requires-clause-room
-insert_in_time-requires-clause-room g c =
+pub insert_waiting-requires-clause-room : goal.insert_waiting-requires-clause-room
+insert_waiting-requires-clause-room g c =
     let me = c.args.self.now in let same = c.args.board.now.key ∙ sym c.requires.1 in
     omega (arith, me.rests.insertions_are, me.rests.within, c.if-self.false, ap (λ (m : Sizes). m.quota) same)
 
-pub insert_in_time-requires-clause-stands : goal.insert_in_time-requires-clause-stands
-insert_in_time-requires-clause-stands g c =
+pub insert_waiting-requires-clause-stands : goal.insert_waiting-requires-clause-stands
+insert_waiting-requires-clause-stands g c =
     let me = c.args.self.now in let same = c.args.board.now.key ∙ sym c.requires.1 in
     subst (λ (m : Sizes). Stands slot_content IsSlotOf m me.number [] me.seat.me) (sym same) (stands_at_rest g.row.CAP me.sizes me.in_range me.number me.inserted me.deleted me.seat.me me.rests)
 
-pub returns-in_err-insert_in_time-clause-same : goal.returns-in_err-insert_in_time-clause-same
-returns-in_err-insert_in_time-clause-same g c = (refl, refl, c.in_err-insert_in_time.ensures.same)
+pub returns-in_err-insert_waiting-clause-same : goal.returns-in_err-insert_waiting-clause-same
+returns-in_err-insert_waiting-clause-same g c = (refl, refl, c.in_err-insert_waiting.ensures.same)
 
-pub returns-in_err-insert_in_time-clause-stamp : goal.returns-in_err-insert_in_time-clause-stamp
-returns-in_err-insert_in_time-clause-stamp g c = IfOk-from_err c.from_residual.result _ c.from_residual.ensures.0
+pub returns-in_err-insert_waiting-clause-stamp : goal.returns-in_err-insert_waiting-clause-stamp
+returns-in_err-insert_waiting-clause-stamp g c = IfOk-from_err c.from_residual.result _ c.from_residual.ensures.0
 
-pub returns-in_err-insert_in_time-clause-ok : goal.returns-in_err-insert_in_time-clause-ok
-returns-in_err-insert_in_time-clause-ok g c = IfOk-from_err c.from_residual.result _ c.from_residual.ensures.0
+pub returns-in_err-insert_waiting-clause-ok : goal.returns-in_err-insert_waiting-clause-ok
+returns-in_err-insert_waiting-clause-ok g c = IfOk-from_err c.from_residual.result _ c.from_residual.ensures.0
 
-pub returns-in_err-insert_in_time-clause-adds : goal.returns-in_err-insert_in_time-clause-adds
-returns-in_err-insert_in_time-clause-adds g c = IfOk-from_err c.from_residual.result _ c.from_residual.ensures.0
+pub returns-in_err-insert_waiting-clause-adds : goal.returns-in_err-insert_waiting-clause-adds
+returns-in_err-insert_waiting-clause-adds g c = IfOk-from_err c.from_residual.result _ c.from_residual.ensures.0
 
 pub returns-clause-same : goal.returns-clause-same
-returns-clause-same g c = (refl, refl, c.in_ok-insert_in_time.ensures.same)
+returns-clause-same g c = (refl, refl, c.in_ok-insert_waiting.ensures.same)
 
 pub returns-clause-stamp : goal.returns-clause-stamp
 returns-clause-stamp g c = ap (λ (x : Item). x.stamp) c.next_item-item.ensures
 
 pub returns-clause-adds : goal.returns-clause-adds
 returns-clause-adds g c =
-    let me = c.args.self.now in let es = mine me.seat.me.0 in let es' = mine c.insert_in_time.new.seat.me.0 in
-    let ok = c.in_ok-insert_in_time.ensures.ok in let is = c.next_item-item.ensures in
+    let me = c.args.self.now in let es = mine me.seat.me.0 in let es' = mine c.insert_waiting.new.seat.me.0 in
+    let ok = c.in_ok-insert_waiting.ensures.ok in let is = c.next_item-item.ensures in
     let item_is = is ∙ ap (λ (stamp : Stamp). stamped c.args.key stamp c.args.load) (sym (ap (λ (x : Item). x.stamp) is)) in
     let gains = inserts_gain g.row.LEVELS c.args.board.now.table.shared.key.k me.number ok.0 ok.1 es es' c.next_item-item.result ok.2 in
     record { inserted_are = gains.inserted_are ∙ ap (λ (x : Item). inserted es ++ x ∷ []) item_is; deleted_are = gains.deleted_are }
@@ -138,22 +138,22 @@ returns-clause-refused g c = tt
 pub returns-clause-spent : goal.returns-clause-spent
 returns-clause-spent g c = (λ no. absurd no, λ full. c.if-self.false (sym c.args.self.now.rests.insertions_are ∙ full))
 
-pub returns-in_err-insert_in_time-clause-refused : goal.returns-in_err-insert_in_time-clause-refused
-returns-in_err-insert_in_time-clause-refused g c =
-    let me = c.args.self.now in let t = me.number in let es = mine me.seat.me.0 in let es' = mine c.insert_in_time.new.seat.me.0 in
-    let board = c.args.board.now in let refused = c.in_err-insert_in_time.ensures.refused in
-    let gains = refused_in_time_gains g.row.LEVELS board.table.shared.key.k t es es' _ refused in
+pub returns-in_err-insert_waiting-clause-refused : goal.returns-in_err-insert_waiting-clause-refused
+returns-in_err-insert_waiting-clause-refused g c =
+    let me = c.args.self.now in let t = me.number in let es = mine me.seat.me.0 in let es' = mine c.insert_waiting.new.seat.me.0 in
+    let board = c.args.board.now in let refused = c.in_err-insert_waiting.ensures.refused in
+    let gains = refused_waiting_gains g.row.LEVELS board.table.shared.key.k t es es' _ refused in
     let Spent = length (inserted es) ≡ me.sizes.quota in
     passed_on c.from_residual.result _ _ c.from_residual.ensures.1 (λ why is. (
       record { inserted_are = gains.inserted_are; deleted_are = gains.deleted_are },
-      subst (λ (e : InsertError). RefusesInsertInTime Spent g.row.LEVELS me.sizes.k t es es' e) (sym is)
-          (subst (λ (m : Sizes). RefusesInsertInTime Spent g.row.LEVELS m.k t es es' c.in_err-insert_in_time.field-0.0) (board.key ∙ sym c.requires.1) (began_in_time Spent g.row.LEVELS board.table.shared.key.k t es es' _ refused)),
+      subst (λ (e : InsertError). RefusesInsertWaiting Spent g.row.LEVELS me.sizes.k t es es' e) (sym is)
+          (subst (λ (m : Sizes). RefusesInsertWaiting Spent g.row.LEVELS m.k t es es' c.in_err-insert_waiting.field-0.0) (board.key ∙ sym c.requires.1) (began_waiting Spent g.row.LEVELS board.table.shared.key.k t es es' _ refused)),
     ))
 
-pub returns-in_err-insert_in_time-clause-spent : goal.returns-in_err-insert_in_time-clause-spent
-returns-in_err-insert_in_time-clause-spent g c =
-    let me = c.args.self.now in let es = mine me.seat.me.0 in let es' = mine c.insert_in_time.new.seat.me.0 in
-    let refused = c.in_err-insert_in_time.ensures.refused in (
-      λ spent. absurd (no_error c.from_residual.result _ _ c.from_residual.ensures.1 spent (λ why is no. (subst (λ (e : InsertError). RefusesInsertInTime ⊥ g.row.LEVELS c.args.board.now.table.shared.key.k me.number es es' e) (sym is ∙ no) refused).0)),
+pub returns-in_err-insert_waiting-clause-spent : goal.returns-in_err-insert_waiting-clause-spent
+returns-in_err-insert_waiting-clause-spent g c =
+    let me = c.args.self.now in let es = mine me.seat.me.0 in let es' = mine c.insert_waiting.new.seat.me.0 in
+    let refused = c.in_err-insert_waiting.ensures.refused in (
+      λ spent. absurd (no_error c.from_residual.result _ _ c.from_residual.ensures.1 spent (λ why is no. (subst (λ (e : InsertError). RefusesInsertWaiting ⊥ g.row.LEVELS c.args.board.now.table.shared.key.k me.number es es' e) (sym is ∙ no) refused).0)),
       λ full. absurd (c.if-self.false (sym me.rests.insertions_are ∙ full)),
     )

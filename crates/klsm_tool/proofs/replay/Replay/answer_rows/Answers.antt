@@ -2,7 +2,7 @@ use Rattle.std.proofs.Common.{◌≡◌, ℕ, ◌+◌, ◌<◌, [], ◌∷◌, r
 use Rattle.klsm_tool.specs.Answering.{live_beside}
 use Rattle.klsm_tool.specs.Crews.{lists_in}
 use Rattle.klsm_text.specs.Script.{row_limit}
-use Rattle.klsm_tool.specs.Progress.{HasStopped, Stands}
+use Rattle.klsm_tool.specs.Progress.{HasStopped, StandsAfter}
 use Rattle.klsm_tool.proofs.replay.Replay.answer_rows.Goals as goal
 
 pub answer_row-requires-clause-quota : goal.answer_row-requires-clause-quota
@@ -39,7 +39,7 @@ loop-answered-init g c = record {
   short = omega (arith, c.requires.put);
   stands = λ input before stands told.
       let threads = ap (λ z. z.threads) c.requires.sizes in
-      ([], [], refl, subst (λ n. Stands g.R.Read.remaining n (lists_in c.args.members.now) input [] [] c.args.self.now.script (live_beside c.args.self.now.beside) c.args.self.now.beside.most) (sym threads) stands, told);
+      ([], [], refl, subst (λ n. StandsAfter g.R.Read.remaining n (lists_in c.args.members.now) input [] [] c.args.self.now.script (live_beside c.args.self.now.beside) c.args.self.now.beside.most) (sym threads) stands, told);
 }
 
 pub returns-clause-stops : goal.returns-clause-stops
@@ -47,6 +47,6 @@ returns-clause-stops g c input before stands told =
     let k = c.loop-answered.invariant.stands input before stands told in
     let all : length k.0 ≡ row_limit = omega (arith, k.2, c.loop-answered-test.false) in
     let threads = ap (λ z. z.threads) c.requires.sizes in
-    let now = subst (λ n. Stands g.R.Read.remaining n (lists_in c.loop-answered.members) input k.0 k.1 c.loop-answered.self.script (live_beside c.loop-answered.self.beside) c.loop-answered.self.beside.most) threads k.3 in
+    let now = subst (λ n. StandsAfter g.R.Read.remaining n (lists_in c.loop-answered.members) input k.0 k.1 c.loop-answered.self.script (live_beside c.loop-answered.self.beside) c.loop-answered.self.beside.most) threads k.3 in
     let stops = c.stop_behind.ensures.stops c.args.settings.now.threads c.args.settings.now.k (lists_in c.loop-answered.members) input before k.0 k.1 _ _ now all k.4 in
     subst (λ (n : ℕ). HasStopped c.args.settings.now.threads c.args.settings.now.k (lists_in c.loop-answered.members) input before (g.W.Write.contents c.stop_behind.new.writer) (n + 1) c.loop-answered.self.beside.most c.stop_behind.new.output c.stop_behind.result) all stops

@@ -4,7 +4,7 @@ use Rattle.klsm_tool.specs.Answering.{live_beside, picker_count}
 use Rattle.klsm_tool.specs.Crews.{AreFew, AreMembers, lists_in}
 use Rattle.klsm_rows.specs.Rows.{Row}
 use Rattle.klsm_text.specs.Output.{put_count}
-use Rattle.klsm_tool.specs.Progress.{IsTold, Stands}
+use Rattle.klsm_tool.specs.Progress.{IsTold, StandsAfter}
 use Rattle.klsm_tool.proofs.replay.Replay.answer_rows.Given as goal
 
 -- so many rows are answered, and their lines are told
@@ -14,8 +14,8 @@ invariant-loop-answered g l = record {
   pickers : picker_count l.self.beside ≡ l.board.sizes.threads;
   few : AreFew l.board.sizes.threads l.answered (lists_in l.members);
   short : put_count l.self.output ≤ 160 * l.answered;
-  stands : (input before : Option (List ℕ)) → Stands g.R.Read.remaining l.settings.threads (lists_in l.initial.members) input [] [] l.initial.self.script (live_beside l.initial.self.beside) l.initial.self.beside.most
+  stands : (input before : Option (List ℕ)) → StandsAfter g.R.Read.remaining l.settings.threads (lists_in l.initial.members) input [] [] l.initial.self.script (live_beside l.initial.self.beside) l.initial.self.beside.most
       → IsTold before (g.W.Write.contents l.initial.writer) [] l.initial.self.output
-      → (rows : List Row) × (lines : List Line) × (length rows ≡ l.answered) × Stands g.R.Read.remaining l.board.sizes.threads (lists_in l.members) input rows lines l.self.script (live_beside l.self.beside) l.self.beside.most
+      → (rows : List Row) × (lines : List Line) × (length rows ≡ l.answered) × StandsAfter g.R.Read.remaining l.board.sizes.threads (lists_in l.members) input rows lines l.self.script (live_beside l.self.beside) l.self.beside.most
       × IsTold before (g.W.Write.contents l.writer) lines l.self.output;
 }

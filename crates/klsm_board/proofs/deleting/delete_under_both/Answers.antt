@@ -3,7 +3,7 @@ use Rattle.klsm_run.specs.declared.item.Item.{Item}
 use Rattle.klsm_world.specs.declared.step.Entry.TheVariants.{Committed}
 use Rattle.klsm_world.specs.declared.step.Event.TheVariants.{Nothing}
 use Rattle.klsm_world.specs.OwnListLaws.{LeavesFew}
-use Rattle.klsm_board.specs.Rule.{limits_of}
+use Rattle.klsm_board.specs.Rule.{world_limits}
 use Rattle.klsm_board.specs.Steps.{mine}
 use Rattle.klsm_board.specs.Entries.{both_released}
 use Rattle.klsm_board.specs.Seats.{Has, both_in_hand}
@@ -11,7 +11,7 @@ use Rattle.klsm_board.specs.Deleting.{Passes, SpiesAfter}
 use Rattle.klsm_board.proofs.hands.PossibleLemmas.{nothing_leaves_few}
 use Rattle.klsm_board.proofs.calls.TakeLemmas.{least_alone}
 use Rattle.klsm_board.proofs.calls.TestLemmas.{either_option, where_some}
-use Rattle.klsm_board.proofs.deleting.delete_taken.Goals as goal
+use Rattle.klsm_board.proofs.deleting.delete_under_both.Goals as goal
 
 pub returns-in-Some-clause-has : goal.returns-in-Some-clause-has
 returns-in-Some-clause-has g c = let k = c.requires.has in (c.in-Some.ensures.done k.0 k.1 k.2).0
@@ -76,8 +76,8 @@ returns-clause-done g c own shared has_both =
         shared_empty = empty.shared_empty;
         added = passed.1.0;
         passes = subst (λ n. Passes n t (n - 1) passed.1.0) c.requires.threads passed.1.1;
-        leaves = subst (LeavesFew (limits_of m) t) list (nothing_leaves_few content suits m t [] [] c.search_victims.new.seat.me passed.0 (record { own_empty = refl; shared_empty = refl }));
-        steps = c.give_committed.ensures.list ∙ ap (λ z. z ++ Committed Nothing ∷ both_released t) list;
+        leaves = subst (LeavesFew (world_limits m) t) list (nothing_leaves_few content suits m t [] [] c.search_victims.new.seat.me passed.0 (record { own_empty = refl; shared_empty = refl }));
+        steps = c.release_committed.ensures.list ∙ ap (λ z. z ++ Committed Nothing ∷ both_released t) list;
       },
       none.3,
     )

@@ -1,6 +1,6 @@
 use Rattle.std.proofs.Common.{refl}
-use Rattle.klsm_board.proofs.table.SeatLemmas.{can_give, has_given, mine_released}
-use Rattle.klsm_board.proofs.steps.give_part.Goals as goal
+use Rattle.klsm_board.proofs.table.SeatLemmas.{can_release, has_released, mine_released}
+use Rattle.klsm_board.proofs.steps.release_part.Goals as goal
 
 pub release-requires-clause-told : goal.release-requires-clause-told
 release-requires-clause-told g c = (refl, refl)
@@ -9,10 +9,10 @@ pub release-requires-clause-view : goal.release-requires-clause-view
 release-requires-clause-view g c = let has = c.requires.has.2 in let carries = has.carries in carries.alone
 
 pub release-requires-clause-carried : goal.release-requires-clause-carried
-release-requires-clause-carried g c = can_give g.S.Holding.content g.S.Holding.suits c.args.table.now.key c.args.thread c.args.part c.requires.has.0 c.requires.has.1 c.args.seat.now.me c.requires.has.2
+release-requires-clause-carried g c = can_release g.S.Holding.content g.S.Holding.suits c.args.table.now.key c.args.thread c.args.part c.requires.has.0 c.requires.has.1 c.args.seat.now.me c.requires.has.2
 
-pub returns-clause-gave : goal.returns-clause-gave
-returns-clause-gave g c = λ found hand has away. has_given g.S.Holding.content g.S.Holding.suits c.args.table.now.key c.args.thread c.args.part found hand c.args.seat.now.me c.release.new.seat.me has away c.release.ensures.told.0 c.release.ensures.told.1
+pub returns-clause-released : goal.returns-clause-released
+returns-clause-released g c = λ found hand has away. has_released g.S.Holding.content g.S.Holding.suits c.args.table.now.key c.args.thread c.args.part found hand c.args.seat.now.me c.release.new.seat.me has away c.release.ensures.told.0 c.release.ensures.told.1
 
 pub returns-clause-list : goal.returns-clause-list
 returns-clause-list g c =

@@ -1,4 +1,4 @@
-//! How a member takes a part: by one try, or by as many as it needs.
+//! How a member acquires a part: by one try, or by as many as it needs.
 ghost use Rattle.std.specs.Prelude.{◌≡◌, ◌≤◌, ◌++◌, ℕ, [], ◌∷◌, List, IfErr, OnOk, None};
 ghost use Rattle.klsm_run.specs.declared.item.Item.{Item};
 ghost use Rattle.klsm_world.specs.declared.step.Entry.TheVariants.{Acquired, Missed};
@@ -9,7 +9,7 @@ ghost use Rattle.klsm_board.specs.Entries.{missed};
 
 use crate::errors::Busy;
 use crate::rule::{Holding, Locks, MemberSeat};
-use crate::steps::take_part;
+use crate::steps::acquire_part;
 use crossbeam_utils::Backoff;
 use std::hint;
 use std::sync::Wait;
@@ -19,8 +19,8 @@ const SHORTEST_PAUSE: u32 = 400;
 
 const LONGEST_PAUSE: u32 = 3_200;
 
-/// Takes a part, if it is free.
-pub(crate) fn take_now<S: Holding>(
+/// Acquires a part, if it is free.
+pub(crate) fn try_acquire<S: Holding>(
     table: &Locks<S>,
     seat: &mut MemberSeat<S>,
     part: usize,
@@ -41,7 +41,7 @@ pub(crate) fn take_now<S: Holding>(
         → Has S.content S.suits table.now.key thread hand seat.new.me)
         × (mine seat.new.me.0 ≡ mine seat.old.me.0 ++ Missed part busy.by ∷ [])) }
 {
-    let found = take_part(table, seat, part, thread);
+    let found = acquire_part(table, seat, part, thread);
     if found == 0 {
         Ok(())
     } else {
@@ -52,8 +52,8 @@ pub(crate) fn take_now<S: Holding>(
     }
 }
 
-/// Takes a part, and waits until it is free.
-pub(crate) fn take_in_time<S: Holding>(
+/// Acquires a part, and waits until it is free.
+pub(crate) fn acquire_waiting<S: Holding>(
     rt: &impl Wait,
     table: &Locks<S>,
     seat: &mut MemberSeat<S>,
@@ -65,7 +65,7 @@ pub(crate) fn take_in_time<S: Holding>(
     requires has { (hand : Hand) × Stands S.content S.suits table.now.key thread hand seat.old.me
         × (found_in hand part ≡ None) }
     ensures same { seat.new.table_id ≡ seat.old.table_id }
-    ensures took { (hand : Hand) → Stands S.content S.suits table.now.key thread hand seat.old.me
+    ensures acquired { (hand : Hand) → Stands S.content S.suits table.now.key thread hand seat.old.me
         → (bys : List ℕ) × (found : List Item)
         × Has S.content S.suits table.now.key thread ((part, found) ∷ hand) seat.new.me
         × (mine seat.new.me.0
@@ -73,7 +73,7 @@ pub(crate) fn take_in_time<S: Holding>(
 {
     let mut pause = Pause::new();
     for _ in rt.forever() {
-        match take_now(table, seat, part, thread) {
+        match try_acquire(table, seat, part, thread) {
             Ok(()) => return,
             Err(_) => pause.wait(),
         }

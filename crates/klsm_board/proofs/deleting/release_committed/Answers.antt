@@ -4,25 +4,25 @@ use Rattle.klsm_board.specs.Steps.{mine}
 use Rattle.klsm_board.specs.Seats.{own_in_hand}
 use Rattle.klsm_board.proofs.seats.StandLemmas.{stands}
 use Rattle.klsm_board.proofs.hands.EventLemmas.{shared_not_in_one}
-use Rattle.klsm_board.proofs.deleting.give_committed.Goals as goal
+use Rattle.klsm_board.proofs.deleting.release_committed.Goals as goal
 
 pub commit_event-requires-clause-out : goal.commit_event-requires-clause-out
 commit_event-requires-clause-out g c =
     let t = c.args.thread in let k = c.requires.out in
     (k.1, own_in_hand t k.0, k.2, shared_not_in_one t k.0)
 
-pub give_part-requires-clause-has : goal.give_part-requires-clause-has
-give_part-requires-clause-has g c =
+pub release_part-requires-clause-has : goal.release_part-requires-clause-has
+release_part-requires-clause-has g c =
     let t = c.args.thread in let k = c.requires.out in
-    (k.0, [], stands (c.commit_event.ensures.gave k.1 (own_in_hand t k.0) k.2.carries (shared_not_in_one t k.0)), refl)
+    (k.0, [], stands (c.commit_event.ensures.released k.1 (own_in_hand t k.0) k.2.carries (shared_not_in_one t k.0)), refl)
 
 pub returns-clause-has : goal.returns-clause-has
 returns-clause-has g c =
     let t = c.args.thread in let k = c.requires.out in
-    c.give_part.ensures.gave k.0 [] (stands (c.commit_event.ensures.gave k.1 (own_in_hand t k.0) k.2.carries (shared_not_in_one t k.0))) refl
+    c.release_part.ensures.released k.0 [] (stands (c.commit_event.ensures.released k.1 (own_in_hand t k.0) k.2.carries (shared_not_in_one t k.0))) refl
 
 pub returns-clause-list : goal.returns-clause-list
 returns-clause-list g c =
     let t = c.args.thread in let event = c.args.event.now in
-    c.give_part.ensures.list ∙ (ap (λ z. z ++ Released (t + 1) ∷ []) c.commit_event.ensures.list
+    c.release_part.ensures.list ∙ (ap (λ z. z ++ Released (t + 1) ∷ []) c.commit_event.ensures.list
     ∙ append_assoc (mine c.args.seat.now.me.0) (Committed event ∷ Released 0 ∷ []) (Released (t + 1) ∷ []))
