@@ -12,12 +12,24 @@ use Rattle.klsm_board.specs.Steps.{mine, IsMine}
 use Rattle.klsm_board.specs.Seats.{contents, AreSuited}
 use Rattle.klsm_board.specs.Slots.{slot_content, IsSlotOf}
 
+-- the most insertions that a board can be made for, of each member: 2^48
+abbrev pub most_insertions : ℕ
+most_insertions = 281474976710656
+
+-- and the most deletions of a member, which are the insertions of sixteen: 2^52
+abbrev pub most_deletions : ℕ
+most_deletions = 4503599627370496
+
+-- the sizes of a board whose members may make the most insertions
+abbrev pub sizes_of : ℕ → ℕ → Sizes
+sizes_of threads k = record { threads = threads; k = k; quota = most_insertions }
+
 -- what a board can be made for
 pub record AreSizes (capacity : ℕ) (m : Sizes) : Type 0 where
   pub some_thread : 1 ≤ m.threads
   pub threads : m.threads ≤ 16
   pub k : m.k ≤ capacity
-  pub quota : m.quota ≤ 281474976710656
+  pub quota : m.quota ≤ most_insertions
 
 -- the seat has no part, and its list has so many insertions and deletions, within the quota and
 -- within what all members may insert
@@ -28,7 +40,7 @@ pub record IsResting (m : Sizes) (number insertions deletions : ℕ) (me : Me (S
   pub insertions_are : length (inserted (mine me.0)) ≡ insertions
   pub deletions_are : length (deleted (mine me.0)) ≡ deletions
   pub within : insertions ≤ m.quota
-  pub few : deletions ≤ 4503599627370496
+  pub few : deletions ≤ most_deletions
   pub thread : number < m.threads
   pub reached : ∥ IsReached m number (mine me.0) ∥₁
 

@@ -16,6 +16,7 @@ use Rattle.klsm_world.specs.Schedules.{Leads}
 use Rattle.klsm_board.specs.declared.sizes.Sizes.{Sizes}
 use Rattle.klsm_board.specs.declared.rule.Own.{Own}
 use Rattle.klsm_board.specs.declared.rule.View.{View}
+use Rattle.klsm_board.specs.declared.rule.TheConstants.{STRIDE}
 
 -- a thread with its own steps, and a view of such
 abbrev pub own : ℕ → List Entry → Own
@@ -30,7 +31,7 @@ world_limits m = record { threads = m.threads; k = m.k }
 
 -- the word of the table that is the lock of a part; behind them comes the front word
 abbrev pub place : ℕ → ℕ
-place p = p * 16
+place p = p * STRIDE
 
 -- the lock words of n parts, from part p on
 abbrev pub locks_from : ℕ → ℕ → List ℕ → List ℕ

@@ -8,6 +8,7 @@ ghost use lib.ListN.{get_elem?};
 ghost use Rattle.klsm_run.specs.Content.{sorted};
 ghost use Rattle.klsm_world.specs.OwnSteps.{inserted, deleted};
 ghost use Rattle.klsm_world.specs.Account.{account};
+ghost use Rattle.klsm_board.specs.Members.{most_deletions, most_insertions};
 ghost use Rattle.klsm_board.specs.Boards.{IsOf, own_steps};
 ghost use Rattle.klsm_board.specs.Finishing.{AreAll, AreEachOnce, AreListsAtEnd, IsLeastAbsent, HasMember, Knows, lists_of, steps_among};
 
@@ -137,7 +138,7 @@ fn counts_of<const CAP: usize, const LEVELS: usize>(
     ensures found { IfSome result (λ counts. HasMember members.now number
         × (counts.inserted ≡ length (inserted (steps_among members.now number)))
         × (counts.deleted ≡ length (deleted (steps_among members.now number)))
-        × (counts.inserted ≤ 281474976710656) × (counts.deleted ≤ 4503599627370496)) }
+        × (counts.inserted ≤ most_insertions) × (counts.deleted ≤ most_deletions)) }
     ensures none { result ≡ None → HasMember members.now number → ⊥ }
 {
     for member in members {

@@ -176,6 +176,7 @@ fn look<S: PartSlot>(
         → Carries S.content S.suits table.now.key thread ((lock, found) ∷ []) seat.new.me
         × (result.0 ≡ length found) × (result.1 ≡ slice_get found 0) }
 {
+    // For the proof: the contract alone names the thread.
     let _ = thread;
     let slot = seat.slot_mut(table, lock);
     (slot.len(), slot.least())

@@ -27,6 +27,7 @@ pub(crate) fn lend_shared<S: PartSlot>(
         → LendsShared S.content S.suits S.is_vacant table.now.key thread own seat.new.me
         × (S.content result ≡ shared) × S.suits table.now.key.k shared_part result }
 {
+    // For the proof: the contract alone names the thread.
     let _ = thread;
     let shared = table.exchange(seat, 0, S::vacant());
     seat.turn();
@@ -52,6 +53,7 @@ pub(crate) fn return_shared<S: PartSlot>(
         → Carries S.content S.suits table.now.key thread
         (both_in_hand thread own (S.content shared)) seat.new.me }
 {
+    // For the proof: the contract alone names the thread.
     let _ = thread;
     seat.turn();
     table.exchange(seat, 0, shared).discard();

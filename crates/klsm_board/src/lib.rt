@@ -83,3 +83,4 @@ pub use board::{Board, Held, HoldRefused, Member};
 pub use errors::{Busy, FinishError, HoldError, InsertError, MakeError, TryInsertError};
 pub use finishing::{Account, FinishRefused};
 pub use gate::{Gate, Open};
+pub use making::MOST_INSERTIONS;

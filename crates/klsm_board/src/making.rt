@@ -3,7 +3,7 @@ ghost use Rattle.std.specs.Prelude.{All, ◌≡◌, ◌<◌, ◌≤◌, ◌+◌,
 ghost use Rattle.klsm_run.specs.Capacity.{IsCapacity};
 ghost use Rattle.klsm_parts.specs.Limit.{IsLevelCount};
 ghost use Rattle.klsm_board.specs.Rule.{view, fresh};
-ghost use Rattle.klsm_board.specs.Members.{AreSizes};
+ghost use Rattle.klsm_board.specs.Members.{AreSizes, most_insertions};
 ghost use Rattle.klsm_board.specs.Boards.{IsCrew, IsOf, own_steps};
 
 use crate::board::{Board, Member};
@@ -19,8 +19,8 @@ use std::alloc::{AllocError, Global};
 /// The most members of a board.
 const MOST_THREADS: usize = 16;
 
-/// The most insertions of a member: 2^48.
-const MOST_INSERTIONS: u64 = 281_474_976_710_656;
+/// The most insertions that a board can be made for, of each member: 2^48.
+pub const MOST_INSERTIONS: u64 = 281_474_976_710_656;
 
 impl<const CAP: usize, const LEVELS: usize> Board<CAP, LEVELS> {
     /// A board of empty parts, and its members in order.
@@ -48,7 +48,7 @@ impl<const CAP: usize, const LEVELS: usize> Board<CAP, LEVELS> {
         ensures bad_k { IsErrAnd result (λ why. why ≡ MakeError.BadK)
             ↔ ((1 ≤ threads) × (threads ≤ 16) × (CAP < k)) }
         ensures bad_quota { IsErrAnd result (λ why. why ≡ MakeError.BadQuota)
-            ↔ ((1 ≤ threads) × (threads ≤ 16) × (k ≤ CAP) × (281474976710656 < quota)) }
+            ↔ ((1 ≤ threads) × (threads ≤ 16) × (k ≤ CAP) × (most_insertions < quota)) }
     {
         let sizes = sizes_for(CAP, threads, k, quota)?;
         let Ok((board, seat)) = table_of(alloc, sizes) else {
@@ -71,7 +71,7 @@ fn sizes_for(capacity: usize, threads: usize, k: usize, quota: u64) -> Result<Si
     ensures bad_k { IsErrAnd result (λ why. why ≡ MakeError.BadK)
         ↔ ((1 ≤ threads) × (threads ≤ 16) × (capacity < k)) }
     ensures bad_quota { IsErrAnd result (λ why. why ≡ MakeError.BadQuota)
-        ↔ ((1 ≤ threads) × (threads ≤ 16) × (k ≤ capacity) × (281474976710656 < quota)) }
+        ↔ ((1 ≤ threads) × (threads ≤ 16) × (k ≤ capacity) × (most_insertions < quota)) }
 {
     if threads == 0 || threads > MOST_THREADS {
         return Err(MakeError::BadThreads);

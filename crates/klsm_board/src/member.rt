@@ -4,6 +4,7 @@ ghost use Rattle.std.specs.Option.{option_to_list};
 ghost use Rattle.klsm_run.specs.declared.item.Item.{Item};
 ghost use Rattle.klsm_world.specs.OwnSteps.{inserted, deleted};
 ghost use Rattle.klsm_board.specs.Rule.{IsReached};
+ghost use Rattle.klsm_board.specs.Members.{most_deletions};
 ghost use Rattle.klsm_board.specs.Boards.{Adds, IsOf, IsSame, own_steps};
 ghost use Rattle.klsm_board.specs.Inserting.{Inserts, RefusesInsert, RefusesInsertWaiting, stamp_of, stamped};
 ghost use Rattle.klsm_board.specs.Deleting.{AnswersDeletion, MissesDeletion};
@@ -40,7 +41,7 @@ impl<const CAP: usize, const LEVELS: usize> Member<CAP, LEVELS> {
     #[inline]
     pub fn deleted_count(&self) -> u64
         ensures count { result ≡ length (deleted (own_steps self.now)) }
-        ensures within { result ≤ 4503599627370496 }
+        ensures within { result ≤ most_deletions }
     {
         self.deleted
     }

@@ -56,6 +56,7 @@ fn release<S: Holding, D: Told>(
     ensures told { released table.now.key thread (step table.now.table_id.slots part 0 0 none)
         seat.old.me 0 seat.new.me }
 {
+    // For the proof: the contract alone names the thread.
     let _ = thread;
     table.store::<Release<D>>(seat, part * STRIDE, 0);
 }
@@ -86,6 +87,7 @@ fn commit<S: Holding, D: Told, T>(
     ensures told { committed D.fits table.now.key thread
         (step table.now.table_id.slots part 0 0 none) seat.old.me 0 seat.new.me }
 {
+    // For the proof: the contract alone names the thread and what the event is about.
     let _ = thread;
     let _ = about;
     table.store::<Commit<D>>(seat, part * STRIDE, 0);
@@ -114,6 +116,7 @@ fn store_front<S: Holding, D: Told, T>(
         (step table.now.table_id.slots (place (threads + 1)) front 0 none) seat.old.me front
         seat.new.me }
 {
+    // For the proof: the contract alone names the thread and what the event is about.
     let _ = thread;
     let _ = about;
     table.store::<SetFront<D>>(seat, (threads + 1) * STRIDE, front);
@@ -138,6 +141,7 @@ fn load_front<S: Holding, D: Told>(
         (step table.now.table_id.slots (place (threads + 1)) 0 0 none) seat.old.me result
         seat.new.me }
 {
+    // For the proof: the contract alone names the thread and the item.
     let _ = thread;
     let _ = least;
     table.load::<Look<D>>(seat, (threads + 1) * STRIDE)

@@ -136,6 +136,7 @@ impl Instance {
         ensures small { result ≤ 32000000 }
         ensures sound { NoneAbove self.now level picks result }
     {
+        // For the proof: the contract alone names the picks.
         let _ = picks;
         taken.value + self.gain(level, self.capacity - taken.weight)
     }

@@ -13,9 +13,7 @@ use Rattle.klsm_world.proofs.counts.EventCountLemmas.{times_contained, contained
 use Rattle.klsm_board.specs.declared.board.Member.{Member}
 use Rattle.klsm_board.specs.declared.sizes.Sizes.{Sizes}
 use Rattle.klsm_board.specs.Rule.{IsReached}
-use Rattle.klsm_board.specs.Boards.{own_steps}
-use Rattle.klsm_board.specs.Boards.{IsCrew as AreNumbered}
-use Rattle.klsm_board.specs.Boards.{IsOf as IsMemberOf}
+use Rattle.klsm_board.specs.Boards.{IsCrew, IsOf, own_steps}
 use Rattle.klsm_board.specs.Finishing.{AreAll, AreEachOnce, lists_of}
 use Rattle.klsm_board.proofs.ending.EndLemmas.{are_lists, each_of}
 use Rattle.klsm_knapsack.specs.declared.common.Common.{Common}
@@ -28,7 +26,8 @@ use Rattle.klsm_knapsack.specs.Watching.{IsWatchedBy, found_by}
 use Rattle.klsm_knapsack.specs.Work.{HasNode, HasWorked, all_inserted, all_deleted}
 use Rattle.klsm_knapsack.specs.Ends.{End, HasEnded, IsLeastRefusal, first_refusal}
 use Rattle.klsm_knapsack.specs.Workers.{HasEndedSo, HaveWorked, AreWorkersOf, IsNew, IsSearched, IsWorkerOf, work_of}
-use Rattle.klsm_knapsack.specs.Refusals.{RefusesSearch, error_of, sizes_of}
+use Rattle.klsm_board.specs.Members.{sizes_of}
+use Rattle.klsm_knapsack.specs.Refusals.{RefusesSearch, error_of}
 use Rattle.klsm_knapsack.proofs.CrewLemmas.{stands_at}
 
 -- what a list is after its store was lent as a slice
@@ -76,7 +75,7 @@ module _ {LEVELS : ℕ} where
   member_of w = w.member
 
   module _ (common : Common LEVELS) (crew : List (Worker LEVELS)) (members : List (Member 64 LEVELS)) (are : map (λ (w : Worker LEVELS). w.member) crew ≡ members)
-      (of : All (λ (m : Member 64 LEVELS). IsMemberOf m common.board) members) (many : length members ≡ common.board.sizes.threads) (some_thread : 0 < common.board.sizes.threads) (numbered : AreNumbered members)
+      (of : All (λ (m : Member 64 LEVELS). IsOf m common.board) members) (many : length members ≡ common.board.sizes.threads) (some_thread : 0 < common.board.sizes.threads) (numbered : IsCrew members)
       (seats : All (λ (w : Worker LEVELS). IsWatchedBy common.incumbent w.watcher × (found_by w.watcher ≡ 0) × (w.refused ≡ None)) crew) where
     stands : (i : ℕ) (w : Worker LEVELS) → get_elem? crew i ≡ some w → get_elem? members i ≡ some w.member
     stands i w there = ap (λ ms. get_elem? ms i) (sym are) ∙ map_at member_of crew i w there
@@ -90,7 +89,7 @@ module _ {LEVELS : ℕ} where
       of = λ i d lt.
           let w = get_or crew i d in
           let there = stands i w (stands_at crew i d lt) in
-          record { member = each_of (λ (m : Member 64 LEVELS). IsMemberOf m common.board) members of i w.member there; watcher = (seats i d lt).0 };
+          record { member = each_of (λ (m : Member 64 LEVELS). IsOf m common.board) members of i w.member there; watcher = (seats i d lt).0 };
       many = long ∙ many;
       some_worker = omega (arith, long, many, some_thread);
       numbered = λ i w there. (numbered i w.member (stands i w there)).0;
@@ -105,8 +104,8 @@ module _ {LEVELS : ℕ} where
 
   module _ (common : Common LEVELS) (crew : List (Worker LEVELS)) (is : AreWorkersOf common crew) where
     -- the members are those of the board
-    pub members_of : All (λ (m : Member 64 LEVELS). IsMemberOf m common.board) (map (λ (w : Worker LEVELS). w.member) crew)
-    members_of = All-map (λ (m : Member 64 LEVELS). IsMemberOf m common.board) member_of crew (λ k d lt. (is.of k d lt).member)
+    pub members_of : All (λ (m : Member 64 LEVELS). IsOf m common.board) (map (λ (w : Worker LEVELS). w.member) crew)
+    members_of = All-map (λ (m : Member 64 LEVELS). IsOf m common.board) member_of crew (λ k d lt. (is.of k d lt).member)
 
     abbrev end_of : Worker LEVELS → End
     end_of w = record { steps = own_steps w.member; refused = w.refused }

@@ -1,6 +1,6 @@
 -- Why a search ends without an answer.
 use Rattle.std.specs.Prelude.{ℕ, ◌≡◌, ◌<◌, ◌≤◌, ◌⊎◌}
-use Rattle.klsm_board.specs.declared.sizes.Sizes.{Sizes}
+use Rattle.klsm_board.specs.Members.{sizes_of}
 use Rattle.klsm_knapsack.specs.declared.errors.Refusal.{Refusal}
 use Rattle.klsm_knapsack.specs.declared.errors.Refusal.TheVariants as refusal
 use Rattle.klsm_knapsack.specs.declared.errors.SolveError.{SolveError}
@@ -10,10 +10,6 @@ use Rattle.klsm_knapsack.specs.Ends.{IsLeastRefusal}
 abbrev pub error_of : Refusal → SolveError
 error_of refusal.Full = Full
 error_of refusal.NoMemory = NoMemory
-
--- the sizes of the board that a search makes
-abbrev pub sizes_of : ℕ → ℕ → Sizes
-sizes_of threads k = record { threads = threads; k = k; quota = 281474976710656 }
 
 -- A search is refused for this reason. Memory may also be wanted by what the caller makes for all.
 abbrev pub RefusesSearch : ℕ → ℕ → ℕ → SolveError → Type 0

@@ -5,8 +5,7 @@ use mathlib.Core.Option.{some}
 use lib.ListN.{get_elem?}
 use Rattle.klsm_run.specs.declared.item.Item.{Item}
 use Rattle.klsm_world.specs.OwnSteps.{inserted, deleted}
-use Rattle.klsm_board.specs.Boards.{IsSame, own_steps}
-use Rattle.klsm_board.specs.Boards.{IsOf as IsMemberOf}
+use Rattle.klsm_board.specs.Boards.{IsOf, IsSame, own_steps}
 use Rattle.klsm_knapsack.specs.declared.common.Common.{Common}
 use Rattle.klsm_knapsack.specs.declared.common.Worker.{Worker}
 use Rattle.klsm_instance.specs.Selections.{Problem}
@@ -37,7 +36,7 @@ module _ {LEVELS : ℕ} where
 
   -- the worker's member is one of the board, and its seat one at the incumbent
   pub record IsWorkerOf (common : Common LEVELS) (w : Worker LEVELS) : Type 0 where
-    pub member : IsMemberOf w.member common.board
+    pub member : IsOf w.member common.board
     pub watcher : IsWatchedBy common.incumbent w.watcher
 
   -- it is the same worker

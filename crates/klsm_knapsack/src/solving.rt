@@ -1,23 +1,21 @@
 //! The whole search.
 ghost use Rattle.std.specs.Prelude.{All, ◌≡◌, ◌≤◌, ◌<◌, ◌⊎◌, ◌↔◌, IfOk, IfErr, IsErrAnd, length};
 ghost use Rattle.klsm_parts.specs.Limit.{IsLevelCount};
+ghost use Rattle.klsm_board.specs.Members.{sizes_of};
 ghost use Rattle.klsm_board.specs.Boards.{IsCrew, IsOf};
 ghost use Rattle.klsm_instance.specs.Answers.{IsBestAnswer};
-ghost use Rattle.klsm_knapsack.specs.Refusals.{RefusesSearch, sizes_of};
+ghost use Rattle.klsm_knapsack.specs.Refusals.{RefusesSearch};
 
 use crate::common::Common;
 use crate::crew::{dismiss, recruit, search};
 use crate::ending::conclude;
 use crate::errors::SolveError;
 use crate::incumbent::Incumbent;
-use klsm_board::{Board, Gate, MakeError, Member};
+use klsm_board::{Board, Gate, MOST_INSERTIONS, MakeError, Member};
 use klsm_instance::{Best, Instance};
 use std::alloc::Global;
 use std::sync::Wait;
 use std::thread::Threads;
-
-/// How many insertions each member may make: 2^48.
-const QUOTA: u64 = 281_474_976_710_656;
 
 /// A best selection, found by `threads` workers over a board with this k.
 ///
@@ -84,7 +82,7 @@ fn board_for<const LEVELS: usize>(
     ensures bad_k { IsErrAnd result (λ why. why ≡ SolveError.BadK)
         ↔ ((1 ≤ threads) × (threads ≤ 16) × (64 < k)) }
 {
-    match Board::new(alloc, threads, k, QUOTA) {
+    match Board::new(alloc, threads, k, MOST_INSERTIONS) {
         Ok(made) => Ok(made),
         Err(MakeError::BadThreads) => Err(SolveError::BadThreads),
         Err(MakeError::BadK) => Err(SolveError::BadK),

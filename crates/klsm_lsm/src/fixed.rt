@@ -54,7 +54,8 @@ impl<const CAP: usize, const LEVELS: usize> Lsm<FixedRun<CAP>, LEVELS> {
         if victim.blocks() == 1 {
             return self.spy_half(victim);
         }
-        let _limit = victim.len();
+        // For the proof: the victim's items are within the limit.
+        let _known = victim.len();
         self.fill(victim.block(0).as_slice());
         victim.discard_largest();
         self.len()
@@ -69,7 +70,8 @@ impl<const CAP: usize, const LEVELS: usize> Lsm<FixedRun<CAP>, LEVELS> {
         ensures rest { victim.new ≡ left_by_spy victim.old }
         ensures count { result ≡ length (content self.new) }
     {
-        let _limit = victim.len();
+        // For the proof: the victim's items are within the limit.
+        let _known = victim.len();
         let items = victim.block(0).as_slice();
         self.fill(&items[items.len() / 2..]);
         victim.lose_half();

@@ -24,7 +24,8 @@ impl<R: Run, const LEVELS: usize> Lsm<R, LEVELS> {
     pub fn cascade(&self, level: usize) -> Cascade
         ensures { IsCascade self.now level result.first result.count }
     {
-        let _lawful = self.len();
+        // For the proof: the LSM is lawful.
+        let _known = self.len();
         let end = self.place_of_level(level);
         let mut first = end;
         // The level of the run with the blocks from `first` on.
@@ -44,7 +45,8 @@ impl<R: Run, const LEVELS: usize> Lsm<R, LEVELS> {
         requires { block < length self.now }
         ensures { IsPartner self.now block result }
     {
-        let _within = self.blocks();
+        // For the proof: there are no more blocks than levels.
+        let _known = self.blocks();
         if self.falls(block) {
             return Some(block + 1);
         }
@@ -65,7 +67,8 @@ impl<R: Run, const LEVELS: usize> Lsm<R, LEVELS> {
     pub fn least_block(&self) -> Option<usize>
         ensures { IsLeastBlock self.now result }
     {
-        let _lawful = self.len();
+        // For the proof: the LSM is lawful.
+        let _known = self.len();
         let mut found: Option<(usize, Item)> = None;
         for block in 0..self.blocks() {
             let first = self.block(block).item_at(0);
@@ -85,7 +88,8 @@ impl<R: Run, const LEVELS: usize> Lsm<R, LEVELS> {
         ensures above { AllByRecursion (λ b. least ≤ level b) (take result self.now) }
         ensures below { AllByRecursion (λ b. level b < least) (drop result self.now) }
     {
-        let _lawful = self.len();
+        // For the proof: the LSM is lawful.
+        let _known = self.len();
         let mut place = self.blocks();
         while place > 0 && self.block(place - 1).level() < least {
             place -= 1;
@@ -99,8 +103,9 @@ impl<R: Run, const LEVELS: usize> Lsm<R, LEVELS> {
         ensures { IsTrue result
             ↔ ((1 < length (slice_index_or self.now block [])) × FallsToNext self.now block) }
     {
-        let _lawful = self.len();
-        let _within = self.blocks();
+        // For the proof: the LSM is lawful, and it has no more blocks than levels.
+        let _known = self.len();
+        let _known = self.blocks();
         let count = self.block(block).len();
         count > 1 && count - 1 <= 1 << self.block(block + 1).level()
     }

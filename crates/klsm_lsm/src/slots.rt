@@ -97,9 +97,9 @@ fn remove_and_unite<R: Run>(run: &mut R, index: usize, next: &R) -> Item
     ensures item { slice_get (R.items run.old) index ≡ Some result }
     ensures rest { R.items run.new ≡ sorted (remove (R.items run.old) index ++ R.items next.now) }
 {
-    // The store has room for a whole block of the level before, so for both.
-    let _level = run.level();
-    let _capacity = run.capacity();
+    // For the proof: the store has room for a whole block of the level before, so for both.
+    let _known = run.level();
+    let _known = run.capacity();
     let item = run.remove_at(index);
     run.unite(next);
     item

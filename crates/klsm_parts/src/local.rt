@@ -170,7 +170,8 @@ impl<const CAP: usize> Local<CAP> {
             ≡ record { k = victim.old.k; blocks = left_by_spy victim.old.blocks } }
         ensures count { result ≡ length (content self.new.blocks) }
     {
-        let _few = victim.len();
+        // For the proof: the victim has at most k items.
+        let _known = victim.len();
         self.found = None;
         victim.found = None;
         self.lsm.spy(&mut victim.lsm)

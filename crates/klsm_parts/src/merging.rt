@@ -73,8 +73,8 @@ impl<const LEVELS: usize> Merging<LEVELS> {
         ensures len { length self.new.ranking.blocks.items
             ≡ length self.old.ranking.blocks.items + 1 }
     {
-        // A look at how many blocks there are tells that the number of each fits a byte.
-        let _blocks = lsm.blocks();
+        // For the proof: the number of each block fits a byte.
+        let _known = lsm.blocks();
         let rank = self.ranking.len() - self.of_run;
         let next = next_item(ranking, lsm, self.pivots.as_slice(), rank);
         if run_comes_first(run, self.of_run, next) {

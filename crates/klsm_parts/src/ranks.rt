@@ -91,7 +91,8 @@ pub(crate) fn mark_least<R: Run, const LEVELS: usize>(
         → IsOfBlock lsm.now n result.block result.owner }
     ensures inside { result.block < length lsm.now }
 {
-    let _count = lsm.len();
+    // For the proof: the items are counted, so a pivot does not overflow.
+    let _known = lsm.len();
     let block = least_unmarked(lsm, pivots.as_slice());
     let item = lsm.block(block).item_at(pivots.as_slice()[block]);
     pivots.as_mut_slice()[block] += 1;

@@ -206,8 +206,8 @@ impl<const LEVELS: usize, A: Allocator + Copy> Shared<LEVELS, A> {
                     mut pivots,
                     of_run,
                 } = merged;
-                // There is a pivot's place for each block.
-                let _blocks = self.lsm.blocks();
+                // For the proof: there is a pivot's place for each block.
+                let _known = self.lsm.blocks();
                 unite_pivots(&mut pivots, cascade.first, cascade.count, of_run);
                 self.pivots = pivots;
                 self.least = LeastItems {
@@ -229,13 +229,14 @@ impl<const LEVELS: usize, A: Allocator + Copy> Shared<LEVELS, A> {
         ensures { self.new
             ≡ record { k = self.old.k; blocks = cut self.old.blocks block index } }
     {
-        // The number of each block fits a byte, before and after.
-        let _before = self.lsm.blocks();
+        // For the proof: the number of each block fits a byte.
+        let _known = self.lsm.blocks();
         let partner = self.lsm.partner(block);
         let is_only = self.lsm.block(block).len() == 1;
         let _item = self.lsm.remove(block, index);
         let next = mend_cut(&self.lsm, &mut self.pivots, block, is_only, partner, self.k);
-        let _after = self.lsm.blocks();
+        // For the proof: so does that of each block that is left.
+        let _known = self.lsm.blocks();
         self.least
             .ranking
             .replace(rank, block, is_only, partner, next);

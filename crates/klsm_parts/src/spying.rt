@@ -28,8 +28,8 @@ pub fn spy<const CAP: usize>(own: &mut Local<CAP>, victim: &mut Local<CAP>) -> u
         × (items_in own.new ≡ own_after_spy moved)
         × (items_in victim.new ≡ victim_after_spy (items_in victim.old) moved)) }
 {
-    // A look at the length tells the proof that the part is lawful: with no item it has no block.
+    // For the proof: an own part without items has no block, and the victim's is lawful.
     prove!(own.len() == 0);
-    let _lawful = victim.len();
+    let _known = victim.len();
     own.spy_from(victim)
 }

@@ -1,7 +1,7 @@
 -- How far the reading of a script has come. Rows are listed the latest first.
 use Rattle.std.specs.Prelude.{ℕ, Bool, true, ◌≡◌, List, Option}
 use Rattle.csv.specs.Reading.{has_failed}
-use Rattle.klsm_rows.specs.Rows.{Row, AreFirstRows, AreAllRows, HasRead as HasReadRows}
+use Rattle.klsm_rows.specs.Rows.{Row, AreFirstRows, AreAllRows, HasRead}
 use Rattle.klsm_text.specs.declared.script.Script.{Script}
 use Rattle.klsm_text.specs.declared.stop.Stop.{Stop}
 use Rattle.klsm_text.specs.declared.stop.Stop.TheVariants as stop
@@ -14,7 +14,7 @@ left_within rem watched = rem watched.inner
 -- the rows are the first of the input, and the script stands behind them
 abbrev pub HasReadScript : {R : Type 0} → (R → Option (List ℕ)) → Option (List ℕ) → List Row → Script R
     → Type 0
-HasReadScript rem input rows script = HasReadRows (left_within rem) input rows script.rows
+HasReadScript rem input rows script = HasRead (left_within rem) input rows script.rows
 
 -- whether the reader of the script has failed
 abbrev pub reader_failed : {R : Type 0} → Script R → Bool

@@ -52,5 +52,5 @@ pub use request::{Operation, Refusal, Request};
 pub use script::Script;
 pub use selection::{refusal_text, selection_text};
 pub use stop::{Closing, NO_MEMORY, Stop};
-pub use thread_rows::{ThreadRow, keep_rows, no_rows};
+pub use thread_rows::{ROW_LIMIT, ThreadRow, keep_rows, no_rows};
 pub use totals::Totals;

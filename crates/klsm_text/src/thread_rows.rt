@@ -15,7 +15,7 @@ use std::alloc::{AllocError, Global};
 use std::io::Read;
 
 /// The most rows of a script.
-const ROW_LIMIT: u64 = 1_000_000;
+pub const ROW_LIMIT: u64 = 1_000_000;
 
 /// A row of one thread. It has 24 bytes.
 #[derive(Clone, Copy)]

@@ -14,7 +14,8 @@ use Rattle.klsm_text.specs.declared.report.Report.{Report}
 use Rattle.klsm_tool.specs.Crews.{AreMembers, lists_in, steps_in}
 use Rattle.klsm_tool.specs.Shown.{shown_in}
 use Rattle.klsm_text.specs.Reports.{GoesOrFails}
-use Rattle.klsm_tool.specs.Replay.{ReplaysAlone, ReplaysToTheEnd, sizes_of}
+use Rattle.klsm_board.specs.Members.{sizes_of}
+use Rattle.klsm_tool.specs.Replay.{ReplaysAlone, ReplaysToTheEnd}
 use Rattle.klsm_tool.proofs.ClosingLemmas.{replays_nothing}
 use Rattle.klsm_tool.proofs.CrewLemmas.{crew_lists, crew_reached}
 

@@ -20,7 +20,7 @@ use Rattle.klsm_tool.specs.declared.worker.GaveUp.{GaveUp}
 use Rattle.klsm_tool.specs.declared.worker.Worker.{Worker}
 use Rattle.klsm_tool.specs.Crews.{AreMembers, lists_in, steps_in}
 use Rattle.klsm_tool.specs.Live.{GaveUpAt, GivesUpFirst, HasNoTotals, RunsAll, RunsScript, RunsUntilFull}
-use Rattle.klsm_tool.specs.Replay.{sizes_of}
+use Rattle.klsm_board.specs.Members.{sizes_of}
 use Rattle.klsm_rows.specs.Rows.{AreAllRows, Row}
 use Rattle.klsm_tool.specs.Shown.{shown_in}
 use Rattle.klsm_text.specs.ThreadRows.{AreAccepted, Asked, asked_of}

@@ -18,7 +18,7 @@ use Rattle.klsm_tool.specs.Shown.{shown_in}
 use Rattle.klsm_tool.specs.Crews.{steps_in}
 use Rattle.klsm_tool.specs.Turns.{StopsInsertion}
 use Rattle.klsm_text.specs.Reports.{GoesOrFails, end_of}
-use Rattle.klsm_tool.specs.Replay.{sizes_of}
+use Rattle.klsm_board.specs.Members.{sizes_of}
 use Rattle.klsm_text.specs.ThreadRows.{AreAccepted, Asked, StopsReading, asked_of, insertion_rows}
 use Rattle.klsm_tool.specs.Turns.{AreAnswers}
 

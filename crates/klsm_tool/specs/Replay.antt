@@ -3,7 +3,7 @@ use Rattle.std.specs.Prelude.{ℕ, ◌≡◌, ◌*◌, ◌<◌, ◌≤◌, ◌�
 use Rattle.std.specs.Prelude.{Ok, Err, codes}
 use Rattle.std.specs.Io.KnownBytes.{Appends}
 use Rattle.klsm_world.specs.declared.step.Entry.{Entry}
-use Rattle.klsm_board.specs.declared.sizes.Sizes.{Sizes}
+use Rattle.klsm_board.specs.Members.{sizes_of}
 use Rattle.klsm_board.specs.Rule.{IsReached}
 use Rattle.klsm_board.specs.Finishing.{AreListsAtEnd}
 use Rattle.klsm_text.specs.declared.answer.Line.{Line}
@@ -19,10 +19,6 @@ use Rattle.klsm_text.specs.AnswerText.{text_of}
 use Rattle.klsm_tool.specs.Shown.{AreShown}
 use Rattle.klsm_tool.specs.Crews.{steps_in}
 use Rattle.klsm_tool.specs.Turns.{EndsFull, IsAnswerTo}
-
--- the sizes of the board that a replay makes
-abbrev pub sizes_of : ℕ → ℕ → Sizes
-sizes_of threads k = record { threads = threads; k = k; quota = 281474976710656 }
 
 -- each row is answered by its line: rows and lines, the latest first
 abbrev pub Answered : ℕ → List Row → List Line → Type 0

@@ -14,7 +14,7 @@ ghost use Rattle.klsm_board.specs.declared.board.Member.{Member};
 
 use crate::picking::ThreadPicker;
 use crate::worker::{GaveUp, Worker};
-use klsm_board::{Board, Gate, Member};
+use klsm_board::{Board, Gate, MOST_INSERTIONS, Member};
 use klsm_text::{
     Closing, End, Progress, Report, Script, Silent, Stop, ThreadRow, Totals, keep_rows, no_rows,
     write_last,
@@ -25,9 +25,6 @@ use std::io::{Read, Write};
 use std::sync::Wait;
 use std::thread;
 use std::thread::Threads;
-
-/// The most insertions of each member of a board that a script is run over.
-const QUOTA: u64 = 281_474_976_710_656;
 
 /// Reads a whole script, then runs each thread's rows in a thread of its own over one board, each
 /// thread's in their order, and writes the totals. Each of these threads passes the gate first.
@@ -120,7 +117,8 @@ fn run_rows<P: AllocGlobal + Wait + Threads + Sync>(
         → AreKept settings.now.threads all (map (λ list. list.items) rows.now)
         → RunsScript settings.now.threads settings.now.k input result }
 {
-    let Ok((board, members)) = Board::new(rt.alloc(), settings.threads, settings.k, QUOTA) else {
+    let Ok((board, members)) = Board::new(rt.alloc(), settings.threads, settings.k, MOST_INSERTIONS)
+    else {
         return Err(Closing::at(Stop::NoMemory, 1));
     };
     let Ok(mut crew) = crew_of(rt.alloc(), members) else {

@@ -4,6 +4,7 @@ ghost use Rattle.std.specs.Prelude.{length, Option, IfOk, MatchResult};
 ghost use Rattle.std.specs.List.{All};
 ghost use Rattle.klsm_run.specs.declared.item.Item.{Item};
 ghost use Rattle.klsm_world.specs.declared.step.Entry.{Entry};
+ghost use Rattle.klsm_board.specs.Members.{sizes_of};
 ghost use Rattle.klsm_board.specs.Boards.{IsCrew, IsOf};
 ghost use Rattle.klsm_text.specs.Output.{pending, put_count};
 ghost use Rattle.klsm_text.specs.AnswerText.{live_by, skip_of};
@@ -16,23 +17,18 @@ ghost use Rattle.klsm_tool.specs.Answering.{live_beside, picker_count};
 ghost use Rattle.klsm_text.specs.Reading.{HasReadScript};
 ghost use Rattle.klsm_tool.specs.Progress.{HasStopped, IsCutOff, IsTold, StandsAfter};
 ghost use Rattle.klsm_tool.specs.Progress.{StopsBefore};
-ghost use Rattle.klsm_tool.specs.Replay.{Replays, ReplaysAlone, sizes_of};
+ghost use Rattle.klsm_tool.specs.Replay.{Replays, ReplaysAlone};
 
 use crate::beside::Beside;
-use klsm_board::{Board, Member};
+use klsm_board::{Board, MOST_INSERTIONS, Member};
 use klsm_text::{
-    Closing, End, NO_MEMORY, Output, Printed, Refusal, Report, Script, Stop, request_of, write_last,
+    Closing, End, NO_MEMORY, Output, Printed, ROW_LIMIT, Refusal, Report, Script, Stop, request_of,
+    write_last,
 };
 use klsm_words::Settings;
 use std::alloc::{AllocError, Global};
 use std::io::{Read, Write};
 use std::sync::Wait;
-
-/// The most rows of a script.
-const ROW_LIMIT: u64 = 1_000_000;
-
-/// The most insertions of each member of a board that a replay makes.
-const QUOTA: u64 = 281_474_976_710_656;
 
 /// Answers the rows of a script over a board of its own, which is finished where all are answered.
 pub fn replay_over<P: AllocGlobal + Wait, R: Read + Drop, W: Write>(
@@ -47,8 +43,12 @@ pub fn replay_over<P: AllocGlobal + Wait, R: Read + Drop, W: Write>(
     ensures { ReplaysAlone settings.now.threads settings.now.k (R.remaining reader)
         (W.contents writer.old) (W.contents writer.new) result }
 {
-    let Ok((board, mut members)) = Board::new(rt.alloc(), settings.threads, settings.k, QUOTA)
-    else {
+    let Ok((board, mut members)) = Board::new(
+        rt.alloc(),
+        settings.threads,
+        settings.k,
+        MOST_INSERTIONS,
+    ) else {
         return write_last(writer, NO_MEMORY, 0, End::NoMemory);
     };
     let report = replay_on(rt, reader, writer, settings, &board, &mut members);

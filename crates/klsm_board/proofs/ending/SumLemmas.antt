@@ -8,6 +8,7 @@ use Rattle.klsm_world.specs.declared.step.Entry.{Entry}
 use Rattle.klsm_world.specs.OwnSteps.{inserted, deleted}
 use Rattle.klsm_world.proofs.counts.ItemGrowthLemmas.{flat_map_more}
 use Rattle.klsm_board.specs.declared.board.Member.{Member}
+use Rattle.klsm_board.specs.Members.{most_insertions, most_deletions}
 use Rattle.klsm_board.specs.Finishing.{HasMember, lists_of, steps_among}
 
 module _ {CAP LEVELS : ℕ} where
@@ -16,8 +17,8 @@ module _ {CAP LEVELS : ℕ} where
     pub all : (t : ℕ) → t < n → HasMember members t
     pub insertions_are : insertions ≡ length (flat_map inserted (lists_of n members))
     pub deletions_are : deletions ≡ length (flat_map deleted (lists_of n members))
-    pub few_insertions : insertions ≤ n * 281474976710656
-    pub few_deletions : deletions ≤ n * 4503599627370496
+    pub few_insertions : insertions ≤ n * most_insertions
+    pub few_deletions : deletions ≤ n * most_deletions
 
   -- one list more adds what it has
   more : (f : List Entry → List Item) (members : List (Member CAP LEVELS)) (n : ℕ)
@@ -28,7 +29,7 @@ module _ {CAP LEVELS : ℕ} where
 
   -- one member more is counted
   pub one_more : (members : List (Member CAP LEVELS)) (n insertions deletions i d : ℕ) → AreSummed members n insertions deletions → HasMember members n
-      → i ≡ length (inserted (steps_among members n)) → d ≡ length (deleted (steps_among members n)) → i ≤ 281474976710656 → d ≤ 4503599627370496
+      → i ≡ length (inserted (steps_among members n)) → d ≡ length (deleted (steps_among members n)) → i ≤ most_insertions → d ≤ most_deletions
       → AreSummed members (n + 1) (insertions + i) (deletions + d)
   one_more members n insertions deletions i d summed there is js few fews =
       let a = more inserted members n in let b = more deleted members n in

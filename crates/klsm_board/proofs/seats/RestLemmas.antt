@@ -19,7 +19,7 @@ use Rattle.klsm_board.specs.Rule.{world_limits}
 use Rattle.klsm_board.specs.Steps.{mine}
 use Rattle.klsm_board.specs.Seats.{AreSuited, Has, Stands, contents}
 use Rattle.klsm_board.specs.Slots.{slot_content, IsSlotOf}
-use Rattle.klsm_board.specs.Members.{AreSizes, IsHolding, IsResting}
+use Rattle.klsm_board.specs.Members.{AreSizes, IsHolding, IsResting, most_deletions}
 use Rattle.klsm_board.proofs.hands.PossibleLemmas.{possible}
 use Rattle.klsm_board.proofs.seats.CarryLemmas.{none_behind}
 
@@ -58,7 +58,7 @@ module _ (capacity : ℕ) (m : Sizes) (sizes : AreSizes capacity m) (t : ℕ) wh
       let few : length (deleted (mine me.0)) ≤ most = own_deletions_are_few (world_limits m) m.quota t (mine me.0) (possible m t (mine me.0) reached) reached.thread in
       let more : ℕ = 16 * m.quota in
       let a : most ≤ more = mul-le-mul_right m.quota sizes.threads in
-      let b : more ≤ 4503599627370496 = mul-le-mul_left 16 sizes.quota in
+      let b : more ≤ most_deletions = mul-le-mul_left 16 sizes.quota in
       record {
         alone = carries.alone;
         carries_none = none_behind slot_content IsSlotOf m t me.1 carries.contents_are;

@@ -128,7 +128,7 @@ impl<const LEVELS: usize> Crew<LEVELS> {
         Some((held.len(), held.least()))
     }
 
-    /// The member that holds a part gives it back.
+    /// The member that holds a part puts it back.
     pub(super) fn put_back(&mut self) -> Option<()> {
         let held = self.held.take()?;
         self.members.push(held.put_back(&self.board)).ok()

@@ -1,4 +1,4 @@
--- Which parts a hand holds after one part's content changed, after a part was given back, and after an event.
+-- Which parts a hand holds after one part's content changed, after a part was released, and after an event.
 use Rattle.std.proofs.Common.{ℕ, ◌≡◌, ◌≢◌, eqb, cond, List, [], ◌∷◌, Option, Some, None, refl, sym, ap, ◌∙◌, subst, inl, inr}
 use Rattle.std.proofs.lemmas.Bool.{cases_eq, eq-eqb, ne_eqb}
 use Rattle.std.proofs.lemmas.Option.{none-some, same_Some}
@@ -86,14 +86,14 @@ held_changed hand p c d found =
     let before = held_before_change hand p p c d found in
     same_Some c d (sym (found_changed hand p c before.0 before.1) ∙ found)
 
--- a part given back is not held
+-- a part that was released is not held
 pub without_part_not_found : (hand : Hand) (p : ℕ) → found_in (without_part hand p) p ≡ None
 without_part_not_found [] p = refl
 without_part_not_found (held ∷ hand) p = by_parts held.0 p (without_part hand p) (held ∷ without_part hand p) (λ z. found_in z p ≡ None)
     (λ same. without_part_not_found hand p)
     (λ differ. choice_miss held.0 p (Some held.1) (found_in (without_part hand p) p) differ ∙ without_part_not_found hand p)
 
--- another part is found as it was before one was given back
+-- another part is found as it was before one was released
 pub without_part_elsewhere : (hand : Hand) (p q : ℕ) → q ≢ p → found_in (without_part hand p) q ≡ found_in hand q
 without_part_elsewhere [] p q other = refl
 without_part_elsewhere (held ∷ hand) p q other =

@@ -19,7 +19,7 @@ homes_taken (v ∷ words) [] (suc p) word taken = refl
 homes_taken (v ∷ words) (c ∷ contents) zero word taken = ap (λ b. cond b (Some c) None ∷ homes_of words contents) (ne_eqb word 0 taken)
 homes_taken (v ∷ words) (c ∷ contents) (suc p) word taken = ap (λ homes. cond (eqb v 0) (Some c) None ∷ homes) (homes_taken words contents p word taken)
 
--- a part that a thread gives back is at home with its content
+-- a part that a thread releases is at home with its content
 pub homes_freed : (words : List ℕ) (contents : List (List Item)) (p : ℕ) → homes_of (set words p 0) contents ≡ set (homes_of words contents) p (Some (get_or contents p []))
 homes_freed [] contents zero = refl
 homes_freed [] contents (suc p) = refl

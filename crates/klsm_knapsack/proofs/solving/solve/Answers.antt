@@ -1,7 +1,8 @@
 use Rattle.std.proofs.Common.{◌≡◌, ◌<◌, ◌≤◌, ◌++◌, rules, All, length, drop, take, vec_capacity, lit<, sym, ap, subst, ◌∙◌, arith, List}
 use Rattle.klsm_board.specs.declared.board.Member.{Member}
 use Rattle.klsm_board.specs.declared.sizes.Sizes.{Sizes}
-use Rattle.klsm_board.specs.Boards.{IsOf as IsMemberOf}
+use Rattle.klsm_board.specs.Members.{most_insertions}
+use Rattle.klsm_board.specs.Boards.{IsOf}
 use Rattle.klsm_knapsack.specs.declared.common.Common.{Common}
 use Rattle.klsm_knapsack.specs.declared.common.Worker.{Worker}
 use Rattle.klsm_knapsack.specs.declared.errors.SolveError.{SolveError}
@@ -21,7 +22,7 @@ search-requires-after_bounds g c κs within =
     let workers : List (Worker g.row.LEVELS) = c.in-Ok-recruit.crew.items in
     let made = c.in_ok-board.ensures in
     let threads : board.sizes.threads ≡ c.args.threads = ap (λ (m : Sizes). m.threads) made.sizes in
-    let quota : board.sizes.quota ≡ 281474976710656 = ap (λ (m : Sizes). m.quota) made.sizes in
+    let quota : board.sizes.quota ≡ most_insertions = ap (λ (m : Sizes). m.quota) made.sizes in
     let many : length c.in_ok-board.members.items ≡ board.sizes.threads = made.count ∙ sym threads in
     let some_thread : 0 < board.sizes.threads = omega (arith, threads, made.in_range.0) in
     let crew : AreWorkersOf common workers = recruited common workers c.in_ok-board.members.items c.in-Ok-recruit.ensures.members made.of many some_thread made.crew c.in-Ok-recruit.ensures.seats in
@@ -71,7 +72,7 @@ finish-requires g c =
     let as_long : c.in-Ok-recruit.crew.len ≡ length after = search rules in
     let is : take c.in-Ok-recruit.crew.len (after ++ drop (length after) c.in-Ok-recruit.crew.items) ≡ after = whole c.in-Ok-recruit.crew.len after (drop (length after) c.in-Ok-recruit.crew.items) as_long in
     let back = rw is at c.in_default-dismiss.ensures.members in
-    (lit< tt, (lit< tt, (lit< tt, subst (λ (ms : List (Member 64 g.row.LEVELS)). All (λ (m : Member 64 g.row.LEVELS). IsMemberOf m c.in_ok-board.board) ms) (sym back) (members_of common after c.search.ensures.crew))))
+    (lit< tt, (lit< tt, (lit< tt, subst (λ (ms : List (Member 64 g.row.LEVELS)). All (λ (m : Member 64 g.row.LEVELS). IsOf m c.in_ok-board.board) ms) (sym back) (members_of common after c.search.ensures.crew))))
 
 pub returns-clause-best : goal.returns-clause-best
 returns-clause-best g c =

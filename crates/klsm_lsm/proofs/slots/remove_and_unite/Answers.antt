@@ -15,6 +15,6 @@ unite-requires-clause-room g c =
       ap length c.remove_at-item.ensures.rest,
       length-remove (g.R.Run.items c.args.run.now) c.args.index c.requires.index,
       c.remove_at-item.ensures.capacity,
-      c.requires.room c.level-level.result c.level-level.ensures.block.1,
-      c.capacity-capacity.ensures.lawful.whole_block c.level-level.result c.level-level.ensures.block.1,
+      c.requires.room c.level-known.result c.level-known.ensures.block.1,
+      c.capacity-known.ensures.lawful.whole_block c.level-known.result c.level-known.ensures.block.1,
     )

@@ -27,7 +27,7 @@ pub overflow_add-as_mut_slice : goal.overflow_add-as_mut_slice
 overflow_add-as_mut_slice g c =
     let small : get_or c.as_mut_slice.result.now c.least_unmarked-block.result 0 ≤ length (marked c.args.lsm.now c.args.pivots.now.items) =
     rw c.as_mut_slice.ensures.value (pivot_within c.args.lsm.now c.args.pivots.now.items c.least_unmarked-block.result c.requires.within) in
-    omega (arith, small, c.requires.some, c.len-count.ensures.len, c.len-count.type_inv)
+    omega (arith, small, c.requires.some, c.len-known.ensures.len, c.len-known.type_inv)
 
 pub bounds-as_mut_slice-block-2 : goal.bounds-as_mut_slice-block-2
 bounds-as_mut_slice-block-2 g c =

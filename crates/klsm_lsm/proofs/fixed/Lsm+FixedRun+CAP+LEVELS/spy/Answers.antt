@@ -9,7 +9,7 @@ use Rattle.klsm_lsm.proofs.fixed.Lsm+FixedRun+CAP+LEVELS.spy.Goals as goal
 pub fill-requires : goal.fill-requires
 fill-requires g c =
     let items = c.as_slice.ensures.items in
-    (search, (search, (c.requires.capacity, (c.requires.empty, (rw items c.block.ensures.some, (rw items c.as_slice.ensures.ascending, omega (arith, ap length items, first_items _ _ c.block.ensures.block, c.len-limit.ensures.limit)))))))
+    (search, (search, (c.requires.capacity, (c.requires.empty, (rw items c.block.ensures.some, (rw items c.as_slice.ensures.ascending, omega (arith, ap length items, first_items _ _ c.block.ensures.block, c.len-known.ensures.limit)))))))
 
 pub blocks-requires : goal.blocks-requires
 blocks-requires g c = search
@@ -38,8 +38,8 @@ returns-then-blocks-eq1-clause-rest g c = c.spy_half.ensures.rest
 pub returns-then-blocks-eq1-clause-count : goal.returns-then-blocks-eq1-clause-count
 returns-then-blocks-eq1-clause-count g c = c.spy_half.ensures.count
 
-pub len-limit-requires : goal.len-limit-requires
-len-limit-requires g c = search
+pub len-known-requires : goal.len-known-requires
+len-known-requires g c = search
 
 pub block-requires : goal.block-requires
 block-requires g c = (search, omega arith)
@@ -69,8 +69,8 @@ blocks-requires-room-R-Run g c κs = search
 pub blocks-requires-2-room-R-Run : goal.blocks-requires-2-room-R-Run
 blocks-requires-2-room-R-Run g c κs = search
 
-pub len-limit-requires-room-R-Run : goal.len-limit-requires-room-R-Run
-len-limit-requires-room-R-Run g c κs = search
+pub len-known-requires-room-R-Run : goal.len-known-requires-room-R-Run
+len-known-requires-room-R-Run g c κs = search
 
 pub block-requires-room-R-Run : goal.block-requires-room-R-Run
 block-requires-room-R-Run g c κs = search

@@ -10,11 +10,11 @@ use Rattle.klsm_lsm.proofs.fixed.Lsm+FixedRun+CAP+LEVELS.spy_half.Goals as goal
 pub fill-requires : goal.fill-requires
 fill-requires g c =
     let items = c.as_slice-items.ensures.items in
-    let few : length c.block.result.now ≤ limit_of g.row.LEVELS g.row.CAP = omega (arith, first_items _ _ c.block.ensures.block, c.len-limit.ensures.limit) in
+    let few : length c.block.result.now ≤ limit_of g.row.LEVELS g.row.CAP = omega (arith, first_items _ _ c.block.ensures.block, c.len-known.ensures.limit) in
     (search, (search, (c.requires.capacity, (c.requires.empty, (rw (items, take_rest) (some_behind _ c.block.ensures.some), (rw (items, take_rest) (ascending_drop _ _ c.as_slice-items.ensures.ascending), rw (items, take_rest) (few_behind _ _ few)))))))
 
-pub len-limit-requires : goal.len-limit-requires
-len-limit-requires g c = search
+pub len-known-requires : goal.len-known-requires
+len-known-requires g c = search
 
 pub block-requires : goal.block-requires
 block-requires g c = (search, omega (arith, c.requires.only))
@@ -49,8 +49,8 @@ slice_bounds-fill-start g c = omega arith
 pub slice_bounds-fill-end : goal.slice_bounds-fill-end
 slice_bounds-fill-end g c = omega arith
 
-pub len-limit-requires-room-R-Run : goal.len-limit-requires-room-R-Run
-len-limit-requires-room-R-Run g c κs = search
+pub len-known-requires-room-R-Run : goal.len-known-requires-room-R-Run
+len-known-requires-room-R-Run g c κs = search
 
 pub block-requires-room-R-Run : goal.block-requires-room-R-Run
 block-requires-room-R-Run g c κs = search

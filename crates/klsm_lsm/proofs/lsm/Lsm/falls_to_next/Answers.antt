@@ -10,13 +10,13 @@ pub overflow_shl-result : goal.overflow_shl-result
 overflow_shl-result g c =
     let count = c.len-count.ensures.len ∙ ap length (sym (get_or_from_slice_get c.args.self.now c.args.block _ [] c.block.ensures.block)) in
     let is = level_is _ c.level.result c.level.ensures.enough c.level.ensures.least ∙ ap level (sym (get_or_from_slice_get c.args.self.now (c.args.block + 1) _ [] c.block-then-count-gt1.ensures.block)) in
-    (next_level c.args.self.now c.args.block c.len-count.result c.level.result c.len-lawful.ensures.lawful c.requires c.len-count.type_inv count is).small
+    (next_level c.args.self.now c.args.block c.len-count.result c.level.result c.len-known.ensures.lawful c.requires c.len-count.type_inv count is).small
 
 pub returns-then-count-gt1 : goal.returns-then-count-gt1
 returns-then-count-gt1 g c =
     let count = c.len-count.ensures.len ∙ ap length (sym (get_or_from_slice_get c.args.self.now c.args.block _ [] c.block.ensures.block)) in
     let is = level_is _ c.level.result c.level.ensures.enough c.level.ensures.least ∙ ap level (sym (get_or_from_slice_get c.args.self.now (c.args.block + 1) _ [] c.block-then-count-gt1.ensures.block)) in
-    let below : IsNextLevel c.len-count.result c.level.result = next_level c.args.self.now c.args.block c.len-count.result c.level.result c.len-lawful.ensures.lawful c.requires c.len-count.type_inv count is in (
+    let below : IsNextLevel c.len-count.result c.level.result = next_level c.args.self.now c.args.block c.len-count.result c.level.result c.len-known.ensures.lawful c.requires c.len-count.type_inv count is in (
       λ few. (rw (← count) c.if-count-gt1.true, record { within = c.requires; level_is = rw (← count) (falls_if_tested c.len-count.result c.level.result _ below c.if-count-gt1.true is few) }),
       λ falls. tested_if_falls c.len-count.result c.level.result _ below is (rw count falls.1.level_is),
     )

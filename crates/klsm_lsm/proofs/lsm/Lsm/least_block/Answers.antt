@@ -11,13 +11,13 @@ loop-block-preserved g c =
     let here : c.loop-block.block < length bs = omega (arith, c.loop-block-test.true, c.blocks-block-end.ensures.blocks) in
     let block = sym (get_or_from_slice_get bs c.loop-block.block _ [] c.block.ensures.block) in
     elim c.if-comes_before.branch [
-      | then-comes_before w ↦ rw w.found-is (first_found_here bs c.loop-block.block _ c.loop-block.found c.item_at-first.result c.len-lawful.ensures.lawful here block c.item_at-first.ensures (subst (λ b. MatchOption c.loop-block.found (IsTrue b) (λ f. b ≡ is_smaller c.item_at-first.result f.1)) w.if-comes_before.true c.comes_before.ensures) c.loop-block.invariant)
-      | else-comes_before w ↦ rw w.found-is (first_found_before bs c.loop-block.block _ c.loop-block.found c.item_at-first.result c.len-lawful.ensures.lawful here block c.item_at-first.ensures (subst (λ b. MatchOption c.loop-block.found (IsTrue b) (λ f. b ≡ is_smaller c.item_at-first.result f.1)) w.if-comes_before.false c.comes_before.ensures) c.loop-block.invariant)
+      | then-comes_before w ↦ rw w.found-is (first_found_here bs c.loop-block.block _ c.loop-block.found c.item_at-first.result c.len-known.ensures.lawful here block c.item_at-first.ensures (subst (λ b. MatchOption c.loop-block.found (IsTrue b) (λ f. b ≡ is_smaller c.item_at-first.result f.1)) w.if-comes_before.true c.comes_before.ensures) c.loop-block.invariant)
+      | else-comes_before w ↦ rw w.found-is (first_found_before bs c.loop-block.block _ c.loop-block.found c.item_at-first.result c.len-known.ensures.lawful here block c.item_at-first.ensures (subst (λ b. MatchOption c.loop-block.found (IsTrue b) (λ f. b ≡ is_smaller c.item_at-first.result f.1)) w.if-comes_before.false c.comes_before.ensures) c.loop-block.invariant)
     ]
 
 pub returns-in_default : goal.returns-in_default
 returns-in_default g c =
-    none_found c.args.self.now c.loop-block.block c.len-lawful.ensures.lawful (omega (arith, c.loop-block-test.false, c.blocks-block-end.ensures.blocks)) (subst (IsFirstFound c.args.self.now c.loop-block.block) c.in_default.is c.loop-block.invariant)
+    none_found c.args.self.now c.loop-block.block c.len-known.ensures.lawful (omega (arith, c.loop-block-test.false, c.blocks-block-end.ensures.blocks)) (subst (IsFirstFound c.args.self.now c.loop-block.block) c.in_default.is c.loop-block.invariant)
 
 pub returns : goal.returns
 returns g c =

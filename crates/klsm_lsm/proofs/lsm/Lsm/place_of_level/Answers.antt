@@ -20,4 +20,4 @@ returns-else-level-least-clause-above g c =
     let block = get_or_from_slice_get c.args.self.now (c.loop-place.place - 1) _ [] c.block.ensures.block in
     let at : c.level.result ≡ level (get_or c.args.self.now (c.loop-place.place - 1) []) =
     level_is _ c.level.result c.level.ensures.enough c.level.ensures.least ∙ ap level (sym block) in
-    above_all_before c.args.self.now c.loop-place.place c.args.least c.len-lawful.ensures.lawful (omega arith) c.loop-place.invariant.within (omega (arith, at))
+    above_all_before c.args.self.now c.loop-place.place c.args.least c.len-known.ensures.lawful (omega arith) c.loop-place.invariant.within (omega (arith, at))

@@ -22,8 +22,8 @@ returns-clause-victim g c =
 pub returns-clause-count : goal.returns-clause-count
 returns-clause-count g c = search
 
-pub len-few-requires : goal.len-few-requires
-len-few-requires g c = search
+pub len-known-requires : goal.len-known-requires
+len-known-requires g c = search
 
 pub spy-requires : goal.spy-requires
 spy-requires g c = (search first_fits, (search run_fits, (c.self.invariant.capacity_in_range, ap (λ (p : PartState). p.blocks) c.self.view_is ∙ c.requires.empty)))

@@ -13,7 +13,7 @@ use Rattle.klsm_parts.proofs.merging.Merging.rank_next.Goals as goal
 
 pub push-requires-clause-block : goal.push-requires-clause-block
 push-requires-clause-block g c =
-    omega (arith, c.requires.within, c.blocks-blocks.ensures.blocks, c.blocks-blocks.ensures.within, c.requires.levels.at_most)
+    omega (arith, c.requires.within, c.blocks-known.ensures.blocks, c.blocks-known.ensures.within, c.requires.levels.at_most)
 
 pub unreachable-requires : goal.unreachable-requires
 unreachable-requires g c =
@@ -28,19 +28,19 @@ unreachable-requires g c =
 pub place_after-requires : goal.place_after-requires
 place_after-requires g c =
     let known = c.in-Some.ensures in
-    omega (arith, known.0, c.blocks-blocks.ensures.blocks, c.blocks-blocks.ensures.within, c.requires.levels.at_most)
+    omega (arith, known.0, c.blocks-known.ensures.blocks, c.blocks-known.ensures.within, c.requires.levels.at_most)
 
 pub push-requires-else-run_comes_first-clause-block : goal.push-requires-else-run_comes_first-clause-block
 push-requires-else-run_comes_first-clause-block g c =
     let known = c.in-Some.ensures in
     let first = c.args.self.now.cascade.first in
     let inside = place_inside first c.args.self.now.cascade.count c.in-Some.block (length c.args.lsm.now) (omega (arith, c.requires.within)) known.0 in
-    omega (arith, c.place_after.ensures, inside, c.blocks-blocks.ensures.blocks, c.blocks-blocks.ensures.within, c.requires.levels.at_most)
+    omega (arith, c.place_after.ensures, inside, c.blocks-known.ensures.blocks, c.blocks-known.ensures.within, c.requires.levels.at_most)
 
 pub offset_bounds-as_mut_slice-block : goal.offset_bounds-as_mut_slice-block
 offset_bounds-as_mut_slice-block g c =
     let known = c.in-Some.ensures in
-    let small : c.in-Some.block < 32 = omega (arith, known.0, c.blocks-blocks.ensures.blocks, c.blocks-blocks.ensures.within, c.requires.levels.at_most) in
+    let small : c.in-Some.block < 32 = omega (arith, known.0, c.blocks-known.ensures.blocks, c.blocks-known.ensures.within, c.requires.levels.at_most) in
     omega (arith, small)
 
 pub bounds-as_mut_slice-block : goal.bounds-as_mut_slice-block

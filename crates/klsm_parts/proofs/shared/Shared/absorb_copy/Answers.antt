@@ -38,8 +38,8 @@ absorb_copy-requires g c =
     let apart = subst (λ (p : PartState). ShareNone (content p.blocks) (g.R.Run.items c.args.run.now)) (sym c.self.view_is) c.requires.apart in
     (search lsm_fits, (c.requires.some, apart))
 
-pub blocks-blocks-requires : goal.blocks-blocks-requires
-blocks-blocks-requires g c = search lsm_fits
+pub blocks-known-requires : goal.blocks-known-requires
+blocks-known-requires g c = search lsm_fits
 
 pub unite_pivots-requires : goal.unite_pivots-requires
 unite_pivots-requires g c =
@@ -50,7 +50,7 @@ unite_pivots-requires g c =
     let told = c.merged-merged.ensures in
     let each : length ps ≡ length bs = one_each bs ps told.merging.old_marks.within in
     let left : length (add bs run) + new.cascade.count ≡ length bs + 1 = ap (λ bs. length bs + new.cascade.count) told.adds ∙ length_united bs new.cascade.first new.cascade.count run told.within in
-    let blocks : length (add bs run) ≤ g.row.LEVELS = subst (λ bs. length bs ≤ g.row.LEVELS) c.in-Ok.ensures.added (omega (arith, c.blocks-blocks.ensures)) in
+    let blocks : length (add bs run) ≤ g.row.LEVELS = subst (λ bs. length bs ≤ g.row.LEVELS) c.in-Ok.ensures.added (omega (arith, c.blocks-known.ensures)) in
     let fits : new.of_run + sum ps < 18446744073709551616 =
     omega (
       arith,

@@ -32,8 +32,8 @@ replace-requires g c =
       owners = c.self.invariant.ranking_exact.as_many;
       rank = candidate_ranked c.self.inside.k c.self.inside.lsm c.self.inside.least.ranking.blocks.items c.args.rank it.item c.self.invariant.ranking_whole it.among;
       room = omega (arith, c.self.invariant.ranking_whole, c.self.invariant.k_in_range);
-      block = omega (arith, it.here, c.blocks-before.ensures, c.self.invariant.levels_in_range.at_most);
-      next = next_small c.self.inside.k c.remove-item.new.self c.mend_cut-next.result c.mend_cut-next.ensures.next (omega (arith, c.blocks-after.ensures, c.self.invariant.levels_in_range.at_most));
+      block = omega (arith, it.here, c.blocks-known.ensures, c.self.invariant.levels_in_range.at_most);
+      next = next_small c.self.inside.k c.remove-item.new.self c.mend_cut-next.result c.mend_cut-next.ensures.next (omega (arith, c.blocks-known-2.ensures, c.self.invariant.levels_in_range.at_most));
     }
 
 pub least-self-inside-requires : goal.least-self-inside-requires
@@ -74,8 +74,8 @@ partner-partner-requires g c = (search lsm_fits, subst (λ (p : PartState). c.ar
 pub block-requires : goal.block-requires
 block-requires g c = (search lsm_fits, subst (λ (p : PartState). c.args.block < length p.blocks) (sym c.self.view_is) c.requires.block)
 
-pub blocks-before-requires : goal.blocks-before-requires
-blocks-before-requires g c = search lsm_fits
+pub blocks-known-requires : goal.blocks-known-requires
+blocks-known-requires g c = search lsm_fits
 
-pub blocks-after-requires : goal.blocks-after-requires
-blocks-after-requires g c = search lsm_fits
+pub blocks-known-requires-2 : goal.blocks-known-requires-2
+blocks-known-requires-2 g c = search lsm_fits
