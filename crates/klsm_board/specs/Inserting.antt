@@ -45,16 +45,20 @@ Inserts levels k t own_misses shared_misses es es' x =
     Puts k t own_misses es es' x ⊎ Flushes levels k t own_misses shared_misses es es' x
 
 -- The own part was found with k items; both parts were acquired and released.
-pub record GivesUp (k t : ℕ) (own_misses shared_misses : List ℕ) (es es' : List Entry) (Lacks : List Item → Type 0) : Type 0 where
+pub record GivesUp (k t : ℕ) (own_misses shared_misses : List ℕ) (es es' : List Entry) (Found : List Item → Type 0) : Type 0 where
   pub own : List Item
   pub shared : List Item
   pub full : length own ≡ k
-  pub lacks : Lacks shared
+  pub found : Found shared
   pub steps : es' ≡ both_acquired t own_misses shared_misses own shared es ++ both_released t
 
 -- the shared part has no room for a whole own part, or for the item where k is 0
 abbrev pub LacksRoom : ℕ → ℕ → List Item → Type 0
 LacksRoom levels k shared = limit_of levels heap_room < length shared + max 1 k
+
+-- it has fewer items than it can have
+abbrev pub IsBelowLimit : ℕ → List Item → Type 0
+IsBelowLimit levels shared = length shared < limit_of levels heap_room
 
 -- the own lock was not free
 pub record MissesOwn (t : ℕ) (es es' : List Entry) (busy : Busy) : Type 0 where
@@ -74,7 +78,7 @@ RefusesInsert IsSpent levels k t es es' try_insert.Spent = IsSpent × (es' ≡ e
 RefusesInsert IsSpent levels k t es es' (try_insert.Busy busy) =
     MissesOwn t es es' busy ⊎ MissesShared t es es' busy (λ own. length own ≡ k)
 RefusesInsert IsSpent levels k t es es' try_insert.Full = GivesUp k t [] [] es es' (LacksRoom levels k)
-RefusesInsert IsSpent levels k t es es' try_insert.NoMemory = GivesUp k t [] [] es es' (λ shared. Unit {0})
+RefusesInsert IsSpent levels k t es es' try_insert.NoMemory = GivesUp k t [] [] es es' (IsBelowLimit levels)
 
 -- why one that may wait is refused
 abbrev pub RefusesInsertWaiting : Type 0 → ℕ → ℕ → ℕ → List Entry → List Entry → InsertError → Type 0
@@ -82,4 +86,4 @@ RefusesInsertWaiting IsSpent levels k t es es' insert.Spent = IsSpent × (es' �
 RefusesInsertWaiting IsSpent levels k t es es' insert.Full =
     (own_misses : List ℕ) × (shared_misses : List ℕ) × GivesUp k t own_misses shared_misses es es' (LacksRoom levels k)
 RefusesInsertWaiting IsSpent levels k t es es' insert.NoMemory =
-    (own_misses : List ℕ) × (shared_misses : List ℕ) × GivesUp k t own_misses shared_misses es es' (λ shared. Unit {0})
+    (own_misses : List ℕ) × (shared_misses : List ℕ) × GivesUp k t own_misses shared_misses es es' (IsBelowLimit levels)

@@ -22,7 +22,7 @@ use crate::lending::{lend_shared, return_shared};
 use crate::rule::{Locks, MemberSeat};
 use crate::slot::PartSlot;
 use crate::spying::search_victims;
-use crate::steps::{commit_by_front, commit_event, release_part};
+use crate::steps::{commit_by_front, commit_event, release_both, release_part};
 use klsm_parts::Picker;
 use klsm_run::Item;
 use klsm_world::Event;
@@ -179,8 +179,7 @@ fn release_by_front<S: PartSlot>(
         ≡ mine seat.old.me.0 ++ Committed event.now ∷ both_released thread }
 {
     commit_by_front(table, seat, threads, thread, front, event);
-    release_part(table, seat, 0, thread);
-    release_part(table, seat, thread + 1, thread);
+    release_both(table, seat, thread);
 }
 
 // Commits an event that inserts nothing, leaves the shared part and was carried out in the two parts in

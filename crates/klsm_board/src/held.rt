@@ -43,7 +43,7 @@ impl<const CAP: usize, const LEVELS: usize> Member<CAP, LEVELS> {
 
     // The same for a lock that there is.
     fn hold(
-        self,
+        mut self,
         board: &Board<CAP, LEVELS>,
         lock: usize,
     ) -> Result<Held<CAP, LEVELS>, HoldRefused<CAP, LEVELS>>
@@ -55,6 +55,14 @@ impl<const CAP: usize, const LEVELS: usize> Member<CAP, LEVELS> {
             × ((busy : Busy) × (refused.why ≡ HoldError.Busy busy) × (busy.lock ≡ lock)
             × (own_steps refused.member ≡ own_steps self.entry ++ Missed lock busy.by ∷ []))) }
     {
+        let table = &board.table.shared;
+        let thread = self.number as usize;
+        if let Err(busy) = try_acquire(table, &mut self.seat, lock, thread) {
+            return Err(HoldRefused {
+                why: HoldError::Busy(busy),
+                member: self,
+            });
+        }
         let Member {
             number,
             sizes,
@@ -62,20 +70,7 @@ impl<const CAP: usize, const LEVELS: usize> Member<CAP, LEVELS> {
             deleted,
             mut seat,
         } = self;
-        let table = &board.table.shared;
-        if let Err(busy) = try_acquire(table, &mut seat, lock, number as usize) {
-            return Err(HoldRefused {
-                why: HoldError::Busy(busy),
-                member: Member {
-                    number,
-                    sizes,
-                    inserted,
-                    deleted,
-                    seat,
-                },
-            });
-        }
-        let (len, least) = look(table, &mut seat, lock, number as usize);
+        let (len, least) = look(table, &mut seat, lock, thread);
         Ok(Held {
             lock,
             number,

@@ -14,14 +14,14 @@ ghost use Rattle.klsm_world.specs.LegalSteps.{BearsStamp};
 ghost use Rattle.klsm_board.specs.Steps.{mine};
 ghost use Rattle.klsm_board.specs.Seats.{Carries, Stands, Has, CarriedOut, IsSeatOf, own_in_hand, both_in_hand};
 ghost use Rattle.klsm_board.specs.Entries.{both_released};
-ghost use Rattle.klsm_board.specs.Inserting.{Inserts, LacksRoom, RefusesInsert, RefusesInsertWaiting};
+ghost use Rattle.klsm_board.specs.Inserting.{Inserts, LacksRoom, IsBelowLimit, RefusesInsert, RefusesInsertWaiting};
 
 use crate::acquiring::{acquire_waiting, try_acquire};
 use crate::errors::{InsertError, TryInsertError};
 use crate::lending::{lend_shared, return_shared};
 use crate::rule::{Locks, MemberSeat};
 use crate::slot::PartSlot;
-use crate::steps::{commit_event, commit_moving_by_front, release_part};
+use crate::steps::{commit_event, commit_moving_by_front, release_both, release_part};
 use klsm_parts::LsmError;
 use klsm_run::Item;
 use klsm_world::Event;
@@ -187,17 +187,19 @@ fn flush_both<S: PartSlot>(
         → (own : List Item) → (shared : List Item)
         → Has S.content S.suits table.now.key thread (both_in_hand thread own shared) seat.old.me
         → LacksRoom S.levels table.now.key.k shared) }
+    ensures memory { IfErr result (λ why. why ≡ LsmError.NoMemory
+        → (own : List Item) → (shared : List Item)
+        → Has S.content S.suits table.now.key thread (both_in_hand thread own shared) seat.old.me
+        → IsBelowLimit S.levels shared) }
 {
     match flush_in(table, seat, thread, item) {
         Ok(front) => {
             commit_moving_by_front(table, seat, threads, thread, front, &item);
-            release_part(table, seat, 0, thread);
-            release_part(table, seat, thread + 1, thread);
+            release_both(table, seat, thread);
             Ok(())
         }
         Err(why) => {
-            release_part(table, seat, 0, thread);
-            release_part(table, seat, thread + 1, thread);
+            release_both(table, seat, thread);
             Err(why)
         }
     }
@@ -238,6 +240,11 @@ fn flush_in<S: PartSlot>(
         → Carries S.content S.suits table.now.key thread (both_in_hand thread own shared)
         seat.old.me
         → LacksRoom S.levels table.now.key.k shared) }
+    ensures memory { IfErr result (λ why. why ≡ LsmError.NoMemory
+        → (own : List Item) → (shared : List Item)
+        → Carries S.content S.suits table.now.key thread (both_in_hand thread own shared)
+        seat.old.me
+        → IsBelowLimit S.levels shared) }
 {
     let mut shared = lend_shared(table, seat, thread);
     let answer = seat.slot_mut(table, thread + 1).flush(&mut shared, item);

@@ -98,7 +98,9 @@ pub trait PartSlot: Holding + Drop {
             × (Self.content shared.new ≡ Self.content shared.old)) }
         ensures full { IfErr result (λ why. why ≡ LsmError.Full
             → (k t : ℕ) → Self.suits k (own_part t) self.old
-            → limit_of levels heap_room < length (Self.content shared.old) + max 1 k) };
+            → limit_of levels heap_room < length (Self.content shared.old) + max 1 k) }
+        ensures memory { IfErr result (λ why. why ≡ LsmError.NoMemory
+            → length (Self.content shared.old) < limit_of levels heap_room) };
 
     /// The front of the shared part: the key of its least item, and the greatest number where it is
     /// empty.

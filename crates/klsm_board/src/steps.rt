@@ -10,7 +10,8 @@ ghost use Rattle.klsm_parts.specs.Least.{IsLeast};
 ghost use Rattle.klsm_board.specs.Rule.{place};
 ghost use Rattle.klsm_world.specs.LegalSteps.{MayCommit};
 ghost use Rattle.klsm_board.specs.Steps.{mine, IsMine, attempted, released, committed, looked, set_front};
-ghost use Rattle.klsm_board.specs.Seats.{Carries, Stands, Has, CarriedOut, QuotaAllows, LeavesShared, SetsFront, IsSeatOf, own_in_hand};
+ghost use Rattle.klsm_board.specs.Seats.{Carries, Stands, Has, CarriedOut, QuotaAllows, LeavesShared, SetsFront, IsSeatOf, own_in_hand, both_in_hand};
+ghost use Rattle.klsm_board.specs.Entries.{both_released};
 
 use crate::plays::{Acquire, Commit, Look, Release, SetFront, Told};
 use crate::rule::{Holding, Locks, MemberSeat, STRIDE};
@@ -191,6 +192,20 @@ pub(crate) fn release_part<S: Holding>(
     ensures list { mine seat.new.me.0 ≡ mine seat.old.me.0 ++ Released part ∷ [] }
 {
     release::<S, Brand>(table, seat, part, thread);
+}
+
+/// Gives back the two parts in hand, the shared one first.
+pub(crate) fn release_both<S: Holding>(table: &Locks<S>, seat: &mut MemberSeat<S>, thread: usize)
+    requires seat { IsSeatOf seat.old.table_id table.now.table_id table.now.key thread }
+    requires stands { (own : List Item) × (shared : List Item)
+        × Stands S.content S.suits table.now.key thread (both_in_hand thread own shared)
+        seat.old.me }
+    ensures same { (seat.new.table_id ≡ seat.old.table_id) × (seat.new.id ≡ seat.old.id) }
+    ensures has { Has S.content S.suits table.now.key thread [] seat.new.me }
+    ensures list { mine seat.new.me.0 ≡ mine seat.old.me.0 ++ both_released thread }
+{
+    release_part(table, seat, 0, thread);
+    release_part(table, seat, thread + 1, thread);
 }
 
 /// Commits an event that was carried out in the parts that the seat carries, and releases the one that

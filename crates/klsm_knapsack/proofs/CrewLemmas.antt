@@ -11,7 +11,7 @@ use Rattle.klsm_world.specs.declared.step.Entry.{Entry}
 use Rattle.klsm_world.specs.OwnSteps.{inserted, deleted}
 use Rattle.klsm_board.specs.declared.board.Member.{Member}
 use Rattle.klsm_board.specs.Boards.{own_steps}
-use Rattle.klsm_board.proofs.ending.EndLemmas.{place_within}
+use Rattle.klsm_board.proofs.lemmas.ending.EndLemmas.{place_within}
 use Rattle.klsm_knapsack.specs.declared.common.Common.{Common}
 use Rattle.klsm_knapsack.specs.declared.common.Worker.{Worker}
 use Rattle.klsm_knapsack.specs.declared.errors.Refusal.{Refusal}

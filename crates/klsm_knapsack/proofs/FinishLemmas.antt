@@ -9,13 +9,15 @@ use Rattle.klsm_run.specs.declared.item.Item.{Item}
 use Rattle.klsm_parts.specs.Events.{times}
 use Rattle.klsm_world.specs.OwnSteps.{inserted, deleted}
 use Rattle.klsm_world.specs.Account.{account}
-use Rattle.klsm_world.proofs.counts.EventCountLemmas.{times_contained, contained_if_counted}
+use Rattle.klsm_world.proofs.lemmas.counts.EventCountLemmas.{times_contained, contained_if_counted}
 use Rattle.klsm_board.specs.declared.board.Member.{Member}
 use Rattle.klsm_board.specs.declared.sizes.Sizes.{Sizes}
 use Rattle.klsm_board.specs.Rule.{IsReached}
-use Rattle.klsm_board.specs.Boards.{IsCrew, IsOf, own_steps}
+use Rattle.klsm_board.specs.Boards.{own_steps}
+use Rattle.klsm_board.specs.Boards.{IsCrew}
+use Rattle.klsm_board.specs.Boards.{IsOf}
 use Rattle.klsm_board.specs.Finishing.{AreAll, AreEachOnce, lists_of}
-use Rattle.klsm_board.proofs.ending.EndLemmas.{are_lists, each_of}
+use Rattle.klsm_board.proofs.lemmas.ending.EndLemmas.{are_lists, each_of}
 use Rattle.klsm_knapsack.specs.declared.common.Common.{Common}
 use Rattle.klsm_knapsack.specs.declared.common.Worker.{Worker}
 use Rattle.klsm_knapsack.specs.declared.errors.Refusal.{Refusal}

@@ -5,7 +5,8 @@ use mathlib.Core.Option.{some}
 use lib.ListN.{get_elem?}
 use Rattle.klsm_run.specs.declared.item.Item.{Item}
 use Rattle.klsm_world.specs.OwnSteps.{inserted, deleted}
-use Rattle.klsm_board.specs.Boards.{IsOf, IsSame, own_steps}
+use Rattle.klsm_board.specs.Boards.{IsSame, own_steps}
+use Rattle.klsm_board.specs.Boards.{IsOf}
 use Rattle.klsm_knapsack.specs.declared.common.Common.{Common}
 use Rattle.klsm_knapsack.specs.declared.common.Worker.{Worker}
 use Rattle.klsm_instance.specs.Selections.{Problem}

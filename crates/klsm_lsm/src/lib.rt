@@ -30,4 +30,4 @@ mod slots;
 
 pub use errors::{LsmError, Refused};
 pub use lsm::Lsm;
-pub use places::Cascade;
+pub use places::{Cascade, comes_before};

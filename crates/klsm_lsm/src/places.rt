@@ -111,9 +111,10 @@ impl<R: Run, const LEVELS: usize> Lsm<R, LEVELS> {
     }
 }
 
-// Whether an item is smaller than the least found, where one is found.
+/// Whether an item is smaller than the least found so far, where one is found. In a search over
+/// blocks the number is that of the block.
 #[inline]
-fn comes_before(item: Item, found: Option<(usize, Item)>) -> bool
+pub fn comes_before(item: Item, found: Option<(usize, Item)>) -> bool
     ensures { MatchOption found (IsTrue result) (λ f. result ≡ is_smaller item f.1) }
 {
     found.is_none_or(|(_, least)| item.is_before(&least))

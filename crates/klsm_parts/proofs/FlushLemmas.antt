@@ -4,7 +4,9 @@ use Rattle.std.specs.List.{Contains}
 use Rattle.std.proofs.lemmas.List.Elements.{Contains-append_left}
 use Rattle.klsm_run.specs.declared.item.Item.{Item}
 use Rattle.klsm_run.specs.Content.{sorted, ShareNone}
+use Rattle.klsm_lsm.specs.Level.{level}
 use Rattle.klsm_lsm.specs.Lsm.{content, IsLsm}
+use Rattle.klsm_lsm.proofs.JoinLemmas.{some_in_block}
 use Rattle.klsm_parts.specs.Events.{MayFlush, own_after_flush}
 use Rattle.klsm_parts.specs.Flushing.{moved, kept}
 use Rattle.klsm_parts.proofs.EventLemmas.{flush_block, flush_item, no_items}
@@ -16,6 +18,11 @@ flush_takes_effect k [] x lsm full = subst (λ n. MayFlush n [] x (x ∷ []) × 
 flush_takes_effect k (b ∷ bs) x lsm full =
     let few : length (content (b ∷ bs)) ≤ k = omega (arith, full) in
     flush_block k b bs x lsm few
+
+-- at least one item moves
+pub some_move : (bs : List (List Item)) (x : Item) → IsLsm bs → 0 < length (moved bs x)
+some_move [] x lsm = omega arith
+some_move (b ∷ bs) x lsm = some_in_block (level b) b lsm.0
 
 pub moved_none : (bs : List (List Item)) (x : Item) → IsLsm bs → length (content bs) ≡ 0 → moved bs x ≡ x ∷ []
 moved_none bs x lsm none = rw (no_items bs lsm none) refl

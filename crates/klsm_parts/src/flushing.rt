@@ -39,6 +39,7 @@ pub fn flush<const CAP: usize, const LEVELS: usize, A: Allocator + Copy>(
         × (items_in own.new ≡ own_after_flush (items_in own.old) item (moved own.old.blocks item))
         × (items_in shared.new
         ≡ shared_after_flush (items_in shared.old) (moved own.old.blocks item))) }
+    ensures moves { 0 < length (moved own.old.blocks item) }
 
     // A refusal changes nothing. It is for want of room exactly where there is none, and else for
     // want of memory.

@@ -49,8 +49,10 @@
 //!   changes; refused, it has changed nothing: clauses `unchanged`.
 //! - **The candidates are known in their order**, two bytes for each, its block and its owner, so that a
 //!   deletion finds any of them without a comparison, and the first of an owner's by its byte.
-//! - **Pivots are mended, not counted anew.** A change of the shared part costs about one
-//!   comparison a block for them. `Shared::pivot_anew` counts, and its contract is that of `pivot`.
+//! - **Pivots are mended where an item goes**, at about one comparison a block. Where items come, a
+//!   flush merges them into the order of the candidates, at one comparison a candidate, and the
+//!   pivots are what each block then has of these. `Shared::pivot_anew` counts them from the blocks
+//!   alone, and its contract is that of `pivot`.
 #![tactic(auto)]
 
 mod appending;

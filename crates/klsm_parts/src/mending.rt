@@ -1,5 +1,4 @@
-//! How pivots are mended where the blocks of a shared part change, so that no change counts them
-//! anew.
+//! How pivots are mended where an item goes, and where blocks become one.
 ghost use Rattle.std.specs.Prelude.{◌≡◌, ◌+◌, ◌-◌, ◌<◌, ◌≤◌, ◌^◌, length, sum, slice_set, slice_index, slice_index_or, IfSome, MatchOption};
 ghost use Rattle.arrayvec.specs.ArrayVec.{array_vec_len};
 ghost use Rattle.klsm_lsm.specs.Lsm.{content};

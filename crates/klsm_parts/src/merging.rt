@@ -10,9 +10,9 @@ ghost use Rattle.klsm_parts.specs.Pivots.{ArePivots};
 ghost use Rattle.klsm_parts.specs.Ranking.{CanMerge, CanRankNext, IsRanking, IsMerging, place_after_add};
 
 use crate::ranking::Ranking;
-use crate::ranks::{Ranked, comes_before, none_of};
+use crate::ranks::{Ranked, none_of};
 use arrayvec::ArrayVec;
-use klsm_lsm::{Cascade, Lsm};
+use klsm_lsm::{Cascade, Lsm, comes_before};
 use klsm_run::{Item, Run};
 
 /// The least items of an LSM and of a run that is to be put in, as far as they are ranked.

@@ -1,7 +1,6 @@
 //! The items of an LSM by rank: item i is the i-th least, counted from 0.
-ghost use Rattle.std.specs.Prelude.{◌≡◌, ℕ, ◌+◌, ◌<◌, ◌≤◌, [], length, replicate, Some, slice_get, slice_index, slice_index_or, option_map, IsTrue, IfSome, MatchOption};
+ghost use Rattle.std.specs.Prelude.{◌≡◌, ℕ, ◌+◌, ◌<◌, ◌≤◌, [], length, replicate, Some, slice_get, slice_index, slice_index_or, option_map};
 ghost use Rattle.klsm_run.specs.Content.{sorted};
-ghost use Rattle.klsm_run.specs.ItemOrder.{is_smaller};
 ghost use Rattle.klsm_lsm.specs.Lsm.{content, IsLsm};
 ghost use Rattle.klsm_lsm.specs.Limit.{IsLevelCount};
 ghost use Rattle.klsm_parts.specs.LeastPlaces.{IsLeastPlace};
@@ -9,7 +8,7 @@ ghost use Rattle.klsm_parts.specs.Pivots.{ArePivots, AreWithin, marked, unmarked
 ghost use Rattle.klsm_parts.specs.Ranking.{IsOfBlock};
 
 use arrayvec::ArrayVec;
-use klsm_lsm::Lsm;
+use klsm_lsm::{Lsm, comes_before};
 use klsm_run::{Item, Run};
 
 /// An item with the block that it is in, and its index there.
@@ -140,12 +139,4 @@ pub(crate) fn least_unmarked<R: Run, const LEVELS: usize>(
         unreachable!();
     };
     block
-}
-
-/// Whether an item is smaller than the least found, where one is found.
-#[inline]
-pub(crate) fn comes_before(item: Item, found: Option<(usize, Item)>) -> bool
-    ensures { MatchOption found (IsTrue result) (λ f. result ≡ is_smaller item f.1) }
-{
-    found.is_none_or(|(_, least)| item.is_before(&least))
 }

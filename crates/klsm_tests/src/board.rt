@@ -4,6 +4,8 @@
 // which has to be there both times.
 mod crew;
 #[cfg(test)]
+mod dropped;
+#[cfg(test)]
 mod finished;
 #[cfg(test)]
 mod front;

@@ -31,7 +31,6 @@ mod parts;
 mod printed;
 #[cfg(test)]
 mod program;
-#[cfg(test)]
 mod rationed;
 #[cfg(test)]
 mod rules;

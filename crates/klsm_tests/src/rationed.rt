@@ -18,6 +18,7 @@ ghost use Rattle.std.specs.Prelude.{◌≡◌, ◌-◌, ◌<◌, ◌↔◌, fals
 
 use std::alloc::{AllocError, Allocator};
 use std::cell::Cell;
+#[cfg(test)]
 use std::test::Fail;
 
 /// Grants a set number of the growths asked of it, and refuses those after it. It passes what it

@@ -7,7 +7,7 @@ use Rattle.klsm_board.specs.declared.board.Member.{Member}
 use Rattle.klsm_board.specs.Boards.{own_steps}
 use Rattle.klsm_board.specs.Rule.{IsReached}
 use Rattle.klsm_board.specs.Finishing.{AreListsAtEnd, lists_of}
-use Rattle.klsm_board.proofs.table.MakeLemmas.{fresh_is_reached}
+use Rattle.klsm_board.proofs.lemmas.table.MakeLemmas.{fresh_is_reached}
 use Rattle.klsm_text.specs.declared.report.End.{End}
 use Rattle.klsm_text.specs.declared.report.End.TheVariants as end
 use Rattle.klsm_text.specs.declared.report.Report.{Report}

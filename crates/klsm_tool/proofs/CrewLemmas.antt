@@ -14,7 +14,7 @@ use Rattle.klsm_board.specs.declared.board.Member.{Member}
 use Rattle.klsm_board.specs.Boards.{IsCrew, IsOf, IsSame, own_steps}
 use Rattle.klsm_board.specs.Finishing.{lists_of}
 use Rattle.klsm_board.specs.Rule.{IsReached}
-use Rattle.klsm_board.proofs.ending.EndLemmas.{are_lists, each_of}
+use Rattle.klsm_board.proofs.lemmas.ending.EndLemmas.{are_lists, each_of}
 use Rattle.klsm_text.specs.declared.answer.Answer.{Answer}
 use Rattle.klsm_text.specs.declared.stop.Stop.{Stop}
 use Rattle.klsm_tool.specs.Crews.{AreMembers, Goes, lists_in, steps_in}

@@ -11,7 +11,7 @@ use Rattle.klsm_board.specs.declared.sizes.Sizes.{Sizes}
 use Rattle.klsm_board.specs.Boards.{IsCrew, IsOf, own_steps}
 use Rattle.klsm_board.specs.Finishing.{AreListsAtEnd}
 use Rattle.klsm_board.specs.Rule.{IsReached}
-use Rattle.klsm_board.proofs.ending.EndLemmas.{each_of}
+use Rattle.klsm_board.proofs.lemmas.ending.EndLemmas.{each_of}
 use Rattle.klsm_text.specs.declared.stop.Stop.{Stop}
 use Rattle.klsm_text.specs.declared.stop.Stop.TheVariants as stop
 use Rattle.klsm_text.specs.declared.stop.Closing.{Closing}

@@ -13,10 +13,10 @@ use Rattle.klsm_board.specs.declared.errors.InsertError.{InsertError}
 use Rattle.klsm_board.specs.Entries.{own_acquired, both_acquired}
 use Rattle.klsm_board.specs.Inserting.{Inserts, RefusesInsertWaiting}
 use Rattle.klsm_board.specs.Deleting.{Deletes, FindsNothing, AnswersDeletion, victim_of}
-use Rattle.klsm_board.proofs.calls.EventLemmas.{events}
-use Rattle.klsm_board.proofs.calls.AddLemmas.{own_quiet, both_quiet}
-use Rattle.klsm_board.proofs.calls.AddedLemmas.{puts_events, flushes_events, refused_waiting_events}
-use Rattle.klsm_board.proofs.calls.DeletedLemmas.{takes_events, early_events, spied_events, nothing_events}
+use Rattle.klsm_board.proofs.lemmas.calls.EventLemmas.{events}
+use Rattle.klsm_board.proofs.lemmas.calls.AddLemmas.{own_quiet, both_quiet}
+use Rattle.klsm_board.proofs.lemmas.calls.AddedLemmas.{puts_events, flushes_events, refused_waiting_events}
+use Rattle.klsm_board.proofs.lemmas.calls.DeletedLemmas.{takes_events, early_events, spied_events, nothing_events}
 use Rattle.klsm_text.specs.declared.answer.Answer.TheVariants.{Inserted, Deleted, Nothing}
 use Rattle.klsm_tool.specs.Shown.{shown, shown_in}
 

@@ -134,6 +134,18 @@ impl<const LEVELS: usize> Crew<LEVELS> {
         self.members.push(held.put_back(&self.board)).ok()
     }
 
+    /// The last member that holds no part is dropped.
+    pub(super) fn drop_member(&mut self) -> Option<()> {
+        let _dropped = self.members.pop()?;
+        Some(())
+    }
+
+    /// The member that holds a part is dropped, with the part in its hand.
+    pub(super) fn drop_held(&mut self) -> Option<()> {
+        let _dropped = self.held.take()?;
+        Some(())
+    }
+
     /// The last member that holds no part goes away.
     pub(super) fn leave(&mut self) -> Option<()> {
         let member = self.members.pop()?;

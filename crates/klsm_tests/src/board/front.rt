@@ -149,6 +149,20 @@ const MOVED: &[Script] = &[
             Step::Holds(1, 2, 1, Some((2, 0, 1))),
         ],
     },
+    // Of two items, which are one block, the greater moves.
+    Script {
+        threads: 2,
+        k: 8,
+        quota: MANY,
+        steps: &[
+            Step::Inserts((1, 0, 0)),
+            Step::Inserts((2, 0, 1)),
+            Step::Deletes(1, Some((2, 0, 1))),
+            Step::Holds(1, 1, 1, Some((1, 0, 0))),
+            Step::PutsBack,
+            Step::Holds(1, 2, 0, None),
+        ],
+    },
 ];
 
 #[test]

@@ -38,6 +38,10 @@ pub(super) enum Step {
     CannotHold(usize, HoldError),
     /// The part that is held goes back.
     PutsBack,
+    /// The member that holds a part is dropped while it does.
+    DropsHeld,
+    /// The last member that holds nothing is dropped.
+    DropsMember,
     /// A member has made so many insertions and deletions.
     Counts(u32, u64, u64),
 }
@@ -114,6 +118,8 @@ fn goes<const LEVELS: usize>(
         }
         Step::CannotHold(lock, why) => crew.try_hold(lock) == Some(Err(why)),
         Step::PutsBack => crew.put_back().is_some(),
+        Step::DropsHeld => crew.drop_held().is_some(),
+        Step::DropsMember => crew.drop_member().is_some(),
         Step::Counts(member, inserted, deleted) => {
             crew.counts(member as usize) == Some((inserted, deleted))
         }

@@ -1,8 +1,8 @@
 use Rattle.std.proofs.Common.{◌∙◌}
 use Rattle.klsm_world.specs.declared.step.Entry.TheVariants.{Acquired}
 use Rattle.klsm_board.specs.Steps.{mine}
-use Rattle.klsm_board.proofs.seats.StandLemmas.{stands}
-use Rattle.klsm_board.proofs.calls.MissLemmas.{missed_more, acquired_after}
+use Rattle.klsm_board.proofs.lemmas.seats.StandLemmas.{stands}
+use Rattle.klsm_board.proofs.lemmas.calls.MissLemmas.{missed_more, acquired_after}
 use Rattle.klsm_board.proofs.acquiring.acquire_waiting.Goals as goal
 
 pub loop-preserved : goal.loop-preserved

@@ -2,7 +2,7 @@ use Rattle.std.specs.Prelude.{◌≡◌}
 use Rattle.klsm_world.specs.OwnSteps.{Hand}
 use Rattle.klsm_board.specs.Steps.{mine}
 use Rattle.klsm_board.specs.Seats.{Stands}
-use Rattle.klsm_board.proofs.calls.MissLemmas.{Misses}
+use Rattle.klsm_board.proofs.lemmas.calls.MissLemmas.{Misses}
 use Rattle.klsm_board.proofs.acquiring.acquire_waiting.Given as goal
 
 abbrev pub invariant-loop : goal.invariant-loop

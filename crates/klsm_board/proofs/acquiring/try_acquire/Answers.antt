@@ -1,5 +1,5 @@
 use Rattle.std.proofs.Common.{ℕ, ◌≤◌, refl, arith}
-use Rattle.klsm_board.proofs.calls.TestLemmas.{where_zero, where_not_zero}
+use Rattle.klsm_board.proofs.lemmas.calls.TestLemmas.{where_zero, where_not_zero}
 use Rattle.klsm_board.proofs.acquiring.try_acquire.Goals as goal
 
 pub overflow_cast-result : goal.overflow_cast-result

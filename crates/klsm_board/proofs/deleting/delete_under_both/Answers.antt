@@ -8,9 +8,9 @@ use Rattle.klsm_board.specs.Steps.{mine}
 use Rattle.klsm_board.specs.Entries.{both_released}
 use Rattle.klsm_board.specs.Seats.{Has, both_in_hand}
 use Rattle.klsm_board.specs.Deleting.{Passes, SpiesAfter}
-use Rattle.klsm_board.proofs.hands.PossibleLemmas.{nothing_leaves_few}
-use Rattle.klsm_board.proofs.calls.TakeLemmas.{least_alone}
-use Rattle.klsm_board.proofs.calls.TestLemmas.{either_option, where_some}
+use Rattle.klsm_board.proofs.lemmas.hands.PossibleLemmas.{nothing_leaves_few}
+use Rattle.klsm_board.proofs.lemmas.calls.TakeLemmas.{least_alone}
+use Rattle.klsm_board.proofs.lemmas.calls.TestLemmas.{either_option, where_some}
 use Rattle.klsm_board.proofs.deleting.delete_under_both.Goals as goal
 
 pub returns-in-Some-clause-has : goal.returns-in-Some-clause-has

@@ -5,8 +5,8 @@ use Rattle.klsm_board.specs.Steps.{mine}
 use Rattle.klsm_board.specs.Seats.{own_in_hand}
 use Rattle.klsm_board.specs.Entries.{missed, both_acquired}
 use Rattle.klsm_board.specs.Deleting.{Deletes, FindsNothing, TakesEarly}
-use Rattle.klsm_board.proofs.seats.StandLemmas.{stands}
-use Rattle.klsm_board.proofs.hands.EventLemmas.{shared_not_in_one}
+use Rattle.klsm_board.proofs.lemmas.seats.StandLemmas.{stands}
+use Rattle.klsm_board.proofs.lemmas.hands.EventLemmas.{shared_not_in_one}
 use Rattle.klsm_board.proofs.deleting.delete_waiting.Goals as goal
 
 pub delete_early-requires-clause-has : goal.delete_early-requires-clause-has

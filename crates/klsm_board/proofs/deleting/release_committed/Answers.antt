@@ -2,8 +2,8 @@ use Rattle.std.proofs.Common.{◌+◌, ◌∷◌, ◌++◌, ◌∙◌, [], ap, r
 use Rattle.klsm_world.specs.declared.step.Entry.TheVariants.{Committed, Released}
 use Rattle.klsm_board.specs.Steps.{mine}
 use Rattle.klsm_board.specs.Seats.{own_in_hand}
-use Rattle.klsm_board.proofs.seats.StandLemmas.{stands}
-use Rattle.klsm_board.proofs.hands.EventLemmas.{shared_not_in_one}
+use Rattle.klsm_board.proofs.lemmas.seats.StandLemmas.{stands}
+use Rattle.klsm_board.proofs.lemmas.hands.EventLemmas.{shared_not_in_one}
 use Rattle.klsm_board.proofs.deleting.release_committed.Goals as goal
 
 pub commit_event-requires-clause-out : goal.commit_event-requires-clause-out

@@ -4,9 +4,9 @@ use Rattle.klsm_world.specs.declared.step.Entry.TheVariants.{Committed, Released
 use Rattle.klsm_world.specs.declared.step.Event.TheVariants.{Take}
 use Rattle.klsm_board.specs.Steps.{mine}
 use Rattle.klsm_board.specs.Seats.{both_in_hand}
-use Rattle.klsm_board.proofs.hands.EventLemmas.{own_in_both, shared_in_both, not_shared}
-use Rattle.klsm_board.proofs.hands.PossibleLemmas.{apart_in_hand, take_skips_few, take_keeps_order}
-use Rattle.klsm_board.proofs.hands.CommitLemmas.{take_done, take_leaves_shared, take_sets_front}
+use Rattle.klsm_board.proofs.lemmas.hands.EventLemmas.{own_in_both, shared_in_both, not_shared}
+use Rattle.klsm_board.proofs.lemmas.hands.PossibleLemmas.{apart_in_hand, take_skips_few, take_keeps_order}
+use Rattle.klsm_board.proofs.lemmas.hands.CommitLemmas.{take_done, take_leaves_shared, take_sets_front}
 use Rattle.klsm_board.proofs.deleting.take_both_out.Goals as goal
 
 pub take_out-requires-clause-carries : goal.take_out-requires-clause-carries

@@ -4,8 +4,8 @@ use Rattle.klsm_run.specs.Content.{ShareNone}
 use Rattle.klsm_parts.specs.Events.{MayTake, MayFindNothing, own_after_take, shared_after_take}
 use Rattle.klsm_board.specs.Choosing.{Chooses}
 use Rattle.klsm_board.specs.Seats.{Carries, both_in_hand}
-use Rattle.klsm_board.proofs.seats.LendLemmas.{lendable, lent_is, lends_changed}
-use Rattle.klsm_board.proofs.calls.TakeLemmas.{stays_if_as_many, front_told}
+use Rattle.klsm_board.proofs.lemmas.seats.LendLemmas.{lendable, lent_is, lends_changed}
+use Rattle.klsm_board.proofs.lemmas.calls.TakeLemmas.{stays_if_as_many, front_told}
 use Rattle.klsm_board.proofs.deleting.take_out.Goals as goal
 
 pub lend_shared-shared-requires : goal.lend_shared-shared-requires

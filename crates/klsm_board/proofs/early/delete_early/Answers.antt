@@ -5,8 +5,8 @@ use Rattle.klsm_parts.specs.Events.{own_after_early}
 use Rattle.klsm_board.specs.Steps.{mine}
 use Rattle.klsm_board.specs.Seats.{Has, own_in_hand}
 use Rattle.klsm_board.specs.Deleting.{TakesEarly}
-use Rattle.klsm_board.proofs.seats.StandLemmas.{stands}
-use Rattle.klsm_board.proofs.calls.EarlyLemmas.{looked_only, early_out, takes_early, slot_there, slot_is}
+use Rattle.klsm_board.proofs.lemmas.seats.StandLemmas.{stands}
+use Rattle.klsm_board.proofs.lemmas.calls.EarlyLemmas.{looked_only, early_out, takes_early, slot_there, slot_is}
 use Rattle.klsm_board.proofs.early.delete_early.Goals as goal
 
 pub look_at_front-requires-clause-has : goal.look_at_front-requires-clause-has

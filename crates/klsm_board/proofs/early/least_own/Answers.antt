@@ -1,9 +1,9 @@
 use Rattle.std.proofs.Common.{◌+◌, [], ◌∷◌, ◌∙◌, refl, subst, IfSome}
 use Rattle.atomic_table.specs.Table.{rest}
 use Rattle.klsm_parts.specs.Least.{IsLeast}
-use Rattle.klsm_board.proofs.seats.CarryLemmas.{first_of, first_here, first_changed}
-use Rattle.klsm_board.proofs.seats.TurnLemmas.{as_rest}
-use Rattle.klsm_board.proofs.hands.CommitLemmas.{has_still}
+use Rattle.klsm_board.proofs.lemmas.seats.CarryLemmas.{first_of, first_here, first_changed}
+use Rattle.klsm_board.proofs.lemmas.seats.TurnLemmas.{as_rest}
+use Rattle.klsm_board.proofs.lemmas.hands.CommitLemmas.{has_still}
 use Rattle.klsm_board.specs.Seats.{own_in_hand}
 use Rattle.klsm_board.proofs.early.least_own.Goals as goal
 

@@ -1,6 +1,6 @@
 use Rattle.std.proofs.Common.{length, sym, ap, ◌∙◌, arith}
 use Rattle.klsm_world.specs.OwnSteps.{inserted, deleted}
-use Rattle.klsm_board.proofs.ending.NumberLemmas.{first_of_number, item_at, none_more, none_numbered}
+use Rattle.klsm_board.proofs.lemmas.ending.NumberLemmas.{first_of_number, item_at, none_more, none_numbered}
 use Rattle.klsm_board.proofs.finishing.counts_of.Goals as goal
 
 pub returns-then-member-number-clause-found : goal.returns-then-member-number-clause-found

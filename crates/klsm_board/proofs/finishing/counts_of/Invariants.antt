@@ -1,4 +1,4 @@
-use Rattle.klsm_board.proofs.ending.NumberLemmas.{NoneBelow}
+use Rattle.klsm_board.proofs.lemmas.ending.NumberLemmas.{NoneBelow}
 use Rattle.klsm_board.proofs.finishing.counts_of.Given as goal
 
 -- no member before this one has the number

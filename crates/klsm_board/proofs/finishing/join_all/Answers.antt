@@ -3,8 +3,8 @@ use Rattle.std.proofs.lemmas.List.{length-append, nil_from_length}
 use Rattle.klsm_parts.proofs.FitLemmas.{local_fits, shared_fits}
 use Rattle.klsm_board.specs.declared.board.Member.{Member}
 use Rattle.klsm_board.specs.Slots.{slot_content, IsSlotOf}
-use Rattle.klsm_board.proofs.table.OpeningLemmas.{gathers}
-use Rattle.klsm_board.proofs.ending.JoinLemmas.{AreJoined, join_last, joins_one, joined_all, last_of_whole}
+use Rattle.klsm_board.proofs.lemmas.table.OpeningLemmas.{gathers}
+use Rattle.klsm_board.proofs.lemmas.ending.JoinLemmas.{AreJoined, join_last, joins_one, joined_all, last_of_whole}
 use Rattle.klsm_board.proofs.finishing.join_all.Goals as goal
 
 pub loop-member-init : goal.loop-member-init

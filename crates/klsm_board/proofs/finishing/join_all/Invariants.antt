@@ -1,5 +1,5 @@
 use Rattle.std.proofs.Common.{◌≡◌}
-use Rattle.klsm_board.proofs.ending.JoinLemmas.{AreJoined}
+use Rattle.klsm_board.proofs.lemmas.ending.JoinLemmas.{AreJoined}
 use Rattle.klsm_board.proofs.finishing.join_all.Given as goal
 
 -- the seat knows the lists of the members that are gone

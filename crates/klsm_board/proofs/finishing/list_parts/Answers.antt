@@ -2,7 +2,7 @@ use Rattle.std.proofs.Common.{◌≡◌, ◌+◌, false, true, get_or, length, l
 use Rattle.std.specs.Mem.Slots.{slots_items, slots_filled, slots_counts}
 use lib.ListN.{get_elem?}
 use Rattle.klsm_run.specs.Content.{sorted}
-use Rattle.klsm_board.proofs.ending.ListLemmas.{part_within, one_more_out}
+use Rattle.klsm_board.proofs.lemmas.ending.ListLemmas.{part_within, one_more_out}
 use Rattle.klsm_board.proofs.finishing.list_parts.Goals as goal
 
 pub unreachable-requires : goal.unreachable-requires

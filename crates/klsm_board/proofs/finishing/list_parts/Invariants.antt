@@ -1,6 +1,6 @@
 use Rattle.std.proofs.Common.{◌≡◌, vec_len, vec_capacity}
 use Rattle.std.specs.Mem.Slots.{slots_items, slots_filled, slots_len}
-use Rattle.klsm_board.proofs.ending.ListLemmas.{AreOut}
+use Rattle.klsm_board.proofs.lemmas.ending.ListLemmas.{AreOut}
 use Rattle.klsm_board.proofs.finishing.list_parts.Given as goal
 
 -- the parts before this one are out, and their items are listed

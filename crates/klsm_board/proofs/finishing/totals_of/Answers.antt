@@ -1,4 +1,4 @@
-use Rattle.klsm_board.proofs.ending.SumLemmas.{one_more}
+use Rattle.klsm_board.proofs.lemmas.ending.SumLemmas.{one_more}
 use Rattle.klsm_board.proofs.finishing.totals_of.Goals as goal
 
 pub loop-number-preserved : goal.loop-number-preserved

@@ -1,4 +1,4 @@
-use Rattle.klsm_board.proofs.ending.SumLemmas.{AreSummed}
+use Rattle.klsm_board.proofs.lemmas.ending.SumLemmas.{AreSummed}
 use Rattle.klsm_board.proofs.finishing.totals_of.Given as goal
 
 -- the numbers before this one have members, whose items are counted

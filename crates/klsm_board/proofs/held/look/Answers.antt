@@ -2,8 +2,8 @@ use Rattle.std.proofs.Common.{◌∙◌, [], List, length, ap}
 use Rattle.std.specs.Prelude.{slice_get}
 use Rattle.atomic_table.specs.Table.{rest}
 use Rattle.klsm_run.specs.declared.item.Item.{Item}
-use Rattle.klsm_board.proofs.seats.CarryLemmas.{first_of, first_here, first_changed}
-use Rattle.klsm_board.proofs.seats.TurnLemmas.{as_rest}
+use Rattle.klsm_board.proofs.lemmas.seats.CarryLemmas.{first_of, first_here, first_changed}
+use Rattle.klsm_board.proofs.lemmas.seats.TurnLemmas.{as_rest}
 use Rattle.klsm_board.proofs.held.look.Goals as goal
 
 pub slot_mut-slot-requires : goal.slot_mut-slot-requires

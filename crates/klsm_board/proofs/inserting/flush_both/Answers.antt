@@ -1,15 +1,16 @@
-use Rattle.std.proofs.Common.{ℕ, ◌+◌, ◌≤◌, ◌∷◌, ◌++◌, ◌∙◌, [], length, ap, refl, sym, subst, append_assoc}
+use Rattle.std.proofs.Common.{ℕ, ◌+◌, ◌≤◌, ◌∷◌, ◌++◌, ◌∙◌, [], length, ap, sym, subst, append_assoc}
 use Rattle.klsm_run.specs.Capacity.{heap_room}
 use Rattle.klsm_parts.specs.Limit.{limit_of}
 use Rattle.klsm_parts.specs.Events.{own_after_flush, shared_after_flush}
-use Rattle.klsm_world.specs.declared.step.Entry.TheVariants.{Committed, Released}
+use Rattle.klsm_world.specs.declared.step.Entry.TheVariants.{Committed}
 use Rattle.klsm_world.specs.declared.step.Event.TheVariants.{Flush}
 use Rattle.klsm_board.specs.Steps.{mine}
-use Rattle.klsm_board.specs.Seats.{own_in_hand, both_in_hand}
-use Rattle.klsm_board.proofs.seats.StandLemmas.{stands}
-use Rattle.klsm_board.proofs.hands.EventLemmas.{own_in_both, shared_in_both, shared_not_in_one, not_shared}
-use Rattle.klsm_board.proofs.hands.PossibleLemmas.{apart_in_hand, new_in_hand}
-use Rattle.klsm_board.proofs.hands.CommitLemmas.{has_still, flush_out, flush_sets_front, flush_told}
+use Rattle.klsm_board.specs.Seats.{both_in_hand}
+use Rattle.klsm_board.specs.Entries.{both_released}
+use Rattle.klsm_board.proofs.lemmas.seats.StandLemmas.{stands}
+use Rattle.klsm_board.proofs.lemmas.hands.EventLemmas.{own_in_both, shared_in_both, not_shared}
+use Rattle.klsm_board.proofs.lemmas.hands.PossibleLemmas.{apart_in_hand, new_in_hand}
+use Rattle.klsm_board.proofs.lemmas.hands.CommitLemmas.{has_still, flush_out, flush_sets_front, flush_told}
 use Rattle.klsm_board.proofs.inserting.flush_both.Goals as goal
 
 pub flush_in-requires : goal.flush_in-requires
@@ -43,46 +44,19 @@ commit_moving_by_front-requires-clause-out g c =
       flush_sets_front content suits m t k.0 k.1 x did.0 c.in-Ok.front me me' k.2 same did.4,
     )
 
-pub release_part-requires-clause-has : goal.release_part-requires-clause-has
-release_part-requires-clause-has g c =
+pub release_both-requires-clause-stands : goal.release_both-requires-clause-stands
+release_both-requires-clause-stands g c =
     let t = c.args.thread in let k = c.requires.has in
     let did = c.in-Ok.ensures.done k.0 k.1 k.2.carries in
     let left = own_after_flush k.0 c.args.item did.0 in
     let common = shared_after_flush k.1 did.0 in
-    (common, own_in_hand t left, stands (c.commit_moving_by_front.ensures.has (both_in_hand t left common) did.2), shared_not_in_one t left)
+    (left, common, stands (c.commit_moving_by_front.ensures.has (both_in_hand t left common) did.2))
 
-pub release_part-requires-in-Ok-clause-has : goal.release_part-requires-in-Ok-clause-has
-release_part-requires-in-Ok-clause-has g c =
-    let t = c.args.thread in let k = c.requires.has in
-    let did = c.in-Ok.ensures.done k.0 k.1 k.2.carries in
-    let left = own_after_flush k.0 c.args.item did.0 in
-    let common = shared_after_flush k.1 did.0 in
-    (left, [], stands (c.release_part.ensures.released common (own_in_hand t left) (stands (c.commit_moving_by_front.ensures.has (both_in_hand t left common) did.2)) (shared_not_in_one t left)), refl)
-
-pub release_part-requires-in-Err-clause-has : goal.release_part-requires-in-Err-clause-has
-release_part-requires-in-Err-clause-has g c =
-    let content = g.S.Holding.content in let suits = g.S.Holding.suits in
-    let m = c.args.table.now.key in let t = c.args.thread in let k = c.requires.has in (
-      k.1,
-      own_in_hand t k.0,
-      stands (has_still content suits m t (both_in_hand t k.0 k.1) c.args.seat.now.me c.flush_in.new.seat.me k.2 c.flush_in.ensures.same.2 (c.in-Err.ensures.unchanged k.0 k.1 k.2.carries)),
-      shared_not_in_one t k.0,
-    )
-
-pub release_part-requires-in-Err-2-clause-has : goal.release_part-requires-in-Err-2-clause-has
-release_part-requires-in-Err-2-clause-has g c =
+pub release_both-requires-in-Err-clause-stands : goal.release_both-requires-in-Err-clause-stands
+release_both-requires-in-Err-clause-stands g c =
     let content = g.S.Holding.content in let suits = g.S.Holding.suits in
     let m = c.args.table.now.key in let t = c.args.thread in let k = c.requires.has in
-    let both = has_still content suits m t (both_in_hand t k.0 k.1) c.args.seat.now.me c.flush_in.new.seat.me k.2 c.flush_in.ensures.same.2 (c.in-Err.ensures.unchanged k.0 k.1 k.2.carries) in
-    (k.0, [], stands (c.release_part-in-Err.ensures.released k.1 (own_in_hand t k.0) (stands both) (shared_not_in_one t k.0)), refl)
-
-pub returns-in-Ok-clause-has : goal.returns-in-Ok-clause-has
-returns-in-Ok-clause-has g c =
-    let t = c.args.thread in let k = c.requires.has in
-    let did = c.in-Ok.ensures.done k.0 k.1 k.2.carries in
-    let left = own_after_flush k.0 c.args.item did.0 in
-    let common = shared_after_flush k.1 did.0 in
-    c.release_part-in-Ok.ensures.released left [] (stands (c.release_part.ensures.released common (own_in_hand t left) (stands (c.commit_moving_by_front.ensures.has (both_in_hand t left common) did.2)) (shared_not_in_one t left))) refl
+    (k.0, k.1, stands (has_still content suits m t (both_in_hand t k.0 k.1) c.args.seat.now.me c.flush_in.new.seat.me k.2 c.flush_in.ensures.same.2 (c.in-Err.ensures.unchanged k.0 k.1 k.2.carries)))
 
 pub returns-in-Ok-clause-done : goal.returns-in-Ok-clause-done
 returns-in-Ok-clause-done g c own shared has =
@@ -95,18 +69,13 @@ returns-in-Ok-clause-done g c own shared has =
       named.0,
       told.0,
       subst (λ n. length shared + n ≤ limit) (sym told.1) did.3,
-      c.release_part-in-Ok.ensures.list
-          ∙ (ap (λ z. z ++ Released (t + 1) ∷ []) (c.release_part.ensures.list ∙ ap (λ z. z ++ Released 0 ∷ []) (named.2 ∙ ap (λ v. mine v ++ Committed (Flush c.args.item named.0) ∷ []) c.flush_in.ensures.same.2))
-          ∙ (append_assoc (mine me.0 ++ Committed (Flush c.args.item named.0) ∷ []) (Released 0 ∷ []) (Released (t + 1) ∷ [])
-          ∙ append_assoc (mine me.0) (Committed (Flush c.args.item named.0) ∷ []) (Released 0 ∷ Released (t + 1) ∷ []))),
+      c.release_both.ensures.list
+          ∙ (ap (λ z. z ++ both_released t) (named.2 ∙ ap (λ v. mine v ++ Committed (Flush c.args.item named.0) ∷ []) c.flush_in.ensures.same.2)
+          ∙ append_assoc (mine me.0) (Committed (Flush c.args.item named.0) ∷ []) (both_released t)),
     )
-
-pub returns-in-Err-clause-has : goal.returns-in-Err-clause-has
-returns-in-Err-clause-has g c =
-    let content = g.S.Holding.content in let suits = g.S.Holding.suits in
-    let m = c.args.table.now.key in let t = c.args.thread in let k = c.requires.has in
-    let both = has_still content suits m t (both_in_hand t k.0 k.1) c.args.seat.now.me c.flush_in.new.seat.me k.2 c.flush_in.ensures.same.2 (c.in-Err.ensures.unchanged k.0 k.1 k.2.carries) in
-    c.release_part-in-Err-2.ensures.released k.0 [] (stands (c.release_part-in-Err.ensures.released k.1 (own_in_hand t k.0) (stands both) (shared_not_in_one t k.0))) refl
 
 pub returns-in-Err-clause-full : goal.returns-in-Err-clause-full
 returns-in-Err-clause-full g c is own shared has = c.in-Err.ensures.full is own shared has.carries
+
+pub returns-in-Err-clause-memory : goal.returns-in-Err-clause-memory
+returns-in-Err-clause-memory g c is own shared has = c.in-Err.ensures.memory is own shared has.carries

@@ -6,7 +6,7 @@ use Rattle.klsm_run.specs.Content.{ShareNone}
 use Rattle.klsm_parts.specs.Limit.{limit_of}
 use Rattle.klsm_parts.specs.Events.{MayFlush, own_after_flush, shared_after_flush, front_of}
 use Rattle.klsm_board.specs.Seats.{Carries, both_in_hand}
-use Rattle.klsm_board.proofs.seats.LendLemmas.{lendable, lent_is, lends_changed}
+use Rattle.klsm_board.proofs.lemmas.seats.LendLemmas.{lendable, lent_is, lends_changed}
 use Rattle.klsm_board.proofs.inserting.flush_in.Goals as goal
 
 pub lend_shared-shared-requires : goal.lend_shared-shared-requires
@@ -83,3 +83,8 @@ returns-in-Err-clause-full g c is own shared carries =
     let lent = c.lend_shared-shared.ensures.lent own shared carries in
     let own_is = lent_is content suits is_vacant m t own me lent.0 c.slot_mut.result.now c.slot_mut.ensures.value in
     subst (λ (z : List Item). limit_of g.S.PartSlot.levels heap_room < length z + max 1 m.k) lent.1 (c.in-Err.ensures.full is m.k t own_is.1)
+
+pub returns-in-Err-clause-memory : goal.returns-in-Err-clause-memory
+returns-in-Err-clause-memory g c is own shared carries =
+    let lent = c.lend_shared-shared.ensures.lent own shared carries in
+    subst (λ (z : List Item). length z < limit_of g.S.PartSlot.levels heap_room) lent.1 (c.in-Err.ensures.memory is)

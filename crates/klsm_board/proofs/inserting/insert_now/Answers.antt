@@ -4,11 +4,11 @@ use Rattle.klsm_world.specs.declared.step.Entry.TheVariants.{Acquired, Committed
 use Rattle.klsm_board.specs.Steps.{mine}
 use Rattle.klsm_board.specs.Seats.{own_in_hand}
 use Rattle.klsm_board.specs.Entries.{own_acquired}
-use Rattle.klsm_board.proofs.seats.StandLemmas.{stands}
-use Rattle.klsm_board.proofs.hands.EventLemmas.{shared_not_in_one}
-use Rattle.klsm_board.proofs.calls.EventLemmas.{same_events, stamp_kept, room_kept}
-use Rattle.klsm_board.specs.Inserting.{LacksRoom}
-use Rattle.klsm_board.proofs.calls.FullLemmas.{full_now, full_is_quiet, flushed, gave_up}
+use Rattle.klsm_board.proofs.lemmas.seats.StandLemmas.{stands}
+use Rattle.klsm_board.proofs.lemmas.hands.EventLemmas.{shared_not_in_one}
+use Rattle.klsm_board.proofs.lemmas.calls.EventLemmas.{same_events, stamp_kept, room_kept}
+use Rattle.klsm_board.specs.Inserting.{LacksRoom, IsBelowLimit}
+use Rattle.klsm_board.proofs.lemmas.calls.FullLemmas.{full_now, full_is_quiet, flushed, gave_up}
 use Rattle.klsm_board.proofs.inserting.insert_now.Goals as goal
 
 pub put_own-requires-clause-stamp : goal.put_own-requires-clause-stamp
@@ -115,4 +115,4 @@ returns-in-Err-NoMemory-clause-refused g c =
     let content = g.S.Holding.content in let suits = g.S.Holding.suits in let m = c.args.table.now.key in let t = c.args.thread in
     let me = c.args.seat.now.me in let both = c.try_acquire-2.new.seat.me in
     let k = full_now content suits m t me c.try_acquire.new.seat.me c.put_own.new.seat.me both c.requires.stands c.in_default.ensures.ok c.if-put_own.ensures.done c.in_default-try_acquire.ensures.ok in
-    gave_up content suits m t [] [] (mine me.0) (mine c.flush_both.new.seat.me.0) both k (λ shared. Unit {0}) tt c.in-Err-NoMemory.ensures.refused
+    gave_up content suits m t [] [] (mine me.0) (mine c.flush_both.new.seat.me.0) both k (IsBelowLimit g.S.PartSlot.levels) (c.in-Err-NoMemory.ensures.memory c.in-Err-NoMemory.field-0-is k.own k.shared k.has) c.in-Err-NoMemory.ensures.refused

@@ -3,9 +3,9 @@ use Rattle.std.specs.List.{Contains}
 use Rattle.atomic_table.specs.Table.{rest}
 use Rattle.klsm_run.specs.declared.item.Item.{Item}
 use Rattle.klsm_parts.specs.Events.{MayPut, own_after_put}
-use Rattle.klsm_board.proofs.seats.CarryLemmas.{first_of, first_here, first_changed}
-use Rattle.klsm_board.proofs.seats.TurnLemmas.{as_rest}
-use Rattle.klsm_board.proofs.calls.TestLemmas.{either_way}
+use Rattle.klsm_board.proofs.lemmas.seats.CarryLemmas.{first_of, first_here, first_changed}
+use Rattle.klsm_board.proofs.lemmas.seats.TurnLemmas.{as_rest}
+use Rattle.klsm_board.proofs.lemmas.calls.TestLemmas.{either_way}
 use Rattle.klsm_board.proofs.inserting.put_in.Goals as goal
 
 pub slot_mut-requires : goal.slot_mut-requires

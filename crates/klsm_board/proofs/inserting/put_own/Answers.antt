@@ -5,9 +5,9 @@ use Rattle.klsm_world.specs.declared.step.Event.TheVariants.{Put}
 use Rattle.klsm_world.specs.OwnSteps.{own_part}
 use Rattle.klsm_board.specs.Steps.{mine}
 use Rattle.klsm_board.specs.Seats.{own_in_hand}
-use Rattle.klsm_board.proofs.hands.EventLemmas.{own_in_one}
-use Rattle.klsm_board.proofs.hands.PossibleLemmas.{new_in_hand}
-use Rattle.klsm_board.proofs.hands.CommitLemmas.{has_still, put_out}
+use Rattle.klsm_board.proofs.lemmas.hands.EventLemmas.{own_in_one}
+use Rattle.klsm_board.proofs.lemmas.hands.PossibleLemmas.{new_in_hand}
+use Rattle.klsm_board.proofs.lemmas.hands.CommitLemmas.{has_still, put_out}
 use Rattle.klsm_board.proofs.inserting.put_own.Goals as goal
 
 pub put_in-requires-clause-carries : goal.put_in-requires-clause-carries

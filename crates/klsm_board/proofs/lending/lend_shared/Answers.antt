@@ -1,8 +1,8 @@
 use Rattle.std.proofs.Common.{◌+◌, ◌∙◌, ◌∷◌, [], ap}
 use Rattle.atomic_table.specs.Table.{rest}
-use Rattle.klsm_board.proofs.seats.CarryLemmas.{first_of, first_here}
-use Rattle.klsm_board.proofs.seats.TurnLemmas.{as_rest}
-use Rattle.klsm_board.proofs.seats.LendLemmas.{lends}
+use Rattle.klsm_board.proofs.lemmas.seats.CarryLemmas.{first_of, first_here}
+use Rattle.klsm_board.proofs.lemmas.seats.TurnLemmas.{as_rest}
+use Rattle.klsm_board.proofs.lemmas.seats.LendLemmas.{lends}
 use Rattle.klsm_board.proofs.lending.lend_shared.Goals as goal
 
 pub exchange-shared-requires : goal.exchange-shared-requires

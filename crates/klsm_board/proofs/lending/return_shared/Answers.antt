@@ -1,5 +1,5 @@
 use Rattle.std.proofs.Common.{◌≡◌, ◌∙◌, ap, sym, subst}
-use Rattle.klsm_board.proofs.seats.LendLemmas.{first_slot, vacant_first, returned}
+use Rattle.klsm_board.proofs.lemmas.seats.LendLemmas.{first_slot, vacant_first, returned}
 use Rattle.klsm_board.proofs.lending.return_shared.Goals as goal
 
 pub exchange-requires : goal.exchange-requires

@@ -4,7 +4,7 @@ use lib.ListN.{get_elem?}
 use Rattle.klsm_parts.proofs.FitLemmas.{local_fits, shared_fits}
 use Rattle.klsm_board.specs.declared.board.Member.{Member}
 use Rattle.klsm_board.specs.Boards.{IsOf, own_steps}
-use Rattle.klsm_board.proofs.table.MakeLemmas.{so_many_fresh, none_at_start, at_new_end, found_at}
+use Rattle.klsm_board.proofs.lemmas.table.MakeLemmas.{so_many_fresh, none_at_start, at_new_end, found_at}
 use Rattle.klsm_board.proofs.making.deal.Goals as goal
 
 pub next_member-requires : goal.next_member-requires

@@ -5,8 +5,8 @@ use Rattle.klsm_board.specs.declared.rule.Own.{Own}
 use Rattle.klsm_board.specs.Slots.{slot_content, IsSlotOf}
 use Rattle.klsm_board.specs.Rule.{own, view, fresh, Ruled}
 use Rattle.klsm_board.specs.Steps.{others, first_of_all}
-use Rattle.klsm_board.proofs.table.OpeningLemmas.{divides}
-use Rattle.klsm_board.proofs.table.MakeLemmas.{one_more_fresh, rests_at_first}
+use Rattle.klsm_board.proofs.lemmas.table.OpeningLemmas.{divides}
+use Rattle.klsm_board.proofs.lemmas.table.MakeLemmas.{one_more_fresh, rests_at_first}
 use Rattle.klsm_board.proofs.making.next_member.Goals as goal
 
 pub split_seat-requires : goal.split_seat-requires

@@ -8,8 +8,8 @@ use Rattle.klsm_board.specs.declared.slot.Slot.{Slot}
 use Rattle.klsm_board.specs.declared.slot.Slot.TheVariants.{Own, Common}
 use Rattle.klsm_board.specs.Slots.{slot_content, IsSlotOf}
 use Rattle.klsm_board.specs.Rule.{place, everyone, Ruled}
-use Rattle.klsm_board.proofs.table.OpeningLemmas.{first_words, length_first, opens}
-use Rattle.klsm_board.proofs.table.MakeLemmas.{first_slots}
+use Rattle.klsm_board.proofs.lemmas.table.OpeningLemmas.{first_words, length_first, opens}
+use Rattle.klsm_board.proofs.lemmas.table.MakeLemmas.{first_slots}
 use Rattle.klsm_board.proofs.making.table_of.Goals as goal
 
 pub new-requires : goal.new-requires

@@ -3,11 +3,11 @@ use Rattle.atomic_table.specs.Table.{rest}
 use Rattle.klsm_run.specs.declared.item.Item.{Item}
 use Rattle.klsm_parts.specs.Events.{MaySpy, own_after_spy, victim_after_spy}
 use Rattle.klsm_board.specs.Seats.{Carries}
-use Rattle.klsm_board.proofs.seats.CarryLemmas.{first_of, first_here}
-use Rattle.klsm_board.proofs.seats.TurnLemmas.{as_rest}
-use Rattle.klsm_board.proofs.seats.LendLemmas.{first_slot}
-use Rattle.klsm_board.proofs.seats.SpyLemmas.{turned_three, third_lent, vacant_next, three_left}
-use Rattle.klsm_board.proofs.calls.TestLemmas.{either_way}
+use Rattle.klsm_board.proofs.lemmas.seats.CarryLemmas.{first_of, first_here}
+use Rattle.klsm_board.proofs.lemmas.seats.TurnLemmas.{as_rest}
+use Rattle.klsm_board.proofs.lemmas.seats.LendLemmas.{first_slot}
+use Rattle.klsm_board.proofs.lemmas.seats.SpyLemmas.{turned_three, third_lent, vacant_next, three_left}
+use Rattle.klsm_board.proofs.lemmas.calls.TestLemmas.{either_way}
 use Rattle.klsm_board.proofs.spying.spy_in.Goals as goal
 
 pub exchange-victim-requires : goal.exchange-victim-requires

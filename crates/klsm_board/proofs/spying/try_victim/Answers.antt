@@ -4,10 +4,10 @@ use Rattle.klsm_world.specs.declared.step.Entry.TheVariants.{Acquired, Committed
 use Rattle.klsm_world.specs.declared.step.Event.TheVariants.{Spy}
 use Rattle.klsm_board.specs.Steps.{mine}
 use Rattle.klsm_board.specs.Seats.{both_in_hand, three_in_hand}
-use Rattle.klsm_board.proofs.seats.StandLemmas.{stands}
-use Rattle.klsm_board.proofs.hands.EventLemmas.{victim_not_in_both}
-use Rattle.klsm_board.proofs.hands.CommitLemmas.{has_still, spy_done, spy_told}
-use Rattle.klsm_board.proofs.calls.TestLemmas.{where_zero, where_not_zero}
+use Rattle.klsm_board.proofs.lemmas.seats.StandLemmas.{stands}
+use Rattle.klsm_board.proofs.lemmas.hands.EventLemmas.{victim_not_in_both}
+use Rattle.klsm_board.proofs.lemmas.hands.CommitLemmas.{has_still, spy_done, spy_told}
+use Rattle.klsm_board.proofs.lemmas.calls.TestLemmas.{where_zero, where_not_zero}
 use Rattle.klsm_board.proofs.spying.try_victim.Goals as goal
 
 pub acquire_part-requires-clause-has : goal.acquire_part-requires-clause-has

@@ -6,8 +6,8 @@ use Rattle.klsm_board.specs.declared.sizes.Sizes.{Sizes}
 use Rattle.klsm_board.specs.declared.rule.Own.{Own}
 use Rattle.klsm_board.specs.Rule.{view, place, Ruled}
 use Rattle.klsm_board.specs.Steps.{on_part, mine, attempted}
-use Rattle.klsm_board.proofs.table.PlaceLemmas.{inside}
-use Rattle.klsm_board.proofs.table.AcquireLemmas.{acquire_allows}
+use Rattle.klsm_board.proofs.lemmas.table.PlaceLemmas.{inside}
+use Rattle.klsm_board.proofs.lemmas.table.AcquireLemmas.{acquire_allows}
 use Rattle.klsm_board.proofs.steps.acquire.Goals as goal
 
 pub compare_exchange-requires : goal.compare_exchange-requires

@@ -1,6 +1,6 @@
 use Rattle.std.proofs.Common.{refl, ap, ◌∙◌}
 use Rattle.klsm_world.specs.OwnSteps.{found_in}
-use Rattle.klsm_board.proofs.table.SeatLemmas.{tried}
+use Rattle.klsm_board.proofs.lemmas.table.SeatLemmas.{tried}
 use Rattle.klsm_board.proofs.steps.acquire_part.Goals as goal
 
 pub acquire-requires-clause-told : goal.acquire-requires-clause-told

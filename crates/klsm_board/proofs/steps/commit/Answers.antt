@@ -5,8 +5,8 @@ use Rattle.klsm_board.specs.declared.sizes.Sizes.{Sizes}
 use Rattle.klsm_board.specs.declared.rule.Own.{Own}
 use Rattle.klsm_board.specs.Rule.{view, place, Ruled}
 use Rattle.klsm_board.specs.Steps.{on_part, mine, committed}
-use Rattle.klsm_board.proofs.table.PlaceLemmas.{inside}
-use Rattle.klsm_board.proofs.table.ReleaseLemmas.{commit_allows}
+use Rattle.klsm_board.proofs.lemmas.table.PlaceLemmas.{inside}
+use Rattle.klsm_board.proofs.lemmas.table.ReleaseLemmas.{commit_allows}
 use Rattle.klsm_board.proofs.steps.commit.Goals as goal
 
 pub store-requires : goal.store-requires

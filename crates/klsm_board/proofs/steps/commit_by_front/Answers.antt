@@ -1,7 +1,7 @@
 use Rattle.std.proofs.Common.{ap, ◌∙◌, refl}
 use Rattle.klsm_world.specs.declared.step.Entry.TheVariants.{Committed}
 use Rattle.klsm_board.specs.Steps.{gain}
-use Rattle.klsm_board.proofs.table.SeatLemmas.{out_of, has_set, mine_set}
+use Rattle.klsm_board.proofs.lemmas.table.SeatLemmas.{out_of, has_set, mine_set}
 use Rattle.klsm_board.proofs.steps.commit_by_front.Goals as goal
 
 pub store_front-requires-clause-told : goal.store_front-requires-clause-told

@@ -6,8 +6,8 @@ use Rattle.klsm_board.specs.declared.sizes.Sizes.{Sizes}
 use Rattle.klsm_board.specs.declared.rule.Own.{Own}
 use Rattle.klsm_board.specs.Rule.{view, place, Ruled}
 use Rattle.klsm_board.specs.Steps.{mine, looked}
-use Rattle.klsm_board.proofs.table.PlaceLemmas.{front_inside}
-use Rattle.klsm_board.proofs.table.FrontLemmas.{look_allows}
+use Rattle.klsm_board.proofs.lemmas.table.PlaceLemmas.{front_inside}
+use Rattle.klsm_board.proofs.lemmas.table.FrontLemmas.{look_allows}
 use Rattle.klsm_board.proofs.steps.load_front.Goals as goal
 
 pub load-requires : goal.load-requires

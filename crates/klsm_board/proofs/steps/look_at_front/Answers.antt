@@ -1,6 +1,6 @@
 use Rattle.std.proofs.Common.{◌+◌, ◌∙◌, ap, refl}
 use Rattle.klsm_world.specs.OwnSteps.{found_in}
-use Rattle.klsm_board.proofs.hands.EventLemmas.{own_in_one}
+use Rattle.klsm_board.proofs.lemmas.hands.EventLemmas.{own_in_one}
 use Rattle.klsm_board.proofs.steps.look_at_front.Goals as goal
 
 pub load_front-requires-clause-told : goal.load_front-requires-clause-told

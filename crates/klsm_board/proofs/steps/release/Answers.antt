@@ -5,8 +5,8 @@ use Rattle.klsm_board.specs.declared.sizes.Sizes.{Sizes}
 use Rattle.klsm_board.specs.declared.rule.Own.{Own}
 use Rattle.klsm_board.specs.Rule.{view, place, Ruled}
 use Rattle.klsm_board.specs.Steps.{on_part, mine, released}
-use Rattle.klsm_board.proofs.table.PlaceLemmas.{inside}
-use Rattle.klsm_board.proofs.table.ReleaseLemmas.{release_allows}
+use Rattle.klsm_board.proofs.lemmas.table.PlaceLemmas.{inside}
+use Rattle.klsm_board.proofs.lemmas.table.ReleaseLemmas.{release_allows}
 use Rattle.klsm_board.proofs.steps.release.Goals as goal
 
 pub store-requires : goal.store-requires

@@ -1,5 +1,5 @@
 use Rattle.std.proofs.Common.{refl}
-use Rattle.klsm_board.proofs.table.SeatLemmas.{can_release, has_released, mine_released}
+use Rattle.klsm_board.proofs.lemmas.table.SeatLemmas.{can_release, has_released, mine_released}
 use Rattle.klsm_board.proofs.steps.release_part.Goals as goal
 
 pub release-requires-clause-told : goal.release-requires-clause-told

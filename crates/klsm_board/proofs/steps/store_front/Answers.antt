@@ -5,8 +5,8 @@ use Rattle.klsm_board.specs.declared.sizes.Sizes.{Sizes}
 use Rattle.klsm_board.specs.declared.rule.Own.{Own}
 use Rattle.klsm_board.specs.Rule.{view, place, Ruled}
 use Rattle.klsm_board.specs.Steps.{mine, set_front}
-use Rattle.klsm_board.proofs.table.PlaceLemmas.{front_inside}
-use Rattle.klsm_board.proofs.table.FrontLemmas.{set_allows}
+use Rattle.klsm_board.proofs.lemmas.table.PlaceLemmas.{front_inside}
+use Rattle.klsm_board.proofs.lemmas.table.FrontLemmas.{set_allows}
 use Rattle.klsm_board.proofs.steps.store_front.Goals as goal
 
 pub store-requires : goal.store-requires

@@ -2,7 +2,7 @@ use Rattle.std.proofs.Common.{ap, ◌∙◌, refl}
 use Rattle.klsm_parts.specs.Parts.{items_in}
 use Rattle.klsm_parts.specs.Flushing.{moved}
 use Rattle.klsm_parts.proofs.EventLemmas.{shared_flushed}
-use Rattle.klsm_parts.proofs.FlushLemmas.{flush_takes_effect}
+use Rattle.klsm_parts.proofs.FlushLemmas.{flush_takes_effect, some_move}
 use Rattle.klsm_parts.proofs.flushing.flush.Goals as goal
 
 pub returns-in-Ok-clause-event : goal.returns-in-Ok-clause-event
@@ -27,6 +27,12 @@ returns-in-Ok-clause-full g c = c.in-Ok.ensures.full
 
 pub returns-in-Ok-clause-unchanged : goal.returns-in-Ok-clause-unchanged
 returns-in-Ok-clause-unchanged g c = tt
+
+pub returns-in-Ok-clause-moves : goal.returns-in-Ok-clause-moves
+returns-in-Ok-clause-moves g c = some_move c.args.own.now.blocks c.args.item c.in-Ok.ensures.lawful
+
+pub returns-in-Err-clause-moves : goal.returns-in-Err-clause-moves
+returns-in-Err-clause-moves g c = some_move c.args.own.now.blocks c.args.item c.in-Err.ensures.lawful
 
 pub returns-in-Err-clause-own : goal.returns-in-Err-clause-own
 returns-in-Err-clause-own g c = tt

@@ -1,7 +1,7 @@
 use Rattle.std.proofs.Common.{◌≡◌, ◌<◌, ◌∙◌, refl, sym, false, true}
 use Rattle.klsm_parts.specs.Events.{times}
-use Rattle.klsm_world.proofs.lists.ConditionLemmas.{within_if_each, each_if_within}
-use Rattle.klsm_world.proofs.lists.RestLemmas.{no_item, all_seen, not_all_seen, all_seen_at_end}
+use Rattle.klsm_world.proofs.lemmas.lists.ConditionLemmas.{within_if_each, each_if_within}
+use Rattle.klsm_world.proofs.lemmas.lists.RestLemmas.{no_item, all_seen, not_all_seen, all_seen_at_end}
 use Rattle.klsm_world.proofs.conditions.are_within.Goals as goal
 
 pub returns-then-not-has : goal.returns-then-not-has

@@ -1,6 +1,6 @@
 use Rattle.std.proofs.Common.{◌≡◌, ◌∙◌, sym}
 use Rattle.std.specs.List.{list_any}
-use Rattle.klsm_world.proofs.lists.ConditionLemmas.{are_equal, counted_if_found, found_if_counted}
+use Rattle.klsm_world.proofs.lemmas.lists.ConditionLemmas.{are_equal, counted_if_found, found_if_counted}
 use Rattle.klsm_world.proofs.conditions.has.Goals as goal
 
 pub returns : goal.returns

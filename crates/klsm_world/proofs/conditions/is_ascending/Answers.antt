@@ -1,7 +1,7 @@
 use Rattle.std.proofs.Common.{◌≡◌, ◌+◌, ◌-◌, get_or, false, refl, rules, arith, true}
 use Rattle.std.specs.Ordering.{is_ge}
 use Rattle.klsm_run.specs.ItemOrder.{item_cmp}
-use Rattle.klsm_world.proofs.lists.RestLemmas.{no_item, less_if_not_at_least, not_less_if_at_least, ascending_seen, not_ascending_seen, ascending_at_end}
+use Rattle.klsm_world.proofs.lemmas.lists.RestLemmas.{no_item, less_if_not_at_least, not_less_if_at_least, ascending_seen, not_ascending_seen, ascending_at_end}
 use Rattle.klsm_world.proofs.conditions.is_ascending.Goals as goal
 
 pub returns-then-ge : goal.returns-then-ge

@@ -7,9 +7,9 @@ use Rattle.klsm_run.specs.Content.{sorted}
 use Rattle.klsm_run.specs.ItemOrder.{item_cmp, is_smaller}
 use Rattle.klsm_parts.specs.Least.{least}
 use Rattle.klsm_parts.specs.Events.{times}
-use Rattle.klsm_world.proofs.lists.ConditionLemmas.{same_if_equal, other_if_not_equal}
-use Rattle.klsm_world.proofs.lists.RestLemmas.{no_item}
-use Rattle.klsm_world.proofs.lists.TakeConditionLemmas.{candidates_taken, take_candidate, candidate_if_taken, take_smaller_candidate, smaller_candidate_if_taken, take_least_own, greatest_if_taken, not_smaller_if_at_most, at_most_if_not_smaller}
+use Rattle.klsm_world.proofs.lemmas.lists.ConditionLemmas.{same_if_equal, other_if_not_equal}
+use Rattle.klsm_world.proofs.lemmas.lists.RestLemmas.{no_item}
+use Rattle.klsm_world.proofs.lemmas.lists.TakeConditionLemmas.{candidates_taken, take_candidate, candidate_if_taken, take_smaller_candidate, smaller_candidate_if_taken, take_least_own, greatest_if_taken, not_smaller_if_at_most, at_most_if_not_smaller}
 use Rattle.klsm_world.proofs.conditions.is_in_reach.Goals as goal
 
 pub returns-in_default : goal.returns-in_default

@@ -2,9 +2,9 @@ use Rattle.std.proofs.Common.{◌≡◌, ◌≢◌, ◌+◌, ◌<◌, ◌∷◌,
 use Rattle.std.specs.List.{AllByRecursion}
 use Rattle.klsm_run.specs.Content.{IsAscending}
 use Rattle.klsm_parts.specs.Events.{times, IsWithin}
-use Rattle.klsm_world.proofs.lists.ConditionLemmas.{other_if_unequal, not_counted, within_if_each, each_if_within, stay_counted}
+use Rattle.klsm_world.proofs.lemmas.lists.ConditionLemmas.{other_if_unequal, not_counted, within_if_each, each_if_within, stay_counted}
 use Rattle.std.proofs.lemmas.Bool.{ltb-true, lt-ltb}
-use Rattle.klsm_world.proofs.lists.RestLemmas.{no_item, not_all_seen, all_seen_at_end}
+use Rattle.klsm_world.proofs.lemmas.lists.RestLemmas.{no_item, not_all_seen, all_seen_at_end}
 use Rattle.klsm_world.proofs.conditions.may_flush.Goals as goal
 
 pub returns-then-not-has : goal.returns-then-not-has

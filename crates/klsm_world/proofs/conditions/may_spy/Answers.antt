@@ -1,6 +1,6 @@
 use Rattle.std.proofs.Common.{◌≡◌, ◌≢◌, ◌∙◌, [], true, false, sym}
 use Rattle.klsm_run.specs.Content.{IsAscending}
-use Rattle.klsm_world.proofs.lists.ConditionLemmas.{empty_if_no_length, some_if_length}
+use Rattle.klsm_world.proofs.lemmas.lists.ConditionLemmas.{empty_if_no_length, some_if_length}
 use Rattle.klsm_world.proofs.conditions.may_spy.Goals as goal
 use Rattle.klsm_world.proofs.conditions.may_spy.Goals.{then-is_empty, else-is_empty, then-not-is_empty, else-not-is_empty}
 

@@ -1,5 +1,5 @@
 use Rattle.std.proofs.Common.{◌≡◌, ◌∙◌, false, true, sym}
-use Rattle.klsm_world.proofs.lists.TakeConditionLemmas.{may_take_if_ordered, ordered_if_may_take}
+use Rattle.klsm_world.proofs.lemmas.lists.TakeConditionLemmas.{may_take_if_ordered, ordered_if_may_take}
 use Rattle.klsm_world.proofs.conditions.may_take.Goals as goal
 
 pub returns-then-is_in_reach : goal.returns-then-is_in_reach

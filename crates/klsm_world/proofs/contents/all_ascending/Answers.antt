@@ -1,6 +1,6 @@
 use Rattle.std.proofs.Common.{◌∙◌, ap}
 use Rattle.klsm_run.specs.Content.{sorted}
-use Rattle.klsm_world.proofs.kept.LiveListLemmas.{sorted_by_sort}
+use Rattle.klsm_world.proofs.lemmas.kept.LiveListLemmas.{sorted_by_sort}
 use Rattle.klsm_world.proofs.contents.all_ascending.Goals as goal
 
 pub returns-clause-ascending : goal.returns-clause-ascending

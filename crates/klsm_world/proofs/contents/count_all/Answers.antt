@@ -1,7 +1,7 @@
 use Rattle.std.proofs.Common.{ap, length, arith, refl, ◌∙◌}
 use Rattle.std.specs.List.{flat_map}
 use Rattle.std.proofs.lemmas.List.{take_all}
-use Rattle.klsm_world.proofs.kept.LiveListLemmas.{length_more}
+use Rattle.klsm_world.proofs.lemmas.kept.LiveListLemmas.{length_more}
 use Rattle.klsm_world.proofs.contents.count_all.Goals as goal
 
 pub loop-content-init : goal.loop-content-init

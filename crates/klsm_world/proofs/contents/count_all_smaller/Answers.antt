@@ -4,7 +4,7 @@ use Rattle.std.proofs.lemmas.List.{take_all}
 use Rattle.std.proofs.lemmas.List.Sums.{count_by-le-length}
 use Rattle.klsm_run.specs.ItemOrder.{is_smaller}
 use Rattle.klsm_run.specs.Content.{skipped}
-use Rattle.klsm_world.proofs.kept.LiveListLemmas.{skipped_more}
+use Rattle.klsm_world.proofs.lemmas.kept.LiveListLemmas.{skipped_more}
 use Rattle.klsm_world.proofs.contents.count_all_smaller.Goals as goal
 
 pub loop-content-init : goal.loop-content-init

@@ -1,7 +1,7 @@
 use Rattle.std.proofs.Common.{ap, ◌∙◌}
 use Rattle.std.specs.List.{flat_map}
 use Rattle.std.proofs.lemmas.List.{take_all}
-use Rattle.klsm_world.proofs.kept.LiveListLemmas.{joined_more}
+use Rattle.klsm_world.proofs.lemmas.kept.LiveListLemmas.{joined_more}
 use Rattle.klsm_world.proofs.contents.joined.Goals as goal
 
 pub loop-content-init : goal.loop-content-init

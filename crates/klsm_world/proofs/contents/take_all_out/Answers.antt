@@ -2,7 +2,7 @@ use Rattle.std.proofs.Common.{◌+◌, ◌∙◌, List, drop, refl, sym, ap}
 use Rattle.std.proofs.lemmas.List.{drop_more, drop_all}
 use Rattle.klsm_run.specs.declared.item.Item.{Item}
 use Rattle.klsm_parts.specs.Events.{minus}
-use Rattle.klsm_world.proofs.lists.RestLemmas.{no_item}
+use Rattle.klsm_world.proofs.lemmas.lists.RestLemmas.{no_item}
 use Rattle.klsm_world.proofs.contents.take_all_out.Goals as goal
 
 pub loop-item-init : goal.loop-item-init

@@ -1,7 +1,7 @@
 use Rattle.std.proofs.Common.{◌≡◌, ◌∙◌, Some, None, subst}
 use Rattle.std.specs.List.{position}
 use Rattle.klsm_run.specs.ItemOrder.{is_same}
-use Rattle.klsm_world.proofs.lists.PlacingLemmas.{without_at, without_nowhere}
+use Rattle.klsm_world.proofs.lemmas.lists.PlacingLemmas.{without_at, without_nowhere}
 use Rattle.klsm_world.proofs.contents.take_out.Goals as goal
 
 pub returns-in-Some : goal.returns-in-Some

@@ -1,7 +1,7 @@
 use Rattle.std.proofs.Common.{◌++◌, drop, get_or, sym, ap, arith}
 use Rattle.klsm_run.specs.Content.{sorted}
-use Rattle.klsm_world.proofs.lists.PlacingLemmas.{length_smaller, merged_more, merged_all}
-use Rattle.klsm_world.proofs.lists.RestLemmas.{no_item}
+use Rattle.klsm_world.proofs.lemmas.lists.PlacingLemmas.{length_smaller, merged_more, merged_all}
+use Rattle.klsm_world.proofs.lemmas.lists.RestLemmas.{no_item}
 use Rattle.klsm_world.proofs.contents.with_all.Goals as goal
 
 pub loop-item-init : goal.loop-item-init

@@ -1,4 +1,4 @@
-use Rattle.klsm_world.proofs.theorems.AccountLemmas.{accounts_add_up, deletions_are_few}
+use Rattle.klsm_world.proofs.lemmas.theorems.AccountLemmas.{accounts_add_up, deletions_are_few}
 use Rattle.klsm_world.proofs.laws.accounts_add_up.Goals as goal
 
 pub returns-clause-sum : goal.returns-clause-sum

@@ -1,4 +1,4 @@
-use Rattle.klsm_world.proofs.theorems.FoundContentLemmas.{found_is_content}
+use Rattle.klsm_world.proofs.lemmas.theorems.FoundContentLemmas.{found_is_content}
 use Rattle.klsm_world.proofs.laws.acquires_find_contents.Goals as goal
 
 pub returns : goal.returns

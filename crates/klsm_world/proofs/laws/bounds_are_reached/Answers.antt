@@ -1,4 +1,4 @@
-use Rattle.klsm_world.proofs.theorems.ReachedLemmas.{most_left_is_reached, most_skipped_is_reached, most_skipped_early_is_reached}
+use Rattle.klsm_world.proofs.lemmas.theorems.ReachedLemmas.{most_left_is_reached, most_skipped_is_reached, most_skipped_early_is_reached}
 use Rattle.klsm_world.proofs.laws.bounds_are_reached.Goals as goal
 
 pub returns-clause-takes : goal.returns-clause-takes

@@ -1,4 +1,4 @@
-use Rattle.klsm_world.proofs.theorems.OwnEventLemmas.{lists_have_events}
+use Rattle.klsm_world.proofs.lemmas.theorems.OwnEventLemmas.{lists_have_events}
 use Rattle.klsm_world.proofs.laws.lists_have_events.Goals as goal
 
 pub returns : goal.returns

@@ -1,4 +1,4 @@
-use Rattle.klsm_world.proofs.theorems.OwnListLemmas.{hands_are_apart, next_is_new_in_hand, own_deletions_are_few, lists_skip_few, lists_skip_few_early, lists_keep_order, lists_keep_order_early, lists_leave_few}
+use Rattle.klsm_world.proofs.lemmas.theorems.OwnListLemmas.{hands_are_apart, next_is_new_in_hand, own_deletions_are_few, lists_skip_few, lists_skip_few_early, lists_keep_order, lists_keep_order_early, lists_leave_few}
 use Rattle.klsm_world.proofs.laws.own_lists_tell.Goals as goal
 
 pub returns-clause-takes : goal.returns-clause-takes

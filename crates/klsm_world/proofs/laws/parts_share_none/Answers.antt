@@ -1,4 +1,4 @@
-use Rattle.klsm_world.proofs.theorems.LiveOnceLemmas.{live_items_differ, parts_share_none}
+use Rattle.klsm_world.proofs.lemmas.theorems.LiveOnceLemmas.{live_items_differ, parts_share_none}
 use Rattle.klsm_world.proofs.laws.parts_share_none.Goals as goal
 
 pub returns-clause-differ : goal.returns-clause-differ

@@ -1,4 +1,4 @@
-use Rattle.klsm_world.proofs.theorems.RefusedLemmas.{refused_is_not_legal}
+use Rattle.klsm_world.proofs.lemmas.theorems.RefusedLemmas.{refused_is_not_legal}
 use Rattle.klsm_world.proofs.laws.refused_steps_are_not_legal.Goals as goal
 
 pub returns : goal.returns

@@ -1,5 +1,5 @@
-use Rattle.klsm_world.proofs.lawful.LawfulLemmas.{lawful_kept}
-use Rattle.klsm_world.proofs.theorems.RunLemmas.{schedules_keep_lawful}
+use Rattle.klsm_world.proofs.lemmas.lawful.LawfulLemmas.{lawful_kept}
+use Rattle.klsm_world.proofs.lemmas.theorems.RunLemmas.{schedules_keep_lawful}
 use Rattle.klsm_world.proofs.laws.steps_keep_lawful.Goals as goal
 
 pub returns-clause-steps : goal.returns-clause-steps

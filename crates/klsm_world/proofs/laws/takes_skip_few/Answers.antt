@@ -1,4 +1,4 @@
-use Rattle.klsm_world.proofs.theorems.SkipLemmas.{live_takes_skip_few, live_earlies_skip_few, live_nothing_leaves_few}
+use Rattle.klsm_world.proofs.lemmas.theorems.SkipLemmas.{live_takes_skip_few, live_earlies_skip_few, live_nothing_leaves_few}
 use Rattle.klsm_world.proofs.laws.takes_skip_few.Goals as goal
 
 pub returns-clause-takes : goal.returns-clause-takes

@@ -7,9 +7,9 @@ use Rattle.klsm_world.specs.WorldView.{WorldView}
 use Rattle.klsm_world.specs.Schedules.{MayStep, next}
 use Rattle.klsm_world.specs.Traces.{IsTrace}
 use Rattle.klsm_world.specs.Worlds.{Limits, first_world, limits_of}
-use Rattle.klsm_world.proofs.traces.StartLemmas.{are_limits, run_lacks_memory, run_not_started}
-use Rattle.klsm_world.proofs.traces.TraceLemmas.{HasRun, has_run_more}
-use Rattle.klsm_world.proofs.traces.TraceEndLemmas.{trace_of_run, refused_by_step, greater_of}
+use Rattle.klsm_world.proofs.lemmas.traces.StartLemmas.{are_limits, run_lacks_memory, run_not_started}
+use Rattle.klsm_world.proofs.lemmas.traces.TraceLemmas.{HasRun, has_run_more}
+use Rattle.klsm_world.proofs.lemmas.traces.TraceEndLemmas.{trace_of_run, refused_by_step, greater_of}
 use Rattle.klsm_world.proofs.running.run.Goals as goal
 
 pub returns-in-Err : goal.returns-in-Err

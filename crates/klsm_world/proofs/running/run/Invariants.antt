@@ -1,7 +1,7 @@
 use Rattle.std.proofs.Common.{◌≡◌}
 use Rattle.klsm_world.specs.WorldView.{AreLimits}
 use Rattle.klsm_world.specs.Worlds.{limits_of}
-use Rattle.klsm_world.proofs.traces.TraceLemmas.{HasRun}
+use Rattle.klsm_world.proofs.lemmas.traces.TraceLemmas.{HasRun}
 use Rattle.klsm_world.proofs.running.run.Given as goal
 
 -- the steps before `index` have run

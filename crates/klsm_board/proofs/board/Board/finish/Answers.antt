@@ -6,7 +6,7 @@ use lib.ListN.{get_elem?}
 use Rattle.atomic_table.specs.Table.{Final, Seen}
 use Rattle.klsm_parts.specs.Parts.{PartState}
 use Rattle.klsm_world.specs.OwnSteps.{inserted, deleted}
-use Rattle.klsm_world.proofs.kept.LiveListLemmas.{sorted_by_sort}
+use Rattle.klsm_world.proofs.lemmas.kept.LiveListLemmas.{sorted_by_sort}
 use Rattle.klsm_parts.proofs.FitLemmas.{local_fits, shared_fits}
 use Rattle.klsm_board.specs.declared.board.Member.{Member}
 use Rattle.klsm_board.specs.declared.errors.FinishError.{FinishError}
@@ -18,8 +18,8 @@ use Rattle.klsm_board.specs.declared.slot.Slot.{Slot}
 use Rattle.klsm_board.specs.Rule.{Ruled}
 use Rattle.klsm_board.specs.Slots.{slot_content, IsSlotOf}
 use Rattle.klsm_board.specs.Finishing.{AreAll, IsLeastAbsent, Knows, lists_of}
-use Rattle.klsm_board.proofs.ending.CloseLemmas.{IsClosed, closes_board}
-use Rattle.klsm_board.proofs.ending.EndLemmas.{each_of, least_is_one, place_within}
+use Rattle.klsm_board.proofs.lemmas.ending.CloseLemmas.{IsClosed, closes_board}
+use Rattle.klsm_board.proofs.lemmas.ending.EndLemmas.{each_of, least_is_one, place_within}
 use Rattle.klsm_board.proofs.board.Board.finish.Goals as goal
 
 -- a closed board has what the account of its own sizes leaves

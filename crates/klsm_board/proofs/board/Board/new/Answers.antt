@@ -1,6 +1,6 @@
 use Rattle.std.proofs.Common.{rules}
 use Rattle.klsm_parts.proofs.FitLemmas.{local_fits, shared_fits}
-use Rattle.klsm_board.proofs.table.MakeLemmas.{memory_is_not_threads, memory_is_not_k, memory_is_not_quota}
+use Rattle.klsm_board.proofs.lemmas.table.MakeLemmas.{memory_is_not_threads, memory_is_not_k, memory_is_not_quota}
 use Rattle.klsm_board.proofs.board.Board.new.Goals as goal
 
 pub drop-board-requires-room-P-TableRule : goal.drop-board-requires-room-P-TableRule

@@ -6,8 +6,8 @@ use Rattle.klsm_parts.proofs.FitLemmas.{local_fits, shared_fits}
 use Rattle.klsm_board.specs.Steps.{mine}
 use Rattle.klsm_board.specs.Seats.{Has, Stands}
 use Rattle.klsm_board.specs.Slots.{slot_content, IsSlotOf}
-use Rattle.klsm_board.proofs.seats.RestLemmas.{stands_holding, rests_after}
-use Rattle.klsm_board.proofs.calls.AddedLemmas.{quiet_same}
+use Rattle.klsm_board.proofs.lemmas.seats.RestLemmas.{stands_holding, rests_after}
+use Rattle.klsm_board.proofs.lemmas.calls.AddedLemmas.{quiet_same}
 use Rattle.klsm_board.proofs.board.Held.put_back.Goals as goal
 
 pub release_part-requires-clause-has : goal.release_part-requires-clause-has

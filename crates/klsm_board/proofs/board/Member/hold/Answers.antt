@@ -6,9 +6,9 @@ use Rattle.klsm_parts.proofs.FitLemmas.{local_fits, shared_fits}
 use Rattle.klsm_board.specs.Steps.{mine}
 use Rattle.klsm_board.specs.Seats.{Has, Stands}
 use Rattle.klsm_board.specs.Slots.{slot_content, IsSlotOf}
-use Rattle.klsm_board.proofs.hands.CommitLemmas.{has_still}
-use Rattle.klsm_board.proofs.seats.RestLemmas.{content_held, stands_at_rest, rests_after, holds_after}
-use Rattle.klsm_board.proofs.calls.AddedLemmas.{quiet_same}
+use Rattle.klsm_board.proofs.lemmas.hands.CommitLemmas.{has_still}
+use Rattle.klsm_board.proofs.lemmas.seats.RestLemmas.{content_held, stands_at_rest, rests_after, holds_after}
+use Rattle.klsm_board.proofs.lemmas.calls.AddedLemmas.{quiet_same}
 use Rattle.klsm_board.proofs.board.Member.hold.Goals as goal
 
 pub try_acquire-requires-clause-has : goal.try_acquire-requires-clause-has
@@ -17,8 +17,8 @@ try_acquire-requires-clause-has g c =
     ([], subst (λ m. Stands slot_content IsSlotOf m me.number [] me.seat.me) (sym same) (stands_at_rest g.row.CAP me.sizes me.in_range me.number me.inserted me.deleted me.seat.me me.rests), refl)
 
 -- the lock was held
-pub invariant_of-result : goal.invariant_of-result
-invariant_of-result g c =
+pub invariant_of-self : goal.invariant_of-self
+invariant_of-self g c =
     let me = c.args.self in let t = me.number in let board = c.args.board.now in let same = board.key ∙ sym c.requires.board.1 in let rests = me.rests in
     let stands = subst (λ m. Stands slot_content IsSlotOf m t [] me.seat.me) (sym same) (stands_at_rest g.row.CAP me.sizes me.in_range t me.inserted me.deleted me.seat.me rests) in
     let after = c.try_acquire.new.seat.me in let busy = c.in-Err.ensures.busy in
@@ -39,8 +39,8 @@ look-len-requires-clause-carries g c =
     let acquired = c.in_default.ensures.ok [] stands in
     (acquired.0, acquired.1.carries)
 
-pub invariant_of-result-2 : goal.invariant_of-result-2
-invariant_of-result-2 g c =
+pub invariant_of-result : goal.invariant_of-result
+invariant_of-result g c =
     let me = c.args.self in let t = me.number in let board = c.args.board.now in let same = board.key ∙ sym c.requires.board.1 in let rests = me.rests in
     let stands = subst (λ m. Stands slot_content IsSlotOf m t [] me.seat.me) (sym same) (stands_at_rest g.row.CAP me.sizes me.in_range t me.inserted me.deleted me.seat.me rests) in
     let after = c.look-len.new.seat.me in let acquired = c.in_default.ensures.ok [] stands in

@@ -12,8 +12,8 @@ use Rattle.klsm_board.specs.Steps.{mine}
 use Rattle.klsm_board.specs.Inserting.{Inserts, RefusesInsertWaiting, stamped}
 use Rattle.klsm_board.specs.Seats.{Has, Stands}
 use Rattle.klsm_board.specs.Slots.{slot_content, IsSlotOf}
-use Rattle.klsm_board.proofs.seats.RestLemmas.{stands_at_rest, rests_after}
-use Rattle.klsm_board.proofs.calls.AddedLemmas.{inserts_gain, refused_waiting_gains, gained_counts, began_waiting, passed_on, no_error}
+use Rattle.klsm_board.proofs.lemmas.seats.RestLemmas.{stands_at_rest, rests_after}
+use Rattle.klsm_board.proofs.lemmas.calls.AddedLemmas.{inserts_gain, refused_waiting_gains, gained_counts, began_waiting, passed_on, no_error}
 use Rattle.klsm_board.proofs.board.Member.insert.Goals as goal
 
 pub invariant_of-self : goal.invariant_of-self

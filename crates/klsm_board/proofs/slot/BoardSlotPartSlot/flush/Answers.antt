@@ -3,8 +3,8 @@ use Rattle.klsm_run.proofs.SortedLemmas.{length_sorted}
 use Rattle.klsm_parts.specs.Parts.{items_in}
 use Rattle.klsm_parts.proofs.FitLemmas.{local_fits, shared_fits}
 use Rattle.klsm_board.specs.declared.slot.Slot.TheVariants.{Own, Common}
-use Rattle.klsm_board.proofs.slots.KindLemmas.{own_content, shared_content, is_full, absent_unsorted, apart_unsorted, keeps_own, keeps_shared, holds_own, holds_shared}
-use Rattle.klsm_board.proofs.slots.FlushLemmas.{flushed, lacks_room, own_keeps_k, common_keeps_k, unchanged}
+use Rattle.klsm_board.proofs.lemmas.slots.KindLemmas.{own_content, shared_content, is_full, absent_unsorted, apart_unsorted, keeps_own, keeps_shared, holds_own, holds_shared}
+use Rattle.klsm_board.proofs.lemmas.slots.FlushLemmas.{flushed, lacks_room, has_room, own_keeps_k, common_keeps_k, unchanged}
 use Rattle.klsm_board.proofs.slot.BoardSlotPartSlot.flush.Goals.{in_default-via-in-Own+in_default, in_default-via-in_default}
 use Rattle.klsm_board.proofs.slot.BoardSlotPartSlot.flush.Goals as goal
 
@@ -42,6 +42,15 @@ returns-clause-full g c =
     let parts = c.requires.parts in
     lacks_room g.row.LEVELS _ c.args.item c.args.self.now c.args.shared.now own common own_is common_is (length_sorted _)
     (is_full parts.0 _ c.args.self.now own own_is parts.2 parts.4) c.flush.result c.flush.ensures.full
+
+pub returns-clause-memory : goal.returns-clause-memory
+returns-clause-memory g c =
+    let own = c.get_mut.result.now in
+    let common = c.get_mut-in-Own-Common.result.now in
+    let own_is : c.args.self.now ≡ Own own = c.in-Own-Common.is-0 ∙ ap Own (sym c.get_mut.ensures.value) in
+    let common_is : c.args.shared.now ≡ Common common = c.in-Own-Common.is-1 ∙ ap Common (sym c.get_mut-in-Own-Common.ensures.value) in
+    has_room g.row.LEVELS _ c.args.item c.args.self.now c.args.shared.now own common own_is common_is (length_sorted _)
+    c.flush.ensures.moves c.flush.result c.flush.ensures.full
 
 pub returns-clause-kind : goal.returns-clause-kind
 returns-clause-kind g c = λ k t.

@@ -1,7 +1,7 @@
 use Rattle.std.proofs.Common.{◌∙◌, ap}
 use Rattle.klsm_parts.specs.Parts.{least_in}
-use Rattle.klsm_board.proofs.slots.KindLemmas.{own_content, shared_content}
-use Rattle.klsm_board.proofs.slots.TakeLemmas.{least_told}
+use Rattle.klsm_board.proofs.lemmas.slots.KindLemmas.{own_content, shared_content}
+use Rattle.klsm_board.proofs.lemmas.slots.TakeLemmas.{least_told}
 use Rattle.klsm_board.proofs.slot.BoardSlotPartSlot.least.Goals as goal
 
 pub returns-in-Own-clause-least : goal.returns-in-Own-clause-least

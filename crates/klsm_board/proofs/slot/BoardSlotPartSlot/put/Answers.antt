@@ -2,7 +2,7 @@ use Rattle.std.proofs.Common.{◌≡◌, sym, ap, ◌∙◌, subst}
 use Rattle.std.specs.List.{Contains}
 use Rattle.klsm_parts.proofs.FitLemmas.{local_fits}
 use Rattle.klsm_board.specs.declared.slot.Slot.TheVariants.{Own}
-use Rattle.klsm_board.proofs.slots.KindLemmas.{own_content, keeps_own, put_done, holds_own}
+use Rattle.klsm_board.proofs.lemmas.slots.KindLemmas.{own_content, keeps_own, put_done, holds_own}
 use Rattle.klsm_board.proofs.slot.BoardSlotPartSlot.put.Goals as goal
 
 pub put_where_room-requires : goal.put_where_room-requires

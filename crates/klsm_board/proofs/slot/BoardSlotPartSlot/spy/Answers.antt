@@ -2,8 +2,8 @@ use Rattle.std.proofs.Common.{◌≡◌, sym, ap, ◌∙◌}
 use Rattle.klsm_parts.specs.Parts.{PartState}
 use Rattle.klsm_parts.proofs.FitLemmas.{local_fits}
 use Rattle.klsm_board.specs.declared.slot.Slot.TheVariants.{Own}
-use Rattle.klsm_board.proofs.slots.KindLemmas.{own_content, own_k, keeps_own, holds_own}
-use Rattle.klsm_board.proofs.slots.SpyLemmas.{has_spied}
+use Rattle.klsm_board.proofs.lemmas.slots.KindLemmas.{own_content, own_k, keeps_own, holds_own}
+use Rattle.klsm_board.proofs.lemmas.slots.SpyLemmas.{has_spied}
 use Rattle.klsm_board.proofs.slot.BoardSlotPartSlot.spy.Goals.{in_default-via-in-Own+in_default, in_default-via-in_default}
 use Rattle.klsm_board.proofs.slot.BoardSlotPartSlot.spy.Goals as goal
 

@@ -1,8 +1,8 @@
 use Rattle.std.proofs.Common.{◌≡◌, sym, ap, ◌∙◌}
 use Rattle.klsm_parts.proofs.FitLemmas.{local_fits, shared_fits}
 use Rattle.klsm_board.specs.declared.slot.Slot.TheVariants.{Own, Common}
-use Rattle.klsm_board.proofs.slots.KindLemmas.{own_content, shared_content, own_k, shared_k, apart_unsorted, keeps_own, keeps_shared, holds_own, holds_shared}
-use Rattle.klsm_board.proofs.slots.TakeLemmas.{taken, own_keeps_k, common_keeps_k}
+use Rattle.klsm_board.proofs.lemmas.slots.KindLemmas.{own_content, shared_content, own_k, shared_k, apart_unsorted, keeps_own, keeps_shared, holds_own, holds_shared}
+use Rattle.klsm_board.proofs.lemmas.slots.TakeLemmas.{taken, own_keeps_k, common_keeps_k}
 use Rattle.klsm_board.proofs.slot.BoardSlotPartSlot.take.Goals.{in_default-via-in-Own+in_default, in_default-via-in_default}
 use Rattle.klsm_board.proofs.slot.BoardSlotPartSlot.take.Goals as goal
 

@@ -2,7 +2,7 @@ use Rattle.std.specs.List.{flat_map}
 use Rattle.std.proofs.Common.{arith, length, ◌≡◌, ◌+◌}
 use Rattle.klsm_world.specs.Kept.{entry_of}
 use Rattle.klsm_world.specs.OwnSteps.{inserted, inserted_by, event_at}
-use Rattle.klsm_world.proofs.kept.InsertionLemmas.{few_inserted, one_inserted, none_inserted, inserted_with}
+use Rattle.klsm_world.proofs.lemmas.kept.InsertionLemmas.{few_inserted, one_inserted, none_inserted, inserted_with}
 use Rattle.klsm_world.proofs.own_steps.OwnSteps.push.Goals as goal
 use Rattle.klsm_world.proofs.own_steps.OwnSteps.push.Goals.{in-Put, in_default}
 

@@ -2,9 +2,9 @@ use Rattle.std.proofs.Common.{[], ◌∙◌, sym, subst, refl, arith}
 use Rattle.std.proofs.lemmas.List.{get_or_read}
 use Rattle.klsm_world.specs.Kept.{IsKept}
 use Rattle.klsm_world.specs.Worlds.{Limits, limits_of}
-use Rattle.klsm_world.proofs.kept.TakenLemmas.{acquire_taken}
-use Rattle.klsm_world.proofs.kept.MemoryLemmas.{lists_kept, refused_for_memory}
-use Rattle.klsm_world.proofs.kept.PlaceLemmas.{part_place, list_place}
+use Rattle.klsm_world.proofs.lemmas.kept.TakenLemmas.{acquire_taken}
+use Rattle.klsm_world.proofs.lemmas.kept.MemoryLemmas.{lists_kept, refused_for_memory}
+use Rattle.klsm_world.proofs.lemmas.kept.PlaceLemmas.{part_place, list_place}
 use Rattle.klsm_world.proofs.world.World.acquire.Goals as goal
 
 pub invariant_of-self-2 : goal.invariant_of-self-2

@@ -1,6 +1,6 @@
 use Rattle.std.proofs.Common.{◌≡◌, ◌<◌, false, true}
 use Rattle.klsm_world.specs.Refusals.{NamesNoVictim, parts_for}
-use Rattle.klsm_world.proofs.hands.RefusalLemmas.{named_thread, lacks_one}
+use Rattle.klsm_world.proofs.lemmas.hands.RefusalLemmas.{named_thread, lacks_one}
 use Rattle.klsm_world.proofs.world.World.check_commit.Goals as goal
 
 pub returns-then-not-holds_all-clause-refused : goal.returns-then-not-holds_all-clause-refused

@@ -1,6 +1,6 @@
 use Rattle.std.proofs.Common.{◌≡◌, ◌<◌, false, true, refl, ◌∷◌, []}
 use Rattle.klsm_world.specs.Worlds.{content_of}
-use Rattle.klsm_world.proofs.hands.RefusalLemmas.{named_thread, holds_named, lacks_one}
+use Rattle.klsm_world.proofs.lemmas.hands.RefusalLemmas.{named_thread, holds_named, lacks_one}
 use Rattle.klsm_world.proofs.world.World.check_release.Goals as goal
 
 pub returns-then-not-holds-clause-refused : goal.returns-then-not-holds-clause-refused

@@ -2,9 +2,9 @@ use Rattle.std.proofs.Common.{refl, sym, subst}
 use Rattle.klsm_world.specs.declared.step.Event.TheVariants.{Nothing}
 use Rattle.klsm_world.specs.Kept.{IsKept}
 use Rattle.klsm_world.specs.Worlds.{Limits, limits_of}
-use Rattle.klsm_world.proofs.kept.TakenLemmas.{commit_taken}
-use Rattle.klsm_world.proofs.kept.MemoryLemmas.{lists_kept, refused_for_memory}
-use Rattle.klsm_world.proofs.kept.PlaceLemmas.{list_place}
+use Rattle.klsm_world.proofs.lemmas.kept.TakenLemmas.{commit_taken}
+use Rattle.klsm_world.proofs.lemmas.kept.MemoryLemmas.{lists_kept, refused_for_memory}
+use Rattle.klsm_world.proofs.lemmas.kept.PlaceLemmas.{list_place}
 use Rattle.klsm_world.proofs.world.World.find_nothing.Goals as goal
 
 pub invariant_of-self-2 : goal.invariant_of-self-2

@@ -3,9 +3,9 @@ use Rattle.klsm_run.proofs.SortedLemmas.{sorted_ascending}
 use Rattle.klsm_parts.specs.Events.{minus}
 use Rattle.klsm_world.specs.Kept.{IsKept}
 use Rattle.klsm_world.specs.Worlds.{Limits, limits_of}
-use Rattle.klsm_world.proofs.kept.CommitTakenLemmas.{flush_taken}
-use Rattle.klsm_world.proofs.kept.MemoryLemmas.{lists_kept, refused_for_memory}
-use Rattle.klsm_world.proofs.kept.PlaceLemmas.{ascending_place, list_place, own_place, shared_place}
+use Rattle.klsm_world.proofs.lemmas.kept.CommitTakenLemmas.{flush_taken}
+use Rattle.klsm_world.proofs.lemmas.kept.MemoryLemmas.{lists_kept, refused_for_memory}
+use Rattle.klsm_world.proofs.lemmas.kept.PlaceLemmas.{ascending_place, list_place, own_place, shared_place}
 use Rattle.klsm_world.proofs.world.World.flush.Goals as goal
 
 -- what moves at a legal flush ascends

@@ -10,8 +10,8 @@ use Rattle.klsm_world.specs.Refusals.{NamesNoVictim, parts_for}
 use Rattle.klsm_world.specs.WorldView.{WorldView}
 use Rattle.klsm_world.specs.Worlds.{hand_in, steps_of, content_of}
 use Rattle.klsm_run.specs.declared.item.Item.{Item}
-use Rattle.klsm_world.proofs.lists.ConditionLemmas.{empty_if_no_length}
-use Rattle.klsm_world.proofs.hands.HeldLemmas.{holds_both, holds_own}
+use Rattle.klsm_world.proofs.lemmas.lists.ConditionLemmas.{empty_if_no_length}
+use Rattle.klsm_world.proofs.lemmas.hands.HeldLemmas.{holds_both, holds_own}
 use Rattle.klsm_world.proofs.world.World.may_commit.Goals as goal
 
 pub returns-in-Take : goal.returns-in-Take

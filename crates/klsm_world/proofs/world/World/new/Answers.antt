@@ -1,8 +1,8 @@
 use Rattle.std.proofs.Common.{refl, ◌≡◌, ◌+◌, replicate, ap}
 use Rattle.klsm_world.specs.WorldView.{AreLimits}
 use Rattle.klsm_world.specs.Worlds.{Limits, World, limits_of}
-use Rattle.klsm_world.proofs.kept.NewLemmas.{first_is_new, first_is_kept}
-use Rattle.klsm_world.proofs.traces.StartLemmas.{some_thread, are_threads, is_k, only_memory, k_is_not_threads, memory_is_not_threads, memory_is_not_k}
+use Rattle.klsm_world.proofs.lemmas.kept.NewLemmas.{first_is_new, first_is_kept}
+use Rattle.klsm_world.proofs.lemmas.traces.StartLemmas.{some_thread, are_threads, is_k, only_memory, k_is_not_threads, memory_is_not_threads, memory_is_not_k}
 use Rattle.klsm_world.proofs.world.World.new.Goals as goal
 
 pub invariant_of-result : goal.invariant_of-result

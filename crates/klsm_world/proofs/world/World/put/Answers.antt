@@ -1,9 +1,9 @@
 use Rattle.std.proofs.Common.{◌∙◌, sym, subst, refl}
 use Rattle.klsm_world.specs.Kept.{IsKept}
 use Rattle.klsm_world.specs.Worlds.{Limits, limits_of}
-use Rattle.klsm_world.proofs.kept.CommitTakenLemmas.{put_taken}
-use Rattle.klsm_world.proofs.kept.MemoryLemmas.{lists_kept, refused_for_memory}
-use Rattle.klsm_world.proofs.kept.PlaceLemmas.{ascending_place, list_place, own_place}
+use Rattle.klsm_world.proofs.lemmas.kept.CommitTakenLemmas.{put_taken}
+use Rattle.klsm_world.proofs.lemmas.kept.MemoryLemmas.{lists_kept, refused_for_memory}
+use Rattle.klsm_world.proofs.lemmas.kept.PlaceLemmas.{ascending_place, list_place, own_place}
 use Rattle.klsm_world.proofs.world.World.put.Goals as goal
 
 pub invariant_of-self-2 : goal.invariant_of-self-2

@@ -1,9 +1,9 @@
 use Rattle.std.proofs.Common.{refl, sym, subst, arith}
 use Rattle.klsm_world.specs.Kept.{IsKept}
 use Rattle.klsm_world.specs.Worlds.{Limits, limits_of}
-use Rattle.klsm_world.proofs.kept.TakenLemmas.{release_taken}
-use Rattle.klsm_world.proofs.kept.MemoryLemmas.{lists_kept, refused_for_memory}
-use Rattle.klsm_world.proofs.kept.PlaceLemmas.{held_place, list_place}
+use Rattle.klsm_world.proofs.lemmas.kept.TakenLemmas.{release_taken}
+use Rattle.klsm_world.proofs.lemmas.kept.MemoryLemmas.{lists_kept, refused_for_memory}
+use Rattle.klsm_world.proofs.lemmas.kept.PlaceLemmas.{held_place, list_place}
 use Rattle.klsm_world.proofs.world.World.release.Goals as goal
 
 pub invariant_of-self-2 : goal.invariant_of-self-2

@@ -4,7 +4,7 @@ use Rattle.klsm_run.specs.declared.item.Item.{Item}
 use Rattle.klsm_run.specs.Content.{skipped}
 use Rattle.klsm_world.specs.WorldView.{WorldView}
 use Rattle.klsm_world.specs.Worlds.{live}
-use Rattle.klsm_world.proofs.kept.LiveListLemmas.{live_joined}
+use Rattle.klsm_world.proofs.lemmas.kept.LiveListLemmas.{live_joined}
 use Rattle.klsm_world.proofs.world.World.skipped.Goals as goal
 
 pub returns-clause-skipped : goal.returns-clause-skipped

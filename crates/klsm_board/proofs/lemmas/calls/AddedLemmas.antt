@@ -1,0 +1,119 @@
+-- The events of each call's entries.
+use Rattle.std.proofs.Common.{◌≡◌, ℕ, ◌+◌, List, [], ◌∷◌, ◌++◌, length, sym, refl, ap, ◌∙◌, inl, inr, arith, Result, Ok, Err, IfErr, IsErrAnd}
+use Rattle.std.proofs.lemmas.List.{append-nil, length-append}
+use Rattle.std.specs.List.{flat_map}
+use Rattle.klsm_run.specs.declared.item.Item.{Item}
+use Rattle.klsm_world.specs.declared.step.Event.{Event}
+use Rattle.klsm_world.specs.declared.step.Event.TheVariants.{Put, Flush}
+use Rattle.klsm_world.specs.declared.step.Entry.{Entry}
+use Rattle.klsm_world.specs.declared.step.Entry.TheVariants.{Committed, Released, Missed}
+use Rattle.klsm_world.specs.OwnSteps.{inserted, inserted_by, deleted, deleted_by, own_part}
+use Rattle.klsm_board.specs.declared.errors.TryInsertError.{TryInsertError}
+use Rattle.klsm_board.specs.declared.errors.TryInsertError.TheVariants as try_insert
+use Rattle.klsm_board.specs.declared.errors.InsertError.{InsertError}
+use Rattle.klsm_board.specs.declared.errors.InsertError.TheVariants as insert
+use Rattle.klsm_board.specs.Entries.{own_acquired, both_acquired, both_released}
+use Rattle.klsm_board.specs.Inserting.{Puts, Flushes, GivesUp, Inserts, LacksRoom, IsBelowLimit, RefusesInsert, RefusesInsertWaiting}
+use Rattle.klsm_board.proofs.lemmas.calls.EventLemmas.{events, IsQuiet, same_events}
+use Rattle.klsm_board.proofs.lemmas.calls.AddLemmas.{goes_on, inserts, deletes, own_quiet, both_quiet}
+
+-- what a list inserts and deletes more than another
+pub record Gains (es es' : List Entry) (ins dels : List Item) : Type 0 where
+  pub inserted_are : inserted es' ≡ inserted es ++ ins
+  pub deleted_are : deleted es' ≡ deleted es ++ dels
+
+-- an insertion
+pub puts_events : (k t : ℕ) (misses : List ℕ) (es es' : List Entry) (x : Item) → Puts k t misses es es' x → events es' ≡ events es ++ Put x ∷ []
+puts_events k t misses es es' x puts =
+    goes_on es (own_acquired t misses puts.own es) (Committed (Put x) ∷ Released (own_part t) ∷ []) es' (own_quiet t misses puts.own es) puts.steps
+
+puts_gain : (k t : ℕ) (misses : List ℕ) (es es' : List Entry) (x : Item) → Puts k t misses es es' x → Gains es es' (x ∷ []) []
+puts_gain k t misses es es' x puts =
+    let added : List Event = Put x ∷ [] in
+    let e = puts_events k t misses es es' x puts in
+    record { inserted_are = inserts es es' added e; deleted_are = deletes es es' added e }
+
+pub flushes_events : (levels k t : ℕ) (own_misses shared_misses : List ℕ) (es es' : List Entry) (x : Item) → (f : Flushes levels k t own_misses shared_misses es es' x) → events es' ≡ events es ++ Flush x f.moved ∷ []
+flushes_events levels k t own_misses shared_misses es es' x f =
+    goes_on es (both_acquired t own_misses shared_misses f.own f.shared es) (Committed (Flush x f.moved) ∷ both_released t) es' (both_quiet t own_misses shared_misses f.own f.shared es) f.steps
+
+flushes_gain : (levels k t : ℕ) (own_misses shared_misses : List ℕ) (es es' : List Entry) (x : Item) → Flushes levels k t own_misses shared_misses es es' x → Gains es es' (x ∷ []) []
+flushes_gain levels k t own_misses shared_misses es es' x f =
+    let added : List Event = Flush x f.moved ∷ [] in
+    let e = flushes_events levels k t own_misses shared_misses es es' x f in
+    record { inserted_are = inserts es es' added e; deleted_are = deletes es es' added e }
+
+pub inserts_gain : (levels k t : ℕ) (own_misses shared_misses : List ℕ) (es es' : List Entry) (x : Item) → Inserts levels k t own_misses shared_misses es es' x → Gains es es' (x ∷ []) []
+inserts_gain levels k t own_misses shared_misses es es' x (inl puts) = puts_gain k t own_misses es es' x puts
+inserts_gain levels k t own_misses shared_misses es es' x (inr f) = flushes_gain levels k t own_misses shared_misses es es' x f
+
+-- entries without an event
+pub quiet_gains : (es es' : List Entry) → events es' ≡ events es → Gains es es' [] []
+quiet_gains es es' same =
+    let e : events es' ≡ events es ++ [] = same ∙ sym (append-nil (events es)) in
+    record { inserted_are = inserts es es' [] e; deleted_are = deletes es es' [] e }
+
+-- entries without an event behind a list leave it its insertions and deletions
+pub record Same (es es' : List Entry) : Type 0 where
+  pub inserted_are : inserted es' ≡ inserted es
+  pub deleted_are : deleted es' ≡ deleted es
+
+pub quiet_same : (es fs es' : List Entry) → es' ≡ es ++ fs → IsQuiet fs → Same es es'
+quiet_same es fs es' is quiet =
+    let same : events es' ≡ events es = same_events es fs es' is quiet in
+    record { inserted_are = ap (flat_map inserted_by) same; deleted_are = ap (flat_map deleted_by) same }
+
+-- a call that gave up
+gives_up_events : (k t : ℕ) (own_misses shared_misses : List ℕ) (es es' : List Entry) (Lacks : List Item → Type 0) → GivesUp k t own_misses shared_misses es es' Lacks → events es' ≡ events es
+gives_up_events k t own_misses shared_misses es es' Lacks up =
+    same_events (both_acquired t own_misses shared_misses up.own up.shared es) (both_released t) es' up.steps refl ∙ both_quiet t own_misses shared_misses up.own up.shared es
+
+gives_up_gains : (k t : ℕ) (own_misses shared_misses : List ℕ) (es es' : List Entry) (Lacks : List Item → Type 0) → GivesUp k t own_misses shared_misses es es' Lacks → Gains es es' [] []
+gives_up_gains k t own_misses shared_misses es es' Lacks up = quiet_gains es es' (gives_up_events k t own_misses shared_misses es es' Lacks up)
+
+-- how many these are
+pub gained_counts : (es es' : List Entry) (ins dels : List Item) (i d : ℕ) → Gains es es' ins dels → length (inserted es) ≡ i → length (deleted es) ≡ d
+    → (length (inserted es') ≡ i + length ins) × (length (deleted es') ≡ d + length dels)
+gained_counts es es' ins dels i d gains counts counts' =
+    let a = ap (λ (z : List Item). length z) gains.inserted_are ∙ length-append (inserted es) ins in
+    let b = ap (λ (z : List Item). length z) gains.deleted_are ∙ length-append (deleted es) dels in
+    (omega (arith, a, counts), omega (arith, b, counts'))
+
+-- why a try to insert was refused, once it began
+pub refused_gains : (levels k t : ℕ) (es es' : List Entry) (why : TryInsertError) → RefusesInsert ⊥ levels k t es es' why → Gains es es' [] []
+refused_gains levels k t es es' try_insert.Spent told = absurd told.0
+refused_gains levels k t es es' (try_insert.Busy busy) (inl own) = quiet_gains es es' (same_events es (Missed (own_part t) busy.by ∷ []) es' own.steps refl)
+refused_gains levels k t es es' (try_insert.Busy busy) (inr shared) =
+    quiet_gains es es' (same_events (own_acquired t [] shared.own es) (Missed 0 busy.by ∷ Released (own_part t) ∷ []) es' shared.steps refl ∙ own_quiet t [] shared.own es)
+refused_gains levels k t es es' try_insert.Full told = gives_up_gains k t [] [] es es' (LacksRoom levels k) told
+refused_gains levels k t es es' try_insert.NoMemory told = gives_up_gains k t [] [] es es' (IsBelowLimit levels) told
+
+-- the same of an insertion that may wait
+pub refused_waiting_events : (levels k t : ℕ) (es es' : List Entry) (why : InsertError) → RefusesInsertWaiting ⊥ levels k t es es' why → events es' ≡ events es
+refused_waiting_events levels k t es es' insert.Spent told = absurd told.0
+refused_waiting_events levels k t es es' insert.Full told = gives_up_events k t told.0 told.1 es es' (LacksRoom levels k) told.2
+refused_waiting_events levels k t es es' insert.NoMemory told = gives_up_events k t told.0 told.1 es es' (IsBelowLimit levels) told.2
+
+pub refused_waiting_gains : (levels k t : ℕ) (es es' : List Entry) (why : InsertError) → RefusesInsertWaiting ⊥ levels k t es es' why → Gains es es' [] []
+refused_waiting_gains levels k t es es' why told = quiet_gains es es' (refused_waiting_events levels k t es es' why told)
+
+-- a member that began the call is not one that may insert no more
+pub began : (Spent : Type 0) (levels k t : ℕ) (es es' : List Entry) (why : TryInsertError) → RefusesInsert ⊥ levels k t es es' why → RefusesInsert Spent levels k t es es' why
+began Spent levels k t es es' try_insert.Spent told = absurd told.0
+began Spent levels k t es es' (try_insert.Busy busy) told = told
+began Spent levels k t es es' try_insert.Full told = told
+began Spent levels k t es es' try_insert.NoMemory told = told
+
+pub began_waiting : (Spent : Type 0) (levels k t : ℕ) (es es' : List Entry) (why : InsertError) → RefusesInsertWaiting ⊥ levels k t es es' why → RefusesInsertWaiting Spent levels k t es es' why
+began_waiting Spent levels k t es es' insert.Spent told = absurd told.0
+began_waiting Spent levels k t es es' insert.Full told = told
+began_waiting Spent levels k t es es' insert.NoMemory told = told
+
+-- what is said of an error that was passed on
+pub passed_on : {T E : Type 0} (r : Result T E) (Q P : E → Type 0) → IsErrAnd r Q → ((why : E) → Q why → P why) → IfErr r P
+passed_on (Ok x) Q P is all = tt
+passed_on (Err why) Q P is all = all why is
+
+pub no_error : {T E : Type 0} (r : Result T E) (Q P : E → Type 0) → IsErrAnd r Q → IsErrAnd r P → ((why : E) → Q why → P why → ⊥) → ⊥
+no_error (Ok x) Q P is is' none = is
+no_error (Err why) Q P is is' none = none why is is'

@@ -1,0 +1,101 @@
+-- The events of a deletion's entries.
+use Rattle.std.proofs.Common.{◌≡◌, ℕ, zero, suc, ◌-◌, true, false, true≢false, length, List, [], ◌∷◌, ◌++◌, sym, refl, ap, ◌∙◌, inl, inr, append_assoc}
+use Rattle.std.specs.Prelude.{MatchOption, IsSomeAnd, Option, Some, None}
+use Rattle.std.specs.Option.{is_some, option_to_list}
+use Rattle.klsm_run.specs.declared.item.Item.{Item}
+use Rattle.klsm_world.specs.declared.step.Event.{Event}
+use Rattle.klsm_world.specs.declared.step.Event.TheVariants.{Take, Early, Nothing, Spy}
+use Rattle.klsm_world.specs.declared.step.Entry.{Entry}
+use Rattle.klsm_world.specs.declared.step.Entry.TheVariants.{Acquired, Committed, Released, Missed}
+use Rattle.klsm_world.specs.OwnSteps.{own_part}
+use Rattle.klsm_board.specs.declared.sizes.Sizes.{Sizes}
+use Rattle.klsm_board.specs.declared.errors.Busy.{Busy}
+use Rattle.klsm_board.specs.Entries.{own_acquired, both_acquired, both_released}
+use Rattle.klsm_board.specs.Deleting.{Passes, PassesBy, TakesOut, TakesEarly, TakesSpied, FindsNothing, Deletes, AnswersDeletion, MissesDeletion, victim_of}
+use Rattle.klsm_board.proofs.lemmas.calls.EventLemmas.{events, IsQuiet, events_append, quiet_append, same_events}
+use Rattle.klsm_board.proofs.lemmas.calls.AddLemmas.{goes_on, inserts, deletes, own_quiet, both_quiet}
+use Rattle.klsm_board.proofs.lemmas.calls.AddedLemmas.{Gains, quiet_gains}
+
+-- victims that were passed by
+pass_is_quiet : (victim : ℕ) (added : List Entry) → PassesBy victim added → IsQuiet added
+pass_is_quiet victim added (inl miss) = ap events miss.1
+pass_is_quiet victim added (inr empty) = ap events empty
+
+passes_are_quiet : (threads t n : ℕ) (added : List Entry) → Passes threads t n added → IsQuiet added
+passes_are_quiet threads t zero added none = ap events none
+passes_are_quiet threads t (suc n) added some =
+    ap events some.4 ∙ quiet_append some.0 some.1 (passes_are_quiet threads t n some.0 some.2) (pass_is_quiet (victim_of threads t (suc n)) some.1 some.3)
+
+-- a list that gained these events
+gained : (es es' : List Entry) (added : List Event) (ins dels : List Item) → events es' ≡ events es ++ added → (ins ≡ Rattle.std.specs.List.flat_map Rattle.klsm_world.specs.OwnSteps.inserted_by added) → (dels ≡ Rattle.std.specs.List.flat_map Rattle.klsm_world.specs.OwnSteps.deleted_by added) → Gains es es' ins dels
+gained es es' added ins dels e i d = record {
+  inserted_are = inserts es es' added e ∙ ap (λ z. Rattle.klsm_world.specs.OwnSteps.inserted es ++ z) (sym i);
+  deleted_are = deletes es es' added e ∙ ap (λ z. Rattle.klsm_world.specs.OwnSteps.deleted es ++ z) (sym d);
+}
+
+module _ (m : Sizes) (t : ℕ) (own shared : List Item) (es acquired es' : List Entry) (quiet : events acquired ≡ events es) where
+  pub takes_events : (x : Item) → TakesOut m t own shared acquired es' x → events es' ≡ events es ++ Take x ∷ []
+  takes_events x takes = goes_on es acquired (Committed (Take x) ∷ both_released t) es' quiet takes.steps
+
+  takes_gain : (x : Item) → TakesOut m t own shared acquired es' x → Gains es es' [] (x ∷ [])
+  takes_gain x takes = gained es es' (Take x ∷ []) [] (x ∷ []) (takes_events x takes) refl refl
+
+  pub spied_events : (x : Item) → (takes : TakesSpied m t own shared acquired es' x) → events es' ≡ events es ++ Spy (victim_of m.threads t (suc takes.spies.passed)) takes.moved ∷ Take x ∷ []
+  spied_events x takes =
+      let spies = takes.spies in let one = spies.spies in
+      let v : ℕ = victim_of m.threads t (suc spies.passed) in
+      let passed : events (acquired ++ spies.added) ≡ events es = same_events acquired spies.added (acquired ++ spies.added) refl (passes_are_quiet m.threads t spies.passed spies.added spies.passes) ∙ quiet in
+      let spied : events takes.spied ≡ events es ++ Spy v takes.moved ∷ [] =
+      goes_on es (acquired ++ spies.added) (Acquired (own_part v) one.found ∷ Committed (Spy v takes.moved) ∷ Released (own_part v) ∷ []) takes.spied passed one.steps in
+      ap events takes.steps ∙ (events_append takes.spied (Committed (Take x) ∷ both_released t) ∙ (ap (λ z. z ++ Take x ∷ []) spied ∙ append_assoc (events es) (Spy v takes.moved ∷ []) (Take x ∷ [])))
+
+  spied_gain : (x : Item) → TakesSpied m t own shared acquired es' x → Gains es es' [] (x ∷ [])
+  spied_gain x takes = gained es es' (Spy (victim_of m.threads t (suc takes.spies.passed)) takes.moved ∷ Take x ∷ []) [] (x ∷ []) (spied_events x takes) refl refl
+
+  pub nothing_events : FindsNothing m t own shared acquired es' → events es' ≡ events es ++ Nothing ∷ []
+  nothing_events finds =
+      let passed : events (acquired ++ finds.added) ≡ events es = same_events acquired finds.added (acquired ++ finds.added) refl (passes_are_quiet m.threads t (m.threads - 1) finds.added finds.passes) ∙ quiet in
+      goes_on es (acquired ++ finds.added) (Committed Nothing ∷ both_released t) es' passed finds.steps
+
+  nothing_gains : FindsNothing m t own shared acquired es' → Gains es es' [] []
+  nothing_gains finds = gained es es' (Nothing ∷ []) [] [] (nothing_events finds) refl refl
+
+  deletes_gain : {P : Type 0} (may_pick : P → ℕ → ℕ → P → Type 0) (before after : P) (x : Item) → Deletes may_pick before after m t own shared acquired es' x → Gains es es' [] (x ∷ [])
+  deletes_gain may_pick before after x (inl takes) = takes_gain x takes.0
+  deletes_gain may_pick before after x (inr takes) = spied_gain x takes.0
+
+  -- what a deletion answered is what the list deletes more
+  answer_gains : {P : Type 0} (may_pick : P → ℕ → ℕ → P → Type 0) (before after : P) (answer : Option Item) → MatchOption answer (FindsNothing m t own shared acquired es' × (after ≡ before)) (Deletes may_pick before after m t own shared acquired es')
+      → Gains es es' [] (option_to_list answer)
+  answer_gains may_pick before after None told = nothing_gains told.0
+  answer_gains may_pick before after (Some x) told = deletes_gain may_pick before after x told
+
+pub early_events : (m : Sizes) (t : ℕ) (own : List Item) (es acquired es' : List Entry) (x : Item) → events acquired ≡ events es → (told : TakesEarly m t own acquired es' x) → events es' ≡ events es ++ Early x told.front ∷ []
+early_events m t own es acquired es' x quiet told = goes_on es acquired (Committed (Early x told.front) ∷ Released (own_part t) ∷ []) es' quiet told.steps
+
+early_gains : (m : Sizes) (t : ℕ) (own : List Item) (es acquired es' : List Entry) (answer : Option Item) → events acquired ≡ events es → IsSomeAnd answer (λ x. TakesEarly m t own acquired es' x) → Gains es es' [] (option_to_list answer)
+early_gains m t own es acquired es' None quiet told = absurd told
+early_gains m t own es acquired es' (Some x) quiet told = gained es es' (Early x told.front ∷ []) [] (x ∷ []) (early_events m t own es acquired es' x quiet told) refl refl
+
+-- and so it is of each of the ways to answer
+pub answers_gain : {P : Type 0} (may_pick : P → ℕ → ℕ → P → Type 0) (before after : P) (m : Sizes) (t : ℕ) (own_misses shared_misses : List ℕ) (es es' : List Entry) (answer : Option Item)
+    → AnswersDeletion may_pick before after m t own_misses shared_misses es es' answer → Gains es es' [] (option_to_list answer)
+answers_gain may_pick before after m t own_misses shared_misses es es' answer (own, inl early) =
+    early_gains m t own es (own_acquired t own_misses own es) es' answer (own_quiet t own_misses own es) early.0
+answers_gain may_pick before after m t own_misses shared_misses es es' answer (own, inr both) =
+    answer_gains m t own both.0 es (both_acquired t own_misses shared_misses own both.0 es) es' (both_quiet t own_misses shared_misses own both.0 es) may_pick before after answer both.1
+
+-- how many items were answered
+pub some_is_one : {A : Type 0} (o : Option A) → is_some o ≡ true → length (option_to_list o) ≡ 1
+some_is_one None is = absurd (true≢false (sym is))
+some_is_one (Some a) is = refl
+
+pub none_is_zero : {A : Type 0} (o : Option A) → is_some o ≡ false → length (option_to_list o) ≡ 0
+none_is_zero None is = refl
+none_is_zero (Some a) is = absurd (true≢false is)
+
+-- a deletion that met a lock that was held
+pub misses_gain : (t : ℕ) (es es' : List Entry) (busy : Busy) → MissesDeletion t es es' busy → Gains es es' [] []
+misses_gain t es es' busy (inl own) = quiet_gains es es' (same_events es (Missed (own_part t) busy.by ∷ []) es' own.steps refl)
+misses_gain t es es' busy (inr shared) =
+    quiet_gains es es' (same_events (own_acquired t [] shared.own es) (Missed 0 busy.by ∷ Released (own_part t) ∷ []) es' shared.steps refl ∙ own_quiet t [] shared.own es)

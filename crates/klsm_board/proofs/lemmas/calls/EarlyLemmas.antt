@@ -1,0 +1,76 @@
+-- The deletion by the front, from the own part in hand.
+use Rattle.std.proofs.Common.{◌≡◌, ℕ, ◌<◌, ◌≤◌, List, [], ◌∷◌, ◌++◌, refl, sym, ap, ◌∙◌, subst, append_assoc}
+use Rattle.std.specs.Prelude.{MatchBool, ltb}
+use Rattle.std.proofs.lemmas.Bool.{lt-ltb, le-ltb}
+use Rattle.atomic_table.specs.Table.{Me, rest}
+use Rattle.klsm_run.specs.declared.item.Item.{Item}
+use Rattle.klsm_parts.specs.Least.{IsLeast}
+use Rattle.klsm_parts.specs.Events.{MayTakeEarly, own_after_early}
+use Rattle.klsm_world.specs.declared.step.Event.TheVariants.{Early}
+use Rattle.klsm_world.specs.declared.step.Entry.{Entry}
+use Rattle.klsm_world.specs.declared.step.Entry.TheVariants.{Committed, Released}
+use Rattle.klsm_world.specs.OwnSteps.{own_part}
+use Rattle.klsm_board.specs.declared.sizes.Sizes.{Sizes}
+use Rattle.klsm_board.specs.declared.rule.View.{View}
+use Rattle.klsm_board.specs.Rule.{IsReached}
+use Rattle.klsm_board.specs.Steps.{gain, mine}
+use Rattle.klsm_board.specs.Seats.{Has, own_in_hand}
+use Rattle.klsm_board.specs.Deleting.{TakesEarly}
+use Rattle.klsm_board.proofs.lemmas.seats.CarryLemmas.{first_of, first_here, first_changed}
+use Rattle.klsm_board.proofs.lemmas.seats.TurnLemmas.{as_rest}
+use Rattle.klsm_board.proofs.lemmas.hands.CommitLemmas.{early_done}
+use Rattle.klsm_board.proofs.lemmas.hands.PossibleLemmas.{early_skips_few, early_keeps_order}
+use Rattle.klsm_board.proofs.lemmas.table.SeatLemmas.{has_set, mine_set}
+
+module _ {S : Type 0} (content : S → List Item) (suits : ℕ → ℕ → S → Type 0) (m : Sizes) (t : ℕ) where
+  -- what a look at the front tells
+  abbrev LooksAt : Item → ℕ → Me S View → Me S View → Type 0
+  LooksAt x n me me' = MatchBool (ltb x.key n) ((me' ≡ (gain me.0 (Committed (Early x n)), me.1)) × IsReached m t (mine me'.0)) (me' ≡ me)
+
+  -- where the front is not above the least own key, the look leaves all as it is
+  pub looked_only : (x : Item) (n : ℕ) (me me' : Me S View) → n ≤ x.key → LooksAt x n me me' → me' ≡ me
+  looked_only x n me me' above told =
+      subst (λ b. MatchBool b ((me' ≡ (gain me.0 (Committed (Early x n)), me.1)) × IsReached m t (mine me'.0)) (me' ≡ me)) (le-ltb x.key n above) told
+
+  -- and else it commits an Early
+  pub looked_below : (x : Item) (n : ℕ) (me me' : Me S View) → x.key < n → LooksAt x n me me' → (me' ≡ (gain me.0 (Committed (Early x n)), me.1)) × IsReached m t (mine me'.0)
+  looked_below x n me me' below told =
+      subst (λ b. MatchBool b ((me' ≡ (gain me.0 (Committed (Early x n)), me.1)) × IsReached m t (mine me'.0)) (me' ≡ me)) (lt-ltb x.key n below) told
+
+  module _ (own : List Item) (x : Item) (n : ℕ) (me me' : Me S View) (has : Has content suits m t (own_in_hand t own) me) (least : IsLeast x own) (below : x.key < n) (told : LooksAt x n me me') where
+    -- what the seat has, once the item is out of the part
+    pub early_out : (y' : S) → content y' ≡ own_after_early own x → suits m.k (own_part t) y'
+        → Has content suits m t (own_in_hand t (own_after_early own x)) (me'.0, (own_part t, y') ∷ rest me'.1)
+    early_out y' is suit =
+        let now : Me S View = (me.0, (own_part t, y') ∷ rest me.1) in
+        let carries = first_changed content suits m t (own_part t) own (own_after_early own x) [] me y' has.carries is suit in
+        let out = early_done content suits m t own x n me now has refl (record { least = least; below = below }) carries in
+        let took = looked_below x n me me' below told in
+        has_set content suits m t (Early x n) (own_in_hand t (own_after_early own x)) now (me'.0, (own_part t, y') ∷ rest me'.1) out
+        (ap (λ (z : Me S View). (z.0, (own_part t, y') ∷ rest z.1)) took.0) took.1
+
+    -- and what the deletion adds to the list
+    pub takes_early : (es' : List Entry) → es' ≡ mine me'.0 ++ Released (own_part t) ∷ [] → TakesEarly m t own (mine me.0) es' x
+    takes_early es' released = let may : MayTakeEarly own x n = record { least = least; below = below } in let alone = has.carries.alone in record {
+      front = n;
+      may = may;
+      skips = early_skips_few content suits m t own me x n has may;
+      keeps = early_keeps_order content suits m t own me x n has may;
+      steps = released ∙ (ap (λ z. z ++ Released (own_part t) ∷ []) (mine_set content suits m t (Early x n) me me' alone (looked_below x n me me' below told).0)
+          ∙ append_assoc (mine me.0) (Committed (Early x n) ∷ []) (Released (own_part t) ∷ []));
+    }
+
+    slots_same : me'.1 ≡ me.1
+    slots_same = ap (λ (z : Me S View). z.1) (looked_below x n me me' below told).0
+
+    -- the own part is still in hand, and has the item
+    pub slot_there : (y : S) × (me'.1 ≡ (own_part t, y) ∷ rest me'.1)
+    slot_there =
+        let carries = has.carries in
+        let f = first_of content suits m t (own_part t) own [] me.1 carries.contents_are carries.suited in
+        (f.slot, as_rest me'.1 f.behind (own_part t, f.slot) (slots_same ∙ f.slots_are))
+
+    pub slot_is : (y : S) → me'.1 ≡ (own_part t, y) ∷ rest me'.1 → (content y ≡ own) × suits m.k (own_part t) y
+    slot_is y at =
+        let carries = has.carries in
+        first_here content suits m t (own_part t) own [] me.1 (rest me'.1) y carries.contents_are carries.suited (sym slots_same ∙ at)

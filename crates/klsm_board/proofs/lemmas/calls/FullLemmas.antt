@@ -1,0 +1,102 @@
+-- An insertion that found its own part full, and acquired the shared one too.
+use Rattle.std.proofs.Common.{◌≡◌, ℕ, ◌+◌, ◌≤◌, List, [], ◌∷◌, ◌++◌, length, ap, ◌∙◌}
+use Rattle.atomic_table.specs.Table.{Me}
+use Rattle.klsm_run.specs.declared.item.Item.{Item}
+use Rattle.klsm_run.specs.Capacity.{heap_room}
+use Rattle.klsm_parts.specs.Limit.{limit_of}
+use Rattle.klsm_parts.specs.Events.{MayFlush}
+use Rattle.klsm_world.specs.declared.step.Event.TheVariants.{Flush}
+use Rattle.klsm_world.specs.declared.step.Entry.{Entry}
+use Rattle.klsm_world.specs.declared.step.Entry.TheVariants.{Acquired, Committed}
+use Rattle.klsm_world.specs.OwnSteps.{Hand, own_part, shared_part}
+use Rattle.klsm_board.specs.declared.sizes.Sizes.{Sizes}
+use Rattle.klsm_board.specs.declared.rule.View.{View}
+use Rattle.klsm_board.specs.Steps.{mine}
+use Rattle.klsm_board.specs.Seats.{Has, Stands, own_in_hand, both_in_hand}
+use Rattle.klsm_board.specs.Entries.{missed, both_acquired, both_released}
+use Rattle.klsm_board.specs.Inserting.{Flushes, GivesUp}
+use Rattle.klsm_board.proofs.lemmas.seats.StandLemmas.{stands}
+use Rattle.klsm_board.proofs.lemmas.calls.EventLemmas.{events}
+use Rattle.klsm_board.proofs.lemmas.calls.AddLemmas.{both_quiet}
+
+module _ {S : Type 0} (content : S → List Item) (suits : ℕ → ℕ → S → Type 0) (m : Sizes) (t : ℕ) where
+  -- the seat has both parts, after so many misses
+  pub record Full (own_misses shared_misses : List ℕ) (es : List Entry) (me : Me S View) : Type 0 where
+    pub own : List Item
+    pub shared : List Item
+    pub has : Has content suits m t (both_in_hand t own shared) me
+    pub full : length own ≡ m.k
+    pub list : mine me.0 ≡ both_acquired t own_misses shared_misses own shared es
+
+  -- by one try each: what the first told, what was found of the own part, what the second told
+  pub full_now : (me own_acquired_me kept both : Me S View) → Stands content suits m t [] me
+      → ((hand : Hand) → Stands content suits m t hand me → (found : List Item) × Has content suits m t ((own_part t, found) ∷ hand) own_acquired_me × (mine own_acquired_me.0 ≡ mine me.0 ++ Acquired (own_part t) found ∷ []))
+      → ((own : List Item) → Has content suits m t (own_in_hand t own) own_acquired_me → (length own ≡ m.k) × Has content suits m t (own_in_hand t own) kept × (mine kept.0 ≡ mine own_acquired_me.0))
+      → ((hand : Hand) → Stands content suits m t hand kept → (found : List Item) × Has content suits m t ((shared_part, found) ∷ hand) both × (mine both.0 ≡ mine kept.0 ++ Acquired shared_part found ∷ []))
+      → Full [] [] (mine me.0) both
+  full_now me own_acquired_me kept both at_rest first full second =
+      let own = first [] at_rest in
+      let found = full own.0 own.1 in
+      let shared = second (own_in_hand t own.0) (stands found.1) in
+      record {
+        own = own.0;
+        shared = shared.0;
+        has = shared.1;
+        full = found.0;
+        list = shared.2 ∙ ap (λ z. z ++ Acquired shared_part shared.0 ∷ []) (found.2 ∙ own.2);
+      }
+
+  -- the same by tries after misses
+  pub record FullWaiting (es : List Entry) (me : Me S View) : Type 0 where
+    pub own_misses : List ℕ
+    pub shared_misses : List ℕ
+    pub both : Full own_misses shared_misses es me
+
+  pub full_waiting : (me own_acquired_me kept both : Me S View) → Stands content suits m t [] me
+      → ((hand : Hand) → Stands content suits m t hand me → (bys : List ℕ) × (found : List Item) × Has content suits m t ((own_part t, found) ∷ hand) own_acquired_me × (mine own_acquired_me.0 ≡ mine me.0 ++ (missed (own_part t) bys ++ Acquired (own_part t) found ∷ [])))
+      → ((own : List Item) → Has content suits m t (own_in_hand t own) own_acquired_me → (length own ≡ m.k) × Has content suits m t (own_in_hand t own) kept × (mine kept.0 ≡ mine own_acquired_me.0))
+      → ((hand : Hand) → Stands content suits m t hand kept → (bys : List ℕ) × (found : List Item) × Has content suits m t ((shared_part, found) ∷ hand) both × (mine both.0 ≡ mine kept.0 ++ (missed shared_part bys ++ Acquired shared_part found ∷ [])))
+      → FullWaiting (mine me.0) both
+  full_waiting me own_acquired_me kept both at_rest first full second =
+      let own = first [] at_rest in
+      let found = full own.1 own.2 in
+      let shared = second (own_in_hand t own.1) (stands found.1) in
+      record {
+        own_misses = own.0;
+        shared_misses = shared.0;
+        both = record {
+          own = own.1;
+          shared = shared.1;
+          has = shared.2;
+          full = found.0;
+          list = shared.3 ∙ ap (λ z. z ++ (missed shared_part shared.0 ++ Acquired shared_part shared.1 ∷ [])) (found.2 ∙ own.3);
+        };
+      }
+
+  module _ (own_misses shared_misses : List ℕ) (es es' : List Entry) (me : Me S View) (k : Full own_misses shared_misses es me) where
+    -- nothing has happened yet
+    pub full_is_quiet : events (mine me.0) ≡ events es
+    full_is_quiet = ap events k.list ∙ both_quiet t own_misses shared_misses k.own k.shared es
+
+    -- then items moved
+    pub flushed : (levels : ℕ) (x : Item) → ((moved : List Item) × MayFlush m.k k.own x moved × (length k.shared + length moved ≤ limit_of levels heap_room) × (es' ≡ mine me.0 ++ Committed (Flush x moved) ∷ both_released t))
+        → Flushes levels m.k t own_misses shared_misses es es' x
+    flushed levels x did = record {
+      own = k.own;
+      shared = k.shared;
+      moved = did.0;
+      full = k.full;
+      may = did.1;
+      within = did.2;
+      steps = did.3 ∙ ap (λ z. z ++ Committed (Flush x did.0) ∷ both_released t) k.list;
+    }
+
+    -- or both parts were released
+    pub gave_up : (Found : List Item → Type 0) → Found k.shared → es' ≡ mine me.0 ++ both_released t → GivesUp m.k t own_misses shared_misses es es' Found
+    gave_up Found found steps = record {
+      own = k.own;
+      shared = k.shared;
+      full = k.full;
+      found = found;
+      steps = steps ∙ ap (λ z. z ++ both_released t) k.list;
+    }
