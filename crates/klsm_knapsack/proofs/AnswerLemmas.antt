@@ -1,13 +1,18 @@
--- What a call of a member leaves at the end of its list.
-use Rattle.std.proofs.Common.{ℕ, inl, inr, List, ◌++◌, Option, Some, None}
+-- What a call of a member leaves at the end of its list, and which events the list gains.
+use Rattle.std.proofs.Common.{ℕ, suc, inl, inr, List, [], ◌∷◌, ◌++◌, Option, Some, None, arith}
 use Rattle.klsm_run.specs.declared.item.Item.{Item}
-use Rattle.klsm_world.specs.declared.step.Event.TheVariants.{Put, Flush, Take, Early, Nothing}
+use Rattle.klsm_world.specs.declared.step.Event.TheVariants.{Put, Flush, Take, Early, Nothing, Spy}
 use Rattle.klsm_world.specs.declared.step.Entry.{Entry}
+use Rattle.klsm_world.specs.declared.step.Entry.TheVariants.{Committed, Released}
+use Rattle.klsm_world.specs.OwnSteps.{own_part}
 use Rattle.klsm_board.specs.declared.sizes.Sizes.{Sizes}
 use Rattle.klsm_board.specs.Inserting.{Inserts}
-use Rattle.klsm_board.specs.Deleting.{Deletes, FindsNothing, AnswersDeletion}
-use Rattle.klsm_board.specs.Entries.{own_acquired, both_acquired}
+use Rattle.klsm_board.specs.Deleting.{Deletes, FindsNothing, AnswersDeletion, victim_of}
+use Rattle.klsm_board.specs.Entries.{own_acquired, both_acquired, both_released}
+use Rattle.klsm_board.proofs.lemmas.calls.AddLemmas.{goes_on, own_quiet, both_quiet}
+use Rattle.klsm_board.proofs.lemmas.calls.DeletedLemmas.{takes_events, spied_events, nothing_events, early_events}
 use Rattle.klsm_knapsack.specs.Ends.{EndsAnswered}
+use Rattle.klsm_knapsack.specs.Answers.{GainsNothing, GainsOthers, GainsSome}
 
 pub after_insertion : (levels k t : ℕ) (own_misses shared_misses : List ℕ) (es es' : List Entry) (x : Item) → Inserts levels k t own_misses shared_misses es es' x → EndsAnswered t es'
 after_insertion levels k t own_misses shared_misses es es' x (inl puts) = inr (own_acquired t own_misses puts.own es, Put x, inl puts.steps)
@@ -27,3 +32,51 @@ after_answer may_pick before after m t own_misses shared_misses es es' (Some x) 
 after_answer may_pick before after m t own_misses shared_misses es es' None (own, inr both) = after_nothing m t own both.0 (both_acquired t own_misses shared_misses own both.0 es) es' both.1.0
 after_answer may_pick before after m t own_misses shared_misses es es' (Some x) (own, inr both) =
     after_deletion may_pick before after m t own both.0 (both_acquired t own_misses shared_misses own both.0 es) es' x both.1
+
+-- an insertion gains one event, and no answer "nothing"
+pub insertion_gains : (levels k t : ℕ) (own_misses shared_misses : List ℕ) (es es' : List Entry) (x : Item) → Inserts levels k t own_misses shared_misses es es' x → GainsOthers es es'
+insertion_gains levels k t own_misses shared_misses es es' x (inl puts) = record {
+  gained = Put x ∷ [];
+  others = (λ is. cc, tt);
+  events = goes_on es (own_acquired t own_misses puts.own es) (Committed (Put x) ∷ Released (own_part t) ∷ []) es' (own_quiet t own_misses puts.own es) puts.steps;
+}
+insertion_gains levels k t own_misses shared_misses es es' x (inr flushes) = record {
+  gained = Flush x flushes.moved ∷ [];
+  others = (λ is. cc, tt);
+  events = goes_on es (both_acquired t own_misses shared_misses flushes.own flushes.shared es) (Committed (Flush x flushes.moved) ∷ both_released t) es' (both_quiet t own_misses shared_misses flushes.own flushes.shared es) flushes.steps;
+}
+
+-- so it is with a deletion that gave an item
+pub deletion_gains : {P : Type 0} (may_pick : P → ℕ → ℕ → P → Type 0) (before after : P) (m : Sizes) (t : ℕ) (own_misses shared_misses : List ℕ) (es es' : List Entry) (x : Item)
+    → AnswersDeletion may_pick before after m t own_misses shared_misses es es' (Some x) → GainsSome es es'
+deletion_gains may_pick before after m t own_misses shared_misses es es' x (own, inl early) = record {
+  gains = record {
+    gained = Early x early.0.front ∷ [];
+    others = (λ is. cc, tt);
+    events = early_events m t own es (own_acquired t own_misses own es) es' x (own_quiet t own_misses own es) early.0;
+  };
+  some = omega arith;
+}
+deletion_gains may_pick before after m t own_misses shared_misses es es' x (own, inr (shared, inl takes)) = record {
+  gains = record {
+    gained = Take x ∷ [];
+    others = (λ is. cc, tt);
+    events = takes_events m t own shared es (both_acquired t own_misses shared_misses own shared es) es' (both_quiet t own_misses shared_misses own shared es) x takes.0;
+  };
+  some = omega arith;
+}
+deletion_gains may_pick before after m t own_misses shared_misses es es' x (own, inr (shared, inr takes)) = record {
+  gains = record {
+    gained = Spy (victim_of m.threads t (suc takes.0.spies.passed)) takes.0.moved ∷ Take x ∷ [];
+    others = (λ is. cc, (λ is. cc, tt));
+    events = spied_events m t own shared es (both_acquired t own_misses shared_misses own shared es) es' (both_quiet t own_misses shared_misses own shared es) x takes.0;
+  };
+  some = omega arith;
+}
+
+-- and one that gave none gains an answer "nothing"
+pub no_deletion_gains : {P : Type 0} (may_pick : P → ℕ → ℕ → P → Type 0) (before after : P) (m : Sizes) (t : ℕ) (own_misses shared_misses : List ℕ) (es es' : List Entry)
+    → AnswersDeletion may_pick before after m t own_misses shared_misses es es' None → GainsNothing es es'
+no_deletion_gains may_pick before after m t own_misses shared_misses es es' (own, inl early) = absurd early.0
+no_deletion_gains may_pick before after m t own_misses shared_misses es es' (own, inr both) =
+    nothing_events m t own both.0 es (both_acquired t own_misses shared_misses own both.0 es) es' (both_quiet t own_misses shared_misses own both.0 es) both.1.0

@@ -20,9 +20,11 @@ use Rattle.klsm_instance.specs.Nodes.{level_in, picks_in}
 use Rattle.klsm_knapsack.specs.Watching.{found_by}
 use Rattle.klsm_knapsack.specs.Work.{HasNode, HasWorked, IsNodeItem}
 use Rattle.klsm_knapsack.specs.Ends.{EndsAnswered, HasEnded, first_refusal}
-use Rattle.klsm_knapsack.specs.Workers.{HasEndedSo, HasRun, HaveWorked, IsAtWork, AreWorkersOf, IsNew, IsSameWorker, IsWorkerOf, work_of}
+use Rattle.klsm_knapsack.specs.Answers.{GainsOthers}
+use Rattle.klsm_knapsack.specs.Workers.{HasEndedSo, HasRun, HaveWorked, IsAtWork, AreWorkersOf, IsIdle, IsNew, IsSameWorker, IsWorkerOf, work_of}
 use Rattle.klsm_knapsack.proofs.CoverageLemmas.{wider}
 use Rattle.klsm_knapsack.proofs.WorkLemmas.{inserts_one, has_last}
+use Rattle.klsm_knapsack.proofs.IdleLemmas.{gains_none, idle_after_others}
 
 -- what stands at an index, in two ways of saying so
 pub stands_at : {A : Type 0} (xs : List A) (i : ℕ) (d : A) → i < length xs → get_elem? xs i ≡ some (get_or xs i d)
@@ -140,18 +142,38 @@ module _ {LEVELS : ℕ} where
       by_place others (suc k) d lt = others k d (omega (arith, lt))
 
   -- where each worker ran and none was refused, they have worked
-  pub all_worked : (p : Problem) (old new : List (Worker LEVELS)) (d : Worker LEVELS) → 0 < length old → length new ≡ length old
-      → ((i : ℕ) (e : Worker LEVELS) → i < length old → HasRun p (get_or old i e) (get_or new i e)) → HasNode (work_of (get_or old 0 d)).inserted 0 0
+  pub all_worked : (p : Problem) (idle : ℕ) (old new : List (Worker LEVELS)) (d : Worker LEVELS) → 0 < length old → length new ≡ length old
+      → ((i : ℕ) (e : Worker LEVELS) → i < length old → HasRun p idle (get_or old i e) (get_or new i e)) → HasNode (work_of (get_or old 0 d)).inserted 0 0
       → All (λ (w : Worker LEVELS). w.refused ≡ None) new → HaveWorked p new
-  all_worked p [] new d some_worker many runs root none = absurd (omega (arith, some_worker))
-  all_worked p (w ∷ old) [] d some_worker many runs root none = absurd (omega (arith, many))
-  all_worked p (w ∷ old) (v ∷ new) d some_worker many runs root none = record {
+  all_worked p idle [] new d some_worker many runs root none = absurd (omega (arith, some_worker))
+  all_worked p idle (w ∷ old) [] d some_worker many runs root none = absurd (omega (arith, many))
+  all_worked p idle (w ∷ old) (v ∷ new) d some_worker many runs root none = record {
     root =
         let inserts = (runs 0 v (omega arith)).inserts (none 0 v (omega arith)) in
         wider (work_of w).inserted (flat_map (λ (u : Worker LEVELS). (work_of u).inserted) (v ∷ new)) 0 0
         (λ y there. Contains-append_left (work_of v).inserted (flat_map (λ (u : Worker LEVELS). (work_of u).inserted) new) y (inserts.kept y there)) root;
     each = λ k e lt. (runs k e (omega (arith, lt, many))).worked (none k e lt);
   }
+
+  -- where the first worker has begun, no list has an answer "nothing"
+  pub begun_gains : (crew : List (Worker LEVELS)) (after : Worker LEVELS) → All IsNew crew → GainsOthers [] (own_steps after.member) → All (λ (w : Worker LEVELS). GainsOthers [] (own_steps w.member)) (set crew 0 after)
+  begun_gains [] after new gains = λ k d lt. absurd (omega (arith, lt))
+  begun_gains (w ∷ crew) after new gains = by_place
+    where
+      by_place : (k : ℕ) (d : Worker LEVELS) → k < length (after ∷ crew) → GainsOthers [] (own_steps (get_or (after ∷ crew) k d).member)
+      by_place zero d lt = gains
+      by_place (suc k) d lt = subst (λ (es : List Entry). GainsOthers [] es) (sym (new (suc k) d lt).steps) (gains_none [])
+
+  idle_from_first : (n : ℕ) (es : List Entry) (w : Worker LEVELS) → GainsOthers [] es → IsIdle n es w → IsIdle n [] w
+  idle_from_first n es w gains (inl idle) = inl (idle_after_others n [] es (own_steps w.member) gains idle)
+  idle_from_first n es w gains (inr spent) = inr spent
+
+  -- so where each worker ran and none was refused, each is idle
+  pub all_idle : (p : Problem) (idle : ℕ) (old new : List (Worker LEVELS)) → length new ≡ length old
+      → ((i : ℕ) (e : Worker LEVELS) → i < length old → HasRun p idle (get_or old i e) (get_or new i e)) → All (λ (w : Worker LEVELS). GainsOthers [] (own_steps w.member)) old
+      → All (λ (w : Worker LEVELS). w.refused ≡ None) new → All (λ (w : Worker LEVELS). IsIdle idle [] w) new
+  all_idle p idle old new many runs gains none = λ k e lt.
+      idle_from_first idle (own_steps (get_or old k e).member) (get_or new k e) (gains k e (omega (arith, lt, many))) ((runs k e (omega (arith, lt, many))).idles (none k e lt))
 
   module _ (common : Common LEVELS) where
     pub same_of : (before after : Worker LEVELS) → IsWorkerOf common before → IsSameWorker before after → IsWorkerOf common after
@@ -184,9 +206,9 @@ module _ {LEVELS : ℕ} where
         ready (suc k) e lt = (is.of (suc k) e lt, new_at_work p (get_or crew k e) (new (suc k) e lt))
 
     -- a crew that ran is one still
-    pub crew_run : (p : Problem) (old new : List (Worker LEVELS)) → length new ≡ length old → ((i : ℕ) (e : Worker LEVELS) → i < length old → HasRun p (get_or old i e) (get_or new i e))
+    pub crew_run : (p : Problem) (idle : ℕ) (old new : List (Worker LEVELS)) → length new ≡ length old → ((i : ℕ) (e : Worker LEVELS) → i < length old → HasRun p idle (get_or old i e) (get_or new i e))
         → AreWorkersOf common old → AreWorkersOf common new
-    crew_run p old new many runs is = record {
+    crew_run p idle old new many runs is = record {
       of = λ k e lt. same_of (get_or old k e) (get_or new k e) (is.of k e (omega (arith, lt, many))) (runs k e (omega (arith, lt, many))).same;
       many = many ∙ is.many;
       some_worker = omega (arith, many, is.some_worker);

@@ -13,9 +13,7 @@ use Rattle.klsm_world.proofs.lemmas.counts.EventCountLemmas.{times_contained, co
 use Rattle.klsm_board.specs.declared.board.Member.{Member}
 use Rattle.klsm_board.specs.declared.sizes.Sizes.{Sizes}
 use Rattle.klsm_board.specs.Rule.{IsReached}
-use Rattle.klsm_board.specs.Boards.{own_steps}
-use Rattle.klsm_board.specs.Boards.{IsCrew}
-use Rattle.klsm_board.specs.Boards.{IsOf}
+use Rattle.klsm_board.specs.Boards.{IsCrew, IsOf, own_steps}
 use Rattle.klsm_board.specs.Finishing.{AreAll, AreEachOnce, lists_of}
 use Rattle.klsm_board.proofs.lemmas.ending.EndLemmas.{are_lists, each_of}
 use Rattle.klsm_knapsack.specs.declared.common.Common.{Common}

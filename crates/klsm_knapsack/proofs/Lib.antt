@@ -4,5 +4,6 @@ pub mod CoverageLemmas  -- no feasible selection is missed
 pub mod WorkLemmas  -- the work of one worker grows
 pub mod EndLemmas  -- the nodes left are finished
 pub mod AnswerLemmas  -- what a call leaves at the end of a list
+pub mod IdleLemmas  -- how many answers "nothing" a list ends with
 pub mod CrewLemmas  -- the workers of a search together
 pub mod FinishLemmas  -- the workers at the start and at the end of a search

@@ -4,5 +4,6 @@ pub mod Highest  -- the rule of the incumbent's word
 pub mod Watching  -- what a thread knows of it
 pub mod Work  -- nodes as items, what workers do with them, and that nothing is missed
 pub mod Ends  -- how workers end
+pub mod Answers  -- what a worker's calls answered, in the order of its list
 pub mod Workers  -- workers, and how the work of one of them grows
 pub mod Refusals  -- why a search ends without an answer

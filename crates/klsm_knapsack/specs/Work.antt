@@ -37,6 +37,13 @@ abbrev pub IsDone : Problem → Work → Item → Type 0
 IsDone p w x = NoneAbove p (level_in x.load) (picks_in x.load) (value_in w.found)
     ⊎ IsSplit p w.inserted (level_in x.load) (picks_in x.load)
 
+-- Nothing was inserted where the bound of the node that a load stands for is no more than what was
+-- found.
+abbrev pub ClosesBounded : Problem → ℕ → Work → Work → Type 0
+ClosesBounded p load before after = (bound : ℕ)
+    × IsBound p (level_in load) (picks_in load) bound
+    × (bound ≤ value_in after.found → after.inserted ≡ before.inserted)
+
 -- A worker inserts nodes, and is done with each node that it deleted. It cannot know of an item
 -- deleted that this is a node; all workers together can.
 pub record HasWorked (p : Problem) (w : Work) : Type 0 where

@@ -1,12 +1,12 @@
 -- Workers, and how the work of one of them grows.
-use Rattle.std.specs.Prelude.{ℕ, ◌≡◌, ◌≤◌, ◌<◌, ◌⊎◌, List, [], None, Some, All, length, slice_get}
+use Rattle.std.specs.Prelude.{ℕ, ◌≡◌, ◌+◌, ◌≤◌, ◌<◌, ◌⊎◌, List, [], None, Some, All, length, slice_get}
 use Rattle.std.specs.List.{AllByRecursion, Contains, flat_map}
 use mathlib.Core.Option.{some}
 use lib.ListN.{get_elem?}
 use Rattle.klsm_run.specs.declared.item.Item.{Item}
+use Rattle.klsm_world.specs.declared.step.Entry.{Entry}
 use Rattle.klsm_world.specs.OwnSteps.{inserted, deleted}
-use Rattle.klsm_board.specs.Boards.{IsSame, own_steps}
-use Rattle.klsm_board.specs.Boards.{IsOf}
+use Rattle.klsm_board.specs.Boards.{IsOf, IsSame, own_steps}
 use Rattle.klsm_knapsack.specs.declared.common.Common.{Common}
 use Rattle.klsm_knapsack.specs.declared.common.Worker.{Worker}
 use Rattle.klsm_instance.specs.Selections.{Problem}
@@ -14,6 +14,7 @@ use Rattle.klsm_instance.specs.Nodes.{NoneAbove, level_in, picks_in}
 use Rattle.klsm_knapsack.specs.Watching.{IsWatchedBy, found_by}
 use Rattle.klsm_knapsack.specs.Work.{Work, HasNode, HasWorked, IsNodeItem, all_inserted, all_deleted}
 use Rattle.klsm_knapsack.specs.Ends.{EndsAnswered, HasEnded}
+use Rattle.klsm_knapsack.specs.Answers.{EndsIdle}
 
 -- only nodes were inserted since
 pub record InsertsNodes (p : Problem) (before after : List Item) : Type 0 where
@@ -54,13 +55,20 @@ module _ {LEVELS : ℕ} where
   abbrev pub HasEndedSo : Worker LEVELS → Type 0
   HasEndedSo w = HasEnded LEVELS w.member.sizes.k w.member.number (own_steps w.member) w.refused
 
+  -- since its list was this one, the worker took nodes until it was answered "nothing" n times in a
+  -- row, or had no two insertions left
+  abbrev pub IsIdle : ℕ → List Entry → Worker LEVELS → Type 0
+  IsIdle n since w = EndsIdle n since (own_steps w.member)
+      ⊎ (w.member.sizes.quota < length (inserted (own_steps w.member)) + 2)
+
   -- the worker ran until it was idle or refused
-  pub record HasRun (p : Problem) (before after : Worker LEVELS) : Type 0 where
+  pub record HasRun (p : Problem) (idle : ℕ) (before after : Worker LEVELS) : Type 0 where
     pub same : IsSameWorker before after
     pub ended : HasEndedSo after
     pub worked : after.refused ≡ None → HasWorked p (work_of after)
     pub inserts : after.refused ≡ None
         → InsertsNodes p (work_of before).inserted (work_of after).inserted
+    pub idles : after.refused ≡ None → IsIdle idle (own_steps before.member) after
 
   -- the workers of a search, in the order of their numbers
   pub record AreWorkersOf (common : Common LEVELS) (crew : List (Worker LEVELS)) : Type 0 where

@@ -1,12 +1,14 @@
 //! All workers: how they are made, run, and sent home.
 ghost use Rattle.std.specs.Prelude.{ℕ, ◌≡◌, ◌≤◌, ◌<◌, [], None, Some, IfOk, IfErr, All, map, length, slice_index_or, vec_len, vec_capacity};
+ghost use Rattle.rand_core.specs.Pcg32Seed.{pcg32_seed};
+ghost use Rattle.rand_pcg.specs.Pcg.{pcg32_of_seed};
 ghost use Rattle.klsm_board.specs.declared.board.Member.{Member};
 ghost use Rattle.klsm_board.specs.Boards.{own_steps};
 ghost use Rattle.klsm_world.specs.OwnSteps.{inserted};
 ghost use Rattle.klsm_knapsack.specs.declared.common.Worker.{Worker};
 ghost use Rattle.klsm_knapsack.specs.Watching.{IsWatchedBy, found_by, problem_of};
 ghost use Rattle.klsm_knapsack.specs.Ends.{first_refusal};
-ghost use Rattle.klsm_knapsack.specs.Workers.{HasEndedSo, HasRun, HaveWorked, IsAtWork, AreWorkersOf, IsNew, IsWorkerOf};
+ghost use Rattle.klsm_knapsack.specs.Workers.{HasEndedSo, HasRun, HaveWorked, IsAtWork, AreWorkersOf, IsIdle, IsNew, IsWorkerOf};
 
 use crate::common::{Common, Worker};
 use crate::errors::Refusal;
@@ -19,7 +21,7 @@ use std::sync::Wait;
 use std::thread;
 use std::thread::Threads;
 
-/// A worker for each member, with a seat of its own at the incumbent.
+/// A worker for each member, with a seat of its own at the incumbent, and picks of its own.
 pub(crate) fn recruit<const LEVELS: usize>(
     alloc: Global,
     incumbent: &Incumbent,
@@ -32,6 +34,8 @@ pub(crate) fn recruit<const LEVELS: usize>(
         map (λ w. w.member) crew.items ≡ members.entry.items) }
     ensures seats { IfOk result (λ crew. All (λ w. IsWatchedBy incumbent.now w.watcher
         × (found_by w.watcher ≡ 0) × (w.refused ≡ None)) crew.items) }
+    ensures pickers { IfOk result (λ crew.
+        All (λ w. w.picker ≡ pcg32_of_seed (pcg32_seed 16 w.member.number)) crew.items) }
 {
     let mut crew = Vec::new(alloc);
     for member in members {
@@ -66,6 +70,7 @@ pub(crate) fn search<R: Threads + Wait + Sync, G: Gate, const LEVELS: usize>(
     ensures crew { AreWorkersOf common.now crew.new }
     ensures ended { All HasEndedSo crew.new }
     ensures worked { All (λ w. w.refused ≡ None) crew.new → HaveWorked instance.now crew.new }
+    ensures idle { All (λ w. w.refused ≡ None) crew.new → All (λ w. IsIdle idle [] w) crew.new }
 {
     if crew[0].begin(rt, common, instance) {
         run_all(rt, common, instance, crew, idle, gate);
@@ -85,7 +90,7 @@ fn run_all<R: Threads + Wait + Sync, G: Gate, const LEVELS: usize>(
     requires some { 0 < length crew.old }
     requires ready { All (λ w. IsWorkerOf common.now w × IsAtWork instance.now w) crew.old }
     ensures { (i : ℕ) (d : Worker LEVELS) → i < length crew.old
-        → HasRun instance.now (slice_index_or crew.old i d) (slice_index_or crew.new i d) }
+        → HasRun instance.now idle (slice_index_or crew.old i d) (slice_index_or crew.new i d) }
 {
     let threads = crew.len();
     thread::for_each_mut(
@@ -96,7 +101,7 @@ fn run_all<R: Threads + Wait + Sync, G: Gate, const LEVELS: usize>(
             requires { IsWorkerOf common.now worker.now
                 × (problem_of common.now.incumbent ≡ instance.now)
                 × IsAtWork instance.now worker.now }
-            ensures { HasRun instance.entry.now worker.entry.now worker.exit.now }
+            ensures { HasRun instance.entry.now idle worker.entry.now worker.exit.now }
         { worker.run(rt, common, instance, idle, gate) },
     );
 }

@@ -1,14 +1,16 @@
 //! The steps on the incumbent.
 ghost use Rattle.std.specs.Prelude.{ℕ, ◌≡◌, ◌≤◌, ◌<◌, ◌⊎◌, [], ◌∷◌, max, IfOk};
-ghost use Rattle.klsm_instance.specs.Selections.{Problem};
-ghost use Rattle.klsm_knapsack.specs.Numbers.{IsIncumbent};
+ghost use Rattle.klsm_instance.specs.Selections.{Problem, value_of};
+ghost use Rattle.klsm_instance.specs.Limits.{IsInRange};
+ghost use Rattle.klsm_instance.specs.Nodes.{IsNodeOf};
+ghost use Rattle.klsm_knapsack.specs.Numbers.{IsIncumbent, value_in};
 ghost use Rattle.klsm_knapsack.specs.Highest.{nothing_yet, together, LastSeen};
 ghost use Rattle.klsm_knapsack.specs.Watching.{found_by, raised_by, IsWatchedBy, problem_of};
 
 use crate::incumbent::{Incumbent, Watcher};
 use crate::rule::{Another, Found, Raised, Together};
 use atomic_table::Table;
-use klsm_instance::Instance;
+use klsm_instance::{Instance, Node, packed};
 use std::alloc::{AllocError, Global};
 
 impl Incumbent {
@@ -77,6 +79,22 @@ impl Incumbent {
         } else {
             self.fetch_max(watcher, number)
         }
+    }
+
+    /// Raises the word to what a node takes, and answers the value that the word then has.
+    pub(crate) fn raise_to(&self, watcher: &mut Watcher, instance: &Instance, node: &Node) -> u64
+        requires watcher { IsWatchedBy self.now watcher.old }
+        requires problem { problem_of self.now ≡ instance.now }
+        requires node { IsNodeOf instance.now node.now }
+        requires range { IsInRange instance.now }
+        ensures same { watcher.new.seat.table_id ≡ watcher.old.seat.table_id }
+        ensures found { (result ≡ value_in (found_by watcher.new))
+            × (found_by watcher.old ≤ found_by watcher.new) }
+        ensures raises { value_of instance.now node.now.picks ≤ result }
+    {
+        let number = packed(node.taken.value, node.picks);
+        let found = self.raise(watcher, number);
+        found >> 32
     }
 
     // Raises the word by one step.

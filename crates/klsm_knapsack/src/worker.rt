@@ -1,20 +1,22 @@
 //! What a worker does.
-ghost use Rattle.std.specs.Prelude.{ℕ, ◌≡◌, ◌≤◌, ◌<◌, ◌+◌, ◌++◌, [], ◌∷◌, IfOk, IfErr, IsTrue, MatchBool, length, None};
+ghost use Rattle.std.specs.Prelude.{ℕ, ◌≡◌, ◌≤◌, ◌<◌, ◌+◌, ◌++◌, ◌↔◌, [], ◌∷◌, IfOk, IfErr, IsTrue, MatchBool, length, None};
 ghost use Rattle.klsm_run.specs.declared.item.Item.{Item};
 ghost use Rattle.klsm_world.specs.OwnSteps.{inserted, deleted};
 ghost use Rattle.klsm_board.specs.Boards.{own_steps};
 ghost use Rattle.klsm_instance.specs.Selections.{value_of, weight_of};
 ghost use Rattle.klsm_instance.specs.Limits.{IsInRange};
-ghost use Rattle.klsm_instance.specs.Nodes.{IsNodeOf, level_in, picks_in};
+ghost use Rattle.klsm_instance.specs.Nodes.{IsNode, IsNodeOf, level_in, picks_in};
+ghost use Rattle.klsm_knapsack.specs.Numbers.{value_in};
 ghost use Rattle.klsm_knapsack.specs.Watching.{problem_of};
-ghost use Rattle.klsm_knapsack.specs.Work.{HasNode, IsNodeItem, IsSplit, IsDone, HasWorked};
+ghost use Rattle.klsm_knapsack.specs.Work.{ClosesBounded, HasNode, IsNodeItem, IsSplit, IsDone, HasWorked};
 ghost use Rattle.klsm_knapsack.specs.Ends.{EndsAnswered, EndsRefused};
-ghost use Rattle.klsm_knapsack.specs.Workers.{Extends, HasEndedSo, HasRun, InsertsNodes, IsAtWork, IsNew, IsSameWorker, IsWorkerOf, work_of};
+ghost use Rattle.klsm_knapsack.specs.Answers.{GainsNothing, GainsOthers, GainsSome};
+ghost use Rattle.klsm_knapsack.specs.Workers.{Extends, HasEndedSo, HasRun, InsertsNodes, IsAtWork, IsIdle, IsNew, IsSameWorker, IsWorkerOf, work_of};
 
 use crate::common::{Common, Worker};
 use crate::errors::Refusal;
 use klsm_board::{Gate, InsertError};
-use klsm_instance::{Instance, Node, packed};
+use klsm_instance::{Instance, Node};
 use std::sync::Wait;
 
 impl<const LEVELS: usize> Worker<LEVELS> {
@@ -33,6 +35,8 @@ impl<const LEVELS: usize> Worker<LEVELS> {
         ensures begun { MatchBool result
             (IsAtWork instance.now self.new × HasNode (work_of self.new).inserted 0 0)
             (self.new.refused ≡ None → ⊥) }
+        ensures gains { IsTrue result →
+            GainsOthers (own_steps self.old.member) (own_steps self.new.member) }
     {
         match self.insert(rt, common, instance, &instance.root()) {
             Ok(()) => true,
@@ -55,7 +59,7 @@ impl<const LEVELS: usize> Worker<LEVELS> {
         requires of { IsWorkerOf common.now self.old }
         requires problem { problem_of common.now.incumbent ≡ instance.now }
         requires begins { IsAtWork instance.now self.old }
-        ensures { HasRun instance.now self.old self.new }
+        ensures { HasRun instance.now idle self.old self.new }
     {
         gate.pass(self.member.number() as usize);
         self.refused = self.work(rt, common, instance, idle).err();
@@ -77,6 +81,7 @@ impl<const LEVELS: usize> Worker<LEVELS> {
         ensures goes_on { IfOk result (λ _. IsAtWork instance.now self.new) }
         ensures inserts { IfOk result (λ _. InsertsNodes instance.now
             (work_of self.old).inserted (work_of self.new).inserted) }
+        ensures idle { IfOk result (λ _. IsIdle idle (own_steps self.old.member) self.new) }
         ensures refused { IfErr result (λ why. EndsRefused LEVELS self.new.member.sizes.k
             self.new.member.number (own_steps self.new.member) why) }
     {
@@ -97,8 +102,8 @@ impl<const LEVELS: usize> Worker<LEVELS> {
     // Whether the member may insert the children of one more node.
     fn may_split(&self, common: &Common<LEVELS>) -> bool
         requires { IsWorkerOf common.now self.now }
-        ensures { IsTrue result → length (inserted (own_steps self.now.member)) + 2
-            ≤ self.now.member.sizes.quota }
+        ensures { IsTrue result ↔ (length (inserted (own_steps self.now.member)) + 2
+            ≤ self.now.member.sizes.quota) }
     {
         self.member.inserted_count() + 2 <= common.board.quota()
     }
@@ -119,6 +124,9 @@ impl<const LEVELS: usize> Worker<LEVELS> {
         ensures goes_on { IfOk result (λ _. IsAtWork instance.now self.new) }
         ensures inserts { IfOk result (λ _. InsertsNodes instance.now
             (work_of self.old).inserted (work_of self.new).inserted) }
+        ensures answers { IfOk result (λ some. MatchBool some
+            (GainsSome (own_steps self.old.member) (own_steps self.new.member))
+            (GainsNothing (own_steps self.old.member) (own_steps self.new.member))) }
         ensures refused { IfErr result (λ why. EndsRefused LEVELS self.new.member.sizes.k
             self.new.member.number (own_steps self.new.member) why) }
     {
@@ -149,15 +157,22 @@ impl<const LEVELS: usize> Worker<LEVELS> {
             Extends instance.now (work_of self.old) (work_of self.new)) }
         ensures done { IfOk result (λ _. (x : Item) → x.load ≡ load → IsNodeItem instance.now x
             → IsDone instance.now (work_of self.new) x) }
+        ensures raises { IsNode instance.now (level_in load) (picks_in load)
+            → value_of instance.now (picks_in load) ≤ value_in (work_of self.new).found }
+        ensures closes { IsNode instance.now (level_in load) (picks_in load)
+            → ClosesBounded instance.now load (work_of self.old) (work_of self.new) }
+        ensures gains { IfOk result (λ _.
+            GainsOthers (own_steps self.old.member) (own_steps self.new.member)) }
         ensures refused { IfErr result (λ why. EndsRefused LEVELS self.new.member.sizes.k
             self.new.member.number (own_steps self.new.member) why) }
     {
         let Some(node) = instance.node_of(load) else {
             return Ok(());
         };
-        let number = packed(node.taken.value, node.picks);
-        let found = common.incumbent.raise(&mut self.watcher, number);
-        if node.level == instance.len() || instance.bound_of(&node) <= found >> 32 {
+        let found = common
+            .incumbent
+            .raise_to(&mut self.watcher, instance, &node);
+        if node.level == instance.len() || instance.bound_of(&node) <= found {
             return Ok(());
         }
         self.split(rt, common, instance, &node)
@@ -183,6 +198,9 @@ impl<const LEVELS: usize> Worker<LEVELS> {
             Extends instance.now (work_of self.old) (work_of self.new)) }
         ensures split { IfOk result (λ _. IsSplit instance.now (work_of self.new).inserted
             node.now.level node.now.picks) }
+        ensures finds { (work_of self.new).found ≡ (work_of self.old).found }
+        ensures gains { IfOk result (λ _.
+            GainsOthers (own_steps self.old.member) (own_steps self.new.member)) }
         ensures refused { IfErr result (λ why. EndsRefused LEVELS self.new.member.sizes.k
             self.new.member.number (own_steps self.new.member) why) }
     {
@@ -215,6 +233,8 @@ impl<const LEVELS: usize> Worker<LEVELS> {
         ensures keeps { self.new.refused ≡ self.old.refused }
         ensures answered { IfOk result (λ _.
             EndsAnswered self.new.member.number (own_steps self.new.member)) }
+        ensures gains { IfOk result (λ _.
+            GainsOthers (own_steps self.old.member) (own_steps self.new.member)) }
         ensures refused { IfErr result (λ why. EndsRefused LEVELS self.new.member.sizes.k
             self.new.member.number (own_steps self.new.member) why) }
     {

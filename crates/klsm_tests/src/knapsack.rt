@@ -3,5 +3,6 @@
 
 mod drawn;
 mod gated;
+mod pruned;
 mod reading;
 mod worked;

@@ -48,6 +48,15 @@ fn picks_of_a_seed(rt: HostRuntime) {
     assert!(rt; picks_of(8, &[37, 31, 12, 52, 51, 61, 53, 60]));
 }
 
+// A seed and a number that add up to more than 2^64 - 1 give a small seed.
+#[test]
+fn picks_of_a_seed_that_wraps(rt: HostRuntime) {
+    let greatest = u64::MAX;
+    assert!(rt; picks_of(greatest, &[0, 7, 38, 25, 14, 57, 31, 41]));
+    assert!(rt; picks_of(greatest.wrapping_add(1), &[14, 44, 14, 41, 30, 42, 23, 35]));
+    assert!(rt; picks_of(greatest.wrapping_add(8), &[8, 54, 13, 6, 29, 41, 14, 5]));
+}
+
 // Whether the picks of a seed are the same through a borrowed picker.
 fn picks_twice(seed: u64) -> bool {
     let mut one = random_of(seed);

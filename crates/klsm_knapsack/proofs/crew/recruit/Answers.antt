@@ -1,6 +1,8 @@
 use Rattle.std.proofs.Common.{◌≡◌, ◌++◌, [], ◌∷◌, None, arith, sym, ap, ◌∙◌, refl, List}
 use Rattle.std.specs.Prelude.{is_ok, not, true}
 use Rattle.std.proofs.lemmas.List.Elements.{All-append}
+use Rattle.rand_core.specs.Pcg32Seed.{pcg32_seed}
+use Rattle.rand_pcg.specs.Pcg.{pcg32_of_seed}
 use Rattle.klsm_board.specs.declared.board.Member.{Member}
 use Rattle.klsm_knapsack.specs.declared.common.Worker.{Worker}
 use Rattle.klsm_knapsack.specs.declared.rule.View.{View}
@@ -19,12 +21,14 @@ loop-member-preserved g c =
     let inv = c.loop-member.invariant in
     let w : Worker g.row.LEVELS = record { member = c.in-Some.member; watcher = c.split-watcher.result; picker = c.random_of-picker.result; refused = None } in
     let is_seated = λ (v : Worker g.row.LEVELS). IsWatchedBy c.args.incumbent.now v.watcher × (found_by v.watcher ≡ 0) × (v.refused ≡ None) in
+    let is_of_number = λ (v : Worker g.row.LEVELS). v.picker ≡ pcg32_of_seed (pcg32_seed 16 v.member.number) in
     let pushed : is_ok c.push.result ≡ true = c.is_err.ensures.negation ∙ ap not c.if-is_err.false in
     let items : c.push.new.self.items ≡ c.loop-member.crew.items ++ w ∷ [] = rw pushed at c.push.ensures.items in
     record {
       first = c.split-watcher.ensures.same ∙ inv.first;
       members = rw items (sym (sent_home c.loop-member.crew.items w) ∙ ap (λ (ms : List (Member 64 g.row.LEVELS)). ms ++ w.member ∷ []) inv.members);
       seats = rw items (All-append is_seated c.loop-member.crew.items (w ∷ []) inv.seats (each_alone is_seated w (c.split-watcher.ensures.new.0, ap (λ (v : View). v.found) c.split-watcher.ensures.new.1, refl)));
+      pickers = rw items (All-append is_of_number c.loop-member.crew.items (w ∷ []) inv.pickers (each_alone is_of_number w (c.random_of-picker.ensures ∙ ap (λ n. pcg32_of_seed (pcg32_seed 16 n)) c.number.ensures.number)));
     }
 
 pub returns-then-is_err-clause-first : goal.returns-then-is_err-clause-first
@@ -35,3 +39,6 @@ returns-clause-first g c = c.loop-member.invariant.first
 
 pub returns-clause-seats : goal.returns-clause-seats
 returns-clause-seats g c = c.loop-member.invariant.seats
+
+pub returns-clause-pickers : goal.returns-clause-pickers
+returns-clause-pickers g c = c.loop-member.invariant.pickers

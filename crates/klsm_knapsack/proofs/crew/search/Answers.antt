@@ -1,9 +1,12 @@
-use Rattle.std.proofs.Common.{◌≡◌, ◌<◌, arith, length, get_or-set_same, get_or, set, None, lit<, sym, subst}
+use Rattle.std.proofs.Common.{◌≡◌, ◌<◌, arith, length, get_or-set_same, get_or, set, None, List, [], lit<, sym, subst, refl}
 use Rattle.std.proofs.lemmas.List.{length-set}
 use Rattle.klsm_knapsack.specs.declared.common.Worker.{Worker}
+use Rattle.klsm_board.specs.Boards.{own_steps}
+use Rattle.klsm_world.specs.declared.step.Entry.{Entry}
+use Rattle.klsm_knapsack.specs.Answers.{GainsOthers}
 use Rattle.klsm_knapsack.specs.Work.{HasNode}
 use Rattle.klsm_knapsack.specs.Workers.{work_of}
-use Rattle.klsm_knapsack.proofs.CrewLemmas.{crew_begun, crew_ended, crew_ready, crew_run, all_worked}
+use Rattle.klsm_knapsack.proofs.CrewLemmas.{crew_begun, crew_ended, crew_ready, crew_run, all_worked, begun_gains, all_idle}
 use Rattle.klsm_knapsack.proofs.crew.search.Goals as goal
 
 pub run_all-requires-after_bounds : goal.run_all-requires-after_bounds
@@ -14,7 +17,7 @@ run_all-requires-after_bounds g c κs within =
 pub returns-then-begin-clause-crew : goal.returns-then-begin-clause-crew
 returns-then-begin-clause-crew g c =
     let many : length c.run_all.new.crew ≡ length (set c.args.crew.now 0 c.begin.new.self) = c.run_all.auto.crew in
-    crew_run c.args.common.now c.args.instance.now (set c.args.crew.now 0 c.begin.new.self) c.run_all.new.crew many c.run_all.ensures
+    crew_run c.args.common.now c.args.instance.now c.args.idle (set c.args.crew.now 0 c.begin.new.self) c.run_all.new.crew many c.run_all.ensures
     (crew_begun c.args.common.now c.args.crew.now c.index-crew-0.result c.begin.new.self c.requires.crew c.begin.ensures.same)
 
 pub returns-then-begin-clause-worked : goal.returns-then-begin-clause-worked
@@ -25,7 +28,7 @@ returns-then-begin-clause-worked g c = λ none.
     let some_worker : 0 < length begun = omega (arith, length-set c.args.crew.now 0 c.begin.new.self, c.requires.crew.some_worker) in
     let first : get_or begun 0 d ≡ c.begin.new.self = get_or-set_same c.args.crew.now 0 c.begin.new.self d c.requires.crew.some_worker in
     let root : HasNode (work_of (get_or begun 0 d)).inserted 0 0 = subst (λ (w : Worker g.row.LEVELS). HasNode (work_of w).inserted 0 0) (sym first) c.if-begin.ensures.begun.1 in
-    all_worked c.args.instance.now begun c.run_all.new.crew d some_worker many c.run_all.ensures root none
+    all_worked c.args.instance.now c.args.idle begun c.run_all.new.crew d some_worker many c.run_all.ensures root none
 
 pub returns-else-begin-clause-crew : goal.returns-else-begin-clause-crew
 returns-else-begin-clause-crew g c = crew_begun c.args.common.now c.args.crew.now c.index-crew-0.result c.begin.new.self c.requires.crew c.begin.ensures.same
@@ -38,6 +41,23 @@ returns-else-begin-clause-ended g c = crew_ended c.args.crew.now c.begin.new.sel
 
 pub returns-else-begin-clause-worked : goal.returns-else-begin-clause-worked
 returns-else-begin-clause-worked g c = λ none.
+    let d = c.index-crew-0.result in
+    let some_worker : 0 < length (set c.args.crew.now 0 c.begin.new.self) = omega (arith, length-set c.args.crew.now 0 c.begin.new.self, c.requires.crew.some_worker) in
+    let first : get_or (set c.args.crew.now 0 c.begin.new.self) 0 d ≡ c.begin.new.self = get_or-set_same c.args.crew.now 0 c.begin.new.self d c.requires.crew.some_worker in
+    absurd (c.if-begin.ensures.begun (subst (λ (w : Worker g.row.LEVELS). w.refused ≡ None) first (none 0 d some_worker)))
+
+pub returns-then-begin-clause-idle : goal.returns-then-begin-clause-idle
+returns-then-begin-clause-idle g c = λ none.
+    let d = c.index-crew-0.result in
+    let after : Worker g.row.LEVELS = c.begin.new.self in
+    let begun = set c.args.crew.now 0 after in
+    let many : length c.run_all.new.crew ≡ length begun = c.run_all.auto.crew in
+    let no_steps = (c.requires.new 0 d c.requires.crew.some_worker).steps in
+    let gains : GainsOthers [] (own_steps after.member) = subst (λ (es : List Entry). GainsOthers es (own_steps after.member)) no_steps (c.if-begin.ensures.gains refl) in
+    all_idle c.args.instance.now c.args.idle begun c.run_all.new.crew many c.run_all.ensures (begun_gains c.args.crew.now after c.requires.new gains) none
+
+pub returns-else-begin-clause-idle : goal.returns-else-begin-clause-idle
+returns-else-begin-clause-idle g c = λ none.
     let d = c.index-crew-0.result in
     let some_worker : 0 < length (set c.args.crew.now 0 c.begin.new.self) = omega (arith, length-set c.args.crew.now 0 c.begin.new.self, c.requires.crew.some_worker) in
     let first : get_or (set c.args.crew.now 0 c.begin.new.self) 0 d ≡ c.begin.new.self = get_or-set_same c.args.crew.now 0 c.begin.new.self d c.requires.crew.some_worker in

@@ -1,6 +1,7 @@
 use Rattle.std.proofs.Common.{refl, rules}
 use Rattle.klsm_run.specs.declared.item.Item.{Item}
 use Rattle.klsm_knapsack.specs.Work.{IsNodeItem}
+use Rattle.klsm_knapsack.proofs.AnswerLemmas.{insertion_gains}
 use Rattle.klsm_knapsack.proofs.common.Worker.insert.Goals as goal
 
 pub returns-in-Ok-clause-same : goal.returns-in-Ok-clause-same
@@ -15,6 +16,11 @@ returns-in-Ok-clause-inserts g c =
       key = rw (load.level, load.picks) c.key_of-key.ensures;
     } in
     (x, node, load.level, load.picks, c.in-Ok.ensures.adds.inserted_are)
+
+pub returns-in-Ok-clause-gains : goal.returns-in-Ok-clause-gains
+returns-in-Ok-clause-gains g c =
+    let ok = c.in-Ok.ensures.ok in
+    insertion_gains _ _ _ ok.0 ok.1 _ _ _ ok.2
 
 pub returns-in-Err-Full-clause-same : goal.returns-in-Err-Full-clause-same
 returns-in-Err-Full-clause-same g c = record { member = c.in-Err-Full.ensures.same; watcher = refl }

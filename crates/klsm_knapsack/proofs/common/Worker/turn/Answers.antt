@@ -1,6 +1,8 @@
 use Rattle.std.proofs.Common.{◌∙◌, refl, lit<}
 use Rattle.std.proofs.lemmas.List.{append-nil}
 use Rattle.klsm_knapsack.specs.Workers.{work_of}
+use Rattle.klsm_knapsack.proofs.AnswerLemmas.{deletion_gains, no_deletion_gains}
+use Rattle.klsm_knapsack.proofs.IdleLemmas.{gains_more}
 use Rattle.klsm_knapsack.proofs.WorkLemmas.{inserts_same, inserts_both, same_both, worked_on}
 use Rattle.klsm_knapsack.proofs.common.Worker.turn.Goals as goal
 
@@ -31,3 +33,14 @@ delete_min-requires g c = (lit< tt, (lit< tt, c.requires.of.member))
 
 pub returns-in_default-clause-same : goal.returns-in_default-clause-same
 returns-in_default-clause-same g c = record { member = c.delete_min.ensures.same; watcher = refl }
+
+pub returns-in_default-clause-answers : goal.returns-in_default-clause-answers
+returns-in_default-clause-answers g c =
+    let ok = c.in_default.ensures.ok in
+    -- how the picker may pick does not matter, as it was not asked
+    no_deletion_gains (λ before candidates index after. Unit {0}) _ _ _ _ ok.0 ok.1 _ _ ok.2
+
+pub returns-clause-answers : goal.returns-clause-answers
+returns-clause-answers g c =
+    let ok = c.in-Some.ensures.ok in
+    gains_more _ _ _ (deletion_gains _ _ _ _ _ ok.0 ok.1 _ _ _ ok.2) c.in_ok-examine.ensures.gains

@@ -1,5 +1,8 @@
 use Rattle.std.proofs.Common.{arith, refl, lit<}
+use Rattle.klsm_board.specs.Boards.{own_steps}
+use Rattle.klsm_knapsack.specs.Answers.{GainsNothing, GainsSome}
 use Rattle.klsm_knapsack.proofs.CrewLemmas.{same_of}
+use Rattle.klsm_knapsack.proofs.IdleLemmas.{idle_at_first, idle_once_more, idle_no_more}
 use Rattle.klsm_knapsack.proofs.WorkLemmas.{inserts_none, inserts_both, same_both}
 use Rattle.klsm_knapsack.proofs.common.Worker.work.Goals as goal
 
@@ -9,6 +12,7 @@ loop-init g c = record {
   few = omega arith;
   same = record { member = (refl, refl, refl); watcher = refl };
   at_work = c.requires.begins;
+  answers = idle_at_first _;
   inserts = inserts_none _ _;
 }
 
@@ -18,7 +22,7 @@ may_split-requires g c = (lit< tt, (lit< tt, same_of c.args.common.now c.args.se
 pub turn-requires : goal.turn-requires
 turn-requires g c =
     let inv = c.loop.invariant in
-    (lit< tt, (lit< tt, (same_of c.args.common.now c.args.self.now c.loop.self c.requires.of inv.same, (c.if-not-may_split.ensures refl, (c.requires.problem, inv.at_work)))))
+    (lit< tt, (lit< tt, (same_of c.args.common.now c.args.self.now c.loop.self c.requires.of inv.same, ((c.if-not-may_split.ensures).0 refl, (c.requires.problem, inv.at_work)))))
 
 pub returns-in_err-turn-clause-same : goal.returns-in_err-turn-clause-same
 returns-in_err-turn-clause-same g c = same_both c.args.self.now c.loop.self c.turn.new.self c.loop.invariant.same c.turn.ensures.same
@@ -27,11 +31,13 @@ pub loop-preserved-then-branch : goal.loop-preserved-then-branch
 loop-preserved-then-branch g c =
     let inv = c.loop.invariant in
     let turned = c.in_ok-turn.ensures in
+    let some : GainsSome (own_steps c.loop.self.member) (own_steps c.turn.new.self.member) = rw c.if-branch.true at turned.answers in
     record {
       next = (tt, tt);
       few = omega arith;
       same = same_both c.args.self.now c.loop.self c.turn.new.self inv.same turned.same;
       at_work = turned.goes_on;
+      answers = idle_no_more _ _ _ _ inv.answers some;
       inserts = inserts_both _ _ _ _ inv.inserts turned.inserts;
     }
 
@@ -39,11 +45,13 @@ pub loop-preserved : goal.loop-preserved
 loop-preserved g c =
     let inv = c.loop.invariant in
     let turned = c.in_ok-turn.ensures in
+    let nothing : GainsNothing (own_steps c.loop.self.member) (own_steps c.turn.new.self.member) = rw c.if-branch.false at turned.answers in
     record {
       next = (tt, tt);
       few = omega (arith, inv.few, c.if-nothings-idle.false);
       same = same_both c.args.self.now c.loop.self c.turn.new.self inv.same turned.same;
       at_work = turned.goes_on;
+      answers = idle_once_more _ _ _ _ inv.answers nothing;
       inserts = inserts_both _ _ _ _ inv.inserts turned.inserts;
     }
 

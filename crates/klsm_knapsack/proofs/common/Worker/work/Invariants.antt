@@ -1,4 +1,6 @@
 use Rattle.std.proofs.Common.{◌≤◌}
+use Rattle.klsm_board.specs.Boards.{own_steps}
+use Rattle.klsm_knapsack.specs.Answers.{EndsIdle}
 use Rattle.klsm_knapsack.specs.Workers.{InsertsNodes, IsAtWork, IsSameWorker, work_of}
 use Rattle.klsm_knapsack.proofs.common.Worker.work.Given as goal
 
@@ -8,5 +10,6 @@ invariant-loop g l = record {
   few : l.nothings ≤ l.idle;
   same : IsSameWorker l.fn.self l.self;
   at_work : IsAtWork l.instance l.self;
+  answers : EndsIdle l.nothings (own_steps l.fn.self.member) (own_steps l.self.member);
   inserts : InsertsNodes l.instance (work_of l.fn.self).inserted (work_of l.self).inserted;
 }

@@ -1,0 +1,32 @@
+-- What a worker's calls were answered, as the events that its list gained tell.
+use Rattle.std.specs.Prelude.{ℕ, ◌≡◌, ◌≢◌, ◌<◌, List, [], ◌∷◌, ◌++◌, length, replicate}
+use Rattle.std.specs.List.{AllByRecursion, flat_map}
+use Rattle.klsm_world.specs.declared.step.Event.{Event}
+use Rattle.klsm_world.specs.declared.step.Event.TheVariants.{Nothing}
+use Rattle.klsm_world.specs.declared.step.Entry.{Entry}
+use Rattle.klsm_world.specs.OwnSteps.{event_at}
+
+-- the events that a list of own steps commits
+abbrev pub committed_in : List Entry → List Event
+committed_in es = flat_map event_at es
+
+-- the list gained events, none of which is an answer "nothing"
+pub record GainsOthers (es es' : List Entry) : Type 0 where
+  pub gained : List Event
+  pub others : AllByRecursion (λ event. event ≢ Nothing) gained
+  pub events : committed_in es' ≡ committed_in es ++ gained
+
+-- and there are some
+pub record GainsSome (es es' : List Entry) : Type 0 where
+  pub gains : GainsOthers es es'
+  pub some : 0 < length gains.gained
+
+-- it gained one event, an answer "nothing"
+abbrev pub GainsNothing : List Entry → List Entry → Type 0
+GainsNothing es es' = committed_in es' ≡ committed_in es ++ Nothing ∷ []
+
+-- of the events that it gained the last n are answers "nothing", and the one before them is none
+pub record EndsIdle (n : ℕ) (es es' : List Entry) : Type 0 where
+  pub before : List Event
+  pub no_more : (others : List Event) → before ≢ others ++ Nothing ∷ []
+  pub events : committed_in es' ≡ committed_in es ++ (before ++ replicate n Nothing)
