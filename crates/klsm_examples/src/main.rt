@@ -2,7 +2,7 @@
 //! and compares the answer with the text beside it. Where there are words beside it too, they are
 //! those of the program; otherwise it is a replay.
 //!
-//! Then it is the program itself, on a script with a row that is refused: it ends with status 1.
+//! Then it is the program itself, on a word that is not UTF-8: it ends with status 2.
 #![tactic(auto)]
 
 use klsm_tool::{Status, TerminalLine, run_program, run_words};
