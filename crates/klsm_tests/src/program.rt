@@ -4,11 +4,14 @@ mod faults;
 mod knapsack;
 mod limits;
 mod live;
+mod options;
+mod order;
 mod process;
 mod progress;
 mod refused;
 mod replayed;
 mod scripts;
+mod seeds;
 mod skips;
 mod threads;
 mod waiting;
@@ -18,6 +21,7 @@ mod worked;
 use klsm_tool::{Silent, run_program};
 use process::{Input, Output, Process};
 use std::alloc::Global;
+use std::io::Read;
 use std::sync::Wait;
 use std::thread::Threads;
 
@@ -29,7 +33,7 @@ fn run(
     rt: &(impl Wait + Threads + Sync),
     alloc: Global,
     words: &[&[u8]],
-    input: Input,
+    input: impl Read + Drop,
     output: &mut Output,
 ) -> u8 {
     run_program(&(Process { rt, words }, alloc), input, output, &Silent).code()

@@ -63,9 +63,4 @@ adds_count before after text output output' adds =
 -- a text adds at most its length
 pub puts_at_most : (before after : Option (List ℕ)) (text : List ℕ) (output output' : Output) (result : Result (Unit {0}) Stop) → PutsText before after text output output' result → put_count output' ≤ put_count output + length text
 puts_at_most before after text output output' (Ok done) puts = omega (arith, adds_count before after text output output' puts)
-puts_at_most before after text output output' (Err stop.NoMemory) puts = omega (arith, puts.1, ap length puts.2)
-puts_at_most before after text output output' (Err stop.WriteFault) puts = omega (arith, puts.0.1, puts.0.3, ap length puts.1, length-append (pending output) text)
-puts_at_most before after text output output' (Err stop.AtEnd) puts = absurd puts
-puts_at_most before after text output output' (Err (stop.Refused why)) puts = absurd puts
-puts_at_most before after text output output' (Err stop.Full) puts = absurd puts
-puts_at_most before after text output output' (Err stop.ReadFault) puts = absurd puts
+puts_at_most before after text output output' (Err why) puts = omega (arith, puts.1.1, puts.1.3, ap length puts.2, length-append (pending output) text)

@@ -26,20 +26,14 @@ AddsText before after text output output' =
     × (output'.written ≡ output.written + length gone)
     × (gone ++ pending output' ≡ pending output ++ text)
 
-abbrev pub Stops : Option (List ℕ) → Option (List ℕ) → List ℕ → Output → Output → Stop → Type 0
-Stops before after text output output' stop.NoMemory =
-    Keeps before after × (output'.written ≡ output.written) × (pending output' ≡ pending output)
-Stops before after text output output' stop.WriteFault =
-    IsCut before after (pending output ++ text) output.written output'.written
-    × (pending output' ≡ [])
-Stops before after text output output' why = ⊥
-
--- the text was added; or it was not made, for want of memory; or the writer failed before its end,
--- and nothing is pending
+-- the text was added; or the writer failed before its end, and nothing is pending
 abbrev pub PutsText : Option (List ℕ) → Option (List ℕ) → List ℕ → Output → Output
     → Result (Unit {0}) Stop → Type 0
 PutsText before after text output output' (Ok done) = AddsText before after text output output'
-PutsText before after text output output' (Err why) = Stops before after text output output' why
+PutsText before after text output output' (Err why) =
+    (why ≡ stop.WriteFault)
+    × IsCut before after (pending output ++ text) output.written output'.written
+    × (pending output' ≡ [])
 
 -- what was pending went out, or the writer failed before its end; nothing is pending
 abbrev pub FlushesText : Option (List ℕ) → Option (List ℕ) → Output → Output → Result (Unit {0}) Stop

@@ -8,7 +8,7 @@ use itoa::write_digits;
 use klsm_run::Stamp;
 
 /// The longest line has fewer bytes.
-pub(crate) const LINE_ROOM: usize = 160;
+const LINE_ROOM: usize = 160;
 
 /// A text that is made from its end on, as the digits of a number come out the last one first. So
 /// each piece is written where it stays.

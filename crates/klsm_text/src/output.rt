@@ -1,27 +1,29 @@
 //! The text that goes out: kept line by line, and sent many lines at a time.
-ghost use Rattle.std.specs.Prelude.{◌≡◌, ◌+◌, ◌<◌, ◌≤◌, ◌^◌, [], length, take};
-ghost use Rattle.std.specs.Prelude.{IfOk};
+ghost use Rattle.std.specs.Prelude.{◌≡◌, ◌+◌, ◌<◌, ◌≤◌, ◌^◌, length, take};
 ghost use Rattle.std.specs.Io.KnownBytes.{Appends};
-ghost use Rattle.klsm_text.specs.Output.{PutsText, FlushesText, Closes, pending, put_count};
+ghost use Rattle.std.specs.Vec.{vec_capacity};
 ghost use Rattle.klsm_text.specs.Reports.{GoesOrFails};
 
-use crate::line_text::LINE_ROOM;
 use crate::report::{End, Report};
 use crate::stop::{Closing, Stop};
 use std::alloc::{AllocError, Global};
 use std::io::Write;
 
-/// So many pending bytes go out at once.
-const SEND_AT: usize = 65_536;
+/// So many bytes at most are pending.
+const ROOM: usize = 65_536;
 
 /// How much was written so far, and what is still to go out.
 #[derive(Drop)]
 pub struct Output {
     pub written: u64,
     buffer: Vec<u8>,
+    ghost room: { 65536 ≤ vec_capacity buffer },
 }
 
 impl Output {
+    ghost use Rattle.std.specs.Prelude.{◌≡◌, ◌+◌, ◌<◌, ◌≤◌, ◌^◌, [], length, IfOk};
+    ghost use Rattle.klsm_text.specs.Output.{PutsText, FlushesText, Closes, pending, put_count};
+
     /// Room for the lines is reserved here, so that no line takes memory.
     pub fn new(alloc: Global) -> Result<Self, AllocError>
         ensures written { IfOk result (λ output. output.written ≡ 0) }
@@ -29,23 +31,24 @@ impl Output {
     {
         Ok(Output {
             written: 0,
-            buffer: Vec::with_capacity(alloc, SEND_AT + LINE_ROOM)?,
+            buffer: Vec::with_capacity(alloc, ROOM)?,
         })
     }
 
-    /// Adds one line to what is pending, and sends it all where it is much.
+    /// Adds a line to what is pending, all of which is sent before where both have no room.
     pub fn put<W: Write>(&mut self, writer: &mut W, line: &[u8]) -> Result<(), Stop>
-        requires { put_count self.old + length line.now < 2 ^ 64 }
+        requires count { put_count self.old + length line.now < 2 ^ 64 }
+        requires short { length line.now ≤ 65536 }
         ensures { PutsText (W.contents writer.old) (W.contents writer.new) line.now self.old self.new
             result }
     {
+        if self.buffer.len() + line.len() > ROOM {
+            self.flush(writer)?;
+        }
         if self.buffer.extend_from_slice(line).is_err() {
-            return Err(Stop::NoMemory);
+            unreachable!();
         }
-        if self.buffer.len() < SEND_AT {
-            return Ok(());
-        }
-        self.flush(writer)
+        Ok(())
     }
 
     /// Sends all that is pending. Where the writer fails, the rest is dropped.

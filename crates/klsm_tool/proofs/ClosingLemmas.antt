@@ -19,7 +19,7 @@ use Rattle.klsm_text.specs.AnswerText.{closing_text, greatest_skip, lines_text}
 use Rattle.klsm_text.specs.Output.{Closes, pending}
 use Rattle.klsm_tool.specs.Progress.{HasStopped, IsCutOff, IsTold, IsToldUntil}
 use Rattle.klsm_tool.specs.Shown.{AreShown}
-use Rattle.klsm_tool.specs.Replay.{Answered, AreShownUntil, GoesOut, Replays, Stopped}
+use Rattle.klsm_tool.specs.Replay.{Answered, GoesOut, Replays, Stopped}
 use Rattle.klsm_text.specs.Reports.{GoesOrFails, end_of}
 use Rattle.klsm_text.proofs.OutputLemmas.{appends_more, appends_none, goes_after}
 
@@ -31,7 +31,7 @@ reached_front config from after text rest (r ∷ rows) row h =
     (later.0, later.1, (h.0, h.1, h.2, later.2))
 
 -- no row is a front of any rows
-pub no_rows : (input : Option (List ℕ)) → AreFirstRows input []
+no_rows : (input : Option (List ℕ)) → AreFirstRows input []
 unfolding Reached
 no_rows None = tt
 no_rows (Some text) = (state.StartRecord, strip_bom text, (refl, refl))
@@ -43,7 +43,7 @@ fewer_rows (Some text) rows row first =
     reached_front default_config state.StartRecord first.0 (strip_bom text) first.1 (reverse rows) row
     (subst (λ (rs : List Row). Reached default_config state.StartRecord (strip_bom text) rs first.0 first.1) (reverse-append (row ∷ []) rows) first.2)
 
-pub all_are_first : (input : Option (List ℕ)) (rows : List Row) → AreAllRows input rows → AreFirstRows input rows
+all_are_first : (input : Option (List ℕ)) (rows : List Row) → AreAllRows input rows → AreFirstRows input rows
 all_are_first None rows all = tt
 all_are_first (Some text) rows all = (all.0, all.1, all.2)
 
@@ -103,7 +103,7 @@ closing_same stop.WriteFault row number most greatest bound same is = refl
 
 -- a replay that stopped for another reason than the writer, with its last line
 replays_with : (threads k number most : ℕ) (lists : List (List Entry)) (input before now after : Option (List ℕ)) (output : Output) (why : Stop) (report : Report) (rows : List Row) (lines : List Line)
-    → Answered threads rows lines → AreShownUntil why threads lists lines → Stopped threads k lists input rows why → why ≢ stop.WriteFault → (why ≡ stop.AtEnd → most ≡ greatest_skip lines) → number ≡ length lines + 1 → IsTold before now lines output
+    → Answered threads rows lines → AreShown threads lists lines → Stopped threads k lists input rows why → why ≢ stop.WriteFault → (why ≡ stop.AtEnd → most ≡ greatest_skip lines) → number ≡ length lines + 1 → IsTold before now lines output
     → GoesOrFails now after (pending output ++ closing_text number most (threads * k) why) output.written report.written (end_of why) report.end → Replays threads k lists input before after report
 replays_with threads k number most lists input before now after output why report rows lines answered shown stopped other most_is number_is told goes = record {
   rows = rows;
@@ -147,9 +147,8 @@ pub replays : (threads k : ℕ) (lists : List (List Entry)) (input before now af
     → HasStopped threads k lists input before now closing.row closing.most output closing.stop → closing.bound ≡ threads * k → Closes now after closing output report → Replays threads k lists input before after report
 replays threads k lists input before now after closing output report stopped bound_is (inl failed) =
     let cut : IsCutOff before now stopped.lines output.written = subst (λ (why : Stop). IsToldUntil why before now stopped.lines output) failed.0 stopped.told in
-    let shown : AreShown threads lists stopped.lines = subst (λ (why : Stop). AreShownUntil why threads lists stopped.lines) failed.0 stopped.shown in
     let first : AreFirstRows input stopped.rows = stopped_first threads k lists input stopped.rows closing.stop stopped.stopped in
-    replays_cut threads k lists input before now after output report stopped.rows stopped.lines stopped.answered shown first cut failed.1 failed.2 failed.3
+    replays_cut threads k lists input before now after output report stopped.rows stopped.lines stopped.answered stopped.shown first cut failed.1 failed.2 failed.3
 replays threads k lists input before now after closing output report stopped bound_is (inr goes) =
     let told : IsTold before now stopped.lines output = told_in_full closing.stop before now stopped.lines output goes.0 stopped.told in
     let out : GoesOrFails now after (pending output ++ closing_text closing.row closing.most (threads * k) closing.stop) output.written report.written (end_of closing.stop) report.end =
@@ -163,7 +162,7 @@ replays_nothing threads k lists input before after report shown goes = record {
   lines = [];
   why = stop.NoMemory;
   answered = tt;
-  shown = inl shown;
+  shown = shown;
   stopped = no_rows input;
   goes_out = whole_or_cut before after (codes "no memory\n") stop.NoMemory report (λ e. cc) goes;
 }

@@ -26,7 +26,6 @@ use Rattle.klsm_tool.specs.Shown.{shown_in}
 use Rattle.klsm_text.specs.ThreadRows.{AreAccepted, Asked, asked_of}
 use Rattle.klsm_tool.specs.Turns.{AreAnswers}
 use Rattle.klsm_tool.specs.Working.{AreAccounted, HasRunRows, HasRunAt, IsReady, IsReadyAt, Works, gave_up_at, ready, steps_at}
-use Rattle.klsm_tool.proofs.ClosingLemmas.{all_are_first}
 use Rattle.klsm_tool.proofs.TotalLemmas.{adds_up, insertions_are}
 
 -- ---- before they begin
@@ -145,7 +144,7 @@ finished threads k input rows board crew ms (Ok totals) sizes all accepted is ba
     all_run threads k input rows board.sizes (lists_in ok.0) totals sizes all accepted (length-map ok.0 own_steps ∙ (ok.2.many ∙ threads_are))
     (λ t below. subst (λ (z : List (Member 64 21)). AreAnswers (asked_of threads t rows) (shown_in (steps_in (lists_in z) t))) same (answers t (omega (arith, below, threads_are)))) ok.3
 finished threads k input rows board crew ms (Err closing) sizes all accepted is back answers ok err =
-    subst (HasNoTotals threads k input closing.row) (sym err) (record { rows = rows; first = all_are_first input rows all; accepted = accepted })
+    subst (HasNoTotals threads k input closing.row) (sym err) tt
 
 -- ---- when one gave up
 
@@ -203,6 +202,6 @@ module _ (threads k : ℕ) (input : Option (List ℕ)) (rows : List Row) (all : 
       by_cause stop.AtEnd first = absurd first.gave_up.gives_up
       by_cause (stop.Refused refusal) first = absurd first.gave_up.gives_up
       by_cause stop.Full first = until_full gave_up.row first
-      by_cause stop.NoMemory first = record { rows = rows; first = all_are_first input rows all; accepted = accepted }
+      by_cause stop.NoMemory first = tt
       by_cause stop.ReadFault first = absurd first.gave_up.gives_up
       by_cause stop.WriteFault first = absurd first.gave_up.gives_up

@@ -17,7 +17,7 @@ use Rattle.klsm_tool.specs.Shown.{AreShown}
 use Rattle.klsm_text.specs.Output.{AddsText, FlushesText, PutsText, pending}
 use Rattle.klsm_text.specs.Reading.{HasReadScript}
 use Rattle.klsm_tool.specs.Progress.{HasStopped, IsCutOff, IsTold, IsToldUntil, StandsAfter, StopsBefore}
-use Rattle.klsm_tool.specs.Replay.{Answered, AreShownUntil}
+use Rattle.klsm_tool.specs.Replay.{Answered}
 use Rattle.klsm_text.specs.Reports.{IsCut}
 use Rattle.klsm_text.proofs.ScriptLemmas.{first_read}
 use Rattle.klsm_text.proofs.OutputLemmas.{appends_more, appends_none, cut_after}
@@ -37,15 +37,6 @@ told_until stop.NoMemory before now lines output other told = told
 told_until stop.ReadFault before now lines output other told = told
 told_until stop.WriteFault before now lines output other told = absurd (other refl)
 
--- all lines are those of the lists
-shown_until : (why : Stop) (threads : ℕ) (lists : List (List Entry)) (lines : List Line) → AreShown threads lists lines → AreShownUntil why threads lists lines
-shown_until stop.AtEnd threads lists lines shown = shown
-shown_until (stop.Refused why) threads lists lines shown = shown
-shown_until stop.Full threads lists lines shown = shown
-shown_until stop.NoMemory threads lists lines shown = inl shown
-shown_until stop.ReadFault threads lists lines shown = shown
-shown_until stop.WriteFault threads lists lines shown = shown
-
 -- no further row is answered, and all lines are told
 pub stops_told : (threads k : ℕ) (lists : List (List Entry)) (input before now : Option (List ℕ)) (rows : List Row) (lines : List Line) (most : ℕ) (output : Output) (why : Stop)
     → Answered threads rows lines → StopsBefore threads k lists input rows lines most why → IsTold before now lines output → HasStopped threads k lists input before now (length rows + 1) most output why
@@ -53,7 +44,7 @@ stops_told threads k lists input before now rows lines most output why answered 
   rows = rows;
   lines = lines;
   answered = answered;
-  shown = shown_until why threads lists lines stops.shown;
+  shown = stops.shown;
   stopped = stops.stopped;
   told = told_until why before now lines output stops.other told;
   number_is = λ _. omega (arith, answered_lengths threads rows lines answered);
@@ -86,11 +77,6 @@ told_next before now after lines lines' text output output' next told adds = rec
   all = append_assoc told.gone adds.0 (pending output') ∙ (ap (λ rest. told.gone ++ rest) adds.3 ∙ (sym (append_assoc told.gone (pending output) text) ∙ (ap (λ front. front ++ text) told.all ∙ next)));
 }
 
-told_same : (before now after : Option (List ℕ)) (lines : List Line) (output output' : Output) → IsTold before now lines output → Keeps now after → output'.written ≡ output.written → pending output' ≡ pending output → IsTold before after lines output'
-told_same before now after lines output output' told keeps count same =
-    let next : lines_text lines ++ [] ≡ lines_text lines = append-nil (lines_text lines) in
-    told_next before now after lines lines [] output output' next told ([], appends_none now after keeps, omega (arith, count), same ∙ sym (append-nil (pending output)))
-
 cut_next : (before now after : Option (List ℕ)) (lines lines' : List Line) (text : List ℕ) (output : Output) (written : ℕ) → lines_text lines ++ text ≡ lines_text lines' → IsTold before now lines output → IsCut now after (pending output ++ text) output.written written → IsCutOff before after lines' written
 cut_next before now after lines lines' text output written next told cut =
     let all : told.gone ++ (pending output ++ text) ≡ lines_text lines' = sym (append_assoc told.gone (pending output) text) ∙ (ap (λ front. front ++ text) told.all ∙ next) in
@@ -118,19 +104,6 @@ pub line_put : {R : Type 0} (rem : R → Option (List ℕ)) (threads k : ℕ) (l
     (λ why. HasStopped threads k lists' input before after (length rows + 1) most' output' why)
 line_put rem threads k lists lists' input before now after rows lines a b items items' most most' output output' row printed (Ok done) was is skip told puts =
     (row, printed.line, is, told_next before now after lines (printed.line ∷ lines) _ output output' (next_text printed lines skip) told puts)
-line_put rem threads k lists lists' input before now after rows lines a b items items' most most' output output' row printed (Err stop.NoMemory) was is skip told puts = record {
-  rows = rows;
-  lines = lines;
-  answered = was.answered;
-  shown = inr (printed.line, is.shown);
-  stopped = first_read rem input rows a was.read;
-  told = told_same before now after lines output output' told puts.0 puts.1 puts.2;
-  number_is = λ _. omega (arith, answered_lengths threads rows lines was.answered);
-  most_is = λ e. cc;
-}
-line_put rem threads k lists lists' input before now after rows lines a b items items' most most' output output' row printed (Err stop.WriteFault) was is skip told puts =
-    stops_cut rem threads k lists' input before after (row ∷ rows) (printed.line ∷ lines) b _ most' output' is.answered is.shown is.read (cut_next before now after lines (printed.line ∷ lines) _ output output'.written (next_text printed lines skip) told puts.0)
-line_put rem threads k lists lists' input before now after rows lines a b items items' most most' output output' row printed (Err stop.AtEnd) was is skip told puts = absurd puts
-line_put rem threads k lists lists' input before now after rows lines a b items items' most most' output output' row printed (Err (stop.Refused why)) was is skip told puts = absurd puts
-line_put rem threads k lists lists' input before now after rows lines a b items items' most most' output output' row printed (Err stop.Full) was is skip told puts = absurd puts
-line_put rem threads k lists lists' input before now after rows lines a b items items' most most' output output' row printed (Err stop.ReadFault) was is skip told puts = absurd puts
+line_put rem threads k lists lists' input before now after rows lines a b items items' most most' output output' row printed (Err why) was is skip told puts =
+    subst (HasStopped threads k lists' input before after (length rows + 1) most' output') (sym puts.0)
+    (stops_cut rem threads k lists' input before after (row ∷ rows) (printed.line ∷ lines) b _ most' output' is.answered is.shown is.read (cut_next before now after lines (printed.line ∷ lines) _ output output'.written (next_text printed lines skip) told puts.1))

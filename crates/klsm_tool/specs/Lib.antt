@@ -2,6 +2,7 @@
 pub mod Shown  -- what a member's list shows in the text
 pub mod Crews  -- the members that answer rows
 pub mod LiveItems  -- the live items beside a board
+pub mod Picking  -- how the deletions of each thread pick
 pub mod Turns  -- what a member answers to a row
 pub mod Answering  -- what is kept beside the board, and how a row is answered
 pub mod Replay  -- what `replay_over` promises

@@ -1,5 +1,5 @@
 -- What `live_over` promises: the rows of a script run by threads.
-use Rattle.std.specs.Prelude.{ℕ, ◌≡◌, ◌+◌, ◌<◌, List, ◌∷◌, ◌++◌, length, Option, Result, Ok, Err}
+use Rattle.std.specs.Prelude.{ℕ, ⊤, ◌≡◌, ◌+◌, ◌<◌, List, ◌∷◌, ◌++◌, length, Option, Result, Ok, Err}
 use Rattle.klsm_world.specs.declared.step.Entry.{Entry}
 use Rattle.klsm_world.specs.Account.{account}
 use Rattle.klsm_board.specs.Rule.{IsReached}
@@ -11,7 +11,7 @@ use Rattle.klsm_text.specs.declared.stop.Stop.{Stop}
 use Rattle.klsm_text.specs.declared.stop.Stop.TheVariants as stop
 use Rattle.klsm_text.specs.declared.stop.Closing.{Closing}
 use Rattle.klsm_text.specs.declared.totals.Totals.{Totals}
-use Rattle.klsm_rows.specs.Rows.{Row, AreFirstRows, AreAllRows}
+use Rattle.klsm_rows.specs.Rows.{Row, AreAllRows}
 use Rattle.klsm_text.specs.AnswerText.{closing_text}
 use Rattle.klsm_text.specs.TotalsText.{totals_text}
 use Rattle.klsm_tool.specs.Shown.{shown_in}
@@ -78,19 +78,13 @@ pub record IsNotRun (threads : ℕ) (input : Option (List ℕ)) (number : ℕ) (
   pub stops : StopsReading threads input rows why
   pub number_is : number ≡ length rows + 1
 
--- memory was wanted: of the rows that were read none is refused
-pub record WantsMemory (threads : ℕ) (input : Option (List ℕ)) : Type 0 where
-  pub rows : List Row
-  pub first : AreFirstRows input rows
-  pub accepted : AreAccepted threads rows
-
--- why there are no totals
+-- why there are no totals. Of want of memory nothing is said
 abbrev pub HasNoTotals : ℕ → ℕ → Option (List ℕ) → ℕ → Stop → Type 0
 HasNoTotals threads k input number stop.AtEnd = ⊥
 HasNoTotals threads k input number (stop.Refused why) =
     IsNotRun threads input number (stop.Refused why)
 HasNoTotals threads k input number stop.Full = RunsUntilFull threads k input number
-HasNoTotals threads k input number stop.NoMemory = WantsMemory threads input
+HasNoTotals threads k input number stop.NoMemory = ⊤
 HasNoTotals threads k input number stop.ReadFault = IsNotRun threads input number stop.ReadFault
 HasNoTotals threads k input number stop.WriteFault = ⊥
 

@@ -12,7 +12,7 @@ use Rattle.klsm_text.specs.declared.script.Script.{Script}
 use Rattle.klsm_rows.specs.Rows.{Row}
 use Rattle.klsm_text.specs.Reading.{HasReadScript}
 use Rattle.klsm_text.specs.AnswerText.{live_by, lines_text, greatest_skip}
-use Rattle.klsm_tool.specs.Replay.{Answered, AreShownUntil, Stopped}
+use Rattle.klsm_tool.specs.Replay.{Answered, Stopped}
 use Rattle.klsm_tool.specs.Shown.{AreShown}
 use Rattle.klsm_text.specs.Output.{pending}
 
@@ -62,7 +62,7 @@ pub record HasStopped (threads k : ℕ) (lists : List (List Entry)) (input befor
   pub rows : List Row
   pub lines : List Line
   pub answered : Answered threads rows lines
-  pub shown : AreShownUntil why threads lists lines
+  pub shown : AreShown threads lists lines
   pub stopped : Stopped threads k lists input rows why
   pub told : IsToldUntil why before now lines output
   pub number_is : why ≢ stop.WriteFault → number ≡ length lines + 1

@@ -30,17 +30,6 @@ Answered threads (row ∷ rows) (line ∷ lines) =
     × (line.thread ≡ request.thread) × IsAnswerTo request.operation line.answer)
     × Answered threads rows lines
 
--- the answers are those of the members' lists; only where memory was wanted the last one may have
--- no line
-abbrev pub AreShownUntil : Stop → ℕ → List (List Entry) → List Line → Type 0
-AreShownUntil stop.AtEnd threads lists lines = AreShown threads lists lines
-AreShownUntil (stop.Refused why) threads lists lines = AreShown threads lists lines
-AreShownUntil stop.Full threads lists lines = AreShown threads lists lines
-AreShownUntil stop.NoMemory threads lists lines =
-    AreShown threads lists lines ⊎ ((line : Line) × AreShown threads lists (line ∷ lines))
-AreShownUntil stop.ReadFault threads lists lines = AreShown threads lists lines
-AreShownUntil stop.WriteFault threads lists lines = AreShown threads lists lines
-
 -- why no further row of the input is answered. Where there was no room for an item, the list of the
 -- row's thread ends with that
 abbrev pub Stopped : ℕ → ℕ → List (List Entry) → Option (List ℕ) → List Row → Stop → Type 0
@@ -71,7 +60,7 @@ pub record Replays (threads k : ℕ) (lists : List (List Entry)) (input before a
   pub lines : List Line
   pub why : Stop
   pub answered : Answered threads rows lines
-  pub shown : AreShownUntil why threads lists lines
+  pub shown : AreShown threads lists lines
   pub stopped : Stopped threads k lists input rows why
   pub goes_out : GoesOut before after (text_of (threads * k) lines why) why report
 

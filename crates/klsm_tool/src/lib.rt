@@ -13,7 +13,7 @@
 //! ```
 //!
 //! A board of the caller's own, and its members, go to `replay_on`. `live_over` runs a script's rows in
-//! threads, and `knapsack_over` solves an instance.
+//! threads, `live_told` tells of a long run while it lasts, and `knapsack_over` solves an instance.
 //!
 //! Rows are read and judged by `klsm_text`, which also makes the lines and sends them. `replay` reads
 //! a row, `beside` lets the member of its thread answer and counts the skip among `live_items`, and
@@ -28,7 +28,7 @@
 //!   A row is refused for the first reason that holds: the same clause. The board of `replay_over`
 //!   is its own, and finished: `ReplaysAlone`.
 //! - **The totals of rows that threads run are those of some schedule**, which answers each thread's
-//!   rows in their order: `Lives`, the clause of `live_over`.
+//!   rows in their order: `Lives`, the clause of `live_over` and `live_told`.
 //! - **The selection that is written is a best one**: `Solves`, the clause of `knapsack_over`.
 //! - **Words are a run or are answered with one text**, and each end has its status: clauses `runs` and
 //!   `replays` of `run_words`.
@@ -54,7 +54,7 @@ mod worker;
 pub use klsm_text::{End, Progress, Report, Silent, TerminalLine};
 pub use klsm_words::{Pick, Settings};
 pub use knapsack::knapsack_over;
-pub use live::live_over;
+pub use live::{live_over, live_told};
 pub use program::{run_program, run_words};
 pub use replay::{replay_on, replay_over};
 pub use status::Status;

@@ -46,11 +46,31 @@ pub fn live_over<P: AllocGlobal + Wait + Threads + Sync, R: Read + Drop, W: Writ
     ensures { Lives settings.now.threads settings.now.k (R.remaining reader)
         (W.contents writer.old) (W.contents writer.new) result }
 {
-    write_outcome(writer, run_script(rt, reader, settings, gate, &Silent))
+    live_told(rt, reader, writer, settings, gate, &Silent)
 }
 
-/// Writes the line of a run that ended so.
-pub(crate) fn write_outcome<W: Write>(writer: &mut W, outcome: Result<Totals, Closing>) -> Report
+/// The same, and tells of a long run while it lasts.
+pub fn live_told<P: AllocGlobal + Wait + Threads + Sync, R: Read + Drop, W: Write>(
+    rt: &P,
+    reader: R,
+    writer: &mut W,
+    settings: &Settings,
+    gate: &impl Gate,
+    progress: &impl Progress,
+) -> Report
+    requires some_thread { 1 ≤ settings.now.threads }
+    requires threads { settings.now.threads ≤ 16 }
+    requires k { settings.now.k ≤ 64 }
+    ensures { Lives settings.now.threads settings.now.k (R.remaining reader)
+        (W.contents writer.old) (W.contents writer.new) result }
+{
+    let outcome = run_script(rt, reader, settings, gate, progress);
+    progress.ended();
+    write_outcome(writer, outcome)
+}
+
+// Writes the line of a run that ended so.
+fn write_outcome<W: Write>(writer: &mut W, outcome: Result<Totals, Closing>) -> Report
     ensures { GoesOrFails (W.contents writer.old) (W.contents writer.new) (outcome_text outcome) 0
         result.written (outcome_end outcome) result.end }
 {
@@ -60,8 +80,8 @@ pub(crate) fn write_outcome<W: Write>(writer: &mut W, outcome: Result<Totals, Cl
     }
 }
 
-/// Reads a whole script and runs it.
-pub(crate) fn run_script<P: AllocGlobal + Wait + Threads + Sync, R: Read + Drop>(
+// Reads a whole script and runs it.
+fn run_script<P: AllocGlobal + Wait + Threads + Sync, R: Read + Drop>(
     rt: &P,
     reader: R,
     settings: &Settings,

@@ -1,5 +1,6 @@
 //! How the deletions of each thread pick.
 ghost use Rattle.std.specs.Prelude.{◌≡◌, length, IfOk};
+ghost use Rattle.klsm_tool.specs.Picking.{choice_of};
 
 use klsm_parts::{First, Last, Picker, Random, random_of};
 use klsm_words::{Pick, Settings};
@@ -8,8 +9,16 @@ use std::alloc::{AllocError, Global};
 
 /// The picker of one thread.
 #[derive(Drop)]
-pub(crate) enum ThreadPicker {
-    /// The least candidate.
+pub(crate) struct ThreadPicker {
+    /// The thread for whose deletions it picks.
+    pub thread: u64,
+    choice: Choice,
+}
+
+/// Which candidate it picks.
+#[derive(Drop)]
+enum Choice {
+    /// The least.
     First,
     /// The greatest.
     Last,
@@ -19,22 +28,26 @@ pub(crate) enum ThreadPicker {
 
 impl Picker for ThreadPicker {
     fn pick(&mut self, candidates: usize) -> usize {
-        match self {
-            ThreadPicker::First => First.pick(candidates),
-            ThreadPicker::Last => Last.pick(candidates),
-            ThreadPicker::Random(random) => random.pick(candidates),
+        match &mut self.choice {
+            Choice::First => First.pick(candidates),
+            Choice::Last => Last.pick(candidates),
+            Choice::Random(random) => random.pick(candidates),
         }
     }
 }
 
 impl ThreadPicker {
     /// The picker of the thread of this number. Each thread has a seed of its own.
-    pub(crate) fn of(settings: &Settings, thread: u64) -> ThreadPicker {
-        match settings.pick {
-            Pick::First => ThreadPicker::First,
-            Pick::Last => ThreadPicker::Last,
-            Pick::Random => ThreadPicker::Random(random_of(settings.seed.wrapping_add(thread))),
-        }
+    pub(crate) fn of(settings: &Settings, thread: u64) -> ThreadPicker
+        ensures thread { result.thread ≡ thread }
+        ensures choice { result.choice ≡ choice_of settings.now thread }
+    {
+        let choice = match settings.pick {
+            Pick::First => Choice::First,
+            Pick::Last => Choice::Last,
+            Pick::Random => Choice::Random(random_of(settings.seed.wrapping_add(thread))),
+        };
+        ThreadPicker { thread, choice }
     }
 }
 

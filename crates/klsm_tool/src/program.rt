@@ -7,7 +7,7 @@ ghost use Rattle.klsm_tool.specs.Program.{RunsReplayOrLacksMemory, RunsSome, Say
 ghost use Rattle.klsm_tool.specs.Program.{status_of as status_of_end};
 
 use crate::knapsack::knapsack_over;
-use crate::live::{run_script, write_outcome};
+use crate::live::live_told;
 use crate::process_words::process_words;
 use crate::replay::replay_over;
 use crate::status::Status;
@@ -103,9 +103,7 @@ fn run_live<R: Read + Drop, W: Write>(
     ensures { RunsLive settings.now (R.remaining reader) (W.contents writer.old)
         (W.contents writer.new) result.code }
 {
-    let outcome = run_script(rt, reader, settings, &Open, progress);
-    progress.ended();
-    status_of(write_outcome(writer, outcome).end)
+    status_of(live_told(rt, reader, writer, settings, &Open, progress).end)
 }
 
 fn run_knapsack<R: Read + Drop, W: Write>(

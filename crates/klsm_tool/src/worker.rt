@@ -28,7 +28,7 @@ pub(crate) struct GaveUp {
 }
 
 impl Worker {
-    /// Runs the rows of its thread in their order.
+    /// Runs the rows of its thread in their order, with the picks of its thread.
     pub(crate) fn run(
         self,
         rt: &impl Wait,
@@ -39,6 +39,7 @@ impl Worker {
     ) -> Worker
         requires ready { IsReady board.now self.member.number self.member }
         requires few { length rows.now < board.now.sizes.quota }
+        requires picks { picker.thread ≡ self.member.number }
         ensures { HasRunRows board.now self.member.number (map asked_in rows.now) result }
     {
         let Worker { mut member, .. } = self;

@@ -19,10 +19,10 @@ Answers:
   THREAD d none                           There was no item to delete
 
 A STAMP is the inserting thread, a dot, and how many items that thread had inserted before.
-SKIP is at most THREADS times K.
+SKIP is at most THREADS times K; that is tested, and not promised.
 
 The last line, and the status of the program:
-  max skip SKIP bound BOUND  0  All rows are answered; the greatest SKIP, and what it may be
+  max skip SKIP bound BOUND  0  All rows are answered; the greatest SKIP, and THREADS times K
   refused row ROW: WHAT      1  The row is refused; WHAT is rows, fields, thread, operation,
                                 key or load
   full row ROW               3  The row's insertion finds no room

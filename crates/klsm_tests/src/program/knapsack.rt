@@ -1,6 +1,11 @@
 //! Instances of the knapsack problem: the line of each, and its status.
 
 use super::{Told, all_go};
+use klsm_board::Open;
+use klsm_tool::{End, knapsack_over};
+use std::alloc::Global;
+use std::sync::Wait;
+use std::thread::Threads;
 
 /// The words of a process that solves an instance.
 pub(super) const KNAPSACK: &[&[u8]] = &[b"klsm", b"knapsack"];
@@ -60,4 +65,25 @@ const WORKED: &[Told] = &[
 #[test]
 fn instances_are_solved_or_refused(rt: HostRuntime) {
     assert!(rt; all_go(&rt, rt.alloc(), WORKED));
+}
+
+/// Whether one worker that ends after so many answers "nothing" leads to this line.
+fn leads_to(
+    rt: &(impl AllocGlobal + Wait + Threads + Sync),
+    instance: &[u8],
+    idle: u32,
+    line: &[u8],
+) -> bool {
+    let mut text = Vec::new(rt.alloc());
+    let report = knapsack_over(rt, instance, &mut text, 1, 0, idle, &Open);
+    report.end == End::Done && text.as_slice() == line
+}
+
+// Of two selections that are best, a worker that is never idle finds the one last. One that is idle
+// at once takes no node, and then the search, depth first, finds the other.
+#[test]
+fn a_worker_ends_when_it_is_idle(rt: HostRuntime) {
+    let twins = b"capacity,5\n60,5\n60,5\n";
+    assert!(rt; leads_to(&rt, twins, 0, b"value 60 weight 5 picks 0\n"));
+    assert!(rt; leads_to(&rt, twins, 1, b"value 60 weight 5 picks 1\n"));
 }

@@ -9,7 +9,6 @@ use Rattle.klsm_text.specs.ThreadRows.{asked_of}
 use Rattle.klsm_tool.specs.Live.{HasNoTotals}
 use Rattle.klsm_tool.specs.Working.{HasRunAt, IsReadyAt, gave_up_at, ready}
 use Rattle.klsm_tool.proofs.CrewLemmas.{written_back}
-use Rattle.klsm_tool.proofs.NotRunLemmas.{no_memory_at_first}
 use Rattle.klsm_tool.proofs.PlaceLemmas.{all_back, crew_ready, finished, one_gave_up}
 use Rattle.klsm_tool.proofs.live.run_rows.Goals as goal
 
@@ -17,9 +16,9 @@ use Rattle.klsm_tool.proofs.live.run_rows.Goals as goal
 as_many : (crew : List (Option Worker)) (members : List (Member 64 21)) (threads : ℕ) → crew ≡ map ready members → length members ≡ threads → length crew ≡ threads
 as_many crew members threads is count = ap (λ (z : List (Option Worker)). length z) is ∙ (length-map members ready ∙ count)
 
--- memory is wanted before the first row
+-- of want of memory nothing is said
 none_run : (threads k number : ℕ) (input : Option (List ℕ)) (why : Stop) → why ≡ stop.NoMemory → HasNoTotals threads k input number why
-none_run threads k number input why is = subst (HasNoTotals threads k input number) (sym is) (no_memory_at_first threads k number input)
+none_run threads k number input why is = subst (HasNoTotals threads k input number) (sym is) tt
 
 pub returns-in_default : goal.returns-in_default
 returns-in_default g c = λ input _ _ _ _. none_run c.args.settings.now.threads c.args.settings.now.k _ input _ c.at.ensures.stop

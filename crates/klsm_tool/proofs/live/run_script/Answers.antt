@@ -8,7 +8,7 @@ use Rattle.klsm_text.specs.Script.{row_limit}
 use Rattle.klsm_text.specs.ThreadRows.{StopsReading}
 use Rattle.klsm_tool.proofs.CrewLemmas.{written_back}
 use Rattle.klsm_text.proofs.KeepingLemmas.{few_kept}
-use Rattle.klsm_tool.proofs.NotRunLemmas.{no_memory_at_first, not_run}
+use Rattle.klsm_tool.proofs.NotRunLemmas.{not_run}
 use Rattle.klsm_tool.proofs.live.run_script.Goals as goal
 
 abbrev kept_lists : List (Vec ThreadRow Global) → List (List ThreadRow)
@@ -17,7 +17,7 @@ kept_lists lists = map (λ (list : Vec ThreadRow Global). list.items) lists
 pub returns-in_default : goal.returns-in_default
 returns-in_default g c =
     let threads = c.args.settings.now.threads in let k = c.args.settings.now.k in
-    subst (HasNoTotals threads k (g.R.Read.remaining c.args.reader) c.at.result.row) (sym c.at.ensures.stop) (no_memory_at_first threads k c.at.result.row (g.R.Read.remaining c.args.reader))
+    subst (HasNoTotals threads k (g.R.Read.remaining c.args.reader) c.at.result.row) (sym c.at.ensures.stop) tt
 
 pub returns-then-ne : goal.returns-then-ne
 returns-then-ne g c =
