@@ -7,6 +7,7 @@ ghost use Rattle.klsm_tool.specs.Knapsack.{Solves, SolvesProblem, RefusesIn, Wri
 use klsm_board::Gate;
 use klsm_knapsack::{Best, Instance, ReadError, SolveError, solve};
 use klsm_text::{End, NO_MEMORY, Report, refusal_text, selection_text, write_last};
+use klsm_words::Search;
 use std::alloc::Global;
 use std::io::{Read, Write};
 use std::sync::Wait;
@@ -34,7 +35,10 @@ pub fn knapsack_over<P: AllocGlobal + Wait + Threads + Sync, R: Read + Drop, W: 
         (W.contents writer.new) result }
 {
     match Instance::read(rt.alloc(), reader) {
-        Ok(instance) => solve_read(rt, writer, &instance, threads, k, idle, gate),
+        Ok(instance) => {
+            let search = Search { threads, k, idle };
+            solve_read(rt, writer, &instance, &search, gate)
+        }
         Err(why) => refuse(writer, why),
     }
 }
@@ -44,18 +48,24 @@ fn solve_read<P: AllocGlobal + Wait + Threads + Sync, W: Write>(
     rt: &P,
     writer: &mut W,
     instance: &Instance,
-    threads: usize,
-    k: usize,
-    idle: u32,
+    search: &Search,
     gate: &impl Gate,
 ) -> Report
-    requires some_thread { 1 ≤ threads }
-    requires threads { threads ≤ 16 }
-    requires k { k ≤ 64 }
-    ensures { SolvesProblem threads k instance.now (W.contents writer.old) (W.contents writer.new)
-        result }
+    requires some_thread { 1 ≤ search.now.threads }
+    requires threads { search.now.threads ≤ 16 }
+    requires k { search.now.k ≤ 64 }
+    ensures { SolvesProblem search.now.threads search.now.k instance.now (W.contents writer.old)
+        (W.contents writer.new) result }
 {
-    match solve::<21>(rt, rt.alloc(), instance, threads, k, idle, gate) {
+    match solve::<21>(
+        rt,
+        rt.alloc(),
+        instance,
+        search.threads,
+        search.k,
+        search.idle,
+        gate,
+    ) {
         Ok(best) => write_selection(rt.alloc(), writer, instance, &best),
         Err(SolveError::Full) => write_last(writer, FULL, 0, End::Full),
         Err(_) => write_last(writer, NO_MEMORY, 0, End::NoMemory),

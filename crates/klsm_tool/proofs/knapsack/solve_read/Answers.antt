@@ -8,7 +8,7 @@ returns-in-Ok g c = inl (c.in-Ok.best, c.in-Ok.ensures.best, c.write_selection.e
 
 pub returns-in-Err-Full : goal.returns-in-Err-Full
 returns-in-Err-Full g c =
-    let full = subst (λ (why : SolveError). RefusesSearch 21 c.args.threads c.args.k why) c.in-Err-Full.field-0-is c.in-Err-Full.ensures.refused in
+    let full = subst (λ (why : SolveError). RefusesSearch 21 c.args.search.now.threads c.args.search.now.k why) c.in-Err-Full.field-0-is c.in-Err-Full.ensures.refused in
     inr (inl (full, c.write_last.ensures.goes))
 
 pub returns-in-Err : goal.returns-in-Err
