@@ -15,7 +15,7 @@ use Rattle.klsm_text.specs.declared.thread_rows.ThreadRow.{ThreadRow}
 use Rattle.klsm_text.specs.declared.script.Script.{Script}
 use Rattle.klsm_rows.specs.Rows.{Row}
 use Rattle.klsm_text.specs.Script.{request_of, request_after, row_limit}
-use Rattle.klsm_text.specs.Reading.{HasReadScript, ReadStops}
+use Rattle.klsm_text.specs.Reading.{HasReadScript, ReadStops, reader_failed}
 use Rattle.klsm_text.specs.Keeping.{AreKept, KeepsNoMore, KeepsOn, KeepsOne, asked_in, kept_for}
 use Rattle.klsm_text.specs.ThreadRows.{AreAccepted, Asked, StopsReading, asked_of, asks}
 use Rattle.klsm_text.proofs.ScriptLemmas.{first_read, judged}
@@ -73,6 +73,7 @@ row_kept rem threads many number input rows a b row request lists lists' (Ok don
 row_kept rem threads many number input rows a b row request lists lists' (Err why) so_many was accepted below number_is kept read asks_for one memory = (
   subst (StopsReading threads input rows) (sym memory) (first_read rem input rows a was),
   λ end. absurd (let bad : stop.NoMemory ≡ stop.AtEnd = sym memory ∙ end in cc),
+  λ fault. absurd (let bad : stop.NoMemory ≡ stop.ReadFault = sym memory ∙ fault in cc),
 )
 
 -- a row that is read and refused
@@ -80,7 +81,7 @@ pub row_refused : {R : Type 0} (rem : R → Option (List ℕ)) (threads : ℕ) (
     → KeepsOn rem threads input rows lists b (Err (stop.Refused why))
 row_refused rem threads input rows b row why many before lists so_many kept below read asks_for =
     let asks : request_of threads row ≡ Err why = ap (λ n. request_of n row) (sym kept.many ∙ so_many) ∙ asks_for in
-    ((row, first_read rem input (row ∷ rows) b read, judged threads rows row below ∙ asks), λ end. absurd (let bad : stop.Refused why ≡ stop.AtEnd = end in cc))
+    ((row, first_read rem input (row ∷ rows) b read, judged threads rows row below ∙ asks), λ end. absurd (let bad : stop.Refused why ≡ stop.AtEnd = end in cc), λ fault. absurd (let bad : stop.Refused why ≡ stop.ReadFault = fault in cc))
 
 -- no row is read
 pub stops_reading : (failed : Bool) (threads : ℕ) (input : Option (List ℕ)) (rows : List Row) (why : Stop) → ReadStops failed input rows why → StopsReading threads input rows why
@@ -91,9 +92,13 @@ stops_reading failed threads input rows stop.NoMemory h = h.0
 stops_reading failed threads input rows stop.ReadFault h = h.0
 stops_reading failed threads input rows stop.WriteFault h = absurd h
 
+-- a read fault comes only where the reader has failed
+pub fault_failed : (failed : Bool) (input : Option (List ℕ)) (rows : List Row) (why : Stop) → ReadStops failed input rows why → why ≡ stop.ReadFault → failed ≡ true
+fault_failed failed input rows why h is = (subst (ReadStops failed input rows) is h).1
+
 -- no row is read, and none is kept
-pub row_stops : {R : Type 0} (rem : R → Option (List ℕ)) (failed : Bool) (threads : ℕ) (input : Option (List ℕ)) (rows : List Row) (b : Script R) (why : Stop) (lists : List (List ThreadRow)) → AreKept threads rows lists → ReadStops failed input rows why → KeepsOn rem threads input rows lists b (Err why)
-row_stops rem failed threads input rows b why lists kept stops = (stops_reading failed threads input rows why stops, λ end. kept)
+pub row_stops : {R : Type 0} (rem : R → Option (List ℕ)) (threads : ℕ) (input : Option (List ℕ)) (rows : List Row) (b : Script R) (why : Stop) (lists : List (List ThreadRow)) → AreKept threads rows lists → ReadStops (reader_failed b) input rows why → KeepsOn rem threads input rows lists b (Err why)
+row_stops rem threads input rows b why lists kept stops = (stops_reading (reader_failed b) threads input rows why stops, λ end. kept, fault_failed (reader_failed b) input rows why stops)
 
 -- one row too many
 pub beyond : {R : Type 0} (rem : R → Option (List ℕ)) (threads : ℕ) (input : Option (List ℕ)) (rows : List Row) (b : Script R) (row : Row) → length rows ≡ row_limit → HasReadScript rem input (row ∷ rows) b → StopsReading threads input rows (stop.Refused refusal.Rows)
@@ -118,9 +123,9 @@ asked_few threads t (row ∷ rows) =
     one number (Err why) = omega arith
 
 -- reading has ended
-pub ended : (threads number : ℕ) (input : Option (List ℕ)) (rows : List Row) (lists : List (List ThreadRow)) (why : Stop) → AreAccepted threads rows → StopsReading threads input rows why → (why ≡ stop.AtEnd → AreKept threads rows lists) → length rows ≤ row_limit → number ≡ length rows + 1
-    → KeepsNoMore threads input lists number why
-ended threads number input rows lists why accepted stops kept few number_is = record { rows = rows; accepted = accepted; stops = stops; kept = kept; few = few; number_is = number_is }
+pub ended : (threads number : ℕ) (failed : Bool) (input : Option (List ℕ)) (rows : List Row) (lists : List (List ThreadRow)) (why : Stop) → AreAccepted threads rows → StopsReading threads input rows why → (why ≡ stop.AtEnd → AreKept threads rows lists) → (why ≡ stop.ReadFault → failed ≡ true) → length rows ≤ row_limit → number ≡ length rows + 1
+    → KeepsNoMore threads failed input lists number why
+ended threads number failed input rows lists why accepted stops kept fault few number_is = record { rows = rows; accepted = accepted; stops = stops; kept = kept; fault = fault; few = few; number_is = number_is }
 
 -- none is kept for a thread beyond the last
 none_beyond : (lists : List (List ThreadRow)) (t : ℕ) → length lists ≤ t → slice_index_or lists t [] ≡ []

@@ -6,7 +6,6 @@ use Rattle.std.proofs.lemmas.List.{append-nil, append_assoc, length-append, leng
 use Rattle.klsm_text.specs.declared.output.Output.{Output}
 use Rattle.klsm_text.specs.declared.report.End.{End}
 use Rattle.klsm_text.specs.declared.stop.Stop.{Stop}
-use Rattle.klsm_text.specs.declared.stop.Stop.TheVariants as stop
 use Rattle.klsm_text.specs.Output.{AddsText, PutsText, pending, put_count}
 use Rattle.klsm_text.specs.Reports.{GoesOrFails, IsCut}
 

@@ -2,7 +2,7 @@
 ghost use Rattle.std.specs.Prelude.{◌≡◌, ◌<◌, ◌≤◌, ◌+◌, ℕ, List, [], length, map, Option, IfOk, IfErr};
 ghost use Rattle.klsm_rows.specs.Rows.{Row};
 ghost use Rattle.klsm_text.specs.Script.{row_limit};
-ghost use Rattle.klsm_text.specs.Reading.{HasReadScript};
+ghost use Rattle.klsm_text.specs.Reading.{HasReadScript, reader_failed};
 ghost use Rattle.klsm_text.specs.Keeping.{AreKept, KeepsNoMore, KeepsOn, KeepsOne};
 ghost use Rattle.klsm_text.specs.ThreadRows.{AreAccepted};
 
@@ -89,7 +89,8 @@ pub fn keep_rows<R: Read + Drop>(
     ensures { (threads : ℕ) (input : Option (List ℕ))
         → HasReadScript R.remaining input [] script.old
         → AreKept threads [] (map (λ list. list.items) lists.old)
-        → KeepsNoMore threads input (map (λ list. list.items) lists.new) result.row result.stop }
+        → KeepsNoMore threads (reader_failed script.new) input (map (λ list. list.items) lists.new)
+        result.row result.stop }
 {
     let mut pace = Pace::new();
     for number in 0..ROW_LIMIT {

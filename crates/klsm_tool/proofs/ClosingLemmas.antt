@@ -1,5 +1,5 @@
 -- What the last line makes of a replay that has stopped.
-use Rattle.std.proofs.Common.{◌≡◌, ◌≢◌, ℕ, ◌+◌, ◌*◌, ◌<◌, inl, inr, List, [], ◌∷◌, ◌++◌, length, take, Option, Some, None, refl, sym, ap, ◌∙◌, subst, arith, codes, reverse}
+use Rattle.std.proofs.Common.{◌≡◌, ◌≢◌, ℕ, Bool, true, ◌+◌, ◌*◌, ◌<◌, inl, inr, List, [], ◌∷◌, ◌++◌, length, take, Option, Some, None, refl, sym, ap, ◌∙◌, subst, arith, codes, reverse}
 use Rattle.std.specs.Io.KnownBytes.{Appends, Keeps}
 use Rattle.std.proofs.lemmas.List.{append-nil, append_assoc, take_all, reverse-append}
 use Rattle.csv.specs.declared.parser.State.{State}
@@ -143,13 +143,13 @@ replays_cut threads k lists input before now after output report rows lines answ
     }
 
 -- a replay that stopped, and then closed
-pub replays : (threads k : ℕ) (lists : List (List Entry)) (input before now after : Option (List ℕ)) (closing : Closing) (output : Output) (report : Report)
-    → HasStopped threads k lists input before now closing.row closing.most output closing.stop → closing.bound ≡ threads * k → Closes now after closing output report → Replays threads k lists input before after report
-replays threads k lists input before now after closing output report stopped bound_is (inl failed) =
-    let cut : IsCutOff before now stopped.lines output.written = subst (λ (why : Stop). IsToldUntil why before now stopped.lines output) failed.0 stopped.told in
+pub replays : (failed : Bool) (threads k : ℕ) (lists : List (List Entry)) (input before now after : Option (List ℕ)) (closing : Closing) (output : Output) (report : Report)
+    → HasStopped failed threads k lists input before now closing.row closing.most output closing.stop → closing.bound ≡ threads * k → Closes now after closing output report → Replays threads k lists input before after report
+replays failed threads k lists input before now after closing output report stopped bound_is (inl broken) =
+    let cut : IsCutOff before now stopped.lines output.written = subst (λ (why : Stop). IsToldUntil why before now stopped.lines output) broken.0 stopped.told in
     let first : AreFirstRows input stopped.rows = stopped_first threads k lists input stopped.rows closing.stop stopped.stopped in
-    replays_cut threads k lists input before now after output report stopped.rows stopped.lines stopped.answered stopped.shown first cut failed.1 failed.2 failed.3
-replays threads k lists input before now after closing output report stopped bound_is (inr goes) =
+    replays_cut threads k lists input before now after output report stopped.rows stopped.lines stopped.answered stopped.shown first cut broken.1 broken.2 broken.3
+replays failed threads k lists input before now after closing output report stopped bound_is (inr goes) =
     let told : IsTold before now stopped.lines output = told_in_full closing.stop before now stopped.lines output goes.0 stopped.told in
     let out : GoesOrFails now after (pending output ++ closing_text closing.row closing.most (threads * k) closing.stop) output.written report.written (end_of closing.stop) report.end =
     subst (λ (bound : ℕ). GoesOrFails now after (pending output ++ closing_text closing.row closing.most bound closing.stop) output.written report.written (end_of closing.stop) report.end) bound_is goes.1 in
@@ -166,3 +166,19 @@ replays_nothing threads k lists input before after report shown goes = record {
   stopped = no_rows input;
   goes_out = whole_or_cut before after (codes "no memory\n") stop.NoMemory report (λ e. cc) goes;
 }
+
+-- only where reading stopped so is the end a read fault
+read_fault : (why : Stop) → end_of why ≡ end.ReadFault → why ≡ stop.ReadFault
+read_fault stop.AtEnd is = cc
+read_fault (stop.Refused why) is = cc
+read_fault stop.Full is = cc
+read_fault stop.NoMemory is = cc
+read_fault stop.ReadFault is = refl
+read_fault stop.WriteFault is = cc
+
+-- and then the reader has failed
+pub fault_failed : (failed : Bool) (threads k : ℕ) (lists : List (List Entry)) (input before now after : Option (List ℕ)) (closing : Closing) (output : Output) (report : Report)
+    → HasStopped failed threads k lists input before now closing.row closing.most output closing.stop → Closes now after closing output report → report.end ≡ end.ReadFault → failed ≡ true
+fault_failed failed threads k lists input before now after closing output report stopped (inl cut) is = absurd (let bad : end.WriteFault ≡ end.ReadFault = sym cut.1 ∙ is in cc)
+fault_failed failed threads k lists input before now after closing output report stopped (inr (goes, (inl whole))) is = stopped.fault (read_fault closing.stop (sym whole.0 ∙ is))
+fault_failed failed threads k lists input before now after closing output report stopped (inr (goes, (inr cut))) is = absurd (let bad : end.WriteFault ≡ end.ReadFault = sym cut.0 ∙ is in cc)

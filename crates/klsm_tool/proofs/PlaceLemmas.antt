@@ -1,5 +1,5 @@
 -- The workers at their places, before they begin and when all are back.
-use Rattle.std.proofs.Common.{◌≡◌, ℕ, zero, suc, ◌+◌, ◌<◌, List, [], ◌∷◌, length, map, drop, get_or, slice_index_or, Option, Some, None, Result, Ok, Err, IfOk, IfErr, refl, sym, ap, ap₂, ◌∙◌, subst, arith}
+use Rattle.std.proofs.Common.{◌≡◌, ℕ, Bool, zero, suc, ◌+◌, ◌<◌, List, [], ◌∷◌, length, map, drop, get_or, slice_index_or, Option, Some, None, Result, Ok, Err, IfOk, IfErr, refl, sym, ap, ap₂, ◌∙◌, subst, arith}
 use Rattle.std.specs.List.{All}
 use Rattle.std.proofs.lemmas.List.{length-map}
 use mathlib.Core.Option.{some, some-injective, some-ne-none}
@@ -136,15 +136,15 @@ all_run threads k input rows m lists totals sizes all accepted many answers acco
     }
 
 -- or, where memory was wanted for that, none
-pub finished : (threads k : ℕ) (input : Option (List ℕ)) (rows : List Row) (board : Board 64 21) (crew : List (Option Worker)) (ms : List (Member 64 21)) (result : Result Totals Closing) → board.sizes ≡ sizes_of threads k → AreAllRows input rows → AreAccepted threads rows
+pub finished : (failed : Bool) (threads k : ℕ) (input : Option (List ℕ)) (rows : List Row) (board : Board 64 21) (crew : List (Option Worker)) (ms : List (Member 64 21)) (result : Result Totals Closing) → board.sizes ≡ sizes_of threads k → AreAllRows input rows → AreAccepted threads rows
     → crew ≡ map ready ms → AreMembers board ms → ((t : ℕ) → t < board.sizes.threads → AreAnswers (asked_of threads t rows) (shown_in (steps_in (lists_in ms) t)))
-    → IfOk result (λ totals. (members : List (Member 64 21)) × (crew ≡ map ready members) × AreMembers board members × AreAccounted board.sizes (lists_in members) totals) → IfErr result (λ closing. closing.stop ≡ stop.NoMemory) → RunsScript threads k input result
-finished threads k input rows board crew ms (Ok totals) sizes all accepted is back answers ok err =
+    → IfOk result (λ totals. (members : List (Member 64 21)) × (crew ≡ map ready members) × AreMembers board members × AreAccounted board.sizes (lists_in members) totals) → IfErr result (λ closing. closing.stop ≡ stop.NoMemory) → RunsScript failed threads k input result
+finished failed threads k input rows board crew ms (Ok totals) sizes all accepted is back answers ok err =
     let same = same_members ms ok.0 (sym is ∙ ok.1) in let threads_are = ap (λ m. m.threads) sizes in
     all_run threads k input rows board.sizes (lists_in ok.0) totals sizes all accepted (length-map ok.0 own_steps ∙ (ok.2.many ∙ threads_are))
     (λ t below. subst (λ (z : List (Member 64 21)). AreAnswers (asked_of threads t rows) (shown_in (steps_in (lists_in z) t))) same (answers t (omega (arith, below, threads_are)))) ok.3
-finished threads k input rows board crew ms (Err closing) sizes all accepted is back answers ok err =
-    subst (HasNoTotals threads k input closing.row) (sym err) tt
+finished failed threads k input rows board crew ms (Err closing) sizes all accepted is back answers ok err =
+    subst (HasNoTotals failed threads k input closing.row) (sym err) tt
 
 -- ---- when one gave up
 
@@ -195,10 +195,10 @@ module _ (threads k : ℕ) (input : Option (List ℕ)) (rows : List Row) (all : 
     first = first;
   }
 
-  pub one_gave_up : (gave_up : GaveUp) (t : ℕ) → t < length crew → gave_up_at (slice_index_or crew t None) ≡ Some gave_up → ((u : ℕ) (d : Option Worker) → u < t → gave_up_at (slice_index_or crew u d) ≡ None) → HasNoTotals threads k input gave_up.row gave_up.stop
-  one_gave_up gave_up t below is lesser = by_cause gave_up.stop (first_of gave_up t below is lesser)
+  pub one_gave_up : (failed : Bool) (gave_up : GaveUp) (t : ℕ) → t < length crew → gave_up_at (slice_index_or crew t None) ≡ Some gave_up → ((u : ℕ) (d : Option Worker) → u < t → gave_up_at (slice_index_or crew u d) ≡ None) → HasNoTotals failed threads k input gave_up.row gave_up.stop
+  one_gave_up failed gave_up t below is lesser = by_cause gave_up.stop (first_of gave_up t below is lesser)
     where
-      by_cause : (why : Stop) → GivesUpFirst threads k rows (map steps_at crew) gave_up.row why → HasNoTotals threads k input gave_up.row why
+      by_cause : (why : Stop) → GivesUpFirst threads k rows (map steps_at crew) gave_up.row why → HasNoTotals failed threads k input gave_up.row why
       by_cause stop.AtEnd first = absurd first.gave_up.gives_up
       by_cause (stop.Refused refusal) first = absurd first.gave_up.gives_up
       by_cause stop.Full first = until_full gave_up.row first

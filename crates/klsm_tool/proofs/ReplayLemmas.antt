@@ -30,17 +30,17 @@ use Rattle.klsm_tool.specs.Crews.{AreFew, Goes, steps_in}
 use Rattle.klsm_tool.specs.Shown.{AreShown, answers_of, shown_in}
 use Rattle.klsm_tool.specs.Turns.{StopsInsertion}
 use Rattle.klsm_tool.specs.Replay.{Stopped}
-use Rattle.klsm_text.specs.Reading.{HasReadScript, ReadStops}
+use Rattle.klsm_text.specs.Reading.{HasReadScript, ReadStops, reader_failed}
 use Rattle.klsm_tool.specs.Progress.{StandsAfter, StopsBefore}
 use Rattle.klsm_text.proofs.ScriptLemmas.{first_read, judged}
 
 -- where no row could be read, no further row is answered
-pub read_stops : (failed : Bool) (threads k : ℕ) (lists : List (List Entry)) (input : Option (List ℕ)) (rows : List Row) (why : Stop) → ReadStops failed input rows why → Stopped threads k lists input rows why × (why ≢ stop.WriteFault)
-read_stops failed threads k lists input rows stop.AtEnd h = (h, λ e. cc)
+pub read_stops : (failed : Bool) (threads k : ℕ) (lists : List (List Entry)) (input : Option (List ℕ)) (rows : List Row) (why : Stop) → ReadStops failed input rows why → Stopped threads k lists input rows why × (why ≢ stop.WriteFault) × (why ≡ stop.ReadFault → failed ≡ true)
+read_stops failed threads k lists input rows stop.AtEnd h = (h, λ e. cc, λ e. absurd (let bad : stop.AtEnd ≡ stop.ReadFault = e in cc))
 read_stops failed threads k lists input rows (stop.Refused why) h = absurd h
 read_stops failed threads k lists input rows stop.Full h = absurd h
-read_stops failed threads k lists input rows stop.NoMemory h = (h.0, λ e. cc)
-read_stops failed threads k lists input rows stop.ReadFault h = (h.0, λ e. cc)
+read_stops failed threads k lists input rows stop.NoMemory h = (h.0, λ e. cc, λ e. h.1)
+read_stops failed threads k lists input rows stop.ReadFault h = (h.0, λ e. cc, λ e. h.1)
 read_stops failed threads k lists input rows stop.WriteFault h = absurd h
 
 -- an answer does the same to contents of one ascending list
@@ -104,23 +104,25 @@ next_stands rem threads lists lists' input rows lines a b items items' most most
 
 -- a row that was read and refused
 pub refused : {R : Type 0} (rem : R → Option (List ℕ)) (threads k : ℕ) (lists : List (List Entry)) (input : Option (List ℕ)) (rows : List Row) (lines : List Line) (a b : Script R) (items : List Item) (most : ℕ) (row : Row) (why : Refusal)
-    → StandsAfter rem threads lists input rows lines a items most → length rows < row_limit → HasReadScript rem input (row ∷ rows) b → request_of threads row ≡ Err why → StopsBefore threads k lists input rows lines most (stop.Refused why)
+    → StandsAfter rem threads lists input rows lines a items most → length rows < row_limit → HasReadScript rem input (row ∷ rows) b → request_of threads row ≡ Err why → StopsBefore (reader_failed b) threads k lists input rows lines most (stop.Refused why)
 refused rem threads k lists input rows lines a b items most row why now below read asks = record {
   stopped = (row, first_read rem input (row ∷ rows) b read, judged threads rows row below ∙ asks);
   shown = now.shown;
   most_is = now.most_is;
   other = λ e. cc;
+  fault = λ e. absurd (let bad : stop.Refused why ≡ stop.ReadFault = e in cc);
 }
 
 -- a row that was read and is not answered
 pub given_up : {R : Type 0} (rem : R → Option (List ℕ)) (threads k : ℕ) (lists lists' : List (List Entry)) (input : Option (List ℕ)) (rows : List Row) (lines : List Line) (a b : Script R) (items : List Item) (most most' : ℕ) (row : Row) (request : Request) (why : Stop)
     → StandsAfter rem threads lists input rows lines a items most → length rows < row_limit → HasReadScript rem input (row ∷ rows) b → request_of threads row ≡ Ok request
-    → Goes request.thread lists lists' [] → most' ≡ most → StopsInsertion 21 k request.thread (steps_in lists' request.thread) why → StopsBefore threads k lists' input rows lines most' why
+    → Goes request.thread lists lists' [] → most' ≡ most → StopsInsertion 21 k request.thread (steps_in lists' request.thread) why → StopsBefore (reader_failed b) threads k lists' input rows lines most' why
 given_up rem threads k lists lists' input rows lines a b items most most' row request why now below read asks goes same gives = record {
   stopped = by_cause why gives;
   shown = shown_same threads request.thread lists lists' lines now.shown goes;
   most_is = same ∙ now.most_is;
   other = λ e. subst (StopsInsertion 21 k request.thread (steps_in lists' request.thread)) e gives;
+  fault = λ e. absurd (subst (StopsInsertion 21 k request.thread (steps_in lists' request.thread)) e gives);
 }
   where
     by_cause : (why : Stop) → StopsInsertion 21 k request.thread (steps_in lists' request.thread) why → Stopped threads k lists' input rows why
@@ -135,7 +137,7 @@ given_up rem threads k lists lists' input rows lines a b items most most' row re
 pub row_after : {R : Type 0} (rem : R → Option (List ℕ)) (threads k : ℕ) (lists lists' : List (List Entry)) (input : Option (List ℕ)) (rows : List Row) (lines : List Line) (a b : Script R) (items items' : List Item) (most most' : ℕ) (row : Row) (request : Request) (result : Result Printed Stop)
     → StandsAfter rem threads lists input rows lines a items most → length rows < row_limit → HasReadScript rem input (row ∷ rows) b → request_of threads row ≡ Ok request
     → IfOk result (Answers request lists lists' items items' most most') → IfErr result (λ why. Goes request.thread lists lists' [] × (most' ≡ most) × StopsInsertion 21 k request.thread (steps_in lists' request.thread) why)
-    → MatchResult result (λ printed. (row : Row) × StandsAfter rem threads lists' input (row ∷ rows) (printed.line ∷ lines) b items' most' × (printed.skip ≡ skip_of (live_by lines) printed.line.answer)) (StopsBefore threads k lists' input rows lines most')
+    → MatchResult result (λ printed. (row : Row) × StandsAfter rem threads lists' input (row ∷ rows) (printed.line ∷ lines) b items' most' × (printed.skip ≡ skip_of (live_by lines) printed.line.answer)) (StopsBefore (reader_failed b) threads k lists' input rows lines most')
 row_after rem threads k lists lists' input rows lines a b items items' most most' row request (Ok printed) now below read asks ok err =
     next_stands rem threads lists lists' input rows lines a b items items' most most' row request printed now below read asks ok
 row_after rem threads k lists lists' input rows lines a b items items' most most' row request (Err why) now below read asks ok err =

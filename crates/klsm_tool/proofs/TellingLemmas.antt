@@ -1,7 +1,7 @@
 -- What writing a line does to a replay, and where a replay stops.
-use Rattle.std.proofs.Common.{◌≡◌, ◌≢◌, ℕ, ◌+◌, List, [], ◌∷◌, ◌++◌, length, take, Option, Result, Ok, Err, inl, inr, refl, sym, ap, ◌∙◌, subst, arith}
+use Rattle.std.proofs.Common.{◌≡◌, ◌≢◌, ℕ, Bool, ◌+◌, List, [], ◌∷◌, ◌++◌, length, take, Option, Result, Ok, Err, refl, sym, ap, ◌∙◌, subst, arith}
 use Rattle.std.specs.Result.{MatchResult}
-use Rattle.std.specs.Io.KnownBytes.{Appends, Keeps}
+use Rattle.std.specs.Io.KnownBytes.{Appends}
 use Rattle.std.proofs.lemmas.List.{append-nil, append_assoc, length-append}
 use Rattle.klsm_run.specs.declared.item.Item.{Item}
 use Rattle.klsm_world.specs.declared.step.Entry.{Entry}
@@ -20,7 +20,7 @@ use Rattle.klsm_tool.specs.Progress.{HasStopped, IsCutOff, IsTold, IsToldUntil, 
 use Rattle.klsm_tool.specs.Replay.{Answered}
 use Rattle.klsm_text.specs.Reports.{IsCut}
 use Rattle.klsm_text.proofs.ScriptLemmas.{first_read}
-use Rattle.klsm_text.proofs.OutputLemmas.{appends_more, appends_none, cut_after}
+use Rattle.klsm_text.proofs.OutputLemmas.{appends_more, cut_after}
 
 -- as many rows as lines
 answered_lengths : (threads : ℕ) (rows : List Row) (lines : List Line) → Answered threads rows lines → length rows ≡ length lines
@@ -38,9 +38,9 @@ told_until stop.ReadFault before now lines output other told = told
 told_until stop.WriteFault before now lines output other told = absurd (other refl)
 
 -- no further row is answered, and all lines are told
-pub stops_told : (threads k : ℕ) (lists : List (List Entry)) (input before now : Option (List ℕ)) (rows : List Row) (lines : List Line) (most : ℕ) (output : Output) (why : Stop)
-    → Answered threads rows lines → StopsBefore threads k lists input rows lines most why → IsTold before now lines output → HasStopped threads k lists input before now (length rows + 1) most output why
-stops_told threads k lists input before now rows lines most output why answered stops told = record {
+pub stops_told : (failed : Bool) (threads k : ℕ) (lists : List (List Entry)) (input before now : Option (List ℕ)) (rows : List Row) (lines : List Line) (most : ℕ) (output : Output) (why : Stop)
+    → Answered threads rows lines → StopsBefore failed threads k lists input rows lines most why → IsTold before now lines output → HasStopped failed threads k lists input before now (length rows + 1) most output why
+stops_told failed threads k lists input before now rows lines most output why answered stops told = record {
   rows = rows;
   lines = lines;
   answered = answered;
@@ -49,12 +49,13 @@ stops_told threads k lists input before now rows lines most output why answered 
   told = told_until why before now lines output stops.other told;
   number_is = λ _. omega (arith, answered_lengths threads rows lines answered);
   most_is = λ _. stops.most_is;
+  fault = stops.fault;
 }
 
 -- no further row is answered, since the lines were cut off
-pub stops_cut : {R : Type 0} (rem : R → Option (List ℕ)) (threads k : ℕ) (lists : List (List Entry)) (input before now : Option (List ℕ)) (rows : List Row) (lines : List Line) (reader : Script R) (number most : ℕ) (output : Output)
-    → Answered threads rows lines → AreShown threads lists lines → HasReadScript rem input rows reader → IsCutOff before now lines output.written → HasStopped threads k lists input before now number most output stop.WriteFault
-stops_cut rem threads k lists input before now rows lines reader number most output answered shown read cut = record {
+pub stops_cut : {R : Type 0} (rem : R → Option (List ℕ)) (failed : Bool) (threads k : ℕ) (lists : List (List Entry)) (input before now : Option (List ℕ)) (rows : List Row) (lines : List Line) (reader : Script R) (number most : ℕ) (output : Output)
+    → Answered threads rows lines → AreShown threads lists lines → HasReadScript rem input rows reader → IsCutOff before now lines output.written → HasStopped failed threads k lists input before now number most output stop.WriteFault
+stops_cut rem failed threads k lists input before now rows lines reader number most output answered shown read cut = record {
   rows = rows;
   lines = lines;
   answered = answered;
@@ -63,6 +64,7 @@ stops_cut rem threads k lists input before now rows lines reader number most out
   told = cut;
   number_is = λ other. absurd (other refl);
   most_is = λ e. cc;
+  fault = λ e. absurd (let bad : stop.WriteFault ≡ stop.ReadFault = e in cc);
 }
 
 -- the next line's text
@@ -97,13 +99,13 @@ told_flushed before now after lines output output' (Err why) told failed =
     (failed.0, cut_next before now after lines lines [] output output'.written (append-nil (lines_text lines)) told (subst (λ (text : List ℕ). IsCut now after text output.written output'.written) (sym (append-nil (pending output))) failed.1))
 
 -- the line of a row that was answered is put
-pub line_put : {R : Type 0} (rem : R → Option (List ℕ)) (threads k : ℕ) (lists lists' : List (List Entry)) (input before now after : Option (List ℕ)) (rows : List Row) (lines : List Line) (a b : Script R) (items items' : List Item) (most most' : ℕ) (output output' : Output) (row : Row) (printed : Printed) (result : Result (Unit {0}) Stop)
+pub line_put : {R : Type 0} (rem : R → Option (List ℕ)) (failed : Bool) (threads k : ℕ) (lists lists' : List (List Entry)) (input before now after : Option (List ℕ)) (rows : List Row) (lines : List Line) (a b : Script R) (items items' : List Item) (most most' : ℕ) (output output' : Output) (row : Row) (printed : Printed) (result : Result (Unit {0}) Stop)
     → StandsAfter rem threads lists input rows lines a items most → StandsAfter rem threads lists' input (row ∷ rows) (printed.line ∷ lines) b items' most' → printed.skip ≡ skip_of (live_by lines) printed.line.answer → IsTold before now lines output
     → PutsText now after (answer_text printed.line.thread printed.line.answer printed.skip) output output' result
     → MatchResult result (λ _. (row : Row) × (line : Line) × StandsAfter rem threads lists' input (row ∷ rows) (line ∷ lines) b items' most' × IsTold before after (line ∷ lines) output')
-    (λ why. HasStopped threads k lists' input before after (length rows + 1) most' output' why)
-line_put rem threads k lists lists' input before now after rows lines a b items items' most most' output output' row printed (Ok done) was is skip told puts =
+    (λ why. HasStopped failed threads k lists' input before after (length rows + 1) most' output' why)
+line_put rem failed threads k lists lists' input before now after rows lines a b items items' most most' output output' row printed (Ok done) was is skip told puts =
     (row, printed.line, is, told_next before now after lines (printed.line ∷ lines) _ output output' (next_text printed lines skip) told puts)
-line_put rem threads k lists lists' input before now after rows lines a b items items' most most' output output' row printed (Err why) was is skip told puts =
-    subst (HasStopped threads k lists' input before after (length rows + 1) most' output') (sym puts.0)
-    (stops_cut rem threads k lists' input before after (row ∷ rows) (printed.line ∷ lines) b _ most' output' is.answered is.shown is.read (cut_next before now after lines (printed.line ∷ lines) _ output output'.written (next_text printed lines skip) told puts.1))
+line_put rem failed threads k lists lists' input before now after rows lines a b items items' most most' output output' row printed (Err why) was is skip told puts =
+    subst (HasStopped failed threads k lists' input before after (length rows + 1) most' output') (sym puts.0)
+    (stops_cut rem failed threads k lists' input before after (row ∷ rows) (printed.line ∷ lines) b _ most' output' is.answered is.shown is.read (cut_next before now after lines (printed.line ∷ lines) _ output output'.written (next_text printed lines skip) told puts.1))

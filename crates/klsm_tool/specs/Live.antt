@@ -1,5 +1,5 @@
 -- What `live_over` promises: the rows of a script run by threads.
-use Rattle.std.specs.Prelude.{ℕ, ⊤, ◌≡◌, ◌+◌, ◌<◌, List, ◌∷◌, ◌++◌, length, Option, Result, Ok, Err}
+use Rattle.std.specs.Prelude.{ℕ, ⊤, Bool, true, ◌≡◌, ◌+◌, ◌<◌, List, ◌∷◌, ◌++◌, length, Option, Result, Ok, Err}
 use Rattle.klsm_world.specs.declared.step.Entry.{Entry}
 use Rattle.klsm_world.specs.Account.{account}
 use Rattle.klsm_board.specs.Rule.{IsReached}
@@ -78,20 +78,23 @@ pub record IsNotRun (threads : ℕ) (input : Option (List ℕ)) (number : ℕ) (
   pub stops : StopsReading threads input rows why
   pub number_is : number ≡ length rows + 1
 
--- why there are no totals. Of want of memory nothing is said
-abbrev pub HasNoTotals : ℕ → ℕ → Option (List ℕ) → ℕ → Stop → Type 0
-HasNoTotals threads k input number stop.AtEnd = ⊥
-HasNoTotals threads k input number (stop.Refused why) =
+-- why there are no totals. `failed` says here and below whether the reader has failed. Of want of memory
+-- nothing is said
+abbrev pub HasNoTotals : Bool → ℕ → ℕ → Option (List ℕ) → ℕ → Stop → Type 0
+HasNoTotals failed threads k input number stop.AtEnd = ⊥
+HasNoTotals failed threads k input number (stop.Refused why) =
     IsNotRun threads input number (stop.Refused why)
-HasNoTotals threads k input number stop.Full = RunsUntilFull threads k input number
-HasNoTotals threads k input number stop.NoMemory = ⊤
-HasNoTotals threads k input number stop.ReadFault = IsNotRun threads input number stop.ReadFault
-HasNoTotals threads k input number stop.WriteFault = ⊥
+HasNoTotals failed threads k input number stop.Full = RunsUntilFull threads k input number
+HasNoTotals failed threads k input number stop.NoMemory = ⊤
+HasNoTotals failed threads k input number stop.ReadFault =
+    IsNotRun threads input number stop.ReadFault × (failed ≡ true)
+HasNoTotals failed threads k input number stop.WriteFault = ⊥
 
 -- how the run of a script ends
-abbrev pub RunsScript : ℕ → ℕ → Option (List ℕ) → Result Totals Closing → Type 0
-RunsScript threads k input (Ok totals) = RunsAll threads k input totals
-RunsScript threads k input (Err closing) = HasNoTotals threads k input closing.row closing.stop
+abbrev pub RunsScript : Bool → ℕ → ℕ → Option (List ℕ) → Result Totals Closing → Type 0
+RunsScript failed threads k input (Ok totals) = RunsAll threads k input totals
+RunsScript failed threads k input (Err closing) =
+    HasNoTotals failed threads k input closing.row closing.stop
 
 abbrev pub outcome_text : Result Totals Closing → List ℕ
 outcome_text (Ok totals) = totals_text totals
@@ -102,8 +105,14 @@ outcome_end (Ok totals) = end.Done
 outcome_end (Err closing) = end_of closing.stop
 
 -- the line of the outcome goes out, or the writer fails before its end
-abbrev pub Lives : ℕ → ℕ → Option (List ℕ) → Option (List ℕ) → Option (List ℕ) → Report → Type 0
-Lives threads k input before after report =
-    (outcome : Result Totals Closing) × RunsScript threads k input outcome
+abbrev pub LivesBy : Bool → ℕ → ℕ → Option (List ℕ) → Option (List ℕ) → Option (List ℕ) → Report
+    → Type 0
+LivesBy failed threads k input before after report =
+    (outcome : Result Totals Closing) × RunsScript failed threads k input outcome
     × GoesOrFails before after (outcome_text outcome) 0 report.written (outcome_end outcome)
     report.end
+
+-- the same, where nothing is known of the reader
+abbrev pub Lives : ℕ → ℕ → Option (List ℕ) → Option (List ℕ) → Option (List ℕ) → Report → Type 0
+Lives threads k input before after report =
+    (failed : Bool) × LivesBy failed threads k input before after report

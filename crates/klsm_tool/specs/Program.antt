@@ -39,8 +39,7 @@ RefusesBytes before after result =
     let text = codes "error: a word is not UTF-8\n\nFor more information, try '--help'.\n" in
     Says before after text 2 result
 
--- the words are answered, and no input is read: with a text of the parser and the status of what it
--- found
+-- the words are answered, with a text of the parser and the status of what it found
 abbrev pub AnswersWords : List (List ℕ) → Option (List ℕ) → Option (List ℕ) → ℕ → Type 0
 AnswersWords words before after result =
     ((text : List ℕ) × (status : ℕ) × HasStatus words status × Says before after text status result)

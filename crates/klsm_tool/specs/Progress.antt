@@ -1,5 +1,5 @@
 -- How far a replay has come. Rows and lines are listed the latest first.
-use Rattle.std.specs.Prelude.{ℕ, ◌≡◌, ◌≢◌, ◌+◌, ◌<◌, List, ◌++◌, length, take, Option}
+use Rattle.std.specs.Prelude.{ℕ, Bool, true, ◌≡◌, ◌≢◌, ◌+◌, ◌<◌, List, ◌++◌, length, take, Option}
 use Rattle.std.specs.Io.KnownBytes.{Appends}
 use Rattle.klsm_run.specs.declared.item.Item.{Item}
 use Rattle.klsm_world.specs.declared.step.Entry.{Entry}
@@ -47,18 +47,20 @@ IsToldUntil stop.Full before now lines output = IsTold before now lines output
 IsToldUntil stop.NoMemory before now lines output = IsTold before now lines output
 IsToldUntil stop.ReadFault before now lines output = IsTold before now lines output
 
--- the next row is not answered, and nothing has failed that concerns the writer
-pub record StopsBefore (threads k : ℕ) (lists : List (List Entry)) (input : Option (List ℕ))
-    (rows : List Row) (lines : List Line) (most : ℕ) (why : Stop) : Type 0 where
+-- the next row is not answered, and nothing has failed that concerns the writer. `failed` says here and
+-- below whether the reader has
+pub record StopsBefore (failed : Bool) (threads k : ℕ) (lists : List (List Entry))
+    (input : Option (List ℕ)) (rows : List Row) (lines : List Line) (most : ℕ) (why : Stop) : Type 0 where
   pub stopped : Stopped threads k lists input rows why
   pub shown : AreShown threads lists lines
   pub most_is : most ≡ greatest_skip lines
   pub other : why ≢ stop.WriteFault
+  pub fault : why ≡ stop.ReadFault → failed ≡ true
 
 -- no further row is answered, and these are the number of the row that is not, unless the writer
 -- failed, and the greatest skip, where all rows are answered
-pub record HasStopped (threads k : ℕ) (lists : List (List Entry)) (input before now : Option (List ℕ))
-    (number most : ℕ) (output : Output) (why : Stop) : Type 0 where
+pub record HasStopped (failed : Bool) (threads k : ℕ) (lists : List (List Entry))
+    (input before now : Option (List ℕ)) (number most : ℕ) (output : Output) (why : Stop) : Type 0 where
   pub rows : List Row
   pub lines : List Line
   pub answered : Answered threads rows lines
@@ -67,3 +69,4 @@ pub record HasStopped (threads k : ℕ) (lists : List (List Entry)) (input befor
   pub told : IsToldUntil why before now lines output
   pub number_is : why ≢ stop.WriteFault → number ≡ length lines + 1
   pub most_is : why ≡ stop.AtEnd → most ≡ greatest_skip lines
+  pub fault : why ≡ stop.ReadFault → failed ≡ true

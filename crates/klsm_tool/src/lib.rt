@@ -13,7 +13,8 @@
 //! ```
 //!
 //! A board of the caller's own, and its members, go to `replay_on`. `live_over` runs a script's rows in
-//! threads, `live_told` tells of a long run while it lasts, and `knapsack_over` solves an instance.
+//! threads, `live_told` tells of a long run while it lasts, and `knapsack_over` solves an instance. A
+//! caller that keeps its script takes `replay_script` and `live_script`.
 //!
 //! Rows are read and judged by `klsm_text`, which also makes the lines and sends them. `replay` reads
 //! a row, `beside` lets the member of its thread answer and counts the skip among `live_items`, and
@@ -24,6 +25,8 @@
 //! - **The text is that of the definition.** What goes out is the first `written` bytes of the
 //!   answer text of the rows that were read, and all of it unless the writer failed: `Replays`, the
 //!   clause of `replay_on`.
+//! - **A read fault comes only where the reader has failed**: clause `fault` of `replay_script`, and
+//!   `LivesBy`, the clause of `live_script`, since a clause can name no reader that is gone.
 //! - **The answers are those of the board's members**: the members' lists have these and no others.
 //!   A row is refused for the first reason that holds: the same clause. The board of `replay_over`
 //!   is its own, and finished: `ReplaysAlone`.
@@ -51,10 +54,10 @@ mod status;
 mod turns;
 mod worker;
 
-pub use klsm_text::{End, Progress, Report, Silent, TerminalLine};
+pub use klsm_text::{End, Progress, Report, Script, Silent, TerminalLine};
 pub use klsm_words::{Pick, Settings};
 pub use knapsack::knapsack_over;
-pub use live::{live_over, live_told};
+pub use live::{live_over, live_script, live_told};
 pub use program::{run_program, run_words};
-pub use replay::{replay_on, replay_over};
+pub use replay::{replay_on, replay_over, replay_script};
 pub use status::Status;

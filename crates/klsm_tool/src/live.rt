@@ -1,14 +1,15 @@
 //! `klsm live`: each thread's rows in a thread of its own.
-ghost use Rattle.std.specs.Prelude.{◌≡◌, ◌<◌, ◌≤◌, ℕ, List, [], length, map, slice_index_or};
+ghost use Rattle.std.specs.Prelude.{◌≡◌, ◌<◌, ◌≤◌, ℕ, Bool, List, [], length, map, slice_index_or};
 ghost use Rattle.std.specs.Prelude.{Option, Some, None, IfErr, IfOk, IfSome};
 ghost use Rattle.klsm_rows.specs.Rows.{Row, AreAllRows};
 ghost use Rattle.klsm_text.specs.Script.{row_limit};
 ghost use Rattle.klsm_text.specs.Reports.{GoesOrFails};
 ghost use Rattle.klsm_tool.specs.Crews.{AreMembers, lists_in};
 ghost use Rattle.klsm_text.specs.ThreadRows.{AreAccepted};
-ghost use Rattle.klsm_text.specs.Keeping.{AreKept, KeepsNoMore, kept_for};
+ghost use Rattle.klsm_text.specs.Keeping.{AreKept, kept_for};
+ghost use Rattle.klsm_text.specs.Reading.{HasReadScript, reader_failed};
 ghost use Rattle.klsm_tool.specs.Working.{AreAccounted, HasRunAt, IsReadyAt, gave_up_at, ready};
-ghost use Rattle.klsm_tool.specs.Live.{Lives, RunsScript, outcome_end, outcome_text};
+ghost use Rattle.klsm_tool.specs.Live.{Lives, LivesBy, RunsScript, outcome_end, outcome_text};
 ghost use Rattle.klsm_tool.specs.declared.worker.Worker.{Worker};
 ghost use Rattle.klsm_board.specs.declared.board.Member.{Member};
 
@@ -64,7 +65,29 @@ pub fn live_told<P: AllocGlobal + Wait + Threads + Sync, R: Read + Drop, W: Writ
     ensures { Lives settings.now.threads settings.now.k (R.remaining reader)
         (W.contents writer.old) (W.contents writer.new) result }
 {
-    let outcome = run_script(rt, reader, settings, gate, progress);
+    let mut script = Script::new(rt.alloc(), reader);
+    live_script(rt, &mut script, writer, settings, gate, progress)
+}
+
+/// The same over a script of the caller's, of which no row was read yet. A read fault is answered only
+/// where the reader of that has failed.
+pub fn live_script<P: AllocGlobal + Wait + Threads + Sync, R: Read + Drop, W: Write>(
+    rt: &P,
+    script: &mut Script<R>,
+    writer: &mut W,
+    settings: &Settings,
+    gate: &impl Gate,
+    progress: &impl Progress,
+) -> Report
+    requires some_thread { 1 ≤ settings.now.threads }
+    requires threads { settings.now.threads ≤ 16 }
+    requires k { settings.now.k ≤ 64 }
+    requires read { (input : Option (List ℕ)) × HasReadScript R.remaining input [] script.old }
+    ensures { (input : Option (List ℕ)) → HasReadScript R.remaining input [] script.old
+        → LivesBy (reader_failed script.new) settings.now.threads settings.now.k input
+        (W.contents writer.old) (W.contents writer.new) result }
+{
+    let outcome = run_script(rt, script, settings, gate, progress);
     progress.ended();
     write_outcome(writer, outcome)
 }
@@ -83,7 +106,7 @@ fn write_outcome<W: Write>(writer: &mut W, outcome: Result<Totals, Closing>) -> 
 // Reads a whole script and runs it.
 fn run_script<P: AllocGlobal + Wait + Threads + Sync, R: Read + Drop>(
     rt: &P,
-    reader: R,
+    script: &mut Script<R>,
     settings: &Settings,
     gate: &impl Gate,
     progress: &impl Progress,
@@ -91,32 +114,18 @@ fn run_script<P: AllocGlobal + Wait + Threads + Sync, R: Read + Drop>(
     requires some_thread { 1 ≤ settings.now.threads }
     requires threads { settings.now.threads ≤ 16 }
     requires k { settings.now.k ≤ 64 }
-    ensures { RunsScript settings.now.threads settings.now.k (R.remaining reader) result }
+    requires read { (input : Option (List ℕ)) × HasReadScript R.remaining input [] script.old }
+    ensures { (input : Option (List ℕ)) → HasReadScript R.remaining input [] script.old
+        → RunsScript (reader_failed script.new) settings.now.threads settings.now.k input result }
 {
     let Ok(mut rows) = no_rows(rt.alloc(), settings.threads) else {
         return Err(Closing::at(Stop::NoMemory, 1));
     };
-    let closing = read_rows(rt.alloc(), reader, rows.as_mut_slice(), progress);
+    let closing = keep_rows(script, rows.as_mut_slice(), progress);
     if closing.stop != Stop::AtEnd {
         return Err(closing);
     }
     run_rows(rt, rows.as_slice(), settings, gate, progress)
-}
-
-// Reads a whole script, and keeps each row for its thread.
-fn read_rows<R: Read + Drop>(
-    alloc: Global,
-    reader: R,
-    lists: &mut [Vec<ThreadRow>],
-    progress: &impl Progress,
-) -> Closing
-    requires { length lists.old ≤ 16 }
-    ensures { (threads : ℕ) → AreKept threads [] (map (λ list. list.items) lists.old)
-        → KeepsNoMore threads (R.remaining reader) (map (λ list. list.items) lists.new)
-        result.row result.stop }
-{
-    let mut script = Script::new(alloc, reader);
-    keep_rows(&mut script, lists, progress)
 }
 
 // Runs the rows of all threads over a new board.
@@ -132,10 +141,10 @@ fn run_rows<P: AllocGlobal + Wait + Threads + Sync>(
     requires k { settings.now.k ≤ 64 }
     requires many { length rows.now ≡ settings.now.threads }
     requires few { (t : ℕ) → length (kept_for (map (λ list. list.items) rows.now) t) ≤ row_limit }
-    ensures { (input : Option (List ℕ)) (all : List Row) → AreAllRows input all
+    ensures { (failed : Bool) (input : Option (List ℕ)) (all : List Row) → AreAllRows input all
         → AreAccepted settings.now.threads all
         → AreKept settings.now.threads all (map (λ list. list.items) rows.now)
-        → RunsScript settings.now.threads settings.now.k input result }
+        → RunsScript failed settings.now.threads settings.now.k input result }
 {
     let Ok((board, members)) = Board::new(rt.alloc(), settings.threads, settings.k, MOST_INSERTIONS)
     else {

@@ -1,6 +1,6 @@
 //! `klsm replay`: a script, answered row by row by the members of a board.
 ghost use Rattle.std.specs.Prelude.{◌≡◌, ℕ, ◌+◌, ◌*◌, ◌<◌, ◌≤◌, ◌^◌, List, [], ◌∷◌};
-ghost use Rattle.std.specs.Prelude.{length, Option, IfOk, MatchResult};
+ghost use Rattle.std.specs.Prelude.{length, Option, IfOk, MatchResult, true};
 ghost use Rattle.std.specs.List.{All};
 ghost use Rattle.klsm_run.specs.declared.item.Item.{Item};
 ghost use Rattle.klsm_world.specs.declared.step.Entry.{Entry};
@@ -14,7 +14,7 @@ ghost use Rattle.klsm_rows.specs.Rows.{Row};
 ghost use Rattle.klsm_text.specs.Script.{row_limit};
 ghost use Rattle.klsm_tool.specs.Crews.{AreFew, AreMembers, lists_in};
 ghost use Rattle.klsm_tool.specs.Answering.{live_beside, picker_count};
-ghost use Rattle.klsm_text.specs.Reading.{HasReadScript};
+ghost use Rattle.klsm_text.specs.Reading.{HasReadScript, reader_failed};
 ghost use Rattle.klsm_tool.specs.Progress.{HasStopped, IsCutOff, IsTold, StandsAfter};
 ghost use Rattle.klsm_tool.specs.Progress.{StopsBefore};
 ghost use Rattle.klsm_tool.specs.Replay.{Replays, ReplaysAlone};
@@ -82,25 +82,48 @@ pub fn replay_on<P: AllocGlobal + Wait, R: Read + Drop, W: Write>(
     ensures replays { Replays settings.now.threads settings.now.k (lists_in members.new)
         (R.remaining reader) (W.contents writer.old) (W.contents writer.new) result }
 {
-    let Ok(mut replay) = Replay::new(rt.alloc(), reader, settings) else {
+    let mut script = Script::new(rt.alloc(), reader);
+    replay_script(rt, &mut script, writer, settings, board, members)
+}
+
+/// The same over a script of the caller's, of which no row was read yet. A read fault is answered only
+/// where the reader of that has failed.
+pub fn replay_script<P: AllocGlobal + Wait, R: Read + Drop, W: Write>(
+    rt: &P,
+    script: &mut Script<R>,
+    writer: &mut W,
+    settings: &Settings,
+    board: &Board<64, 21>,
+    members: &mut [Member<64, 21>],
+) -> Report
+    requires sizes { board.now.sizes ≡ sizes_of settings.now.threads settings.now.k }
+    requires of { All (λ member. IsOf member board.now) members.old }
+    requires count { length members.old ≡ settings.now.threads }
+    requires crew { IsCrew members.old }
+    ensures members { AreMembers board.now members.new }
+    ensures written { result.written < 2 ^ 63 }
+    ensures replays { (input : Option (List ℕ)) → HasReadScript R.remaining input [] script.old
+        → Replays settings.now.threads settings.now.k (lists_in members.new) input
+        (W.contents writer.old) (W.contents writer.new) result }
+    ensures fault { (input : Option (List ℕ)) → HasReadScript R.remaining input [] script.old
+        → result.end ≡ End.ReadFault → reader_failed script.new ≡ true }
+{
+    let Ok(mut replay) = Replay::new(rt.alloc(), settings) else {
         return write_last(writer, NO_MEMORY, 0, End::NoMemory);
     };
-    let closing = replay.answer_rows(rt, writer, board, members, settings);
+    let closing = replay.answer_rows(rt, script, writer, board, members, settings);
     replay.output.close(writer, closing)
 }
 
 // A replay on its way.
 #[derive(Drop)]
-struct Replay<R> {
-    script: Script<R>,
+struct Replay {
     beside: Beside,
     output: Output,
 }
 
-impl<R: Read + Drop> Replay<R> {
-    fn new(alloc: Global, reader: R, settings: &Settings) -> Result<Self, AllocError>
-        ensures read { IfOk result (λ replay.
-            HasReadScript R.remaining (R.remaining reader) [] replay.script) }
+impl Replay {
+    fn new(alloc: Global, settings: &Settings) -> Result<Self, AllocError>
         ensures pickers { IfOk result (λ replay.
             picker_count replay.beside ≡ settings.now.threads) }
         ensures live { IfOk result (λ replay. live_beside replay.beside ≡ []) }
@@ -110,17 +133,14 @@ impl<R: Read + Drop> Replay<R> {
     {
         let beside = Beside::new(alloc, settings)?;
         let output = Output::new(alloc)?;
-        Ok(Replay {
-            script: Script::new(alloc, reader),
-            beside,
-            output,
-        })
+        Ok(Replay { beside, output })
     }
 
     // Answers rows until there is a reason to stop, and says what the last line is.
-    fn answer_rows<W: Write>(
+    fn answer_rows<R: Read + Drop, W: Write>(
         &mut self,
         rt: &impl Wait,
+        script: &mut Script<R>,
         writer: &mut W,
         board: &Board<64, 21>,
         members: &mut [Member<64, 21>],
@@ -137,14 +157,15 @@ impl<R: Read + Drop> Replay<R> {
         ensures bound { result.bound ≡ settings.now.threads * settings.now.k }
         ensures stops { (input before : Option (List ℕ)) →
             StandsAfter R.remaining settings.now.threads (lists_in members.old) input [] []
-            self.old.script (live_beside self.old.beside) self.old.beside.most
+            script.old (live_beside self.old.beside) self.old.beside.most
             → IsTold before (W.contents writer.old) [] self.old.output
-            → HasStopped settings.now.threads settings.now.k (lists_in members.new) input before
-            (W.contents writer.new) result.row result.most self.new.output result.stop }
+            → HasStopped (reader_failed script.new) settings.now.threads settings.now.k
+            (lists_in members.new) input before (W.contents writer.new) result.row result.most
+            self.new.output result.stop }
     {
         let bound = settings.threads * settings.k;
         for answered in 0..ROW_LIMIT {
-            if let Err(stop) = self.answer_row(rt, writer, board, members) {
+            if let Err(stop) = self.answer_row(rt, script, writer, board, members) {
                 return Closing {
                     stop,
                     row: answered + 1,
@@ -154,7 +175,7 @@ impl<R: Read + Drop> Replay<R> {
             }
         }
         Closing {
-            stop: stop_behind(&mut self.script, &mut self.output, writer),
+            stop: stop_behind(script, &mut self.output, writer),
             row: ROW_LIMIT + 1,
             most: self.beside.most,
             bound,
@@ -162,9 +183,10 @@ impl<R: Read + Drop> Replay<R> {
     }
 
     // Answers one row, or says why not.
-    fn answer_row<W: Write>(
+    fn answer_row<R: Read + Drop, W: Write>(
         &mut self,
         rt: &impl Wait,
+        script: &mut Script<R>,
         writer: &mut W,
         board: &Board<64, 21>,
         members: &mut [Member<64, 21>],
@@ -181,20 +203,20 @@ impl<R: Read + Drop> Replay<R> {
         ensures put { put_count self.new.output ≤ put_count self.old.output + 160 }
         ensures step { (input before : Option (List ℕ)) (rows : List Row) (lines : List Line) →
             StandsAfter R.remaining board.now.sizes.threads (lists_in members.old) input rows lines
-            self.old.script (live_beside self.old.beside) self.old.beside.most
+            script.old (live_beside self.old.beside) self.old.beside.most
             → length rows < row_limit
             → IsTold before (W.contents writer.old) lines self.old.output
             → MatchResult result
             (λ _. (row : Row) × (line : Line)
             × StandsAfter R.remaining board.now.sizes.threads (lists_in members.new) input (row ∷ rows)
-            (line ∷ lines) self.new.script (live_beside self.new.beside) self.new.beside.most
+            (line ∷ lines) script.new (live_beside self.new.beside) self.new.beside.most
             × IsTold before (W.contents writer.new) (line ∷ lines) self.new.output)
-            (λ why. HasStopped board.now.sizes.threads board.now.sizes.k (lists_in members.new)
-            input before (W.contents writer.new) (length rows + 1) self.new.beside.most
-            self.new.output why) }
+            (λ why. HasStopped (reader_failed script.new) board.now.sizes.threads
+            board.now.sizes.k (lists_in members.new) input before (W.contents writer.new)
+            (length rows + 1) self.new.beside.most self.new.output why) }
     {
-        send_before_wait(&self.script, &mut self.output, writer)?;
-        let line = next_line(rt, &mut self.script, &mut self.beside, board, members)?;
+        send_before_wait(script, &mut self.output, writer)?;
+        let line = next_line(rt, script, &mut self.beside, board, members)?;
         self.output.put(writer, line.text().as_bytes())
     }
 }
@@ -246,8 +268,8 @@ fn next_line<R: Read + Drop>(
         × StandsAfter R.remaining board.now.sizes.threads (lists_in members.new) input (row ∷ rows)
         (printed.line ∷ lines) script.new (live_beside beside.new) beside.new.most
         × (printed.skip ≡ skip_of (live_by lines) printed.line.answer))
-        (StopsBefore board.now.sizes.threads board.now.sizes.k (lists_in members.new) input rows
-        lines beside.new.most) }
+        (StopsBefore (reader_failed script.new) board.now.sizes.threads board.now.sizes.k
+        (lists_in members.new) input rows lines beside.new.most) }
 {
     script.advance()?;
     match request_of(&script.row, board.threads()) {
@@ -268,8 +290,8 @@ fn stop_behind<R: Read + Drop, W: Write>(
         (rows : List Row) (lines : List Line) (items : List Item) (most : ℕ) →
         StandsAfter R.remaining threads lists input rows lines script.old items most
         → length rows ≡ row_limit → IsTold before (W.contents writer.old) lines output.old
-        → HasStopped threads k lists input before (W.contents writer.new) (length rows + 1) most
-        output.new result }
+        → HasStopped (reader_failed script.new) threads k lists input before
+        (W.contents writer.new) (length rows + 1) most output.new result }
 {
     if let Err(stop) = send_before_wait(script, output, writer) {
         return stop;

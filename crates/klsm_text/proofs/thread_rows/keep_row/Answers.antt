@@ -8,7 +8,7 @@ use Rattle.klsm_text.proofs.thread_rows.keep_row.Goals as goal
 pub returns-in_err-advance : goal.returns-in_err-advance
 returns-in_err-advance g c = λ threads input rows read accepted below number kept.
     let p = err_from_is_err_and c.from_residual.result c.from_residual.ensures.1 in
-    rw (p.1, p.2) (row_stops g.R.Read.remaining _ threads input rows c.advance.new.self c.in_err-advance.field-0.0 _ kept (c.in_err-advance.ensures input rows read))
+    rw (p.1, p.2) (row_stops g.R.Read.remaining threads input rows c.advance.new.self c.in_err-advance.field-0.0 _ kept (c.in_err-advance.ensures input rows read))
 
 pub returns-in-Ok : goal.returns-in-Ok
 returns-in-Ok g c = λ threads input rows read accepted below number kept.

@@ -1,8 +1,11 @@
-use Rattle.std.proofs.Common.{◌≡◌, ◌∙◌, ◌<◌, ◌∷◌, length, sym, subst, arith}
+use Rattle.std.proofs.Common.{◌≡◌, ◌∙◌, ◌<◌, ◌∷◌, true, length, sym, subst, arith}
 use Rattle.csv.specs.Records.{fields_of}
 use Rattle.klsm_text.specs.Script.{row_limit}
 use Rattle.klsm_text.specs.ThreadRows.{StopsReading}
-use Rattle.klsm_text.proofs.KeepingLemmas.{beyond, ended, stops_reading}
+use Rattle.klsm_text.specs.declared.request.Refusal.TheVariants as refusal
+use Rattle.klsm_text.specs.declared.stop.Stop.TheVariants as stop
+use Rattle.klsm_text.specs.Reading.{reader_failed}
+use Rattle.klsm_text.proofs.KeepingLemmas.{beyond, ended, fault_failed, stops_reading}
 use Rattle.klsm_text.proofs.thread_rows.keep_rows.Goals.{in-Ok, in-Err-advance}
 use Rattle.klsm_text.proofs.thread_rows.keep_rows.Goals as goal
 
@@ -11,7 +14,7 @@ returns-in-Err g c = λ threads input read kept.
     let k = c.loop-number.invariant threads input read kept in
     let below : length k.0 < row_limit = omega (arith, k.1, c.loop-number-test.true) in
     let stops = c.in-Err.ensures threads input k.0 k.2 k.3 below (omega (arith, k.1)) k.4 in
-    ended threads _ input k.0 _ _ k.3 (subst (StopsReading threads input k.0) (sym c.at.ensures.stop) stops.0) (λ end. stops.1 (sym c.at.ensures.stop ∙ end)) (omega (arith, below)) (c.at.ensures.row ∙ omega (arith, k.1))
+    ended threads _ _ input k.0 _ _ k.3 (subst (StopsReading threads input k.0) (sym c.at.ensures.stop) stops.0) (λ end. stops.1 (sym c.at.ensures.stop ∙ end)) (λ fault. stops.2 (sym c.at.ensures.stop ∙ fault)) (omega (arith, below)) (c.at.ensures.row ∙ omega (arith, k.1))
 
 pub loop-number-preserved : goal.loop-number-preserved
 loop-number-preserved g c = λ threads input read kept.
@@ -28,4 +31,8 @@ returns g c = λ threads input read kept.
       | in-Ok w ↦ subst (StopsReading threads input k.0) (sym w.stop-is) (beyond g.R.Read.remaining threads input k.0 c.advance.new.self (fields_of c.advance.new.self.row) all (w.in-Ok.ensures input k.0 k.2))
       | in-Err-advance w ↦ subst (StopsReading threads input k.0) (sym w.stop-is) (stops_reading _ threads input k.0 w.in-Err-advance.stop (w.in-Err-advance.ensures input k.0 k.2))
     ] in
-    ended threads _ input k.0 _ _ k.3 (subst (StopsReading threads input k.0) (sym c.at-2.ensures.stop) stops) (λ end. k.4) (omega (arith, all)) (c.at-2.ensures.row ∙ omega (arith, all))
+    let fault : c.match-advance.stop ≡ stop.ReadFault → reader_failed c.advance.new.self ≡ true = elim c.match-advance.branch [
+      | in-Ok w ↦ (λ is. absurd (let bad : stop.Refused refusal.Rows ≡ stop.ReadFault = sym w.stop-is ∙ is in cc))
+      | in-Err-advance w ↦ (λ is. fault_failed _ input k.0 w.in-Err-advance.stop (w.in-Err-advance.ensures input k.0 k.2) (sym w.stop-is ∙ is))
+    ] in
+    ended threads _ _ input k.0 _ _ k.3 (subst (StopsReading threads input k.0) (sym c.at-2.ensures.stop) stops) (λ end. k.4) (λ is. fault (sym c.at-2.ensures.stop ∙ is)) (omega (arith, all)) (c.at-2.ensures.row ∙ omega (arith, all))

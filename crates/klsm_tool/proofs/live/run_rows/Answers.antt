@@ -1,4 +1,4 @@
-use Rattle.std.proofs.Common.{◌≡◌, ◌<◌, ◌∙◌, ℕ, List, map, length, drop, slice_index_or, Option, Some, None, refl, sym, ap, subst, arith}
+use Rattle.std.proofs.Common.{◌≡◌, ◌<◌, ◌∙◌, ℕ, List, map, length, drop, slice_index_or, Bool, Option, Some, None, refl, sym, ap, subst, arith}
 use Rattle.std.proofs.lemmas.List.{length-map}
 use Rattle.klsm_board.specs.declared.board.Member.{Member}
 use Rattle.klsm_text.specs.declared.stop.Stop.{Stop}
@@ -17,14 +17,14 @@ as_many : (crew : List (Option Worker)) (members : List (Member 64 21)) (threads
 as_many crew members threads is count = ap (λ (z : List (Option Worker)). length z) is ∙ (length-map members ready ∙ count)
 
 -- of want of memory nothing is said
-none_run : (threads k number : ℕ) (input : Option (List ℕ)) (why : Stop) → why ≡ stop.NoMemory → HasNoTotals threads k input number why
-none_run threads k number input why is = subst (HasNoTotals threads k input number) (sym is) tt
+none_run : (failed : Bool) (threads k number : ℕ) (input : Option (List ℕ)) (why : Stop) → why ≡ stop.NoMemory → HasNoTotals failed threads k input number why
+none_run failed threads k number input why is = subst (HasNoTotals failed threads k input number) (sym is) tt
 
 pub returns-in_default : goal.returns-in_default
-returns-in_default g c = λ input _ _ _ _. none_run c.args.settings.now.threads c.args.settings.now.k _ input _ c.at.ensures.stop
+returns-in_default g c = λ failed input _ _ _ _. none_run failed c.args.settings.now.threads c.args.settings.now.k _ input _ c.at.ensures.stop
 
 pub returns-in_default-crew_of : goal.returns-in_default-crew_of
-returns-in_default-crew_of g c = λ input _ _ _ _. none_run c.args.settings.now.threads c.args.settings.now.k _ input _ c.at-in_default-crew_of.ensures.stop
+returns-in_default-crew_of g c = λ failed input _ _ _ _. none_run failed c.args.settings.now.threads c.args.settings.now.k _ input _ c.at-in_default-crew_of.ensures.stop
 
 pub run_all-requires-clause-some : goal.run_all-requires-clause-some
 run_all-requires-clause-some g c =
@@ -47,7 +47,7 @@ run_all-requires-clause-ready g c =
     (crew_ready c.in-Ok.board c.in-Ok.members.items c.in-Ok.ensures.of c.in-Ok.ensures.crew t d)
 
 pub returns-in-Some : goal.returns-in-Some
-returns-in-Some g c = λ input all rows accepted kept.
+returns-in-Some g c = λ failed input all rows accepted kept.
     let crew = c.run_all.new.crew in let threads = c.args.settings.now.threads in
     let same = c.as_mut_slice.ensures.value ∙ c.in-Ok-crew_of.ensures in
     let lent : length c.as_mut_slice.result.now ≡ threads = as_many _ c.in-Ok.members.items _ same c.in-Ok.ensures.count in
@@ -58,9 +58,9 @@ returns-in-Some g c = λ input all rows accepted kept.
     let first = c.in-Some.ensures.some in
     let within : first.0 < length crew = subst (λ (z : List (Option Worker)). first.0 < length z) whole first.1 in
     let here = first.2 None in
-    subst (λ n. HasNoTotals threads c.args.settings.now.k input n c.at-in-Some.result.stop) (sym c.at-in-Some.ensures.row)
-    (subst (HasNoTotals threads c.args.settings.now.k input c.in-Some.field-0.row) (sym c.at-in-Some.ensures.stop)
-    (one_gave_up threads c.args.settings.now.k input all rows accepted c.in-Ok.board c.in-Ok.ensures.sizes crew many ran c.in-Some.field-0 first.0 within
+    subst (λ n. HasNoTotals failed threads c.args.settings.now.k input n c.at-in-Some.result.stop) (sym c.at-in-Some.ensures.row)
+    (subst (HasNoTotals failed threads c.args.settings.now.k input c.in-Some.field-0.row) (sym c.at-in-Some.ensures.stop)
+    (one_gave_up threads c.args.settings.now.k input all rows accepted c.in-Ok.board c.in-Ok.ensures.sizes crew many ran failed c.in-Some.field-0 first.0 within
     (subst (λ (z : List (Option Worker)). gave_up_at (slice_index_or z first.0 None) ≡ Some c.in-Some.field-0) whole here)
     (λ u d before. subst (λ (z : List (Option Worker)). gave_up_at (slice_index_or z u d) ≡ None) whole (first.3 u d before))))
 
@@ -79,7 +79,7 @@ finish-requires g c =
     record { crew = (all.0, back ∙ all.1, all.2) }
 
 pub returns : goal.returns
-returns g c = λ input all rows accepted kept.
+returns g c = λ failed input all rows accepted kept.
     let crew = c.run_all.new.crew in let threads = c.args.settings.now.threads in
     let same = c.as_mut_slice.ensures.value ∙ c.in-Ok-crew_of.ensures in
     let lent : length c.as_mut_slice.result.now ≡ threads = as_many _ c.in-Ok.members.items _ same c.in-Ok.ensures.count in
@@ -91,4 +91,4 @@ returns g c = λ input all rows accepted kept.
     let told = all_back c.in-Ok.board (λ t. asked_of threads t all) crew (many ∙ sym threads_are)
     (λ t d below. subst (λ asked. HasRunAt c.in-Ok.board t asked (slice_index_or crew t d)) (kept.each t (omega (arith, below, many))) (c.run_all.ensures t d (omega (arith, below, many, lent))))
     (λ t d below. subst (λ (z : List (Option Worker)). gave_up_at (slice_index_or z t d) ≡ None) whole (c.in_default-first_to_give_up.ensures.none refl t d (subst (λ (z : List (Option Worker)). t < length z) (sym whole) below))) in
-    finished threads c.args.settings.now.k input all c.in-Ok.board _ told.0 c.finish.result c.in-Ok.ensures.sizes rows accepted (back ∙ told.1) told.2 told.3 c.finish.ensures.totals c.finish.ensures.refused
+    finished failed threads c.args.settings.now.k input all c.in-Ok.board _ told.0 c.finish.result c.in-Ok.ensures.sizes rows accepted (back ∙ told.1) told.2 told.3 c.finish.ensures.totals c.finish.ensures.refused

@@ -3,6 +3,7 @@ use Rattle.std.proofs.lemmas.List.{length-map}
 use Rattle.klsm_text.specs.declared.stop.Stop.TheVariants as stop
 use Rattle.klsm_text.specs.declared.thread_rows.ThreadRow.{ThreadRow}
 use Rattle.klsm_text.specs.Keeping.{AreKept}
+use Rattle.klsm_text.specs.Reading.{reader_failed}
 use Rattle.klsm_tool.specs.Live.{HasNoTotals}
 use Rattle.klsm_text.specs.Script.{row_limit}
 use Rattle.klsm_text.specs.ThreadRows.{StopsReading}
@@ -15,40 +16,40 @@ abbrev kept_lists : List (Vec ThreadRow Global) → List (List ThreadRow)
 kept_lists lists = map (λ (list : Vec ThreadRow Global). list.items) lists
 
 pub returns-in_default : goal.returns-in_default
-returns-in_default g c =
+returns-in_default g c = λ input read.
     let threads = c.args.settings.now.threads in let k = c.args.settings.now.k in
-    subst (HasNoTotals threads k (g.R.Read.remaining c.args.reader) c.at.result.row) (sym c.at.ensures.stop) tt
+    subst (HasNoTotals (reader_failed c.args.script.now) threads k input c.at.result.row) (sym c.at.ensures.stop) tt
 
 pub returns-then-ne : goal.returns-then-ne
-returns-then-ne g c =
+returns-then-ne g c = λ input read.
     let threads = c.args.settings.now.threads in
-    let other : c.read_rows-closing.result.stop ≢ stop.AtEnd = search rules in
+    let other : c.keep_rows-closing.result.stop ≢ stop.AtEnd = search rules in
     let kept : AreKept threads [] (kept_lists c.as_mut_slice.result.now) = subst (λ (z : List (Vec ThreadRow Global)). AreKept threads [] (kept_lists z)) (sym c.as_mut_slice.ensures.value) c.in-Ok.ensures in
-    not_run threads c.args.settings.now.k c.read_rows-closing.result.row _ _ _ (c.read_rows-closing.ensures threads kept) other
+    not_run _ threads c.args.settings.now.k c.keep_rows-closing.result.row _ _ _ (c.keep_rows-closing.ensures threads input read kept) other
 
 pub run_rows-requires-clause-few : goal.run_rows-requires-clause-few
 run_rows-requires-clause-few g c =
-    let threads = c.args.settings.now.threads in let lists = c.read_rows-closing.new.lists in
-    let at_end : c.read_rows-closing.result.stop ≡ stop.AtEnd = search rules in
+    let threads = c.args.settings.now.threads in let lists = c.keep_rows-closing.new.lists in
+    let at_end : c.keep_rows-closing.result.stop ≡ stop.AtEnd = search rules in
     let kept : AreKept threads [] (kept_lists c.as_mut_slice.result.now) = subst (λ (z : List (Vec ThreadRow Global)). AreKept threads [] (kept_lists z)) (sym c.as_mut_slice.ensures.value) c.in-Ok.ensures in
-    let ended = c.read_rows-closing.ensures threads kept in
-    let many : length lists ≡ c.in-Ok.rows.len = c.read_rows-closing.auto.lists ∙ (ap (λ (z : List (Vec ThreadRow Global)). length z) c.as_mut_slice.ensures.value ∙ sym c.in-Ok.rows.ok.0) in
+    let ended = c.keep_rows-closing.ensures threads c.requires.read.0 c.requires.read.1 kept in
+    let many : length lists ≡ c.in-Ok.rows.len = c.keep_rows-closing.auto.lists ∙ (ap (λ (z : List (Vec ThreadRow Global)). length z) c.as_mut_slice.ensures.value ∙ sym c.in-Ok.rows.ok.0) in
     let whole : c.as_slice.result.now ≡ lists = c.as_slice.ensures.value ∙ written_back lists (drop (length lists) c.in-Ok.rows.items) c.in-Ok.rows.len many in
     λ _ _ t. few_kept threads row_limit ended.rows (kept_lists c.as_slice.result.now) (subst (λ (z : List (Vec ThreadRow Global)). AreKept threads ended.rows (kept_lists z)) (sym whole) (ended.kept at_end)) ended.few t
 
 pub returns : goal.returns
-returns g c =
-    let threads = c.args.settings.now.threads in let lists = c.read_rows-closing.new.lists in let input = g.R.Read.remaining c.args.reader in
-    let at_end : c.read_rows-closing.result.stop ≡ stop.AtEnd = search rules in
+returns g c = λ input read.
+    let threads = c.args.settings.now.threads in let lists = c.keep_rows-closing.new.lists in
+    let at_end : c.keep_rows-closing.result.stop ≡ stop.AtEnd = search rules in
     let kept : AreKept threads [] (kept_lists c.as_mut_slice.result.now) = subst (λ (z : List (Vec ThreadRow Global)). AreKept threads [] (kept_lists z)) (sym c.as_mut_slice.ensures.value) c.in-Ok.ensures in
-    let ended = c.read_rows-closing.ensures threads kept in
-    let many : length lists ≡ c.in-Ok.rows.len = c.read_rows-closing.auto.lists ∙ (ap (λ (z : List (Vec ThreadRow Global)). length z) c.as_mut_slice.ensures.value ∙ sym c.in-Ok.rows.ok.0) in
+    let ended = c.keep_rows-closing.ensures threads input read kept in
+    let many : length lists ≡ c.in-Ok.rows.len = c.keep_rows-closing.auto.lists ∙ (ap (λ (z : List (Vec ThreadRow Global)). length z) c.as_mut_slice.ensures.value ∙ sym c.in-Ok.rows.ok.0) in
     let whole : c.as_slice.result.now ≡ lists = c.as_slice.ensures.value ∙ written_back lists (drop (length lists) c.in-Ok.rows.items) c.in-Ok.rows.len many in
-    c.run_rows.ensures input ended.rows (subst (StopsReading threads input ended.rows) at_end ended.stops) ended.accepted
+    c.run_rows.ensures _ input ended.rows (subst (StopsReading threads input ended.rows) at_end ended.stops) ended.accepted
     (subst (λ (z : List (Vec ThreadRow Global)). AreKept threads ended.rows (kept_lists z)) (sym whole) (ended.kept at_end))
 
-pub read_rows-closing-requires : goal.read_rows-closing-requires
-read_rows-closing-requires g c =
+pub keep_rows-closing-requires : goal.keep_rows-closing-requires
+keep_rows-closing-requires g c =
     let many = length-map c.in-Ok.rows.items (λ list. list.items) in let kept = c.in-Ok.ensures.many in
     (record { shared = c.type_bounds.sync-typeof-progress.shared }, omega (arith, c.as_mut_slice.ensures.len, c.in-Ok.rows.ok.0, many, kept, c.requires.threads))
 

@@ -10,14 +10,14 @@ returns-in_err-send_before_wait-clause-step g c input before rows lines now belo
     let sizes = c.args.board.now.sizes in
     let p = err_from_is_err_and c.from_residual.result c.from_residual.ensures.1 in
     let failed = c.in_err-send_before_wait.ensures.told before lines told in
-    rw (p.1, p.2, failed.0) (stops_cut g.R.Read.remaining sizes.threads sizes.k (lists_in c.args.members.now) input before _ rows lines c.args.self.now.script _ c.args.self.now.beside.most _ now.answered now.shown now.read failed.1)
+    rw (p.1, p.2, failed.0) (stops_cut g.R.Read.remaining _ sizes.threads sizes.k (lists_in c.args.members.now) input before _ rows lines c.args.script.now _ c.args.self.now.beside.most _ now.answered now.shown now.read failed.1)
 
 pub returns-in_err-line-clause-step : goal.returns-in_err-line-clause-step
 returns-in_err-line-clause-step g c input before rows lines now below told =
     let sizes = c.args.board.now.sizes in
     let p = err_from_is_err_and c.from_residual-in_err-line.result c.from_residual-in_err-line.ensures.1 in
     let h = c.in_err-line.ensures.step input rows lines now below in
-    rw (p.1, p.2) (stops_told sizes.threads sizes.k (lists_in c.next_line.new.members) input before _ rows lines c.next_line.new.beside.most _ c.in_err-line.field-0.0 now.answered h (c.in_ok-send_before_wait.ensures.told before lines told))
+    rw (p.1, p.2) (stops_told _ sizes.threads sizes.k (lists_in c.next_line.new.members) input before _ rows lines c.next_line.new.beside.most _ c.in_err-line.field-0.0 now.answered h (c.in_ok-send_before_wait.ensures.told before lines told))
 
 pub returns-clause-put : goal.returns-clause-put
 returns-clause-put g c =
@@ -28,4 +28,4 @@ returns-clause-step g c input before rows lines now below told =
     let sizes = c.args.board.now.sizes in
     let h = c.in_ok-line.ensures.step input rows lines now below in
     let puts = rw (c.as_bytes.ensures.text ∙ c.text.ensures.text) at c.put.ensures in
-    line_put g.R.Read.remaining sizes.threads sizes.k (lists_in c.args.members.now) (lists_in c.next_line.new.members) input before _ _ rows lines c.args.self.now.script c.next_line.new.script _ _ _ _ _ _ h.0 c.in_ok-line.line c.put.result now h.1 h.2 (c.in_ok-send_before_wait.ensures.told before lines told) puts
+    line_put g.R.Read.remaining _ sizes.threads sizes.k (lists_in c.args.members.now) (lists_in c.next_line.new.members) input before _ _ rows lines c.args.script.now c.next_line.new.script _ _ _ _ _ _ h.0 c.in_ok-line.line c.put.result now h.1 h.2 (c.in_ok-send_before_wait.ensures.told before lines told) puts

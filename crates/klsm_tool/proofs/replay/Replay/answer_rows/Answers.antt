@@ -2,6 +2,7 @@ use Rattle.std.proofs.Common.{◌≡◌, ℕ, ◌+◌, ◌<◌, [], ◌∷◌, r
 use Rattle.klsm_tool.specs.Answering.{live_beside}
 use Rattle.klsm_tool.specs.Crews.{lists_in}
 use Rattle.klsm_text.specs.Script.{row_limit}
+use Rattle.klsm_text.specs.Reading.{reader_failed}
 use Rattle.klsm_tool.specs.Progress.{HasStopped, StandsAfter}
 use Rattle.klsm_tool.proofs.replay.Replay.answer_rows.Goals as goal
 
@@ -16,8 +17,8 @@ returns-in-Err-clause-stops g c input before stands told =
     let k = c.loop-answered.invariant.stands input before stands told in
     let sizes = c.requires.sizes in
     let stopped = c.in-Err.ensures.step input before k.0 k.1 k.3 (let few : length k.0 < row_limit = omega (arith, k.2, c.loop-answered-test.true) in few) k.4 in
-    subst (λ (n : ℕ). HasStopped c.args.settings.now.threads c.args.settings.now.k (lists_in c.answer_row.new.members) input before (g.W.Write.contents c.answer_row.new.writer) (n + 1) c.answer_row.new.self.beside.most c.answer_row.new.self.output c.in-Err.stop) k.2
-    (subst (λ z. HasStopped z.threads z.k (lists_in c.answer_row.new.members) input before (g.W.Write.contents c.answer_row.new.writer) (length k.0 + 1) c.answer_row.new.self.beside.most c.answer_row.new.self.output c.in-Err.stop) sizes stopped)
+    subst (λ (n : ℕ). HasStopped (reader_failed c.answer_row.new.script) c.args.settings.now.threads c.args.settings.now.k (lists_in c.answer_row.new.members) input before (g.W.Write.contents c.answer_row.new.writer) (n + 1) c.answer_row.new.self.beside.most c.answer_row.new.self.output c.in-Err.stop) k.2
+    (subst (λ z. HasStopped (reader_failed c.answer_row.new.script) z.threads z.k (lists_in c.answer_row.new.members) input before (g.W.Write.contents c.answer_row.new.writer) (length k.0 + 1) c.answer_row.new.self.beside.most c.answer_row.new.self.output c.in-Err.stop) sizes stopped)
 
 pub loop-answered-preserved : goal.loop-answered-preserved
 loop-answered-preserved g c = record {
@@ -39,7 +40,7 @@ loop-answered-init g c = record {
   short = omega (arith, c.requires.put);
   stands = λ input before stands told.
       let threads = ap (λ z. z.threads) c.requires.sizes in
-      ([], [], refl, subst (λ n. StandsAfter g.R.Read.remaining n (lists_in c.args.members.now) input [] [] c.args.self.now.script (live_beside c.args.self.now.beside) c.args.self.now.beside.most) (sym threads) stands, told);
+      ([], [], refl, subst (λ n. StandsAfter g.R.Read.remaining n (lists_in c.args.members.now) input [] [] c.args.script.now (live_beside c.args.self.now.beside) c.args.self.now.beside.most) (sym threads) stands, told);
 }
 
 pub returns-clause-stops : goal.returns-clause-stops
@@ -47,6 +48,6 @@ returns-clause-stops g c input before stands told =
     let k = c.loop-answered.invariant.stands input before stands told in
     let all : length k.0 ≡ row_limit = omega (arith, k.2, c.loop-answered-test.false) in
     let threads = ap (λ z. z.threads) c.requires.sizes in
-    let now = subst (λ n. StandsAfter g.R.Read.remaining n (lists_in c.loop-answered.members) input k.0 k.1 c.loop-answered.self.script (live_beside c.loop-answered.self.beside) c.loop-answered.self.beside.most) threads k.3 in
+    let now = subst (λ n. StandsAfter g.R.Read.remaining n (lists_in c.loop-answered.members) input k.0 k.1 c.loop-answered.script (live_beside c.loop-answered.self.beside) c.loop-answered.self.beside.most) threads k.3 in
     let stops = c.stop_behind.ensures.stops c.args.settings.now.threads c.args.settings.now.k (lists_in c.loop-answered.members) input before k.0 k.1 _ _ now all k.4 in
-    subst (λ (n : ℕ). HasStopped c.args.settings.now.threads c.args.settings.now.k (lists_in c.loop-answered.members) input before (g.W.Write.contents c.stop_behind.new.writer) (n + 1) c.loop-answered.self.beside.most c.stop_behind.new.output c.stop_behind.result) all stops
+    subst (λ (n : ℕ). HasStopped (reader_failed c.stop_behind.new.script) c.args.settings.now.threads c.args.settings.now.k (lists_in c.loop-answered.members) input before (g.W.Write.contents c.stop_behind.new.writer) (n + 1) c.loop-answered.self.beside.most c.stop_behind.new.output c.stop_behind.result) all stops

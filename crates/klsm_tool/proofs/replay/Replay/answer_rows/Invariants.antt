@@ -14,8 +14,8 @@ invariant-loop-answered g l = record {
   pickers : picker_count l.self.beside ≡ l.board.sizes.threads;
   few : AreFew l.board.sizes.threads l.answered (lists_in l.members);
   short : put_count l.self.output ≤ 160 * l.answered;
-  stands : (input before : Option (List ℕ)) → StandsAfter g.R.Read.remaining l.settings.threads (lists_in l.initial.members) input [] [] l.initial.self.script (live_beside l.initial.self.beside) l.initial.self.beside.most
+  stands : (input before : Option (List ℕ)) → StandsAfter g.R.Read.remaining l.settings.threads (lists_in l.initial.members) input [] [] l.initial.script (live_beside l.initial.self.beside) l.initial.self.beside.most
       → IsTold before (g.W.Write.contents l.initial.writer) [] l.initial.self.output
-      → (rows : List Row) × (lines : List Line) × (length rows ≡ l.answered) × StandsAfter g.R.Read.remaining l.board.sizes.threads (lists_in l.members) input rows lines l.self.script (live_beside l.self.beside) l.self.beside.most
+      → (rows : List Row) × (lines : List Line) × (length rows ≡ l.answered) × StandsAfter g.R.Read.remaining l.board.sizes.threads (lists_in l.members) input rows lines l.script (live_beside l.self.beside) l.self.beside.most
       × IsTold before (g.W.Write.contents l.writer) lines l.self.output;
 }
