@@ -36,6 +36,6 @@ mod thing;
 
 pub use errors::ReadError;
 pub use instance::Instance;
-pub use node::{Node, packed};
+pub use node::{Node, packed, unpacked};
 pub use search::{Best, solve_in_turn};
 pub use thing::Thing;

@@ -120,8 +120,8 @@ impl Instance {
             (λ node. IsNodeOf self.now node × (node.level ≡ level_in load)
             × (node.picks ≡ picks_in load) × IsInRange self.now) }
     {
-        let level = (load >> 32) as usize;
-        let picks = load % (1 << 32);
+        let (level, picks) = unpacked(load);
+        let level = level as usize;
         let taken = self.totals(picks);
         if level <= self.len() && picks >> level == 0 && taken.weight <= self.capacity() {
             Some(Node {
@@ -144,4 +144,13 @@ pub fn packed(high: u64, low: u64) -> u64
     ensures low { result % 2 ^ 32 ≡ low }
 {
     (high << 32) + low
+}
+
+/// The two numbers in one, the one in the high half first.
+#[inline]
+pub fn unpacked(number: u64) -> (u64, u64)
+    ensures high { result.0 ≡ number / 2 ^ 32 }
+    ensures low { result.1 ≡ number % 2 ^ 32 }
+{
+    (number >> 32, number % (1 << 32))
 }

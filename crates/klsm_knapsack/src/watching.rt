@@ -10,7 +10,7 @@ ghost use Rattle.klsm_knapsack.specs.Watching.{found_by, raised_by, IsWatchedBy,
 use crate::incumbent::{Incumbent, Watcher};
 use crate::rule::{Another, Found, Raised, Together};
 use atomic_table::Table;
-use klsm_instance::{Instance, Node, packed};
+use klsm_instance::{Instance, Node, packed, unpacked};
 use std::alloc::{AllocError, Global};
 
 impl Incumbent {
@@ -94,7 +94,8 @@ impl Incumbent {
     {
         let number = packed(node.taken.value, node.picks);
         let found = self.raise(watcher, number);
-        found >> 32
+        let (value, _) = unpacked(found);
+        value
     }
 
     // Raises the word by one step.

@@ -10,8 +10,11 @@ returns-clause-best c = λ searched. is_best c.args.instance.now c.args.number c
 
 pub loop-item-init : goal.loop-item-init
 loop-item-init c = record {
-  answer = record { feasible = c.requires.feasible; value = c.requires.value };
-  kept = omega arith;
+  answer = record {
+    feasible = rw c.unpacked-value.ensures.low c.requires.feasible;
+    value = rw (c.unpacked-value.ensures.low, c.unpacked-value.ensures.high) c.requires.value;
+  };
+  kept = omega (arith, c.unpacked-value.ensures.high);
   finished = λ k x lt. absurd (omega (arith, lt));
 }
 
