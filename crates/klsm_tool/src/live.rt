@@ -154,40 +154,48 @@ fn run_rows<P: AllocGlobal + Wait + Threads + Sync>(
         return Err(Closing::at(Stop::NoMemory, 1));
     };
     progress.begins_to_run();
-    run_all(
-        rt,
-        &board,
-        crew.as_mut_slice(),
+    let common = Common {
+        board: &board,
         rows,
         settings,
         gate,
         progress,
-    );
+    };
+    run_all(rt, &common, crew.as_mut_slice());
     if let Some(GaveUp { stop, row }) = first_to_give_up(crew.as_slice()) {
         return Err(Closing::at(stop, row as u64));
     }
     finish(rt.alloc(), board, crew)
 }
 
+// What all threads of a run are given: their board, the rows of each, how they pick, their gate, and
+// who is told of them.
+#[derive(Drop)]
+struct Common<'a, G, P> {
+    board: &'a Board<64, 21>,
+    rows: &'a [Vec<ThreadRow>],
+    settings: &'a Settings,
+    gate: &'a G,
+    progress: &'a P,
+}
+
 // Each worker in a thread of its own. It leaves its place while it runs, so that what it changes at
 // each row lies on its own stack, and not beside what the next one changes.
-fn run_all<P: Wait + Threads + Sync>(
-    rt: &P,
-    board: &Board<64, 21>,
+fn run_all<R: Wait + Threads + Sync, G: Gate, P: Progress>(
+    rt: &R,
+    common: &Common<G, P>,
     crew: &mut [Option<Worker>],
-    rows: &[Vec<ThreadRow>],
-    settings: &Settings,
-    gate: &impl Gate,
-    progress: &impl Progress,
 )
     requires some { 0 < length crew.old }
-    requires many { length rows.now ≡ length crew.old }
-    requires few { (t : ℕ) → length (kept_for (map (λ list. list.items) rows.now) t) ≤ row_limit }
-    requires quota { row_limit < board.now.sizes.quota }
+    requires many { length common.now.rows.now ≡ length crew.old }
+    requires few { (t : ℕ)
+        → length (kept_for (map (λ list. list.items) common.now.rows.now) t) ≤ row_limit }
+    requires quota { row_limit < common.now.board.now.sizes.quota }
     requires ready { (t : ℕ) (d : Option Worker) → t < length crew.old
-        → IsReadyAt board.now t (slice_index_or crew.old t d) }
+        → IsReadyAt common.now.board.now t (slice_index_or crew.old t d) }
     ensures { (t : ℕ) (d : Option Worker) → t < length crew.old
-        → HasRunAt board.now t (kept_for (map (λ list. list.items) rows.now) t)
+        → HasRunAt common.now.board.now t
+        (kept_for (map (λ list. list.items) common.now.rows.now) t)
         (slice_index_or crew.new t d) }
 {
     let threads = crew.len();
@@ -196,39 +204,37 @@ fn run_all<P: Wait + Threads + Sync>(
         crew,
         threads,
         &|index, place: &mut Option<Worker>|
-            requires { (index < length rows.now) × IsReadyAt board.now index place.old
-                × (length (kept_for (map (λ list. list.items) rows.now) index)
-                < board.now.sizes.quota) }
-            ensures { HasRunAt board.entry.now index
-                (kept_for (map (λ list. list.items) rows.entry.now) index) place.new }
-        { run_at(rt, board, place, rows, settings, gate, progress, index) },
+            requires { (index < length common.now.rows.now)
+                × IsReadyAt common.now.board.now index place.old
+                × (length (kept_for (map (λ list. list.items) common.now.rows.now) index)
+                < common.now.board.now.sizes.quota) }
+            ensures { HasRunAt common.entry.now.board.now index
+                (kept_for (map (λ list. list.items) common.entry.now.rows.now) index) place.new }
+        { run_at(rt, common, place, index) },
     );
 }
 
 // The worker at its place, which passes the gate and then runs its rows.
-fn run_at(
+fn run_at<G: Gate, P: Progress>(
     rt: &impl Wait,
-    board: &Board<64, 21>,
+    common: &Common<G, P>,
     place: &mut Option<Worker>,
-    rows: &[Vec<ThreadRow>],
-    settings: &Settings,
-    gate: &impl Gate,
-    progress: &impl Progress,
     index: usize,
 )
-    requires below { index < length rows.now }
-    requires ready { IsReadyAt board.now index place.old }
-    requires few { length (kept_for (map (λ list. list.items) rows.now) index)
-        < board.now.sizes.quota }
-    ensures { HasRunAt board.now index (kept_for (map (λ list. list.items) rows.now) index)
-        place.new }
+    requires below { index < length common.now.rows.now }
+    requires ready { IsReadyAt common.now.board.now index place.old }
+    requires few { length (kept_for (map (λ list. list.items) common.now.rows.now) index)
+        < common.now.board.now.sizes.quota }
+    ensures { HasRunAt common.now.board.now index
+        (kept_for (map (λ list. list.items) common.now.rows.now) index) place.new }
 {
-    gate.pass(index);
+    common.gate.pass(index);
     let Some(worker) = place.take() else {
         unreachable!();
     };
-    let picker = ThreadPicker::of(settings, index as u64);
-    *place = Some(worker.run(rt, board, rows[index].as_slice(), picker, progress));
+    let picker = ThreadPicker::of(common.settings, index as u64);
+    let rows = common.rows[index].as_slice();
+    *place = Some(worker.run(rt, common.board, rows, picker, common.progress));
 }
 
 fn crew_of(alloc: Global, members: Vec<Member<64, 21>>) -> Result<Vec<Option<Worker>>, AllocError>

@@ -6,20 +6,20 @@ use Rattle.klsm_tool.specs.Working.{HasRunRows, IsReadyAt}
 use Rattle.klsm_tool.proofs.live.run_at.Goals as goal
 
 -- the rows of this place are those that are kept for it
-rows_at : (lists : List (Vec ThreadRow Global)) (list : Vec ThreadRow Global) (t : ℕ) (rows : List ThreadRow) → t < length lists → list ≡ slice_index_or lists t list → rows ≡ list.items → map asked_in rows ≡ kept_for (map (λ l. l.items) lists) t
-rows_at lists list t rows below is same = ap (map asked_in) (same ∙ (ap (λ (l : Vec ThreadRow Global). l.items) is ∙ sym (get_or-map (λ (l : Vec ThreadRow Global). l.items) lists t list [] below)))
+rows_at : (lists : List (Vec ThreadRow Global)) (list : Vec ThreadRow Global) (t : ℕ) (rows : List ThreadRow) → t < length lists → rows ≡ (slice_index_or lists t list).items → map asked_in rows ≡ kept_for (map (λ l. l.items) lists) t
+rows_at lists list t rows below same = ap (map asked_in) (same ∙ sym (get_or-map (λ (l : Vec ThreadRow Global). l.items) lists t list [] below))
 
 pub run-requires-clause-few : goal.run-requires-clause-few
 run-requires-clause-few g c =
-    let same = rows_at c.args.rows.now c.index-rows-index.result c.args.index c.as_slice.result.now c.requires.below c.index-rows-index.is c.as_slice.ensures.value in
-    λ _ _. omega (arith, c.requires.few, length-map c.as_slice.result.now asked_in, ap length same)
+    let same = rows_at c.args.common.now.rows.now c.index-common-index.result c.args.index c.as_slice-rows.result.now c.requires.below c.as_slice-rows.ensures.value in
+    λ _ _. omega (arith, c.requires.few, length-map c.as_slice-rows.result.now asked_in, ap length same)
 
 pub returns : goal.returns
 returns g c =
-    let same = rows_at c.args.rows.now c.index-rows-index.result c.args.index c.as_slice.result.now c.requires.below c.index-rows-index.is c.as_slice.ensures.value in
-    let there = subst (IsReadyAt c.args.board.now c.args.index) (sym c.in-Some.ensures.value) c.requires.ready in
-    subst (λ t. HasRunRows c.args.board.now t (kept_for (map (λ list. list.items) c.args.rows.now) c.args.index) c.run.result) there.number
-    (subst (λ asked. HasRunRows c.args.board.now c.in-Some.worker.member.number asked c.run.result) same c.run.ensures)
+    let same = rows_at c.args.common.now.rows.now c.index-common-index.result c.args.index c.as_slice-rows.result.now c.requires.below c.as_slice-rows.ensures.value in
+    let there = subst (IsReadyAt c.args.common.now.board.now c.args.index) (sym c.in-Some.ensures.value) c.requires.ready in
+    subst (λ t. HasRunRows c.args.common.now.board.now t (kept_for (map (λ list. list.items) c.args.common.now.rows.now) c.args.index) c.run.result) there.number
+    (subst (λ asked. HasRunRows c.args.common.now.board.now c.in-Some.worker.member.number asked c.run.result) same c.run.ensures)
 
 pub unreachable-unreachable : goal.unreachable-unreachable
 unreachable-unreachable g c = c.unreachable.type_inv
