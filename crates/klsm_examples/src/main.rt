@@ -5,7 +5,7 @@
 //! Then it is the program itself, on a word that is not UTF-8: it ends with status 2.
 #![tactic(auto)]
 
-use klsm_tool::{Status, TerminalLine, run_program, run_words};
+use klsm_tool::{Status, TerminalLine, Terminals, run_program, run_words};
 use std::alloc::AllocError;
 use std::fs::{Files, read, read_dir};
 use std::io;
@@ -18,7 +18,11 @@ fn main(rt: HostRuntime) -> Status {
     if let Err(error) = compare(&rt) {
         let _ = println!(rt; "{error}");
     }
-    let progress = TerminalLine::new(&rt, rt.stderr().is_terminal());
+    let terminals = Terminals {
+        output: rt.stdout().is_terminal(),
+        error: rt.stderr().is_terminal(),
+    };
+    let progress = TerminalLine::new(&rt, terminals);
     run_program(&rt, rt.reader(), &mut io::writer(&rt), &progress)
 }
 

@@ -12,6 +12,14 @@ pub(crate) struct Common<const LEVELS: usize> {
     pub incumbent: Incumbent,
 }
 
+/// Who hears of a search: the gate, which each worker passes before its first node, and the progress,
+/// which is told how many nodes were examined.
+#[derive(Drop)]
+pub struct Listeners<'a, G, P> {
+    pub gate: &'a G,
+    pub progress: &'a P,
+}
+
 /// A worker: a member of the board, a seat at the incumbent, how its deletions choose, and why it
 /// ended early, if it did.
 #[derive(Drop)]

@@ -10,12 +10,13 @@ ghost use Rattle.klsm_knapsack.specs.Watching.{IsWatchedBy, found_by, problem_of
 ghost use Rattle.klsm_knapsack.specs.Ends.{first_refusal};
 ghost use Rattle.klsm_knapsack.specs.Workers.{HasEndedSo, HasRun, HaveWorked, IsAtWork, AreWorkersOf, IsIdle, IsNew, IsWorkerOf};
 
-use crate::common::{Common, Worker};
+use crate::common::{Common, Listeners, Worker};
 use crate::errors::Refusal;
 use crate::incumbent::{Incumbent, Watcher};
 use klsm_board::{Gate, Member};
 use klsm_instance::Instance;
 use klsm_parts::random_of;
+use klsm_progress::Progress;
 use std::alloc::{AllocError, Global};
 use std::sync::Wait;
 use std::thread;
@@ -55,13 +56,13 @@ pub(crate) fn recruit<const LEVELS: usize>(
 }
 
 /// Lets the first worker insert the root, and then all workers run, each in a thread of its own.
-pub(crate) fn search<R: Threads + Wait + Sync, G: Gate, const LEVELS: usize>(
+pub(crate) fn search<R: Threads + Wait + Sync, G: Gate, P: Progress, const LEVELS: usize>(
     rt: &R,
     common: &Common<LEVELS>,
     instance: &Instance,
     crew: &mut [Worker<LEVELS>],
     idle: u32,
-    gate: &G,
+    listeners: &Listeners<G, P>,
 )
     requires problem { problem_of common.now.incumbent ≡ instance.now }
     requires crew { AreWorkersOf common.now crew.old }
@@ -73,18 +74,18 @@ pub(crate) fn search<R: Threads + Wait + Sync, G: Gate, const LEVELS: usize>(
     ensures idle { All (λ w. w.refused ≡ None) crew.new → All (λ w. IsIdle idle [] w) crew.new }
 {
     if crew[0].begin(rt, common, instance) {
-        run_all(rt, common, instance, crew, idle, gate);
+        run_all(rt, common, instance, crew, idle, listeners);
     }
 }
 
 // Runs each worker in a thread of its own, which are started by halves, and waits for all.
-fn run_all<R: Threads + Wait + Sync, G: Gate, const LEVELS: usize>(
+fn run_all<R: Threads + Wait + Sync, G: Gate, P: Progress, const LEVELS: usize>(
     rt: &R,
     common: &Common<LEVELS>,
     instance: &Instance,
     crew: &mut [Worker<LEVELS>],
     idle: u32,
-    gate: &G,
+    listeners: &Listeners<G, P>,
 )
     requires problem { problem_of common.now.incumbent ≡ instance.now }
     requires some { 0 < length crew.old }
@@ -102,7 +103,7 @@ fn run_all<R: Threads + Wait + Sync, G: Gate, const LEVELS: usize>(
                 × (problem_of common.now.incumbent ≡ instance.now)
                 × IsAtWork instance.now worker.now }
             ensures { HasRun instance.entry.now idle worker.entry.now worker.exit.now }
-        { worker.run(rt, common, instance, idle, gate) },
+        { worker.run(rt, common, instance, idle, listeners) },
     );
 }
 

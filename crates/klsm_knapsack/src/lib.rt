@@ -42,8 +42,9 @@ mod solving;
 mod watching;
 mod worker;
 
+pub use common::Listeners;
 pub use errors::SolveError;
 pub use incumbent::{Incumbent, Watcher};
 pub use klsm_instance::{Best, Instance, Node, ReadError, Thing, solve_in_turn};
 pub use rule::{Highest, View};
-pub use solving::solve;
+pub use solving::{solve, solve_told};

@@ -6,13 +6,14 @@ ghost use Rattle.klsm_board.specs.Boards.{IsCrew, IsOf};
 ghost use Rattle.klsm_instance.specs.Answers.{IsBestAnswer};
 ghost use Rattle.klsm_knapsack.specs.Refusals.{RefusesSearch};
 
-use crate::common::Common;
+use crate::common::{Common, Listeners};
 use crate::crew::{dismiss, recruit, search};
 use crate::ending::conclude;
 use crate::errors::SolveError;
 use crate::incumbent::Incumbent;
 use klsm_board::{Board, Gate, MOST_INSERTIONS, MakeError, Member};
 use klsm_instance::{Best, Instance};
+use klsm_progress::{Progress, Silent};
 use std::alloc::Global;
 use std::sync::Wait;
 use std::thread::Threads;
@@ -40,6 +41,31 @@ pub fn solve<const LEVELS: usize>(
     ensures bad_k { IsErrAnd result (λ why. why ≡ SolveError.BadK)
         ↔ ((1 ≤ threads) × (threads ≤ 16) × (64 < k)) }
 {
+    let listeners = Listeners {
+        gate,
+        progress: &Silent,
+    };
+    solve_told::<_, _, LEVELS>(rt, alloc, instance, threads, k, idle, &listeners)
+}
+
+/// The same, and tells of a long search while it lasts.
+pub fn solve_told<G: Gate, P: Progress, const LEVELS: usize>(
+    rt: &(impl Threads + Wait + Sync),
+    alloc: Global,
+    instance: &Instance,
+    threads: usize,
+    k: usize,
+    idle: u32,
+    listeners: &Listeners<G, P>,
+) -> Result<Best, SolveError>
+    requires levels { IsLevelCount LEVELS }
+    ensures best { IfOk result (λ best. IsBestAnswer instance.now best) }
+    ensures refused { IfErr result (λ why. RefusesSearch LEVELS threads k why) }
+    ensures bad_threads { IsErrAnd result (λ why. why ≡ SolveError.BadThreads)
+        ↔ ((threads ≡ 0) ⊎ (16 < threads)) }
+    ensures bad_k { IsErrAnd result (λ why. why ≡ SolveError.BadK)
+        ↔ ((1 ≤ threads) × (threads ≤ 16) × (64 < k)) }
+{
     let (board, members) = board_for::<LEVELS>(alloc, threads, k)?;
     let Ok((incumbent, mut first)) = Incumbent::new(alloc, instance) else {
         return Err(SolveError::NoMemory);
@@ -52,7 +78,7 @@ pub fn solve<const LEVELS: usize>(
         return Err(SolveError::NoMemory);
     };
     let common = Common { board, incumbent };
-    search(rt, &common, instance, crew.as_mut_slice(), idle, gate);
+    search(rt, &common, instance, crew.as_mut_slice(), idle, listeners);
     if let Err(why) = dismiss(&common.incumbent, &mut first, crew, &mut back) {
         return Err(why.error());
     }

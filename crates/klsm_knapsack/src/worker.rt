@@ -13,10 +13,11 @@ ghost use Rattle.klsm_knapsack.specs.Ends.{EndsAnswered, EndsRefused};
 ghost use Rattle.klsm_knapsack.specs.Answers.{GainsNothing, GainsOthers, GainsSome};
 ghost use Rattle.klsm_knapsack.specs.Workers.{Extends, HasEndedSo, HasRun, InsertsNodes, IsAtWork, IsIdle, IsNew, IsSameWorker, IsWorkerOf, work_of};
 
-use crate::common::{Common, Worker};
+use crate::common::{Common, Listeners, Worker};
 use crate::errors::Refusal;
 use klsm_board::{Gate, InsertError};
 use klsm_instance::{Instance, Node};
+use klsm_progress::{Counted, Pace, Progress};
 use std::sync::Wait;
 
 impl<const LEVELS: usize> Worker<LEVELS> {
@@ -48,21 +49,22 @@ impl<const LEVELS: usize> Worker<LEVELS> {
     }
 
     /// Passes the gate, and works until it is idle or refused.
-    pub(crate) fn run(
+    pub(crate) fn run<G: Gate, P: Progress>(
         &mut self,
         rt: &impl Wait,
         common: &Common<LEVELS>,
         instance: &Instance,
         idle: u32,
-        gate: &impl Gate,
+        listeners: &Listeners<G, P>,
     )
         requires of { IsWorkerOf common.now self.old }
         requires problem { problem_of common.now.incumbent ≡ instance.now }
         requires begins { IsAtWork instance.now self.old }
         ensures { HasRun instance.now idle self.old self.new }
     {
-        gate.pass(self.member.number() as usize);
-        self.refused = self.work(rt, common, instance, idle).err();
+        listeners.gate.pass(self.member.number() as usize);
+        let progress = listeners.progress;
+        self.refused = self.work(rt, common, instance, idle, progress).err();
     }
 
     // Takes nodes until the board answers `idle` times in a row that it has none, or the member has
@@ -73,6 +75,7 @@ impl<const LEVELS: usize> Worker<LEVELS> {
         common: &Common<LEVELS>,
         instance: &Instance,
         idle: u32,
+        progress: &impl Progress,
     ) -> Result<(), Refusal>
         requires of { IsWorkerOf common.now self.old }
         requires problem { problem_of common.now.incumbent ≡ instance.now }
@@ -85,6 +88,7 @@ impl<const LEVELS: usize> Worker<LEVELS> {
         ensures refused { IfErr result (λ why. EndsRefused LEVELS self.new.member.sizes.k
             self.new.member.number (own_steps self.new.member) why) }
     {
+        let mut pace = Pace::new(Counted::NodesExamined);
         let mut nothings = 0;
         for _ in rt.forever() {
             if nothings == idle || !self.may_split(common) {
@@ -92,6 +96,7 @@ impl<const LEVELS: usize> Worker<LEVELS> {
             }
             if self.turn(rt, common, instance)? {
                 nothings = 0;
+                pace.count(progress);
             } else {
                 nothings += 1;
             }

@@ -12,10 +12,6 @@ use klsm_rows::number_in;
 /// How many fields a row has.
 const FIELDS: usize = 4;
 
-const INSERT: &[u8] = b"i";
-
-const DELETE: &[u8] = b"d";
-
 /// What `row` asks for, where the threads are numbered below `threads`, or the first thing that is
 /// wrong with it.
 pub fn request_of(row: &ByteRecord, threads: usize) -> Result<Request, Refusal>
@@ -60,12 +56,10 @@ fn request(
 fn judge_operation(word: &[u8], key: &[u8], load: &[u8]) -> Result<Operation, Refusal>
     ensures { result ≡ operation_of word.now key.now load.now }
 {
-    if word == INSERT {
-        judge_insertion(key, load)
-    } else if word == DELETE {
-        judge_deletion(key, load)
-    } else {
-        Err(Refusal::Operation)
+    match word {
+        b"i" => judge_insertion(key, load),
+        b"d" => judge_deletion(key, load),
+        _ => Err(Refusal::Operation),
     }
 }
 

@@ -14,10 +14,9 @@
 //!
 //! `script` reads a row into a record that is used again, and `judge` says what it asks for, a
 //! `Request`, or what is wrong with it: `watched` knows how far the whole rows go that were read. A
-//! script that threads are to run is read whole, and `thread_rows` keeps its rows for them; `progress`
-//! tells of a long run. An `answer`, the `totals`, a `selection` and a `Stop` each have their text, a
-//! `LineText`, and `output` sends it and says in a `Report` how the run ended. `klsm_tool` gives the
-//! answers.
+//! script that threads are to run is read whole, and `thread_rows` keeps its rows for them. An `answer`,
+//! the `totals`, a `selection` and a `Stop` each have their text, a `LineText`, and `output` sends it and
+//! says in a `Report` how the run ended. `klsm_tool` gives the answers.
 //!
 //! - **A row is judged by its four fields**, and refused for the first thing that is wrong with it:
 //!   the contract of `request_of`.
@@ -32,7 +31,6 @@ mod answer;
 mod judge;
 mod line_text;
 mod output;
-mod progress;
 mod report;
 mod request;
 mod script;
@@ -46,7 +44,6 @@ pub use answer::{Answer, Line, Printed};
 pub use judge::request_of;
 pub use line_text::LineText;
 pub use output::{Output, write_last, write_text};
-pub use progress::{Pace, Progress, Silent, TerminalLine};
 pub use report::{End, Report};
 pub use request::{Operation, Refusal, Request};
 pub use script::Script;

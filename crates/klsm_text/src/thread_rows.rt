@@ -7,10 +7,10 @@ ghost use Rattle.klsm_text.specs.Keeping.{AreKept, KeepsNoMore, KeepsOn, KeepsOn
 ghost use Rattle.klsm_text.specs.ThreadRows.{AreAccepted};
 
 use crate::judge::request_of;
-use crate::progress::{Pace, Progress};
 use crate::request::{Operation, Refusal, Request};
 use crate::script::Script;
 use crate::stop::{Closing, Stop};
+use klsm_progress::{Counted, Pace, Progress};
 use std::alloc::{AllocError, Global};
 use std::io::Read;
 
@@ -92,7 +92,8 @@ pub fn keep_rows<R: Read + Drop>(
         → KeepsNoMore threads (reader_failed script.new) input (map (λ list. list.items) lists.new)
         result.row result.stop }
 {
-    let mut pace = Pace::new();
+    progress.begins(None);
+    let mut pace = Pace::new(Counted::RowsRead);
     for number in 0..ROW_LIMIT {
         if let Err(stop) = keep_row(script, lists, number as u32 + 1) {
             return Closing::at(stop, number + 1);

@@ -13,13 +13,10 @@ pub(crate) struct Watched<R> {
     inner: R,
     /// How many bytes were handed on.
     given: u64,
-    /// How many of them there are up to the last one that is no line end and that a line end
-    /// follows.
+    /// How many of them there are up to the last one that belongs to a row and that a line end follows.
     whole_rows_end: u64,
-    /// Whether the last of them is no line end.
-    in_row: bool,
-    /// Whether there was a quote, behind which a line end need not be the end of a row.
-    has_quote: bool,
+    /// Where the next of them stands.
+    place: Place,
 }
 
 impl<R> Watched<R> {
@@ -30,12 +27,14 @@ impl<R> Watched<R> {
             inner,
             given: 0,
             whole_rows_end: 0,
-            in_row: false,
-            has_quote: false,
+            place: Place {
+                in_row: false,
+                field: Field::Outside,
+            },
         }
     }
 
-    /// Up to which byte the rows are whole at least. Behind a quote none counts as whole.
+    /// Up to which byte the rows are whole at least.
     pub(crate) fn whole_rows_end(&self) -> u64 {
         self.whole_rows_end
     }
@@ -44,14 +43,8 @@ impl<R> Watched<R> {
     fn note(&mut self, chunk: &[u8])
         ensures { self.new.inner ≡ self.old.inner }
     {
-        self.has_quote |= chunk.contains(&QUOTE);
-        if !self.has_quote
-            && let Some(end) = last_row_end(chunk, self.in_row)
-        {
+        if let Some(end) = self.place.go_on(chunk) {
             self.whole_rows_end = self.given.saturating_add(end as u64);
-        }
-        if let Some(last) = chunk.last() {
-            self.in_row = !is_line_end(*last);
         }
         self.given = self.given.saturating_add(chunk.len() as u64);
     }
@@ -64,6 +57,75 @@ impl<R: Read> Read for Watched<R> {
         let count = self.inner.read(buf)?;
         self.note(&buf[..count]);
         Ok(count)
+    }
+}
+
+/// Where a byte stands among rows and fields.
+#[derive(Clone, Copy)]
+struct Place {
+    /// Whether the byte before it belongs to a row, and is no line end.
+    in_row: bool,
+    field: Field,
+}
+
+/// Where a byte stands in a field, for what a quote and a line end mean there.
+#[derive(Clone, Copy, PartialEq, Eq)]
+enum Field {
+    /// At its start, or right behind a quote that ended quotes: a quote here begins quotes.
+    Outside,
+    /// In one that began without a quote, where a quote is a byte like any other.
+    Plain,
+    /// Within quotes, where a line end belongs to the field.
+    Quoted,
+}
+
+impl Place {
+    // Goes on behind a chunk, and answers how many bytes of it there are up to the last one that
+    // belongs to a row and that a line end follows.
+    fn go_on(&mut self, chunk: &[u8]) -> Option<usize> {
+        if self.field == Field::Quoted || chunk.contains(&QUOTE) {
+            self.follow(chunk)
+        } else {
+            self.skip(chunk)
+        }
+    }
+
+    // Byte by byte.
+    fn follow(&mut self, chunk: &[u8]) -> Option<usize> {
+        let mut end = None;
+        for index in 0..chunk.len() {
+            let byte = chunk[index];
+            let ends_row = self.field != Field::Quoted && is_line_end(byte);
+            if ends_row && self.in_row {
+                end = Some(index);
+            }
+            self.in_row = !ends_row;
+            self.field = self.field.behind(byte);
+        }
+        end
+    }
+
+    // Without a look at more than the last row. No byte of the chunk is in quotes.
+    fn skip(&mut self, chunk: &[u8]) -> Option<usize> {
+        let end = last_row_end(chunk, self.in_row);
+        if let Some(last) = chunk.last() {
+            self.in_row = !is_line_end(*last);
+            self.field = self.field.behind(*last);
+        }
+        end
+    }
+}
+
+impl Field {
+    // Where the byte behind this one stands, by the rules of the library `csv`.
+    fn behind(self, byte: u8) -> Field {
+        match (self, byte) {
+            (Field::Quoted, QUOTE) => Field::Outside,
+            (Field::Quoted, _) => Field::Quoted,
+            (Field::Outside, QUOTE) => Field::Quoted,
+            (_, b',' | b'\r' | b'\n') => Field::Outside,
+            _ => Field::Plain,
+        }
     }
 }
 

@@ -1,7 +1,8 @@
 -- The live items: what an item that joins or leaves does to the set, to what it did not take, and to the content.
-use Rattle.std.proofs.Common.{◌≡◌, ◌≢◌, ◌||◌, ℕ, ◌+◌, ◌<◌, ◌≤◌, Bool, true, false, cond, List, [], ◌∷◌, ◌++◌, length, get_or, not, position, Some, None, refl, sym, ap, ap₂, ◌∙◌, subst, arith, if◌then◌else◌, inl, inr}
-use Rattle.std.specs.List.{AllByRecursion, Contains, count_by, position_or_len, swap_remove}
+use Rattle.std.proofs.Common.{◌≡◌, ◌≢◌, ◌||◌, ℕ, ◌+◌, ◌<◌, ◌≤◌, Bool, true, false, cond, List, [], ◌∷◌, ◌++◌, length, get_or, not, position, Option, Some, None, IfSome, IsTrue, refl, sym, ap, ap₂, ◌∙◌, subst, arith, if◌then◌else◌, inl, inr}
+use Rattle.std.specs.List.{All, AllByRecursion, Contains, count_by, position_or_len, swap_remove}
 use Rattle.std.specs.List.Sorted.{IsPermutation}
+use Rattle.std.specs.Option.{is_some}
 use Rattle.std.specs.Ordering.{is_eq, match_ordering}
 use Rattle.std.specs.declared.cmp.Ordering.{Ordering}
 use Rattle.std.specs.declared.cmp.Ordering.TheVariants.{Less, Equal, Greater}
@@ -11,6 +12,7 @@ use Rattle.std.specs.List.Sorted.{IsStrictlySortedBy}
 use Rattle.std.specs.List.{list_any, prefix_len}
 use Rattle.std.proofs.lemmas.Bool.{cases_lt, cond_below}
 use Rattle.std.proofs.lemmas.List.{append_assoc, append-nil}
+use Rattle.std.proofs.lemmas.List.Elements.{recursion_from_All}
 use Rattle.std.proofs.lemmas.List.Quantifiers.{position-Some}
 use Rattle.std.proofs.lemmas.List.Sorted.{IsPermutation-swap_remove, sum_by-IsPermutation}
 use Rattle.std.proofs.lemmas.List.Sums.{sum_by-cons}
@@ -21,9 +23,9 @@ use Rattle.klsm_run.specs.Content.{placed, sorted, without, skipped}
 use Rattle.klsm_run.proofs.AllLemmas.{all_weaker}
 use Rattle.klsm_run.proofs.ContainsLemmas.{contains_if_has, has_if_contains}
 use Rattle.klsm_run.proofs.ContentLemmas.{sorted_middle, sorted_same_behind, sorted_sorted}
-use Rattle.klsm_run.proofs.LeastLemmas.{not_below, Has, same_as_itself, skipped_none}
+use Rattle.klsm_run.proofs.LeastLemmas.{not_below, Has, same_as_itself, skipped_none, without_first}
 use Rattle.klsm_run.proofs.LesserLemmas.{not_smaller_trans}
-use Rattle.klsm_run.proofs.OrderLemmas.{Below, Same, Above, ranked}
+use Rattle.klsm_run.proofs.OrderLemmas.{Below, Same, Above, not_smaller_than_itself, ranked}
 use Rattle.klsm_run.proofs.RankLemmas.{count_none, count_sorted, skipped_append}
 use Rattle.klsm_run.proofs.WithoutLemmas.{has_or_new, same_not, sorted_back, sorted_without, without_later, without_new, without_placed}
 
@@ -158,6 +160,30 @@ prefix_skipped x (y ∷ ys) up = by_test (prefix_skipped x ys up.1) (is_smaller 
     by_test rest false is =
         let none : skipped (y ∷ ys) x ≡ 0 = skipped_none x (y ∷ ys) (is, all_weaker (λ z. item_cmp y z ≡ Less) (λ z. is_smaller z x ≡ false) (λ z less. not_smaller_trans x y z is (not_below y z less)) ys up.0) in
         sym none
+
+-- the first of a set skips none
+pub first_skips_none : (x : Item) (items : List Item) → All (λ z. item_cmp x z ≡ Less) items → skipped (x ∷ items) x ≡ 0
+first_skips_none x items above = skipped_none x (x ∷ items) (not_itself (item_cmp x x) refl, all_weaker (λ z. item_cmp x z ≡ Less) (λ z. is_smaller z x ≡ false) (λ z less. not_below x z less) items (recursion_from_All (λ z. item_cmp x z ≡ Less) items above))
+  where
+    not_itself : (o : Ordering) → item_cmp x x ≡ o → is_smaller x x ≡ false
+    not_itself Less is = absurd (not_smaller_than_itself x is)
+    not_itself Equal is = rw is refl
+    not_itself Greater is = rw is refl
+
+-- so does the item that was popped from a set
+pub popped_skips_none : (x : Item) (popped : Option Item) (items items' : List Item) → IfSome popped (λ y. items ≡ y ∷ items') → IfSome popped (λ y. All (λ z. item_cmp y z ≡ Less) items') → items ≡ x ∷ items' → IsTrue (is_some popped) → skipped items x ≡ 0
+popped_skips_none x None items items' removal above is some = cc
+popped_skips_none x (Some y) items items' removal above is some =
+    let same : y ≡ x = cc in
+    rw is (first_skips_none x items' (subst (λ (w : Item). All (λ z. item_cmp w z ≡ Less) items') same above))
+
+pub least_skips_none : (x : Item) (items apart : List Item) → skipped items x ≡ 0 → apart ≡ [] → skipped (items ++ apart) x ≡ 0
+least_skips_none x items apart none empty = skipped_append items apart x ∙ ap₂ (λ m ys. m + skipped ys x) none empty
+
+-- and is out of the content once it is out of the set
+pub least_taken : (x : Item) (items items' apart : List Item) → items ≡ x ∷ items' → sorted (items' ++ apart) ≡ without x (sorted (items ++ apart))
+least_taken x items items' apart is =
+    ap sorted (sym (without_first x (items' ++ apart))) ∙ sorted_without x (x ∷ (items' ++ apart)) ∙ ap (λ ys. without x (sorted (ys ++ apart))) (sym is)
 
 -- an item's skip is that in the set and that apart from it
 pub skipped_by_both : (x : Item) (items apart : List Item) (a b : ℕ) → a ≡ skipped items x → b ≡ skipped apart x → a + b ≡ skipped (items ++ apart) x

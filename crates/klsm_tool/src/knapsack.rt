@@ -1,11 +1,13 @@
 //! `klsm knapsack`: a best selection of the things of an instance.
-ghost use Rattle.std.specs.Prelude.{◌≡◌, ◌≤◌, Option, ℕ, List};
+ghost use Rattle.std.specs.Prelude.{◌≡◌, ◌≤◌, Option, ℕ, List, IfErr, IfOk};
 ghost use Rattle.klsm_instance.specs.Answers.{IsBestAnswer};
+ghost use Rattle.klsm_knapsack.specs.Refusals.{RefusesSearch};
 ghost use Rattle.klsm_instance.specs.Format.{IsProblemIn, RefusesInput};
 ghost use Rattle.klsm_tool.specs.Knapsack.{Solves, SolvesProblem, RefusesIn, WritesBest};
 
 use klsm_board::Gate;
-use klsm_knapsack::{Best, Instance, ReadError, SolveError, solve};
+use klsm_knapsack::{Best, Instance, Listeners, ReadError, SolveError, solve_told};
+use klsm_progress::{Progress, Silent};
 use klsm_text::{End, NO_MEMORY, Report, refusal_text, selection_text, write_last};
 use klsm_words::Search;
 use std::alloc::Global;
@@ -34,22 +36,41 @@ pub fn knapsack_over<P: AllocGlobal + Wait + Threads + Sync, R: Read + Drop, W: 
     ensures { Solves threads k (R.remaining reader) (W.contents writer.old)
         (W.contents writer.new) result }
 {
+    let search = Search { threads, k, idle };
+    knapsack_told(rt, reader, writer, &search, gate, &Silent)
+}
+
+/// The same, and tells of a long search while it lasts.
+pub fn knapsack_told<P: AllocGlobal + Wait + Threads + Sync, R: Read + Drop, W: Write>(
+    rt: &P,
+    reader: R,
+    writer: &mut W,
+    search: &Search,
+    gate: &impl Gate,
+    progress: &impl Progress,
+) -> Report
+    requires some_thread { 1 ≤ search.now.threads }
+    requires threads { search.now.threads ≤ 16 }
+    requires k { search.now.k ≤ 64 }
+    ensures { Solves search.now.threads search.now.k (R.remaining reader) (W.contents writer.old)
+        (W.contents writer.new) result }
+{
     match Instance::read(rt.alloc(), reader) {
         Ok(instance) => {
-            let search = Search { threads, k, idle };
-            solve_read(rt, writer, &instance, &search, gate)
+            let listeners = Listeners { gate, progress };
+            solve_read(rt, writer, &instance, search, &listeners)
         }
         Err(why) => refuse(writer, why),
     }
 }
 
 // Solves an instance, and writes a best selection or why there is none.
-fn solve_read<P: AllocGlobal + Wait + Threads + Sync, W: Write>(
+fn solve_read<P: AllocGlobal + Wait + Threads + Sync, W: Write, G: Gate, H: Progress>(
     rt: &P,
     writer: &mut W,
     instance: &Instance,
     search: &Search,
-    gate: &impl Gate,
+    listeners: &Listeners<G, H>,
 ) -> Report
     requires some_thread { 1 ≤ search.now.threads }
     requires threads { search.now.threads ≤ 16 }
@@ -57,19 +78,37 @@ fn solve_read<P: AllocGlobal + Wait + Threads + Sync, W: Write>(
     ensures { SolvesProblem search.now.threads search.now.k instance.now (W.contents writer.old)
         (W.contents writer.new) result }
 {
-    match solve::<21>(
+    match solve_heard(rt, instance, search, listeners) {
+        Ok(best) => write_selection(rt.alloc(), writer, instance, &best),
+        Err(SolveError::Full) => write_last(writer, FULL, 0, End::Full),
+        Err(_) => write_last(writer, NO_MEMORY, 0, End::NoMemory),
+    }
+}
+
+// Solves an instance. Who hears of it is told when it begins and ends, so that no line stands before the
+// answer.
+fn solve_heard<P: AllocGlobal + Wait + Threads + Sync, G: Gate, H: Progress>(
+    rt: &P,
+    instance: &Instance,
+    search: &Search,
+    listeners: &Listeners<G, H>,
+) -> Result<Best, SolveError>
+    ensures best { IfOk result (λ best. IsBestAnswer instance.now best) }
+    ensures refused { IfErr result (λ why.
+        RefusesSearch 21 search.now.threads search.now.k why) }
+{
+    listeners.progress.begins(None);
+    let answer = solve_told::<G, H, 21>(
         rt,
         rt.alloc(),
         instance,
         search.threads,
         search.k,
         search.idle,
-        gate,
-    ) {
-        Ok(best) => write_selection(rt.alloc(), writer, instance, &best),
-        Err(SolveError::Full) => write_last(writer, FULL, 0, End::Full),
-        Err(_) => write_last(writer, NO_MEMORY, 0, End::NoMemory),
-    }
+        listeners,
+    );
+    listeners.progress.ended();
+    answer
 }
 
 // Writes why no instance was read.

@@ -54,10 +54,11 @@ mod status;
 mod turns;
 mod worker;
 
-pub use klsm_text::{End, Progress, Report, Script, Silent, TerminalLine};
+pub use klsm_progress::{Counted, Progress, Silent, TerminalLine, Terminals};
+pub use klsm_text::{End, Report, Script};
 pub use klsm_words::{Pick, Settings};
-pub use knapsack::knapsack_over;
+pub use knapsack::{knapsack_over, knapsack_told};
 pub use live::{live_over, live_script, live_told};
 pub use program::{run_program, run_words};
-pub use replay::{replay_on, replay_over, replay_script};
+pub use replay::{replay_on, replay_over, replay_script, replay_told};
 pub use status::Status;

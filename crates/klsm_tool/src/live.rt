@@ -16,9 +16,9 @@ ghost use Rattle.klsm_board.specs.declared.board.Member.{Member};
 use crate::picking::ThreadPicker;
 use crate::worker::{GaveUp, Worker};
 use klsm_board::{Board, Gate, MOST_INSERTIONS, Member};
+use klsm_progress::{Progress, Silent};
 use klsm_text::{
-    Closing, End, Progress, Report, Script, Silent, Stop, ThreadRow, Totals, keep_rows, no_rows,
-    write_last,
+    Closing, End, Report, Script, Stop, ThreadRow, Totals, keep_rows, no_rows, write_last,
 };
 use klsm_words::Settings;
 use std::alloc::{AllocError, Global};
@@ -125,6 +125,8 @@ fn run_script<P: AllocGlobal + Wait + Threads + Sync, R: Read + Drop>(
     if closing.stop != Stop::AtEnd {
         return Err(closing);
     }
+    // That row stands behind the last one.
+    progress.begins(Some(closing.row.saturating_sub(1)));
     run_rows(rt, rows.as_slice(), settings, gate, progress)
 }
 
@@ -153,7 +155,6 @@ fn run_rows<P: AllocGlobal + Wait + Threads + Sync>(
     let Ok(mut crew) = crew_of(rt.alloc(), members) else {
         return Err(Closing::at(Stop::NoMemory, 1));
     };
-    progress.begins_to_run();
     let common = Common {
         board: &board,
         rows,

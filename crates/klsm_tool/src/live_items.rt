@@ -49,8 +49,33 @@ impl LiveItems {
     }
 
     /// Takes an item out, where it is there, and answers how many items are smaller. It goes over
-    /// these, and takes no memory.
+    /// these, and takes no memory. Mostly there are none.
     pub(crate) fn remove(&mut self, item: Item) -> usize
+        ensures skip { result ≡ skipped (live_content self.old) item }
+        ensures content { sorted (live_content self.new)
+            ≡ without item (sorted (live_content self.old)) }
+    {
+        if self.takes_least(item) {
+            return 0;
+        }
+        self.take_out(item)
+    }
+
+    // Takes an item out, where it is the least of all, and answers whether it was.
+    fn takes_least(&mut self, item: Item) -> bool
+        ensures skip { IsTrue result → skipped (live_content self.old) item ≡ 0 }
+        ensures taken { IsTrue result → sorted (live_content self.new)
+            ≡ without item (sorted (live_content self.old)) }
+        ensures left { result ≡ false → live_content self.new ≡ live_content self.old }
+    {
+        if !self.apart.is_empty() {
+            return false;
+        }
+        takes_first(&mut self.ascending, item)
+    }
+
+    // Takes any item out, where it is there, and answers how many are smaller.
+    fn take_out(&mut self, item: Item) -> usize
         ensures skip { result ≡ skipped (live_content self.old) item }
         ensures content { sorted (live_content self.new)
             ≡ without item (sorted (live_content self.old)) }
@@ -72,6 +97,18 @@ fn adds(items: &mut BTreeSet<Item, Global>, item: Item) -> bool
         Ok(is_new) => is_new,
         Err(_) => false,
     }
+}
+
+// Takes an item out of a set, where it is the least there, and answers whether it was.
+fn takes_first(items: &mut BTreeSet<Item, Global>, item: Item) -> bool
+    ensures taken { IsTrue result → items.old.keys ≡ item ∷ items.new.keys }
+    ensures least { IsTrue result → skipped items.old.keys item ≡ 0 }
+    ensures left { result ≡ false → items.new.keys ≡ items.old.keys }
+{
+    if items.first() != Some(&item) {
+        return false;
+    }
+    items.pop_first().is_some()
 }
 
 // How many items of a set are smaller than one.

@@ -6,21 +6,21 @@ ghost use Rattle.klsm_tool.specs.Program.{RefusesBytes, Runs, RunsKnapsack, Runs
 ghost use Rattle.klsm_tool.specs.Program.{RunsReplayOrLacksMemory, RunsSome, Says};
 ghost use Rattle.klsm_tool.specs.Program.{status_of as status_of_end};
 
-use crate::knapsack::knapsack_over;
+use crate::knapsack::knapsack_told;
 use crate::live::live_told;
 use crate::process_words::process_words;
-use crate::replay::replay_over;
+use crate::replay::replay_told;
 use crate::status::Status;
 use klsm_board::Open;
-use klsm_text::{End, NO_MEMORY, Progress, Silent, write_text};
+use klsm_progress::{Progress, Silent};
+use klsm_text::{End, NO_MEMORY, write_text};
 use klsm_words::{Action, Fault, Search, Settings, USAGE, parse};
 use std::io::{Read, Write};
 use std::rt::Env;
 use std::sync::Wait;
 use std::thread::Threads;
 
-/// Runs the program on the words that its process was given. Of a long run by threads it tells while
-/// it lasts.
+/// Runs the program on the words that its process was given. Of a long run it tells while it lasts.
 pub fn run_program<P: Env + AllocGlobal + Wait + Threads + Sync, R: Read + Drop, W: Write>(
     rt: &P,
     reader: R,
@@ -69,9 +69,9 @@ fn run_told<R: Read + Drop, W: Write>(
         (W.contents writer.old) (W.contents writer.new) result.code }
 {
     match parse(rt.alloc(), words) {
-        Ok(Action::Replay(settings)) => run_replay(rt, reader, writer, &settings),
+        Ok(Action::Replay(settings)) => run_replay(rt, reader, writer, &settings, progress),
         Ok(Action::Live(settings)) => run_live(rt, reader, writer, &settings, progress),
-        Ok(Action::Knapsack(search)) => run_knapsack(rt, reader, writer, &search),
+        Ok(Action::Knapsack(search)) => run_knapsack(rt, reader, writer, &search, progress),
         Err(Fault::Said { text, status }) => say(writer, text.as_bytes(), status),
         Err(Fault::UnknownPick) => say(writer, UNKNOWN_PICK, USAGE),
         Err(Fault::NotText) => refuse_bytes(writer),
@@ -84,12 +84,13 @@ fn run_replay<R: Read + Drop, W: Write>(
     reader: R,
     writer: &mut W,
     settings: &Settings,
+    progress: &impl Progress,
 ) -> Status
     requires { AreInRange settings.now }
     ensures { RunsReplay settings.now (R.remaining reader) (W.contents writer.old)
         (W.contents writer.new) result.code }
 {
-    status_of(replay_over(rt, reader, writer, settings).end)
+    status_of(replay_told(rt, reader, writer, settings, progress).end)
 }
 
 fn run_live<R: Read + Drop, W: Write>(
@@ -111,13 +112,13 @@ fn run_knapsack<R: Read + Drop, W: Write>(
     reader: R,
     writer: &mut W,
     search: &Search,
+    progress: &impl Progress,
 ) -> Status
     requires { IsSearchInRange search.now }
     ensures { RunsKnapsack search.now (R.remaining reader) (W.contents writer.old)
         (W.contents writer.new) result.code }
 {
-    let Search { threads, k, idle } = *search;
-    status_of(knapsack_over(rt, reader, writer, threads, k, idle, &Open).end)
+    status_of(knapsack_told(rt, reader, writer, search, &Open, progress).end)
 }
 
 fn refuse_bytes<W: Write>(writer: &mut W) -> Status

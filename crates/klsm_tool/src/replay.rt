@@ -21,6 +21,7 @@ ghost use Rattle.klsm_tool.specs.Replay.{Replays, ReplaysAlone};
 
 use crate::beside::Beside;
 use klsm_board::{Board, MOST_INSERTIONS, Member};
+use klsm_progress::{Counted, Pace, Progress, Silent};
 use klsm_text::{
     Closing, End, NO_MEMORY, Output, Printed, ROW_LIMIT, Refusal, Report, Script, Stop, request_of,
     write_last,
@@ -43,6 +44,23 @@ pub fn replay_over<P: AllocGlobal + Wait, R: Read + Drop, W: Write>(
     ensures { ReplaysAlone settings.now.threads settings.now.k (R.remaining reader)
         (W.contents writer.old) (W.contents writer.new) result }
 {
+    replay_told(rt, reader, writer, settings, &Silent)
+}
+
+/// The same, and tells of a long run while it lasts.
+pub fn replay_told<P: AllocGlobal + Wait, R: Read + Drop, W: Write>(
+    rt: &P,
+    reader: R,
+    writer: &mut W,
+    settings: &Settings,
+    progress: &impl Progress,
+) -> Report
+    requires some_thread { 1 ≤ settings.now.threads }
+    requires threads { settings.now.threads ≤ 16 }
+    requires k { settings.now.k ≤ 64 }
+    ensures { ReplaysAlone settings.now.threads settings.now.k (R.remaining reader)
+        (W.contents writer.old) (W.contents writer.new) result }
+{
     let Ok((board, mut members)) = Board::new(
         rt.alloc(),
         settings.threads,
@@ -51,7 +69,16 @@ pub fn replay_over<P: AllocGlobal + Wait, R: Read + Drop, W: Write>(
     ) else {
         return write_last(writer, NO_MEMORY, 0, End::NoMemory);
     };
-    let report = replay_on(rt, reader, writer, settings, &board, &mut members);
+    let mut script = Script::new(rt.alloc(), reader);
+    let report = replay_script(
+        rt,
+        &mut script,
+        writer,
+        settings,
+        &board,
+        &mut members,
+        progress,
+    );
     if report.end != End::Done {
         return report;
     }
@@ -83,11 +110,11 @@ pub fn replay_on<P: AllocGlobal + Wait, R: Read + Drop, W: Write>(
         (R.remaining reader) (W.contents writer.old) (W.contents writer.new) result }
 {
     let mut script = Script::new(rt.alloc(), reader);
-    replay_script(rt, &mut script, writer, settings, board, members)
+    replay_script(rt, &mut script, writer, settings, board, members, &Silent)
 }
 
-/// The same over a script of the caller's, of which no row was read yet. A read fault is answered only
-/// where the reader of that has failed.
+/// The same over a script of the caller's, of which no row was read yet; and it tells of a long run
+/// while it lasts. A read fault is answered only where the reader of that has failed.
 pub fn replay_script<P: AllocGlobal + Wait, R: Read + Drop, W: Write>(
     rt: &P,
     script: &mut Script<R>,
@@ -95,6 +122,7 @@ pub fn replay_script<P: AllocGlobal + Wait, R: Read + Drop, W: Write>(
     settings: &Settings,
     board: &Board<64, 21>,
     members: &mut [Member<64, 21>],
+    progress: &impl Progress,
 ) -> Report
     requires sizes { board.now.sizes ≡ sizes_of settings.now.threads settings.now.k }
     requires of { All (λ member. IsOf member board.now) members.old }
@@ -111,7 +139,9 @@ pub fn replay_script<P: AllocGlobal + Wait, R: Read + Drop, W: Write>(
     let Ok(mut replay) = Replay::new(rt.alloc(), settings) else {
         return write_last(writer, NO_MEMORY, 0, End::NoMemory);
     };
-    let closing = replay.answer_rows(rt, script, writer, board, members, settings);
+    progress.begins(None);
+    let closing = replay.answer_rows(rt, script, writer, board, members, settings, progress);
+    progress.ended();
     replay.output.close(writer, closing)
 }
 
@@ -145,6 +175,7 @@ impl Replay {
         board: &Board<64, 21>,
         members: &mut [Member<64, 21>],
         settings: &Settings,
+        progress: &impl Progress,
     ) -> Closing
         requires sizes { board.now.sizes ≡ sizes_of settings.now.threads settings.now.k }
         requires members { AreMembers board.now members.old }
@@ -164,6 +195,7 @@ impl Replay {
             self.new.output result.stop }
     {
         let bound = settings.threads * settings.k;
+        let mut pace = Pace::new(Counted::RowsAnswered);
         for answered in 0..ROW_LIMIT {
             if let Err(stop) = self.answer_row(rt, script, writer, board, members) {
                 return Closing {
@@ -173,6 +205,7 @@ impl Replay {
                     bound,
                 };
             }
+            pace.count(progress);
         }
         Closing {
             stop: stop_behind(script, &mut self.output, writer),

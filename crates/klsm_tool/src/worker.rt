@@ -10,7 +10,8 @@ ghost use Rattle.klsm_tool.specs.Working.{HasRunRows, IsReady, Works};
 use crate::picking::ThreadPicker;
 use crate::turns::{delete, insert};
 use klsm_board::{Board, Member};
-use klsm_text::{Answer, Operation, Pace, Progress, Stop, ThreadRow};
+use klsm_progress::{Counted, Pace, Progress};
+use klsm_text::{Answer, Operation, Stop, ThreadRow};
 use std::sync::Wait;
 
 /// A member, and at which row it gave up, if it did.
@@ -63,7 +64,7 @@ fn answer_all(
     ensures works { Works board.now.sizes.k member.old.number (map asked_in rows.now)
         (own_steps member.new) result }
 {
-    let mut pace = Pace::new();
+    let mut pace = Pace::new(Counted::RowsRun);
     for row in rows {
         if let Err(stop) = answer(rt, board, member, picker, row.operation()) {
             return Some(GaveUp {

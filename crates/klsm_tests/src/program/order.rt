@@ -6,7 +6,7 @@ use super::process::{Input, Output};
 use super::run;
 use crate::meeting::{Counting, Meeting};
 use klsm_board::Gate;
-use klsm_tool::{End, Pick, Progress, Settings, knapsack_over, live_over, live_told};
+use klsm_tool::{Counted, End, Pick, Progress, Settings, knapsack_over, live_over, live_told};
 use std::alloc::Global;
 use std::cell::Cell;
 use std::io;
@@ -168,12 +168,12 @@ impl Hall {
 }
 
 impl Progress for Hall {
-    fn went_on(&self, rows: u64) {
-        self.rows.fetch_add(rows, Ordering::SeqCst);
+    fn begins(&self, _total: Option<u64>) {
+        self.rows.store(0, Ordering::SeqCst);
     }
 
-    fn begins_to_run(&self) {
-        self.rows.store(0, Ordering::SeqCst);
+    fn went_on(&self, _counted: Counted, more: u64) {
+        self.rows.fetch_add(more, Ordering::SeqCst);
     }
 
     fn ended(&self) {}

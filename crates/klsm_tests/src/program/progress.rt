@@ -1,14 +1,19 @@
-//! The line that tells of a long run: it is written where standard error is a terminal and the run has
-//! lasted for more than a second, and goes away at the end.
+//! What is told of a long run: each command says how far it has come, and the line of it is written
+//! where standard error is a terminal and the run has lasted for more than a second, and goes away at
+//! the end.
 
-use klsm_tool::{Progress, TerminalLine};
+use super::limits::repeated;
+use super::process::{Input, Output, Process};
+use klsm_tool::{Counted, Progress, TerminalLine, Terminals, run_program};
 use std::alloc::Global;
 use std::fmt::Display;
 use std::io;
 use std::io::{Eprint, Error, ErrorKind};
 use std::rt::Clock;
-use std::sync::Mutex;
 use std::sync::atomic::{AtomicU64, Ordering};
+use std::sync::{Mutex, Wait};
+use std::test::Fail;
+use std::thread::Threads;
 use std::time::Duration;
 
 /// A clock that stands still until it is set, and a standard error that keeps what is written.
@@ -64,50 +69,117 @@ impl Eprint for Desk {
 enum Event {
     /// It has lasted for so many milliseconds.
     Lasts(u64),
-    /// So many rows more are read, or run.
-    WentOn(u64),
-    /// All rows are read.
-    BeginsToRun,
+    /// A count begins, up to a total where it is known.
+    Begins(Option<u64>),
+    /// So many more are counted.
+    WentOn(Counted, u64),
     /// It has ended.
     Ended,
 }
 
-/// Whether standard error is a terminal, what happens, and all that is written there.
-type Told = (bool, &'static [Event], &'static str);
+/// Standard error is a terminal, and standard output is none.
+const ERROR: Terminals = Terminals {
+    output: false,
+    error: true,
+};
+
+/// Both are terminals.
+const BOTH: Terminals = Terminals {
+    output: true,
+    error: true,
+};
+
+/// Standard error is none.
+const OUTPUT: Terminals = Terminals {
+    output: true,
+    error: false,
+};
+
+/// Which outputs are terminals, what happens, and all that is written to standard error.
+type Told = (Terminals, &'static [Event], &'static str);
 
 const TOLD: &[Told] = &[
     // A terminal, and more than a second.
     (
-        true,
-        &[Event::WentOn(5), Event::Lasts(1001), Event::WentOn(7)],
-        "\r12 rows read ",
+        ERROR,
+        &[
+            Event::WentOn(Counted::RowsRead, 5),
+            Event::Lasts(1001),
+            Event::WentOn(Counted::RowsRead, 7),
+        ],
+        "\r12 rows read \x1b[K",
     ),
     // Just a second, and no line to take away.
     (
-        true,
-        &[Event::Lasts(1000), Event::WentOn(7), Event::Ended],
+        ERROR,
+        &[
+            Event::Lasts(1000),
+            Event::WentOn(Counted::RowsRead, 7),
+            Event::Ended,
+        ],
         "",
     ),
     // No terminal.
     (
-        false,
-        &[Event::Lasts(5000), Event::WentOn(7), Event::Ended],
-        "",
-    ),
-    // The next line follows after a pause, and counts anew once the rows are run.
-    (
-        true,
+        OUTPUT,
         &[
-            Event::Lasts(1001),
-            Event::WentOn(7),
-            Event::Lasts(1201),
-            Event::WentOn(1),
-            Event::BeginsToRun,
-            Event::Lasts(1202),
-            Event::WentOn(3),
+            Event::Lasts(5000),
+            Event::WentOn(Counted::RowsRun, 7),
             Event::Ended,
         ],
-        "\r7 rows read \r3 rows run \r                         \r",
+        "",
+    ),
+    // The next line follows after a pause. It counts anew once the rows are run, up to their number,
+    // and what a longer line wrote behind it is cleared.
+    (
+        BOTH,
+        &[
+            Event::Begins(None),
+            Event::Lasts(1001),
+            Event::WentOn(Counted::RowsRead, 999_999),
+            Event::Lasts(1201),
+            Event::WentOn(Counted::RowsRead, 1),
+            Event::Begins(Some(1_000_000)),
+            Event::Lasts(1202),
+            Event::WentOn(Counted::RowsRun, 4096),
+            Event::Begins(None),
+            Event::Lasts(1403),
+            Event::WentOn(Counted::RowsRun, 3),
+            Event::Ended,
+        ],
+        "\r999,999 rows read \x1b[K\r4,096 of 1,000,000 rows run \x1b[K\r3 rows run \x1b[K\r\x1b[K",
+    ),
+    // Nodes of a search.
+    (
+        BOTH,
+        &[
+            Event::Begins(None),
+            Event::Lasts(2000),
+            Event::WentOn(Counted::NodesExamined, u64::MAX),
+        ],
+        "\r18,446,744,073,709,551,615 nodes examined \x1b[K",
+    ),
+    // Rows that are answered one by one, where nobody reads the answers in the same place.
+    (
+        ERROR,
+        &[
+            Event::Begins(None),
+            Event::Lasts(2000),
+            Event::WentOn(Counted::RowsAnswered, 40_960),
+            Event::Ended,
+        ],
+        "\r40,960 rows answered \x1b[K\r\x1b[K",
+    ),
+    // And where the line would stand between the answers.
+    (
+        BOTH,
+        &[
+            Event::Begins(None),
+            Event::Lasts(2000),
+            Event::WentOn(Counted::RowsAnswered, 40_960),
+            Event::Ended,
+        ],
+        "",
     ),
 ];
 
@@ -116,24 +188,133 @@ fn hear(desk: &Desk, line: &impl Progress, events: &[Event]) {
     for event in events {
         match event {
             Event::Lasts(millis) => desk.millis.store(*millis, Ordering::SeqCst),
-            Event::WentOn(rows) => line.went_on(*rows),
-            Event::BeginsToRun => line.begins_to_run(),
+            Event::Begins(total) => line.begins(*total),
+            Event::WentOn(counted, more) => line.went_on(*counted, *more),
             Event::Ended => line.ended(),
         }
     }
 }
 
 /// All that is written while this happens.
-fn written(alloc: Global, is_terminal: bool, events: &[Event]) -> Vec<u8> {
+fn written(alloc: Global, terminals: Terminals, events: &[Event]) -> Vec<u8> {
     let desk = Desk::new(alloc);
-    hear(&desk, &TerminalLine::new(&desk, is_terminal), events);
+    hear(&desk, &TerminalLine::new(&desk, terminals), events);
     desk.text.into_inner()
 }
 
 #[test]
 fn a_line_on_a_terminal_after_a_second(rt: HostRuntime) {
-    for (is_terminal, events, text) in TOLD {
-        let all = written(rt.alloc(), *is_terminal, events);
+    for (terminals, events, text) in TOLD {
+        let all = written(rt.alloc(), *terminals, events);
         assert!(rt; all.as_slice() == text.as_bytes());
     }
+}
+
+/// Sums what it hears of each count, and how often a count begins and the run ends.
+#[derive(Drop)]
+struct Heard {
+    begun: AtomicU64,
+    total: AtomicU64,
+    counts: [AtomicU64; 4],
+    ended: AtomicU64,
+}
+
+impl Heard {
+    fn nothing() -> Self {
+        Heard {
+            begun: AtomicU64::new(0),
+            total: AtomicU64::new(0),
+            counts: [
+                AtomicU64::new(0),
+                AtomicU64::new(0),
+                AtomicU64::new(0),
+                AtomicU64::new(0),
+            ],
+            ended: AtomicU64::new(0),
+        }
+    }
+
+    /// How many counts began, the total of the last one, the rows read, run and answered, the nodes
+    /// examined, and how often the run ended.
+    fn all(&self) -> [u64; 7] {
+        let [read, run, answered, examined] = &self.counts;
+        [
+            self.begun.load(Ordering::SeqCst),
+            self.total.load(Ordering::SeqCst),
+            read.load(Ordering::SeqCst),
+            run.load(Ordering::SeqCst),
+            answered.load(Ordering::SeqCst),
+            examined.load(Ordering::SeqCst),
+            self.ended.load(Ordering::SeqCst),
+        ]
+    }
+}
+
+impl Progress for Heard {
+    fn begins(&self, total: Option<u64>) {
+        self.begun.fetch_add(1, Ordering::SeqCst);
+        self.total.store(total.unwrap_or(0), Ordering::SeqCst);
+    }
+
+    fn went_on(&self, counted: Counted, more: u64) {
+        let [read, run, answered, examined] = &self.counts;
+        let count = match counted {
+            Counted::RowsRead => read,
+            Counted::RowsRun => run,
+            Counted::RowsAnswered => answered,
+            Counted::NodesExamined => examined,
+        };
+        count.fetch_add(more, Ordering::SeqCst);
+    }
+
+    fn ended(&self) {
+        self.ended.fetch_add(1, Ordering::SeqCst);
+    }
+}
+
+/// What is heard of a run of this command over an input.
+fn heard_of(
+    rt: &(impl Wait + Threads + Sync),
+    alloc: Global,
+    command: &[u8],
+    input: &[u8],
+) -> [u64; 7] {
+    let heard = Heard::nothing();
+    let words: &[&[u8]] = &[b"klsm", command];
+    let mut output = Output::ample(alloc);
+    run_program(
+        &(Process { rt, words }, alloc),
+        Input::whole(input),
+        &mut output,
+        &heard,
+    );
+    heard.all()
+}
+
+/// Things of the value of their weight, of which no selection fills the knapsack, so that few nodes can
+/// be closed.
+const THINGS: &[u8] = b"\
+capacity,15
+2,2\n2,2\n2,2\n2,2\n2,2\n2,2\n2,2\n2,2\n2,2\n2,2\n2,2\n2,2\n2,2\n2,2\n2,2\n2,2
+";
+
+#[test]
+fn each_command_tells_how_far_it_has_come(rt: HostRuntime) -> Result<(), Fail> {
+    let rows = repeated(rt.alloc(), b"0,d,,\n", 10_000).ok_or("no memory")?;
+    let replay = heard_of(&rt, rt.alloc(), b"replay", rows.as_slice());
+    assert_eq!(rt; replay, [1, 0, 0, 0, 8192, 0, 1]);
+    let live = heard_of(&rt, rt.alloc(), b"live", rows.as_slice());
+    assert_eq!(rt; live, [2, 10_000, 8192, 8192, 0, 0, 1]);
+    let [begun, total, read, run, answered, examined, ended] = heard_of(
+        &rt,
+        rt.alloc(),
+        b"knapsack",
+        THINGS,
+    );
+    assert_eq!(rt;
+        [begun, total, read, run, answered, ended],
+        [1, 0, 0, 0, 0, 1]
+    );
+    assert!(rt; examined >= 4096 && examined % 4096 == 0);
+    Ok(())
 }

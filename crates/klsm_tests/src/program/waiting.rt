@@ -176,6 +176,17 @@ const SCRIPTS: &[(&[Piece], usize, u8)] = &[
         4,
         1,
     ),
+    // Rows with quotes and without in turn, cut behind quotes and within them.
+    (
+        &[
+            (b"\"0\",\"i\",\"5\",\"50\"", 0),
+            (b"\n0,i,3,30\n0,d,\"", 2),
+            (b"\",\"\"", 2),
+            (b"\r\n0,d,,\n", 4),
+        ],
+        5,
+        0,
+    ),
 ];
 
 /// Whether no answer is kept back in a run over this script, which has so many lines and this
@@ -198,14 +209,28 @@ fn no_answer_is_kept_back_while_a_row_is_waited_for(rt: HostRuntime) {
     }
 }
 
-/// Whether the answers to a thousand rows that are there go out in few writes.
-fn go_out_at_once(rt: &(impl Wait + Threads + Sync), alloc: Global) -> Option<bool> {
-    let script = repeated(alloc, b"0,d,,\n", 1000)?;
-    let (seen, status) = run_over(rt, alloc, &[(script.as_slice(), 1000)]);
-    Some(status == 0 && seen.lines.get() == 1001 && seen.writes.get() < 10)
+/// Whether the answers to a first row, and then to a thousand rows that are all alike, go out in few
+/// writes.
+fn go_out_at_once(
+    rt: &(impl Wait + Threads + Sync),
+    alloc: Global,
+    first: &[u8],
+    row: &[u8],
+) -> Option<bool> {
+    let rows = repeated(alloc, row, 1000)?;
+    let (seen, status) = run_over(rt, alloc, &[(first, 1), (rows.as_slice(), 1001)]);
+    Some(status == 0 && seen.lines.get() == 1002 && seen.writes.get() < 10)
 }
 
 #[test]
 fn many_answers_go_out_at_once(rt: HostRuntime) {
-    assert!(rt; go_out_at_once(&rt, rt.alloc()) == Some(true));
+    assert!(rt; go_out_at_once(&rt, rt.alloc(), b"0,d,,\n", b"0,d,,\n") == Some(true));
+}
+
+#[test]
+fn many_answers_go_out_at_once_behind_quotes(rt: HostRuntime) {
+    let first = b"0,\"d\",,\n";
+    assert!(rt; go_out_at_once(&rt, rt.alloc(), first, b"0,d,,\n") == Some(true));
+    let quoted = b"\"0\",\"d\",\"\",\"\"\n";
+    assert!(rt; go_out_at_once(&rt, rt.alloc(), quoted, quoted) == Some(true));
 }

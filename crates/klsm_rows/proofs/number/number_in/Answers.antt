@@ -1,14 +1,22 @@
-use Rattle.std.proofs.Common.{ℕ, List, get_or, ◌≢◌, refl, sym, ◌∙◌, subst}
-use Rattle.std.specs.Str.Parse.{ParsesUnsigned}
-use Rattle.klsm_rows.proofs.NumberLemmas.{no_plus, no_text_no_number, not_text, text_is, parsed}
+use Rattle.std.proofs.Common.{◌≡◌, ℕ, List, [], ◌∷◌, ◌<◌, ◌≤◌, drop, get_or, length, suc, sym, ◌∙◌, ap, arith}
+use Rattle.std.proofs.Math.Seq.{drop-cons}
+use Rattle.std.proofs.lemmas.List.{drop_all}
+use Rattle.klsm_rows.proofs.NumberLemmas.{number_after, number_stops, number_ends}
 use Rattle.klsm_rows.proofs.number.number_in.Goals as goal
 
-pub returns-in_err-text : goal.returns-in_err-text
-returns-in_err-text c = c.from_residual.ensures ∙ sym (no_text_no_number c.args.field.now (not_text _ _ c.args.field.now c.from_utf8.result (sym c.ok.ensures.value ∙ c.in_err-text.was) c.from_utf8.ensures.cases))
+pub returns-in_err-number : goal.returns-in_err-number
+returns-in_err-number c =
+    let field = c.args.field.now in
+    let at = c.loop-byte.byte-index in
+    let within : at < length field = omega arith in
+    let ends = c.in_err-number.ensures in
+    let none = number_stops c.loop-byte.number (get_or field at 0) (drop (suc at) field) ends in
+    let left = ap (number_after c.loop-byte.number) (drop-cons field at 0 within) in
+    c.from_residual.ensures ∙ sym (c.loop-byte.invariant.1 ∙ left ∙ none)
 
 pub returns : goal.returns
 returns c =
     let field = c.args.field.now in
-    let same = text_is _ _ field c.from_utf8.result c.in_ok-text.text (sym c.ok.ensures.value ∙ c.in_ok-text.was) c.from_utf8.ensures.cases in
-    let plain : get_or field 0 0 ≢ 43 = no_plus field c.first.result _ c.eq.result c.first.ensures.value c.eq.ensures refl c.if-eq.false in
-    c.ok-2.ensures.value ∙ parsed field c.parse.result (subst (λ (text : List ℕ). ParsesUnsigned 64 10 text c.parse.result) same c.parse.ensures.value.0) plain
+    let done : length field ≤ c.loop-byte.byte-index = omega arith in
+    let left = ap (number_after c.loop-byte.number) (drop_all c.loop-byte.byte-index field done) in
+    sym (c.loop-byte.invariant.1 ∙ left ∙ number_ends c.loop-byte.number c.loop-byte.invariant.0)

@@ -18,11 +18,11 @@ returns-in_default-clause-replays g c = λ input read.
     (λ t below. sym (new_crew_shows_none c.args.members.now t c.requires.crew)) c.write_last.ensures.goes
 
 pub answer_rows-closing-requires-clause-members : goal.answer_rows-closing-requires-clause-members
-answer_rows-closing-requires-clause-members g c =
+answer_rows-closing-requires-clause-members g c κs within =
     new_crew c.args.board.now c.args.members.now c.requires.of (c.requires.count ∙ sym (ap (λ z. z.threads) c.requires.sizes)) c.requires.crew
 
 pub answer_rows-closing-requires-clause-few : goal.answer_rows-closing-requires-clause-few
-answer_rows-closing-requires-clause-few g c t below = let none = ap (λ z. length z) (new_crew_shows_none c.args.members.now t c.requires.crew) in omega (arith, none)
+answer_rows-closing-requires-clause-few g c κs within t below = let none = ap (λ z. length z) (new_crew_shows_none c.args.members.now t c.requires.crew) in omega (arith, none)
 
 pub returns-clause-replays : goal.returns-clause-replays
 returns-clause-replays g c = λ input read.

@@ -1,7 +1,7 @@
 use Rattle.std.proofs.Common.{sym, rules, ◌∙◌, ◌≡◌, subst}
 use Rattle.klsm_run.specs.Content.{skipped}
 use Rattle.klsm_tool.proofs.LiveItemLemmas.{left_apart, left_by_set, skipped_by_both}
-use Rattle.klsm_tool.proofs.live_items.LiveItems.remove.Goals as goal
+use Rattle.klsm_tool.proofs.live_items.LiveItems.take_out.Goals as goal
 
 pub returns-then-not-remove-clause-skip : goal.returns-then-not-remove-clause-skip
 returns-then-not-remove-clause-skip c =

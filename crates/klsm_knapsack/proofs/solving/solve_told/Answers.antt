@@ -13,7 +13,7 @@ use Rattle.klsm_knapsack.specs.Workers.{AreWorkersOf, IsNew, HaveWorked, IsSearc
 use Rattle.klsm_knapsack.proofs.CrewLemmas.{none_refused}
 use Rattle.klsm_parts.proofs.FitLemmas.{shared_fits}
 use Rattle.klsm_knapsack.proofs.FinishLemmas.{good_threads, good_k, memory_is_not_threads, memory_is_not_k, whole, refuses, recruited, are_new, members_of, least_refusal, searched}
-use Rattle.klsm_knapsack.proofs.solving.solve.Goals as goal
+use Rattle.klsm_knapsack.proofs.solving.solve_told.Goals as goal
 
 pub search-requires-after_bounds : goal.search-requires-after_bounds
 search-requires-after_bounds g c κs within =

@@ -1,0 +1,28 @@
+//! What is told of a long run while it lasts.
+//!
+//! A run tells a value that it is handed how far it has come, from any of its threads. Each thread counts
+//! for itself and says so many at once, so that it costs little:
+//!
+//! ```text
+//! progress.begins(Some(rows.len() as u64));                     // so many rows are to be run
+//! let mut pace = Pace::new(Counted::RowsRun);                   // in each thread
+//! for row in rows {
+//!     run(row);
+//!     pace.count(progress);
+//! }
+//! progress.ended();                                             // once all threads are done
+//! ```
+//!
+//! `Silent` tells nobody, and a `TerminalLine` keeps one line on standard error up to date, as `4,096 of
+//! 1,000,000 rows run`. No contract speaks of either: what a progress hears changes no answer.
+#![tactic(auto)]
+
+mod grouped;
+mod pace;
+mod progress;
+mod terminal_line;
+
+pub use grouped::Grouped;
+pub use pace::Pace;
+pub use progress::{Counted, Progress, Silent};
+pub use terminal_line::{TerminalLine, Terminals};
