@@ -1,6 +1,7 @@
 //! What no contract says: texts and statuses of the whole program, and faults in mid-stream.
 
 mod faults;
+mod help;
 mod knapsack;
 mod limits;
 mod live;
@@ -14,6 +15,7 @@ mod scripts;
 mod seeds;
 mod skips;
 mod threads;
+mod version;
 mod waiting;
 mod words;
 mod worked;

@@ -28,13 +28,14 @@ live_app = with_options (new_app (codes "live"))
 abbrev pub knapsack_app : App
 knapsack_app = with_search_options (new_app (codes "knapsack"))
 
--- the command `klsm`, which wants a subcommand, with none yet
+-- the command `klsm`, which has a version and wants a subcommand, with none yet
 abbrev pub bare_app : App
 bare_app =
     let name = new_app (codes "klsm") in
     record name {
       top = record (name.top) {
         no_binary_name = true;
+        has_version = true;
         subcommand_required = true;
         arg_required_else_help = true;
       };
@@ -56,7 +57,8 @@ klsm_command = with_subcommand command_over_scripts knapsack_app.top
 abbrev pub replay_words : List (List ℕ)
 replay_words = codes "replay" ∷ []
 
--- what the parser may find in words: a request for help, or a fault. In a command it finds nothing
+-- what the parser may find in words: a request for help or for the version, or a fault. In a command
+-- it finds nothing
 unfoldable pub found_in : List (List ℕ) → Kinds
 found_in words = fault_of klsm_command words
 
@@ -93,9 +95,10 @@ usual_settings = record { threads = 1; k = 64; pick = First; seed = 1 }
 abbrev pub IsCommand : List (List ℕ) → Type 0
 IsCommand words = All IsUtf8 words × (found_in words ≡ [])
 
--- the status of a text of the parser: 0 for help, 2 for a fault
+-- the status of a text of the parser: 0 for help and for the version, 2 for a fault
 abbrev pub status_of_text : ErrorKind → ℕ
 status_of_text kind.DisplayHelp = 0
+status_of_text kind.DisplayVersion = 0
 status_of_text _ = 2
 
 -- the words are text, in which the parser may find what has this status

@@ -1,5 +1,5 @@
 -- The options of the commands, as the library clap reads them.
-use Rattle.std.specs.Prelude.{ℕ, ◌≤◌, List, [], ◌∷◌, Option, Some, None, codes, if◌then◌else◌}
+use Rattle.std.specs.Prelude.{ℕ, ◌≤◌, List, [], ◌∷◌, Option, Some, None, codes, if◌then◌else◌, slice_get}
 use Rattle.std.specs.Prelude.{max, min, option_map, option_and_then, unwrap_or}
 use Rattle.std.specs.Str.{bytes_eq}
 use Rattle.std.specs.Str.Parse.{digits_value, without_leading_plus}
@@ -22,12 +22,21 @@ option_rule name default parser = record (new_rule name) {
   parser = parser;
 }
 
--- `--threads` from 1 to 16 and `--k` from 0 to 64
+-- the same option by a letter too
+abbrev pub with_letter : Text → Rule → Rule
+with_letter letter rule = record rule { short = slice_get letter 0 }
+
+-- `--k` or `-k`, from 0 to 64
+abbrev pub k_rule : Rule
+k_rule =
+    with_letter (codes "k")
+    (option_rule (codes "k") (codes "64") (Some (parser.Unsigned 0 64)))
+
+-- `--threads` from 1 to 16, and `--k`
 abbrev pub with_threads : App → App
 with_threads a =
     let threads = option_rule (codes "threads") (codes "1") (Some (parser.Unsigned 1 16)) in
-    let k = option_rule (codes "k") (codes "64") (Some (parser.Unsigned 0 64)) in
-    with_rule (with_rule a threads) k
+    with_rule (with_rule a threads) k_rule
 
 -- these and `--pick`
 abbrev pub with_pick : App → App

@@ -11,6 +11,7 @@ ghost use Rattle.klsm_words.specs.Options.{AreInRange};
 use crate::help::{KNAPSACK_HELP, LIVE_HELP, REPLAY_HELP};
 use crate::options::{search_of, settings_of, with_options, with_search_options};
 use crate::settings::{Search, Settings};
+use crate::version::VERSION;
 use clap::error::ErrorKind;
 use clap::{ArgMatches, Command, Error};
 use std::alloc::{AllocError, Global};
@@ -37,7 +38,7 @@ pub enum Fault {
     Said {
         /// The text.
         text: String,
-        /// 0 for help, and 2 for a fault.
+        /// 0 for help and for the version, and 2 for a fault.
         status: u8,
     },
     /// The word of `--pick` is none that it takes.
@@ -120,7 +121,7 @@ fn fault_of(alloc: Global, error: &Error) -> Fault
 {
     let status = match error.kind() {
         ErrorKind::OutOfMemory => return Fault::NoMemory,
-        ErrorKind::DisplayHelp => 0,
+        ErrorKind::DisplayHelp | ErrorKind::DisplayVersion => 0,
         _ => USAGE,
     };
     match format!(in alloc; "{error}") {
@@ -165,6 +166,7 @@ fn bare_command<'a>(alloc: Global) -> Command<'a>
 {
     Command::new(alloc, "klsm")
         .about("A priority queue for several threads, with a proof of what it answers")
+        .version(VERSION)
         .no_binary_name(true)
         .subcommand_required(true)
         .arg_required_else_help(true)
@@ -176,6 +178,7 @@ fn replay_command<'a>(alloc: Global) -> Result<Command<'a>, AllocError>
 {
     let command = Command::new(alloc, "replay")
         .about("Answers a script of insertions and deletions, row by row")
+        .override_usage("klsm replay [OPTIONS] < SCRIPT")
         .after_help(REPLAY_HELP);
     with_options(alloc, command)
 }
@@ -186,6 +189,7 @@ fn live_command<'a>(alloc: Global) -> Result<Command<'a>, AllocError>
 {
     let command = Command::new(alloc, "live")
         .about("Runs the rows of a script by threads, and counts what is left")
+        .override_usage("klsm live [OPTIONS] < SCRIPT")
         .after_help(LIVE_HELP);
     with_options(alloc, command)
 }
@@ -196,6 +200,7 @@ fn knapsack_command<'a>(alloc: Global) -> Result<Command<'a>, AllocError>
 {
     let command = Command::new(alloc, "knapsack")
         .about("Finds a best selection of things for a knapsack")
+        .override_usage("klsm knapsack [OPTIONS] < INSTANCE")
         .after_help(KNAPSACK_HELP);
     with_search_options(alloc, command)
 }

@@ -11,7 +11,7 @@
 //! ```
 //!
 //! `command_line` has the commands and `options` what each may say; `help` is the text behind the
-//! options. `klsm_tool` does what is asked.
+//! options, and `version` that of `--version`. `klsm_tool` does what is asked.
 //!
 //! - **Words are a command or are answered with a text or a fault**: the clauses of `parse`, by the
 //!   definitions of `clap` of what it finds in words.
@@ -22,6 +22,7 @@ mod command_line;
 mod help;
 mod options;
 mod settings;
+mod version;
 
 pub use command_line::{Action, Fault, USAGE, parse};
 pub use settings::{Pick, Search, Settings};

@@ -3,7 +3,7 @@ ghost use Rattle.std.specs.Prelude.{◌≡◌, Some, None, IfOk, IfSome, false};
 ghost use Rattle.clap.specs.Words.{app_of, found_of, rows_of, rule_of};
 ghost use Rattle.clap.specs.declared.builder.command.Command.TheViews.{out-Command as fields_of};
 ghost use Rattle.klsm_words.specs.Options.{AreInRange, number_at, option_rule, pick_at, pick_of};
-ghost use Rattle.klsm_words.specs.Options.{IsSearchInRange, search_at, settings_at};
+ghost use Rattle.klsm_words.specs.Options.{IsSearchInRange, k_rule, search_at, settings_at};
 ghost use Rattle.klsm_words.specs.Options.{with_options as with_options_of};
 ghost use Rattle.klsm_words.specs.Options.{with_search_options as with_search_options_of};
 ghost use Rattle.klsm_words.specs.Options.{with_pick as with_pick_of};
@@ -65,8 +65,16 @@ fn with_threads<'a>(
 {
     let one_to_16 = value_parser!(u64).range(1..=16);
     let command = command.arg(number(alloc, THREADS, "1", threads_help, one_to_16))?;
+    command.arg(k_option(alloc, k_help))
+}
+
+// How many items each thread keeps for itself.
+fn k_option<'a>(alloc: Global, help: &'a str) -> Arg<'a>
+    ensures rule { rule_of result ≡ k_rule }
+    ensures local { result.global ≡ false }
+{
     let up_to_64 = value_parser!(u64).range(0..=64);
-    command.arg(number(alloc, K, "64", k_help, up_to_64))
+    number(alloc, K, "64", help, up_to_64).short('k')
 }
 
 // An option whose value is a number that the parser takes.
@@ -168,16 +176,22 @@ const SEED: &str = "seed";
 
 const IDLE: &str = "idle";
 
+// The parser appends the default and breaks no line itself.
+
 const THREADS_HELP: &str = "How many threads the rows may name, 1 to 16";
 
-const K_HELP: &str = "How many items a thread keeps for itself, 0 to 64";
+const K_HELP: &str = "How many items each keeps for itself, 0 to 64";
+
+const PICK_HELP: &str = "\
+Which candidate a deletion picks:
+first, last or random";
 
 const SEED_HELP: &str = "What the random picks follow from";
 
-const WORKERS_HELP: &str = "How many workers search, 1 to 16, each in a thread of its own";
+const WORKERS_HELP: &str = "How many workers search, 1 to 16";
 
-const NODES_HELP: &str = "How many nodes a worker keeps for itself, 0 to 64";
+const NODES_HELP: &str = "How many nodes each keeps for itself, 0 to 64";
 
-const IDLE_HELP: &str = "After how many answers 'nothing' in a row a worker ends, 0 to 1000000";
-
-const PICK_HELP: &str = "Which candidate a deletion picks: first, last or random";
+const IDLE_HELP: &str = "\
+After how many answers 'nothing' in a row a worker ends,
+0 to 1000000";

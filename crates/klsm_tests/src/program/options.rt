@@ -1,4 +1,5 @@
-//! Which text the help of each command has beside each of its options.
+//! What the help of each command says: how it is called, what is beside each of its options, and how
+//! rows and threads are counted.
 
 use super::process::{Input, Output};
 use super::run;
@@ -9,15 +10,27 @@ use std::thread::Threads;
 /// A command, and lines of its help.
 type Helped = (&'static [u8], &'static [&'static [u8]]);
 
+/// Which numbers of threads a row may have.
+const BELOW: &[u8] = b"\
+Threads are numbered from 0, so THREAD has to be below THREADS, the value of";
+
+/// Which number a refused row has.
+const ROW: &[u8] = b"\
+ROW counts rows and not lines: the first is 1, and empty lines are not counted.";
+
 const HELPED: &[Helped] = &[
     (
         b"replay",
         &[
             b"Answers a script of insertions and deletions, row by row",
+            b"Usage: klsm replay [OPTIONS] < SCRIPT",
             b"      --threads <N>  How many threads the rows may name, 1 to 16 [default: 1]",
-            b"      --k <N>        How many items a thread keeps for itself, 0 to 64 [default: 64]",
-            b"      --pick <PICK>  Which candidate a deletion picks: first, last or random [default: first]",
+            b"  -k, --k <N>        How many items each keeps for itself, 0 to 64 [default: 64]",
+            b"      --pick <PICK>  Which candidate a deletion picks:",
+            b"                     first, last or random [default: first]",
             b"      --seed <N>     What the random picks follow from [default: 1]",
+            BELOW,
+            ROW,
             b"SKIP is at most THREADS times K; that is tested, and not promised.",
         ],
     ),
@@ -25,10 +38,14 @@ const HELPED: &[Helped] = &[
         b"live",
         &[
             b"Runs the rows of a script by threads, and counts what is left",
+            b"Usage: klsm live [OPTIONS] < SCRIPT",
             b"      --threads <N>  How many threads the rows may name, 1 to 16 [default: 1]",
-            b"      --k <N>        How many items a thread keeps for itself, 0 to 64 [default: 64]",
-            b"      --pick <PICK>  Which candidate a deletion picks: first, last or random [default: first]",
+            b"  -k, --k <N>        How many items each keeps for itself, 0 to 64 [default: 64]",
+            b"      --pick <PICK>  Which candidate a deletion picks:",
+            b"                     first, last or random [default: first]",
             b"      --seed <N>     What the random picks follow from [default: 1]",
+            BELOW,
+            ROW,
             b"  $ printf '0,i,1,0\\n1,i,2,0\\n' | klsm live --threads 2",
         ],
     ),
@@ -36,22 +53,20 @@ const HELPED: &[Helped] = &[
         b"knapsack",
         &[
             b"Finds a best selection of things for a knapsack",
-            b"      --threads <N>  How many workers search, 1 to 16, each in a thread of its own [default: 1]",
-            b"      --k <N>        How many nodes a worker keeps for itself, 0 to 64 [default: 64]",
-            b"      --idle <N>     After how many answers 'nothing' in a row a worker ends, 0 to 1000000 [default: 64]",
+            b"Usage: klsm knapsack [OPTIONS] < INSTANCE",
+            b"      --threads <N>  How many workers search, 1 to 16 [default: 1]",
+            b"  -k, --k <N>        How many nodes each keeps for itself, 0 to 64 [default: 64]",
+            b"      --idle <N>     After how many answers 'nothing' in a row a worker ends,",
+            b"                     0 to 1000000 [default: 64]",
             b"  capacity,C    The first row: what a selection may weigh, 0 to 1000000000",
+            ROW,
         ],
     ),
 ];
 
 /// Whether this is a line of that text.
 fn is_line_of(line: &[u8], text: &[u8]) -> bool {
-    for other in text.split(|byte| *byte == b'\n') {
-        if other == line {
-            return true;
-        }
-    }
-    false
+    text.split(|byte| *byte == b'\n').any(|other| other == line)
 }
 
 /// Whether the help of a command has these lines.

@@ -31,12 +31,16 @@ const OTHERS: &[(&[&[u8]], u8)] = &[
     (&[b"klsm", b"replay", b"--pick"], 2),
     (&[b"klsm", b"replay", b"--idle", b"1"], 2),
     (&[b"klsm", b"replay", b"--pick", b"least", b"--k", b"65"], 2),
-    (&[b"klsm", b"--version"], 2),
+    (&[b"klsm", b"replay", b"-k", b"65"], 2),
+    (&[b"klsm", b"replay", b"-k"], 2),
+    (&[b"klsm", b"replay", b"-t", b"1"], 2),
+    (&[b"klsm", b"replay", b"--version"], 2),
     (&[b"klsm", b"live", b"--threads", b"17"], 2),
     (&[b"klsm", b"live", b"replay"], 2),
     (&[b"klsm", b"knapsack", b"--threads", b"0"], 2),
     (&[b"klsm", b"knapsack", b"--idle", b"1000001"], 2),
     (&[b"klsm", b"knapsack", b"--pick", b"first"], 2),
+    (&[b"klsm", b"knapsack", b"-k", b"65"], 2),
     (&[b"klsm", b"help", b"lives"], 2),
     (&[b"klsm", b"--help"], 0),
     (&[b"klsm", b"help"], 0),
@@ -140,6 +144,34 @@ max skip 1 bound 2
 #[test]
 fn words_are_answered_or_refused(rt: HostRuntime) {
     assert!(rt; all_go(&rt, rt.alloc(), TOLD));
+}
+
+const KEEPS_ONE: &[u8] = b"0 d none\nmax skip 0 bound 1\n";
+
+/// Ways to say that each thread keeps one item.
+const KEPT: &[Told] = &[
+    (&[b"klsm", b"replay", b"--k", b"1"], SCRIPT, 0, KEEPS_ONE),
+    (&[b"klsm", b"replay", b"--k=1"], SCRIPT, 0, KEEPS_ONE),
+    (&[b"klsm", b"replay", b"-k", b"1"], SCRIPT, 0, KEEPS_ONE),
+    (&[b"klsm", b"replay", b"-k1"], SCRIPT, 0, KEEPS_ONE),
+    (&[b"klsm", b"replay", b"-k=1"], SCRIPT, 0, KEEPS_ONE),
+    (
+        &[b"klsm", b"live", b"-k", b"1"],
+        SCRIPT,
+        0,
+        b"inserted 0 deleted 0 left 0\n",
+    ),
+    (
+        &[b"klsm", b"knapsack", b"-k", b"1"],
+        b"capacity,10\n60,5\n",
+        0,
+        b"value 60 weight 5 picks 0\n",
+    ),
+];
+
+#[test]
+fn k_has_a_short_name(rt: HostRuntime) {
+    assert!(rt; all_go(&rt, rt.alloc(), KEPT));
 }
 
 #[test]

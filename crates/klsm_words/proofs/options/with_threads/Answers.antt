@@ -6,13 +6,11 @@ use Rattle.klsm_words.proofs.options.with_threads.Goals as goal
 pub returns-clause-app : goal.returns-clause-app
 returns-clause-app c =
     let up_to_16 = narrowed (pos 1) (pos 16) _ _ _ _ c.value_parser.ensures c.new.ensures.start c.new.ensures.end c.range-one_to_16.ensures in
-    let up_to_64 = narrowed (pos 0) (pos 64) _ _ _ _ c.value_parser-2.ensures c.new-2.ensures.start c.new-2.ensures.end c.range-up_to_64.ensures in
     let first = added _ _ _ _ _ c.in_ok-command.ensures c.number.ensures.local refl
     (c.number.ensures.rule ∙ ap (λ p. option_rule (codes "threads") (codes "1") (Some p)) up_to_16) in
-    added_last _ _ _ _ c.arg-2.result c.arg-2.ensures c.number-2.ensures.local first
-    (c.number-2.ensures.rule ∙ ap (λ p. option_rule (codes "k") (codes "64") (Some p)) up_to_64)
+    added_last _ _ _ _ c.arg-2.result c.arg-2.ensures c.k_option.ensures.local first c.k_option.ensures.rule
 
 pub returns-clause-local : goal.returns-clause-local
 returns-clause-local c none =
     let first = none_global _ _ _ c.in_ok-command.ensures c.number.ensures.local none in
-    last_none_global _ _ c.arg-2.result c.arg-2.ensures c.number-2.ensures.local first
+    last_none_global _ _ c.arg-2.result c.arg-2.ensures c.k_option.ensures.local first
