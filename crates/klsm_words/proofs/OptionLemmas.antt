@@ -1,6 +1,6 @@
 -- What the options of a command come to.
 use Rattle.std.proofs.Common.{◌≡◌, ◌||◌, ℕ, Bool, true, false, List, Option, Some, None, Result, Ok, Err, arith, refl, ap, ap₂, ◌∙◌, subst, ℤ}
-use Rattle.std.specs.Prelude.{IfOk, option_map, unwrap_or}
+use Rattle.std.specs.Prelude.{IfOk, option_map, slice_get, unwrap_or}
 use Rattle.std.specs.declared.alloc.AllocError.{AllocError}
 use Rattle.std.specs.Str.Parse.{ParsesUnsigned}
 use Rattle.clap.specs.Matches.{ReadsOne, one_text}
@@ -15,7 +15,7 @@ use Rattle.clap.specs.declared.parser.matches.Found.{Found}
 use Rattle.clap.specs.ValueTests.{is_unsigned_in}
 use Rattle.clap.proofs.ValueTestLemmas.{Accepts-accepts, accepts-Accepts}
 use Rattle.clap.specs.declared.builder.value_parser.ValueParser.TheVariants as parser
-use Rattle.klsm_words.specs.Options.{number_or_zero, option_rule}
+use Rattle.klsm_words.specs.Options.{number_or_zero, option_rule, with_letter}
 
 -- a text that is no number of 64 bits, or is one
 none_read : (text : Text) (b : Bool) → is_unsigned_in 0 18446744073709551615 text ≡ b
@@ -57,6 +57,11 @@ pub parsed : (o x : Arg) (q p : ValueParser) (name default : Text) → x ≡ rec
     → rule_of x ≡ option_rule name default (Some p)
 parsed o x q p name default is has same rule =
     ap rule_of is ∙ ap₂ {A = Rule} (λ r v. record r { parser = v }) rule (has ∙ ap Some same)
+
+-- an option that has a letter
+pub lettered : (o x : Arg) (letter : Text) (rule : Rule) → x ≡ record o { short = slice_get letter 0 } → rule_of o ≡ rule
+    → rule_of x ≡ with_letter letter rule
+lettered o x letter rule is same = ap rule_of is ∙ ap (with_letter letter) same
 
 pub local_too : (o x : Arg) → x ≡ record o { value_parser = x.value_parser } → o.global ≡ false → x.global ≡ false
 local_too o x is local = ap (λ a. a.global) is ∙ local
