@@ -3,10 +3,10 @@
     g++ -O2 -o streams streams.cpp && g++ -O2 -o buffers buffers.cpp
     python3 compare.py ./streams ./buffers ../../klsm/out/klsm
 
-The program has to stand built: `./klsm --help` at the root of the repository builds it. First
-`klsm replay` for four threads; a number is the processor time of a run in seconds, the least and
-the median of nine. Then `klsm live` for one, two and four threads, each over rows of so many; there a
-number is the time by the clock.
+The program has to stand built: `./klsm --help` at the root of the repository builds it. Any more
+programs, such as that of an earlier commit, run in turn with it. First `klsm replay` for four threads;
+a number is the processor time of a run in seconds, the least and the median of nine. Then `klsm live`
+for one, two and four threads, each over rows of so many; there a number is the time by the clock.
 """
 
 import random
@@ -82,16 +82,20 @@ def compare(measure, workload, threads, contenders):
     print(workload.__name__, threads, *shown)
 
 
-def main(streams, buffers, klsm):
+def main(streams, buffers, *programs):
     exact = {"streams": [streams], "buffers": [buffers]}
-    replay = [klsm, "replay", "--threads", "4", "--k", "64", "--pick"]
-    picks = {"first": replay + ["first"], "random": replay + ["random"]}
+    picks = {
+        f"{klsm} {pick}": [klsm, "replay", "--threads", "4", "--k", "64", "--pick", pick]
+        for klsm in programs
+        for pick in ("first", "random")
+    }
     for workload in (uniform, hold, ascending):
         compare(processor_time, workload, 4, exact | picks)
     for workload in (uniform, hold, ascending):
         for threads in (1, 2, 4):
-            live = [klsm, "live", "--threads", str(threads), "--k", "64"]
-            compare(clock_time, workload, threads, exact | {"live": live})
+            words = ["live", "--threads", str(threads), "--k", "64"]
+            lives = {f"{klsm} live": [klsm, *words] for klsm in programs}
+            compare(clock_time, workload, threads, exact | lives)
 
 
 main(*sys.argv[1:])
