@@ -20,6 +20,7 @@ const SHORTEST_PAUSE: u32 = 400;
 const LONGEST_PAUSE: u32 = 3_200;
 
 /// Acquires a part, if it is free.
+#[inline]
 pub(crate) fn try_acquire<S: Holding>(
     table: &Locks<S>,
     seat: &mut MemberSeat<S>,
@@ -53,6 +54,8 @@ pub(crate) fn try_acquire<S: Holding>(
 }
 
 /// Acquires a part, and waits until it is free.
+// The first try is compiled into the caller. What follows a miss is a call.
+#[inline]
 pub(crate) fn acquire_waiting<S: Holding>(
     rt: &impl Wait,
     table: &Locks<S>,
@@ -71,7 +74,35 @@ pub(crate) fn acquire_waiting<S: Holding>(
         × (mine seat.new.me.0
         ≡ mine seat.old.me.0 ++ (missed part bys ++ Acquired part found ∷ [])) }
 {
+    match try_acquire(table, seat, part, thread) {
+        Ok(()) => {}
+        Err(_) => acquire_missed(rt, table, seat, part, thread),
+    }
+}
+
+// The same for a part that was missed just now: a pause comes before each try.
+#[cold]
+#[inline(never)]
+fn acquire_missed<S: Holding>(
+    rt: &impl Wait,
+    table: &Locks<S>,
+    seat: &mut MemberSeat<S>,
+    part: usize,
+    thread: usize,
+)
+    requires seat { IsSeatOf seat.old.table_id table.now.table_id table.now.key thread }
+    requires part { part ≤ table.now.key.threads }
+    requires has { (hand : Hand) × Stands S.content S.suits table.now.key thread hand seat.old.me
+        × (found_in hand part ≡ None) }
+    ensures same { seat.new.table_id ≡ seat.old.table_id }
+    ensures acquired { (hand : Hand) → Stands S.content S.suits table.now.key thread hand seat.old.me
+        → (bys : List ℕ) × (found : List Item)
+        × Has S.content S.suits table.now.key thread ((part, found) ∷ hand) seat.new.me
+        × (mine seat.new.me.0
+        ≡ mine seat.old.me.0 ++ (missed part bys ++ Acquired part found ∷ [])) }
+{
     let mut pause = Pause::new();
+    pause.wait();
     for _ in rt.forever() {
         match try_acquire(table, seat, part, thread) {
             Ok(()) => return,

@@ -24,3 +24,7 @@ missed_more p by es mid es' so_far is = record {
 -- then the part was acquired
 pub acquired_after : (p : ℕ) (e : Entry) (es mid es' : List Entry) (so_far : Misses p es mid) → es' ≡ mid ++ e ∷ [] → es' ≡ es ++ (missed p so_far.bys ++ e ∷ [])
 acquired_after p e es mid es' so_far is = is ∙ (ap (λ z. z ++ e ∷ []) so_far.steps ∙ append_assoc es (missed p so_far.bys) (e ∷ []))
+
+-- the part was acquired, after a miss and others after it
+pub acquired_later : (p by : ℕ) (bys : List ℕ) (e : Entry) (es mid es' : List Entry) → mid ≡ es ++ Missed p by ∷ [] → es' ≡ mid ++ (missed p bys ++ e ∷ []) → es' ≡ es ++ (missed p (by ∷ bys) ++ e ∷ [])
+acquired_later p by bys e es mid es' missed_once is = is ∙ (ap (λ z. z ++ (missed p bys ++ e ∷ [])) missed_once ∙ append_assoc es (Missed p by ∷ []) (missed p bys ++ e ∷ []))

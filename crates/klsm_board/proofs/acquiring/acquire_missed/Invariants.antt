@@ -3,7 +3,7 @@ use Rattle.klsm_world.specs.OwnSteps.{Hand}
 use Rattle.klsm_board.specs.Steps.{mine}
 use Rattle.klsm_board.specs.Seats.{Stands}
 use Rattle.klsm_board.proofs.lemmas.calls.MissLemmas.{Misses}
-use Rattle.klsm_board.proofs.acquiring.acquire_waiting.Given as goal
+use Rattle.klsm_board.proofs.acquiring.acquire_missed.Given as goal
 
 abbrev pub invariant-loop : goal.invariant-loop
 invariant-loop g l = record {
