@@ -49,7 +49,7 @@ pub pivots_fit : (a b l m p q limit : ℕ) → up a (up b (up 8 (up 8 q + p) + l
 pivots_fit a b l m p q limit whole = omega (arith, whole)
 
 -- what is known of the candidates of a shared part that a run is put into
-pub merging_fits : (a b m p q limit : ℕ) → up a (up b (up 8 (up 8 q + p) + 328) + m) < limit → up 8 (up 8 (304 + p) + 8) < limit
+pub merging_fits : (a b m p q limit : ℕ) → up a (up b (up 8 (up 8 q + p) + 456) + m) < limit → up 8 (up 8 (432 + p) + 8) < limit
 merging_fits a b m p q limit whole = omega (arith, whole)
 
 -- what is as small has a place
@@ -90,9 +90,13 @@ local_fits n capacity = part_fits _ (lsm_is_small _ (run_is_small n capacity)) w
 pub shared_lsm_fits : (n : ℕ) → IsLevelCount n → lsm n 48 < 9223372036854775808
 shared_lsm_fits n levels = omega (arith, levels.at_most)
 
--- what is known of the least items: the first, and an array of bytes for the ranking
+-- of a row of bytes
+abbrev row : ℕ
+row = up 8 (up 1 (up 8 (up 8 (0 + 8) + 8) + 192))
+
+-- what is known of the least items: the first, and two rows of bytes for the ranking
 abbrev least_items : ℕ
-least_items = up 8 (up 8 (0 + option 32) + up 8 (up 8 (0 + array_vec 129 1) + array_vec 129 1))
+least_items = up 8 (up 8 (0 + option 32) + up 8 (up 8 (0 + row) + row))
 
 -- the shared part
 pub shared_fits : (n : ℕ) → IsLevelCount n → up 8 (up 1 (up 8 (up 8 (up 8 (0 + lsm n 48) + 8) + array_vec n 8) + least_items) + 0) < 9223372036854775808

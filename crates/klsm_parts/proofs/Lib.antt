@@ -19,6 +19,7 @@ pub mod QueueLemmas
 pub mod RankingCutLemmas
 pub mod RankingLemmas
 pub mod RisingLemmas
+pub mod RowLemmas
 pub mod SpyLemmas
 pub mod TakeLemmas
 pub mod UnitedLemmas

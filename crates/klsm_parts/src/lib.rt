@@ -66,6 +66,7 @@ mod picker;
 mod queue;
 mod ranking;
 mod ranks;
+mod row;
 mod shared;
 mod spying;
 mod taking;

@@ -1,14 +1,13 @@
 //! The candidates of the shared part in their order: the block of each, and a byte of its owner.
 ghost use Rattle.std.specs.Prelude.{◌≡◌, ◌+◌, ◌%◌, ◌<◌, ◌≤◌, ◌↔◌, ◌++◌, ◌∷◌, ℕ, [], true, length, map, remove, slice_get, slice_index_or, count_by, nat_eq, option_map, Some, IfSome, IsTrue};
 ghost use Rattle.std.specs.Option.{option_to_list};
-ghost use Rattle.arrayvec.specs.ArrayVec.{array_vec_len};
 ghost use Rattle.klsm_run.specs.Content.{sorted};
 ghost use Rattle.klsm_lsm.specs.Lsm.{content, IsLsm};
 ghost use Rattle.klsm_parts.specs.Taking.{own_first};
 ghost use Rattle.klsm_parts.specs.Ranking.{IsRanking, AreRanked, closes_up, cut_ranking, place_after_cut};
 
 use crate::ranks::{Place, Ranked};
-use arrayvec::ArrayVec;
+use crate::row::Row;
 use klsm_lsm::Lsm;
 use klsm_run::{Item, Run};
 
@@ -27,9 +26,9 @@ pub(crate) struct LeastItems {
 #[derive(Drop)]
 pub(crate) struct Ranking {
     // With room for the k+1 candidates.
-    pub(crate) blocks: ArrayVec<u8, 129>,
+    pub(crate) blocks: Row,
     // The low bytes of the owners, so that a search for an owner's candidate reads no other item.
-    pub(crate) owners: ArrayVec<u8, 129>,
+    pub(crate) owners: Row,
 }
 
 impl Ranking {
@@ -39,8 +38,8 @@ impl Ranking {
         ensures owners { result.owners.items ≡ [] }
     {
         Ranking {
-            blocks: ArrayVec::new(),
-            owners: ArrayVec::new(),
+            blocks: Row::new(),
+            owners: Row::new(),
         }
     }
 
@@ -132,8 +131,8 @@ impl Ranking {
     /// One candidate more, the next after those that are known.
     #[inline]
     pub(crate) fn push(&mut self, next: Ranked)
-        requires room { array_vec_len self.old.blocks < 129 }
-        requires owners_room { array_vec_len self.old.owners < 129 }
+        requires room { length self.old.blocks.items < 129 }
+        requires owners_room { length self.old.owners.items < 129 }
         requires block { next.block < 256 }
         ensures blocks { self.new.blocks.items ≡ self.old.blocks.items ++ next.block ∷ [] }
         ensures owners { self.new.owners.items ≡ self.old.owners.items ++ (next.owner % 256) ∷ [] }
@@ -153,9 +152,9 @@ impl Ranking {
         partner: Option<usize>,
         next: Option<Ranked>,
     )
-        requires rank { rank < array_vec_len self.old.blocks }
-        requires owners { array_vec_len self.old.owners ≡ array_vec_len self.old.blocks }
-        requires room { array_vec_len self.old.blocks ≤ 129 }
+        requires rank { rank < length self.old.blocks.items }
+        requires owners { length self.old.owners.items ≡ length self.old.blocks.items }
+        requires room { length self.old.blocks.items ≤ 129 }
         requires block { block < 256 }
         requires next { IfSome next (λ next. next.block < 256) }
         ensures blocks { self.new.blocks.items
@@ -172,17 +171,17 @@ impl Ranking {
 
     // The candidate of a rank leaves. `closes_up` says whether the block behind its own then has the place of that.
     fn remove(&mut self, rank: usize, block: usize, closes_up: bool)
-        requires rank { rank < array_vec_len self.old.blocks }
-        requires owners { rank < array_vec_len self.old.owners }
+        requires rank { rank < length self.old.blocks.items }
+        requires owners { rank < length self.old.owners.items }
         requires block { block < 256 }
         ensures blocks { self.new.blocks.items
             ≡ cut_ranking self.old.blocks.items rank closes_up block }
         ensures owners { self.new.owners.items ≡ remove self.old.owners.items rank }
     {
-        let _place = self.blocks.remove(rank);
-        let _owner = self.owners.remove(rank);
+        self.blocks.remove(rank);
+        self.owners.remove(rank);
         if closes_up {
-            close_up(self.blocks.as_mut_slice(), block as u8);
+            self.blocks.close_up(block as u8);
         }
     }
 }
@@ -201,23 +200,6 @@ fn low_byte(owner: u32) -> u8
     ensures { result ≡ owner % 256 }
 {
     (owner % 256) as u8
-}
-
-// Gives each block behind another the place before its own.
-fn close_up(places: &mut [u8], block: u8)
-    ensures { places.new ≡ map (place_after_cut true block) places.old }
-{
-    for place in places.iter_mut() {
-        *place = closed_up(*place, block);
-    }
-}
-
-// The place of a block, which is one less where it is behind another.
-#[inline]
-fn closed_up(place: u8, block: u8) -> u8
-    ensures { result ≡ place_after_cut true block place }
-{
-    if place > block { place - 1 } else { place }
 }
 
 // How many of the bytes are this one. They are so few that a byte counts them, which the processor does sixteen at a time.

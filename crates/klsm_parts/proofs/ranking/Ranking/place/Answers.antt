@@ -1,4 +1,5 @@
-use Rattle.std.proofs.Common.{[], sym, ap, ◌∙◌}
+use Rattle.std.proofs.Common.{[], sym, ap, ◌∙◌, arith}
+use Rattle.std.proofs.lemmas.List.{length-take}
 use Rattle.std.specs.List.{slice_get}
 use Rattle.std.proofs.lemmas.Option.{get_or_from_slice_get}
 use Rattle.klsm_parts.proofs.RankingLemmas.{found_by_ranking}
@@ -26,3 +27,6 @@ pub returns-clause-rank : goal.returns-clause-rank
 returns-clause-rank g c =
     let found = found_by_ranking _ _ _ _ _ _ c.as_slice-blocks.ensures.value c.requires.lawful c.requires.ranking c.requires.rank c.from-block.ensures (c.from-index.ensures ∙ c.count_equal.ensures) in
     sym found.at ∙ (ap (λ xs. slice_get xs c.from-index.result) (get_or_from_slice_get c.args.lsm.now c.from-block.result _ [] c.block.ensures.block) ∙ c.item_at-item.ensures)
+
+pub count_equal-requires : goal.count_equal-requires
+count_equal-requires g c = omega (arith, length-take c.args.rank c.as_slice-blocks.result.now, c.as_slice-blocks.ensures.few)
