@@ -6,14 +6,15 @@ use std::fmt;
 #[derive(Clone, Copy, Debug, PartialEq, Eq)]
 pub struct Grouped(pub u64);
 
-/// The unit of each group but the first, which has one or two digits: 2^64 is 18 of these.
-const UNITS: [u64; 6] = [
+/// The unit of each group, the greatest that a number can have first: 2^64 is 18 of these.
+const UNITS: [u64; 7] = [
     1_000_000_000_000_000_000,
     1_000_000_000_000_000,
     1_000_000_000_000,
     1_000_000_000,
     1_000_000,
     1_000,
+    1,
 ];
 
 impl fmt::Display for Grouped {
@@ -22,17 +23,12 @@ impl fmt::Display for Grouped {
         for unit in &UNITS {
             let group = self.0 / *unit % 1000;
             if is_begun {
-                write!(f, "{group:03},")?;
-            } else if group > 0 {
-                write!(f, "{group},")?;
+                write!(f, ",{group:03}")?;
+            } else if group > 0 || *unit == 1 {
+                write!(f, "{group}")?;
                 is_begun = true;
             }
         }
-        let last = self.0 % 1000;
-        if is_begun {
-            write!(f, "{last:03}")
-        } else {
-            write!(f, "{last}")
-        }
+        Ok(())
     }
 }

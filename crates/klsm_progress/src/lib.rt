@@ -14,7 +14,16 @@
 //! ```
 //!
 //! `Silent` tells nobody, and a `TerminalLine` keeps one line on standard error up to date, as `4,096 of
-//! 1,000,000 rows run`. No contract speaks of either: what a progress hears changes no answer.
+//! 1,000,000 rows run`. What a progress hears changes no answer.
+//!
+//! - **A thread counts to 4,096**, from 0 on and then from 0 again, and always the same: the clauses of
+//!   `Pace::new` and `Pace::count`.
+//! - **A line tells only where standard error is a terminal**: clause `told` of `TerminalLine::new`. One that
+//!   does not tell is not written: the contracts of the private calls there.
+//! - **The words behind a number** are those of what is counted: the contract of `Counted::words`.
+//!
+//! No contract speaks of what a progress does with what it hears. So it is tested only that a thread tells
+//! at each 4,096th, and what the line then says.
 #![tactic(auto)]
 
 mod grouped;

@@ -1,4 +1,6 @@
 //! Who hears of a long run.
+ghost use Rattle.std.specs.Prelude.{◌≡◌};
+ghost use Rattle.klsm_progress.specs.Words.{words_of};
 
 /// What a run counts.
 #[derive(Clone, Copy, Debug, PartialEq, Eq)]
@@ -15,7 +17,9 @@ pub enum Counted {
 
 impl Counted {
     /// The words behind the number.
-    pub fn words(self) -> &'static str {
+    pub fn words(self) -> &'static str
+        ensures { result.now ≡ words_of self }
+    {
         match self {
             Counted::RowsRead => "rows read",
             Counted::RowsRun => "rows run",

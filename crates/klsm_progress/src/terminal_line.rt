@@ -1,4 +1,6 @@
 //! A line on a terminal that tells of a long run.
+ghost use Rattle.std.specs.Prelude.{◌≡◌, ◌↔◌, IsTrue};
+ghost use Rattle.klsm_progress.specs.TerminalLine.{Tells, terminals_of};
 
 use crate::grouped::Grouped;
 use crate::progress::{Counted, Progress};
@@ -42,7 +44,10 @@ pub struct TerminalLine<'a, P> {
 
 impl<'a, P: Eprint + Clock> TerminalLine<'a, P> {
     /// A line that is not shown yet.
-    pub fn new(rt: &'a P, terminals: Terminals) -> Self {
+    pub fn new(rt: &'a P, terminals: Terminals) -> Self
+        ensures terminals { terminals_of result ≡ terminals }
+        ensures told { Tells result → IsTrue terminals.error }
+    {
         let made = if terminals.error {
             Instant::now(rt).ok()
         } else {
@@ -60,12 +65,17 @@ impl<'a, P: Eprint + Clock> TerminalLine<'a, P> {
     }
 
     // Whether the line would stand between answers.
-    fn is_among_answers(&self, counted: Counted) -> bool {
+    fn is_among_answers(&self, counted: Counted) -> bool
+        ensures { IsTrue result ↔ ((counted ≡ Counted.RowsAnswered)
+            × IsTrue (terminals_of self.now).output) }
+    {
         counted == Counted::RowsAnswered && self.terminals.output
     }
 
     // Whether the line is to be written now, which is so for one of the threads that ask at once.
-    fn is_due(&self) -> bool {
+    fn is_due(&self) -> bool
+        ensures { IsTrue result → Tells self.now }
+    {
         let Some(made) = self.made else {
             return false;
         };
@@ -86,7 +96,9 @@ impl<'a, P: Eprint + Clock> TerminalLine<'a, P> {
     }
 
     // Nobody is told where this fails.
-    fn write(&self, counted: Counted, count: u64) {
+    fn write(&self, counted: Counted, count: u64)
+        requires { Tells self.now }
+    {
         self.is_shown.store(true, Ordering::SeqCst);
         let words = counted.words();
         let count = Grouped(count);
