@@ -76,25 +76,91 @@ impl<const CAP: usize, const LEVELS: usize> Board<CAP, LEVELS> {
                 });
             }
         };
-        let left = totals.inserted.saturating_sub(totals.deleted);
-        let Ok(mut left) = Vec::with_capacity(alloc, left as usize) else {
+        let count = totals.inserted.saturating_sub(totals.deleted);
+        let Ok(left) = Vec::with_capacity(alloc, count as usize) else {
             return Err(FinishRefused {
                 why: FinishError::NoMemory,
                 board: self,
                 members,
             });
         };
+        Ok(self.close(members, totals, left))
+    }
+
+    /// Ends the board as `finish` does, with an empty list for the items that are left, which was made
+    /// before. So it takes no memory, and is refused only where a member is missing.
+    ///
+    /// The list has to have room for them: for as many items as all members inserted, less those that they
+    /// deleted. After a refusal it is gone, while board and members are given back.
+    pub fn finish_into(
+        self,
+        members: Vec<Member<CAP, LEVELS>>,
+        left: Vec<Item>,
+    ) -> Result<Account, FinishRefused<CAP, LEVELS>>
+        requires of { All (λ member. IsOf member self) members.items }
+        requires empty { left.items ≡ [] }
+        requires room { length (flat_map inserted (lists_of self.sizes.threads members.items))
+            ≤ length (flat_map deleted (lists_of self.sizes.threads members.items))
+            + vec_capacity left }
+        ensures ok { IfOk result (λ answer. AreAll members.entry.items self.entry.sizes.threads
+            × AreListsAtEnd self.entry.sizes (lists_of self.entry.sizes.threads members.entry.items)
+            × (answer.inserted ≡ (account (lists_of self.entry.sizes.threads members.entry.items)).inserted)
+            × (answer.deleted ≡ (account (lists_of self.entry.sizes.threads members.entry.items)).deleted)
+            × (answer.left.items ≡ (account (lists_of self.entry.sizes.threads members.entry.items)).left)) }
+        ensures each_once { IfOk result (λ answer.
+            AreEachOnce (lists_of self.entry.sizes.threads members.entry.items)) }
+        ensures missing { IfErr result (λ refused. (number : ℕ)
+            × (refused.why ≡ FinishError.Missing number)
+            × IsLeastAbsent members.entry.items self.entry.sizes.threads number) }
+        ensures refused { IfErr result (λ refused. (refused.board ≡ self.entry)
+            × (refused.members.items ≡ members.entry.items)) }
+    {
+        match totals_of(members.as_slice(), self.sizes.threads) {
+            Ok(totals) => Ok(self.close(members, totals, left)),
+            Err(number) => Err(FinishRefused {
+                why: FinishError::Missing(number),
+                board: self,
+                members,
+            }),
+        }
+    }
+
+    // Ends the board, whose members are all there and have these totals, and lists what is left.
+    fn close(
+        self,
+        members: Vec<Member<CAP, LEVELS>>,
+        totals: Totals,
+        mut left: Vec<Item>,
+    ) -> Account
+        requires of { All (λ member. IsOf member self) members.items }
+        requires all { AreAll members.items self.sizes.threads }
+        requires inserted { totals.inserted
+            ≡ length (flat_map inserted (lists_of self.sizes.threads members.items)) }
+        requires deleted { totals.deleted
+            ≡ length (flat_map deleted (lists_of self.sizes.threads members.items)) }
+        requires empty { left.items ≡ [] }
+        requires room { totals.inserted ≤ totals.deleted + vec_capacity left }
+        ensures at_end { AreListsAtEnd self.entry.sizes
+            (lists_of self.entry.sizes.threads members.entry.items) }
+        ensures inserted { result.inserted
+            ≡ (account (lists_of self.entry.sizes.threads members.entry.items)).inserted }
+        ensures deleted { result.deleted
+            ≡ (account (lists_of self.entry.sizes.threads members.entry.items)).deleted }
+        ensures left { result.left.items
+            ≡ (account (lists_of self.entry.sizes.threads members.entry.items)).left }
+        ensures each_once { AreEachOnce (lists_of self.entry.sizes.threads members.entry.items) }
+    {
         let Board { table, sizes } = self;
         let seat = join_all(&table.shared, members);
         let mut closed = table.close_with(seat);
         list_parts(&mut closed, sizes.threads + 1, &mut left);
         closed.free();
         left.sort_unstable();
-        Ok(Account {
+        Account {
             inserted: totals.inserted,
             deleted: totals.deleted,
             left,
-        })
+        }
     }
 }
 
