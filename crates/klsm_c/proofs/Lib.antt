@@ -1,0 +1,6 @@
+pub mod ListLemmas  -- lists whose front is written over
+mod SlotLemmas  -- the members in the slots
+mod CallLemmas  -- what a call of a slot tells
+mod SumLemmas  -- the items of the members' lists, slot by slot
+mod BoardLemmas  -- all members of one board
+mod KeptLemmas  -- a call of one slot keeps them so

@@ -1,0 +1,70 @@
+-- What the calls of a slot tell, by what it has before and after.
+use Rattle.std.specs.Prelude.{◌≡◌, ℕ, ℤ, pos, List, [], ◌∷◌, length, Result, Ok, Err, Option, Some, None}
+use Rattle.std.specs.Prelude.{slice_set}
+use mathlib.Core.Option.{some}
+use lib.ListN.{get_elem?}
+use Rattle.klsm_run.specs.declared.item.Item.{Item}
+use Rattle.klsm_run.specs.declared.item.Stamp.{Stamp}
+use Rattle.klsm_world.specs.declared.step.Entry.{Entry}
+use Rattle.klsm_world.specs.OwnSteps.{inserted, deleted}
+use Rattle.klsm_board.specs.Boards.{own_steps}
+use Rattle.klsm_board.specs.declared.errors.Busy.{Busy as IsBusy}
+use Rattle.klsm_board.specs.declared.errors.TryInsertError.{TryInsertError}
+use Rattle.klsm_board.specs.declared.errors.TryInsertError.TheVariants.{Spent, Busy, Full, NoMemory}
+use Rattle.klsm_owned.specs.declared.owned.OwnedMember.{OwnedMember}
+use Rattle.klsm_owned.specs.Owned.{IsSameOwned, member_of}
+use Rattle.klsm_owned.specs.Trying.{TriesInsert, TriesDelete}
+use Rattle.klsm_c.specs.declared.item.PlainItem.{PlainItem}
+use Rattle.klsm_c.specs.declared.slot.Slot.{Slot}
+use Rattle.klsm_c.specs.Items.{plain_of}
+
+-- how many items the member of a slot has, of those that its list has by this measure
+abbrev pub count_in : (List Entry → List Item) → List OwnedMember → ℕ
+count_in items_by [] = 0
+count_in items_by (x ∷ xs) = length (items_by (own_steps (member_of x)))
+
+-- how many insertions and deletions it has made
+abbrev pub inserted_in : List OwnedMember → ℕ
+inserted_in xs = count_in inserted xs
+
+abbrev pub deleted_in : List OwnedMember → ℕ
+deleted_in xs = count_in deleted xs
+
+-- the code of an answer
+abbrev pub insert_code : Result Stamp TryInsertError → ℤ
+insert_code (Ok stamp) = pos 0
+insert_code (Err (Busy busy)) = pos 2
+insert_code (Err Full) = pos 3
+insert_code (Err NoMemory) = pos 4
+insert_code (Err Spent) = pos 5
+
+abbrev pub delete_code : Result (Option Item) IsBusy → ℤ
+delete_code (Ok (Some item)) = pos 0
+delete_code (Ok None) = pos 1
+delete_code (Err busy) = pos 2
+
+-- what is written for an answer
+abbrev pub written : PlainItem → Result (Option Item) IsBusy → PlainItem
+written old (Ok (Some item)) = plain_of item
+written old (Ok None) = old
+written old (Err busy) = old
+
+-- An insertion: 6 exactly where there is no member. Else the member is the same afterwards, its list
+-- tells what it did, and the code says which answer it was.
+abbrev pub Inserts : List OwnedMember → List OwnedMember → ℕ → ℕ → ℤ → Type 0
+Inserts [] new key load code = (code ≡ pos 6) × (new ≡ [])
+Inserts (x ∷ xs) new key load code = (y : OwnedMember) × (new ≡ y ∷ []) × IsSameOwned x y
+    × (answer : Result Stamp TryInsertError) × (code ≡ insert_code answer) × TriesInsert x y key load answer
+
+-- A deletion, as an insertion. An item is written exactly where the code is 0.
+abbrev pub Deletes : List OwnedMember → List OwnedMember → PlainItem → PlainItem → ℤ → Type 0
+Deletes [] new item item' code = (code ≡ pos 6) × (new ≡ []) × (item' ≡ item)
+Deletes (x ∷ xs) new item item' code = (y : OwnedMember) × (new ≡ y ∷ []) × IsSameOwned x y
+    × (answer : Result (Option Item) IsBusy) × (code ≡ delete_code answer) × (item' ≡ written item answer)
+    × TriesDelete x y answer
+
+-- one slot of a queue went through a call that tells this, and the others are as they were
+abbrev pub CallsSlot : ℕ → List Slot → List Slot → (List OwnedMember → List OwnedMember → Type 0) → Type 0
+CallsSlot number old new tells = (before : Slot) × (after : Slot)
+    × (get_elem? old number ≡ some before) × (new ≡ slice_set old number after)
+    × tells before.handle.held after.handle.held

@@ -1,0 +1,79 @@
+//! The calls of one slot. None of them waits.
+ghost use Rattle.std.specs.Prelude.{◌≡◌, ◌≤◌};
+ghost use Rattle.klsm_board.specs.Members.{most_deletions, most_insertions};
+ghost use Rattle.klsm_c.specs.Calls.{Deletes, Inserts, deleted_in, inserted_in};
+
+use crate::codes::{BUSY, FULL, NO_MEMORY, NOT_OPEN, NOTHING, OK, SPENT};
+use crate::item::PlainItem;
+use crate::slot::Slot;
+use klsm_board::{Busy, TryInsertError};
+use std::alloc::Global;
+
+/// Inserts a key with a load by the slot's member.
+#[unsafe(no_mangle)]
+pub extern "C" fn klsm_try_insert(alloc: Global, slot: &mut Slot, key: u64, load: u64) -> i32
+    ensures { Inserts slot.old.handle.held slot.new.handle.held key load result }
+{
+    let Some(mut member) = slot.take(alloc) else {
+        return NOT_OPEN;
+    };
+    let answer = member.try_insert(key, load);
+    slot.fill(member);
+    match answer {
+        Ok(_) => OK,
+        Err(TryInsertError::Busy(_)) => BUSY,
+        Err(TryInsertError::Full) => FULL,
+        Err(TryInsertError::NoMemory) => NO_MEMORY,
+        Err(TryInsertError::Spent) => SPENT,
+    }
+}
+
+/// Deletes a small item by the slot's member, and writes it.
+#[unsafe(no_mangle)]
+pub extern "C" fn klsm_try_delete_min(alloc: Global, slot: &mut Slot, item: &mut PlainItem) -> i32
+    ensures { Deletes slot.old.handle.held slot.new.handle.held item.old item.new result }
+{
+    let Some(mut member) = slot.take(alloc) else {
+        return NOT_OPEN;
+    };
+    let answer = member.try_delete_min();
+    slot.fill(member);
+    match answer {
+        Ok(Some(found)) => {
+            *item = PlainItem::of(found);
+            OK
+        }
+        Ok(None) => NOTHING,
+        Err(Busy { .. }) => BUSY,
+    }
+}
+
+/// How many insertions the slot's member has made, and 0 where the slot is not open.
+#[unsafe(no_mangle)]
+pub extern "C" fn klsm_inserted(alloc: Global, slot: &mut Slot) -> u64
+    ensures count { result ≡ inserted_in slot.old.handle.held }
+    ensures within { result ≤ most_insertions }
+    ensures same { slot.new.handle.held ≡ slot.old.handle.held }
+{
+    let Some(member) = slot.take(alloc) else {
+        return 0;
+    };
+    let count = member.inserted_count();
+    slot.fill(member);
+    count
+}
+
+/// How many items it has deleted, and 0 where the slot is not open.
+#[unsafe(no_mangle)]
+pub extern "C" fn klsm_deleted(alloc: Global, slot: &mut Slot) -> u64
+    ensures count { result ≡ deleted_in slot.old.handle.held }
+    ensures within { result ≤ most_deletions }
+    ensures same { slot.new.handle.held ≡ slot.old.handle.held }
+{
+    let Some(member) = slot.take(alloc) else {
+        return 0;
+    };
+    let count = member.deleted_count();
+    slot.fill(member);
+    count
+}

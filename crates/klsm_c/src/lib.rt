@@ -1,0 +1,44 @@
+//! The board for C, as a static library. `include/klsm.h` declares these functions, and says what C owes.
+//!
+//! A queue is memory of the caller's: sixteen slots of two cache lines each. A slot that is open has one
+//! member of a board, behind a pointer; a slot of zeros is closed. `klsm_open` makes a board and puts its
+//! members into the first slots. From then on each thread uses one slot (`klsm_try_insert`,
+//! `klsm_try_delete_min`), and once they are done, `klsm_close` ends the board with the account of all
+//! members and what is left. `klsm_drop` lets a queue go without an account.
+//!
+//! What C gets is what `klsm_board` promises:
+//!
+//! - **A call of a slot is a call of the member behind it**, with all that `Member::try_insert` and
+//!   `Member::try_delete_min` promise, and its code says which answer it was (`Inserts` and `Deletes` of
+//!   `specs/Calls.antt`).
+//! - **A code comes exactly where its cause holds**; memory is refused only where `malloc` gives none. After
+//!   a refusal nothing has changed.
+//! - **The members of an open queue are all those of one board.** That is part of the type `Queue`, each
+//!   call keeps it, and so `klsm_close` has no premise.
+//! - **At the end each item that was inserted was deleted, once, or is left, once** (`IsAccount` of
+//!   `specs/Closing.antt`).
+//!
+//! No proof says what C does with a queue between two calls; docs/C-INTERFACE.md lists what is trusted.
+#![tactic(auto)]
+
+mod calls;
+mod closing;
+mod codes;
+mod handle;
+mod item;
+mod lending;
+mod opening;
+mod queue;
+mod slot;
+
+pub use calls::{klsm_deleted, klsm_inserted, klsm_try_delete_min, klsm_try_insert};
+pub use closing::{Account, klsm_close, klsm_drop};
+pub use codes::klsm_abi;
+pub use handle::Handle;
+pub use item::PlainItem;
+pub use opening::klsm_open;
+pub use queue::Queue;
+pub use slot::Slot;
+
+#[cfg(test)]
+mod tests;

@@ -1,0 +1,80 @@
+//! How C opens a queue.
+ghost use Rattle.std.specs.Prelude.{◌≡◌, ◌≢◌, ◌<◌, ◌≤◌, ◌⊎◌, ◌↔◌, ◌++◌, pos, true, false, length, map, drop, IfSome, None};
+ghost use Rattle.klsm_c.specs.Slots.{alone, held_in, some_open};
+ghost use Rattle.klsm_c.specs.Opening.{AreOpened, pick_by};
+
+use crate::codes::{BAD_COUNT, BAD_K, BAD_PICK, NO_MEMORY, OK, OPEN};
+use crate::queue::Queue;
+use crate::slot::Slot;
+use klsm_board::MakeError;
+use klsm_owned::{OwnedMember, Pick, open_board};
+use std::alloc::Global;
+
+/// Opens a queue with a member in each of its first slots. Where it is refused, nothing changes.
+#[unsafe(no_mangle)]
+pub extern "C" fn klsm_open(
+    alloc: Global,
+    queue: &mut Queue,
+    threads: usize,
+    k: usize,
+    pick: u32,
+    seed: u64,
+) -> i32
+    ensures ok { result ≡ pos 0 → AreOpened threads k pick seed queue.new.slots }
+    ensures refused { result ≢ pos 0 → queue.new ≡ queue.old }
+    ensures open { (result ≡ pos 7) ↔ (some_open queue.old.slots ≡ true) }
+    ensures bad_pick { (result ≡ pos 10) ↔ ((some_open queue.old.slots ≡ false) × (2 < pick)) }
+    ensures bad_count { (result ≡ pos 8) ↔ ((some_open queue.old.slots ≡ false) × (pick ≤ 2)
+        × ((threads ≡ 0) ⊎ (16 < threads))) }
+    ensures bad_k { (result ≡ pos 9) ↔ ((some_open queue.old.slots ≡ false) × (pick ≤ 2)
+        × (1 ≤ threads) × (threads ≤ 16) × (64 < k)) }
+    ensures codes { (result ≡ pos 0) ⊎ (result ≡ pos 4) ⊎ (result ≡ pos 7) ⊎ (result ≡ pos 8)
+        ⊎ (result ≡ pos 9) ⊎ (result ≡ pos 10) }
+{
+    if some_is_open(&queue.slots) {
+        return OPEN;
+    }
+    let Some(pick) = pick_from(pick) else {
+        return BAD_PICK;
+    };
+    match open_board(alloc, threads, k, pick, seed) {
+        Ok(members) => {
+            fill_front(&mut queue.slots, members);
+            OK
+        }
+        Err(MakeError::BadThreads) => BAD_COUNT,
+        Err(MakeError::BadK) => BAD_K,
+        Err(MakeError::BadQuota | MakeError::NoMemory) => NO_MEMORY,
+    }
+}
+
+// Whether some slot has a member.
+pub(crate) fn some_is_open(slots: &[Slot]) -> bool
+    ensures { result ≡ some_open slots.now }
+{
+    slots.iter().any(|slot| slot.is_open())
+}
+
+// The pick that C names by a number.
+fn pick_from(number: u32) -> Option<Pick>
+    ensures some { IfSome result (λ pick. (number ≤ 2) × (pick ≡ pick_by number)) }
+    ensures none { (result ≡ None) ↔ (2 < number) }
+{
+    match number {
+        0 => Some(Pick::First),
+        1 => Some(Pick::Last),
+        2 => Some(Pick::Random),
+        _ => None,
+    }
+}
+
+// Puts the members into the first slots, in order.
+fn fill_front(slots: &mut [Slot], mut members: Vec<Box<OwnedMember, Global>>)
+    requires { length members.items ≤ length slots.old }
+    ensures { held_in slots.new ≡ map alone (map (λ b. b.value) members.items)
+        ++ drop (length members.items) (held_in slots.old) }
+{
+    for i in 0..members.len() {
+        slots[i].fill(members.remove(0));
+    }
+}

@@ -1,0 +1,26 @@
+//! The memory of a queue.
+ghost use Rattle.std.specs.Prelude.{◌≡◌, []};
+ghost use Rattle.klsm_owned.specs.Owned.{IsWhole, members_of};
+ghost use Rattle.klsm_c.specs.Slots.{owned_in};
+
+use crate::slot::Slot;
+
+/// The slots of sixteen members. All bytes 0 is a closed queue. The members in its open slots are all those
+/// of one board, in the order of their numbers.
+#[repr(C)]
+#[derive(Drop)]
+pub struct Queue {
+    pub slots: [Slot; 16],
+    pub ghost whole: { IsWhole (members_of (owned_in slots)) },
+}
+
+impl Queue {
+    /// A queue as C begins with it.
+    pub fn closed() -> Queue
+        ensures { owned_in result.slots ≡ [] }
+    {
+        Queue {
+            slots: std::array::from_fn(|_| Slot::closed()),
+        }
+    }
+}

@@ -1,0 +1,57 @@
+-- Members that own a share of their board.
+use Rattle.std.specs.Prelude.{◌≡◌, ℕ, ◌+◌, ◌%◌, ◌^◌, List, [], length, map}
+use Rattle.std.specs.Arc.{arc_value}
+use mathlib.Core.Option.{some}
+use lib.ListN.{get_elem?}
+use Rattle.klsm_board.specs.declared.board.Board.{Board}
+use Rattle.klsm_board.specs.declared.board.Member.{Member}
+use Rattle.klsm_board.specs.Boards.{IsOf, IsSame, own_steps}
+use Rattle.klsm_board.specs.Members.{sizes_of}
+use Rattle.klsm_owned.specs.declared.choice.Choice.{Choice}
+use Rattle.klsm_owned.specs.declared.choice.Pick.{Pick}
+use Rattle.klsm_owned.specs.declared.owned.OwnedMember.{OwnedMember}
+use Rattle.klsm_owned.specs.Choices.{choice_by}
+
+abbrev pub member_of : OwnedMember → Member 64 21
+member_of owned = owned.member
+
+-- the picker of its deletions
+abbrev pub choice_of : OwnedMember → Choice
+choice_of owned = owned.choice
+
+-- the board that it has a share of
+abbrev pub board_of : OwnedMember → Board 64 21
+board_of owned = arc_value owned.board
+
+abbrev pub members_of : List OwnedMember → List (Member 64 21)
+members_of owned = map member_of owned
+
+-- it is the same member of the same board
+pub record IsSameOwned (before after : OwnedMember) : Type 0 where
+  pub member : IsSame (member_of before) (member_of after)
+  pub board : board_of after ≡ board_of before
+
+-- it is member i of this board and has made no step, and its picker is the i-th of those by this pick
+-- and this seed
+pub record IsNew (board : Board 64 21) (pick : Pick) (seed i : ℕ) (owned : OwnedMember) : Type 0 where
+  pub of : IsOf (member_of owned) board
+  pub number : (member_of owned).number ≡ i
+  pub steps : own_steps (member_of owned) ≡ []
+  pub choice : choice_of owned ≡ choice_by pick ((seed + i) % 2 ^ 64)
+
+-- all members of one new board of these sizes, in the order of their numbers
+pub record AreNew (threads k : ℕ) (pick : Pick) (seed : ℕ) (owned : List OwnedMember) : Type 0 where
+  pub count : length owned ≡ threads
+  pub board : Board 64 21
+  pub sizes : board.sizes ≡ sizes_of threads k
+  pub each : (i : ℕ) (x : OwnedMember) → get_elem? owned i ≡ some x → IsNew board pick seed i x
+
+-- These are all members of one board, in the order of their numbers; or there are none. No board is
+-- named, so that this is a property of the members alone.
+pub record IsWhole (members : List (Member 64 21)) : Type 0 where
+  pub numbers : (i : ℕ) (a : Member 64 21) → get_elem? members i ≡ some a → a.number ≡ i
+  pub count : (i : ℕ) (a : Member 64 21) → get_elem? members i ≡ some a
+      → length members ≡ a.sizes.threads
+  pub one_board : (i j : ℕ) (a b : Member 64 21)
+      → get_elem? members i ≡ some a → get_elem? members j ≡ some b
+      → (a.seat.table_id ≡ b.seat.table_id) × (a.sizes ≡ b.sizes)

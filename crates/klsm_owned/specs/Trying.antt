@@ -1,0 +1,44 @@
+-- What the calls of a member that wait for nobody tell, in its own words.
+use Rattle.std.specs.Prelude.{◌≡◌, ◌↔◌, ℕ, [], ◌∷◌, length, Result, Option, IfOk, IfErr, IsErrAnd}
+use Rattle.std.specs.Option.{option_to_list}
+use Rattle.klsm_run.specs.declared.item.Item.{Item}
+use Rattle.klsm_run.specs.declared.item.Stamp.{Stamp}
+use Rattle.klsm_world.specs.OwnSteps.{inserted}
+use Rattle.klsm_board.specs.declared.errors.Busy.{Busy}
+use Rattle.klsm_board.specs.declared.errors.TryInsertError.{TryInsertError}
+use Rattle.klsm_board.specs.declared.errors.TryInsertError.TheVariants.{Spent}
+use Rattle.klsm_board.specs.Boards.{Adds, own_steps}
+use Rattle.klsm_board.specs.Inserting.{Inserts, RefusesInsert, stamp_of, stamped}
+use Rattle.klsm_board.specs.Deleting.{AnswersDeletion, MissesDeletion}
+use Rattle.klsm_owned.specs.declared.owned.OwnedMember.{OwnedMember}
+use Rattle.klsm_owned.specs.Choices.{may_choose}
+use Rattle.klsm_owned.specs.Owned.{choice_of, member_of}
+
+-- An insertion: its item is the member's next, and a refusal has its cause. The picker stays.
+pub record TriesInsert (before after : OwnedMember) (key load : ℕ) (result : Result Stamp TryInsertError) : Type 0 where
+  pub stamp : IfOk result (λ stamp.
+      stamp ≡ stamp_of (member_of before).number (length (inserted (own_steps (member_of before)))))
+  pub ok : IfOk result (λ stamp. Inserts 21 (member_of before).sizes.k (member_of before).number [] []
+      (own_steps (member_of before)) (own_steps (member_of after)) (stamped key stamp load))
+  pub adds : IfOk result (λ stamp.
+      Adds (member_of before) (member_of after) (stamped key stamp load ∷ []) [])
+  pub refused : IfErr result (λ why. Adds (member_of before) (member_of after) [] []
+      × RefusesInsert (length (inserted (own_steps (member_of before))) ≡ (member_of before).sizes.quota) 21
+      (member_of before).sizes.k (member_of before).number
+      (own_steps (member_of before)) (own_steps (member_of after)) why)
+  pub spent : IsErrAnd result (λ why. why ≡ Spent)
+      ↔ (length (inserted (own_steps (member_of before))) ≡ (member_of before).sizes.quota)
+  pub choice : choice_of after ≡ choice_of before
+
+-- A deletion: what it took skips at most T·k items, and where there was nothing at most (T-1)·k live.
+-- The picker is asked, and picks, as it may.
+pub record TriesDelete (before after : OwnedMember) (result : Result (Option Item) Busy) : Type 0 where
+  pub ok : IfOk result (λ answer. AnswersDeletion may_choose (choice_of before) (choice_of after)
+      (member_of before).sizes (member_of before).number [] []
+      (own_steps (member_of before)) (own_steps (member_of after)) answer)
+  pub adds : IfOk result (λ answer.
+      Adds (member_of before) (member_of after) [] (option_to_list answer))
+  pub busy : IfErr result (λ busy. Adds (member_of before) (member_of after) [] []
+      × (choice_of after ≡ choice_of before)
+      × MissesDeletion (member_of before).number
+      (own_steps (member_of before)) (own_steps (member_of after)) busy)

@@ -1,0 +1,62 @@
+//! The calls of a member that owns a share of its board. None of them waits.
+ghost use Rattle.std.specs.Prelude.{◌≡◌, ◌≤◌, length};
+ghost use Rattle.std.specs.Arc.{arc_value};
+ghost use Rattle.klsm_world.specs.OwnSteps.{inserted, deleted};
+ghost use Rattle.klsm_board.specs.Boards.{IsOf, own_steps};
+ghost use Rattle.klsm_board.specs.Members.{most_deletions, most_insertions};
+ghost use Rattle.klsm_owned.specs.Owned.{IsSameOwned, board_of, member_of};
+ghost use Rattle.klsm_owned.specs.Trying.{TriesInsert, TriesDelete};
+
+use crate::owned::OwnedMember;
+use klsm_board::{Board, Busy, Member, TryInsertError};
+use klsm_run::{Item, Stamp};
+use std::alloc::Global;
+use std::sync::Arc;
+
+impl OwnedMember {
+    /// Inserts a key with a load, as `Member::try_insert` of `klsm_board`.
+    #[inline]
+    pub fn try_insert(&mut self, key: u64, load: u64) -> Result<Stamp, TryInsertError>
+        ensures same { IsSameOwned self.old self.new }
+        ensures tries { TriesInsert self.old self.new key load result }
+    {
+        self.member.try_insert(&self.board, key, load)
+    }
+
+    /// Deletes a small item, as `Member::try_delete_min`, by the member's own picker.
+    #[inline]
+    pub fn try_delete_min(&mut self) -> Result<Option<Item>, Busy>
+        ensures same { IsSameOwned self.old self.new }
+        ensures tries { TriesDelete self.old self.new result }
+    {
+        self.member.try_delete_min(&self.board, &mut self.choice)
+    }
+
+    /// How many insertions the member has made.
+    #[inline]
+    pub fn inserted_count(&self) -> u64
+        ensures count { result ≡ length (inserted (own_steps (member_of self.now))) }
+        ensures within { result ≤ most_insertions }
+    {
+        self.member.inserted_count()
+    }
+
+    /// How many items it has deleted.
+    #[inline]
+    pub fn deleted_count(&self) -> u64
+        ensures count { result ≡ length (deleted (own_steps (member_of self.now))) }
+        ensures within { result ≤ most_deletions }
+    {
+        self.member.deleted_count()
+    }
+
+    /// The share of the board, and the member.
+    pub fn into_parts(self) -> (Arc<Board<64, 21>, Global>, Member<64, 21>)
+        ensures board { arc_value result.0 ≡ board_of self }
+        ensures member { result.1 ≡ member_of self }
+        ensures fits { IsOf result.1 (arc_value result.0) }
+    {
+        let OwnedMember { board, member, .. } = self;
+        (board, member)
+    }
+}

@@ -1,0 +1,75 @@
+//! How a board is opened for members that own it.
+ghost use Rattle.std.specs.Prelude.{All, ◌≡◌, ◌<◌, ◌≤◌, ◌↔◌, ◌⊎◌, ℕ, length, map, IfOk, IsErrAnd};
+ghost use Rattle.std.specs.Arc.{arc_value};
+ghost use mathlib.Core.Option.{some};
+ghost use lib.ListN.{get_elem?};
+ghost use Rattle.klsm_board.specs.Boards.{IsCrew, IsOf};
+ghost use Rattle.klsm_owned.specs.declared.owned.OwnedMember.{OwnedMember as Owned};
+ghost use Rattle.klsm_owned.specs.Owned.{AreNew, IsNew, IsWhole, members_of};
+
+use crate::choice::{Choice, Pick};
+use crate::owned::OwnedMember;
+use klsm_board::{Board, MOST_INSERTIONS, MakeError, Member};
+use std::alloc::{AllocError, Global};
+use std::sync::Arc;
+
+/// The most insertions of each member: 2^48.
+pub const QUOTA: u64 = MOST_INSERTIONS;
+
+/// A new board of empty parts, and its members in the order of their numbers, each in a box of its own.
+///
+/// Member `t` picks with the seed `seed + t`, by the remainder of 2^64.
+pub fn open_board(
+    alloc: Global,
+    threads: usize,
+    k: usize,
+    pick: Pick,
+    seed: u64,
+) -> Result<Vec<Box<OwnedMember, Global>>, MakeError>
+    ensures count { IfOk result (λ boxes. length boxes.items ≡ threads) }
+    ensures new { IfOk result (λ boxes. AreNew threads k pick seed (map (λ b. b.value) boxes.items)) }
+    ensures whole { IfOk result (λ boxes. IsWhole (members_of (map (λ b. b.value) boxes.items))) }
+    ensures bad_threads { IsErrAnd result (λ why. why ≡ MakeError.BadThreads)
+        ↔ ((threads ≡ 0) ⊎ (16 < threads)) }
+    ensures bad_k { IsErrAnd result (λ why. why ≡ MakeError.BadK)
+        ↔ ((1 ≤ threads) × (threads ≤ 16) × (64 < k)) }
+    ensures bad_quota { IsErrAnd result (λ why. why ≡ MakeError.BadQuota) ↔ ⊥ }
+{
+    let (board, members) = Board::new(alloc, threads, k, QUOTA)?;
+    let Ok(board) = Arc::new(alloc, board) else {
+        return Err(MakeError::NoMemory);
+    };
+    let Ok(boxes) = box_members(alloc, &board, members, pick, seed) else {
+        return Err(MakeError::NoMemory);
+    };
+    Ok(boxes)
+}
+
+// Each member of a new board in a box, with a share of the board and a picker of its own.
+fn box_members(
+    alloc: Global,
+    board: &Arc<Board<64, 21>, Global>,
+    mut members: Vec<Member<64, 21>>,
+    pick: Pick,
+    seed: u64,
+) -> Result<Vec<Box<OwnedMember, Global>>, AllocError>
+    requires of { All (λ member. IsOf member (arc_value board.now)) members.items }
+    requires crew { IsCrew members.items }
+    ensures count { IfOk result (λ boxes. length boxes.items ≡ length members.items) }
+    ensures each { IfOk result (λ boxes. (i : ℕ) (x : Owned)
+        → get_elem? (map (λ b. b.value) boxes.items) i ≡ some x
+        → IsNew (arc_value board.now) pick seed i x) }
+{
+    let count = members.len();
+    let mut boxes = Vec::with_capacity(alloc, count)?;
+    for number in 0..count {
+        let owned = OwnedMember {
+            board: Arc::try_clone(board)?,
+            member: members.remove(0),
+            choice: Choice::of(pick, seed.wrapping_add(number as u64)),
+            room: [0; 16],
+        };
+        boxes.push(Box::new(alloc, owned)?)?;
+    }
+    Ok(boxes)
+}
