@@ -1,0 +1,129 @@
+//! Why calls are refused.
+
+use crate::queue::Queue;
+use std::error::Error;
+use std::fmt;
+
+/// A lock that the call needed was held by another member. No part of the queue has changed.
+#[derive(Clone, Copy, Debug, PartialEq, Eq)]
+pub struct Busy;
+
+/// Why a queue is not made. The causes are tried in this order.
+#[derive(Clone, Copy, Debug, PartialEq, Eq)]
+pub enum OpenError {
+    /// The library is of another version of the interface: its own, then the one of this crate.
+    Version(u32, u32),
+    /// Not 1 to 16 threads.
+    BadThreads,
+    /// k is above 64.
+    BadK,
+    /// Memory was refused.
+    NoMemory,
+}
+
+/// Why an insertion that may wait is refused. Nothing has changed then.
+#[derive(Clone, Copy, Debug, PartialEq, Eq)]
+pub enum InsertError {
+    /// The member has made all its insertions, which are 2^48.
+    Spent,
+    /// The shared part has no room for what would move there: it has room for 2^20 items.
+    Full,
+    /// Memory was refused.
+    NoMemory,
+}
+
+/// Why an insertion that waits for nobody is refused. No part of the queue has changed then.
+#[derive(Clone, Copy, Debug, PartialEq, Eq)]
+pub enum TryInsertError {
+    /// The member has made all its insertions, which are 2^48.
+    Spent,
+    /// A lock that the call needed was held by another member.
+    Busy,
+    /// The shared part has no room for what would move there: it has room for 2^20 items.
+    Full,
+    /// Memory was refused.
+    NoMemory,
+}
+
+/// Why a queue is not finished.
+#[derive(Debug)]
+pub enum FinishError {
+    /// Memory was refused. Nothing has changed: here is the queue, which goes on as it was.
+    NoMemory(Queue),
+    /// The library found another owner of the queue. No call of this crate leads there, but no proof
+    /// says so. The queue is gone with what was in it.
+    Shared,
+}
+
+impl From<InsertError> for TryInsertError {
+    fn from(why: InsertError) -> Self {
+        match why {
+            InsertError::Spent => TryInsertError::Spent,
+            InsertError::Full => TryInsertError::Full,
+            InsertError::NoMemory => TryInsertError::NoMemory,
+        }
+    }
+}
+
+const BUSY_TEXT: &str = "a lock is held by another member";
+const SPENT_TEXT: &str = "the member has made all its insertions";
+const FULL_TEXT: &str = "the shared part is full";
+const MEMORY_TEXT: &str = "out of memory";
+
+impl fmt::Display for Busy {
+    fn fmt(&self, to: &mut fmt::Formatter<'_>) -> fmt::Result {
+        to.write_str(BUSY_TEXT)
+    }
+}
+
+impl fmt::Display for OpenError {
+    fn fmt(&self, to: &mut fmt::Formatter<'_>) -> fmt::Result {
+        match self {
+            OpenError::Version(has, wanted) => {
+                write!(
+                    to,
+                    "the library's interface is of version {has}, not {wanted}"
+                )
+            }
+            OpenError::BadThreads => to.write_str("the number of threads is not 1 to 16"),
+            OpenError::BadK => to.write_str("k is above 64"),
+            OpenError::NoMemory => to.write_str(MEMORY_TEXT),
+        }
+    }
+}
+
+impl fmt::Display for InsertError {
+    fn fmt(&self, to: &mut fmt::Formatter<'_>) -> fmt::Result {
+        to.write_str(match self {
+            InsertError::Spent => SPENT_TEXT,
+            InsertError::Full => FULL_TEXT,
+            InsertError::NoMemory => MEMORY_TEXT,
+        })
+    }
+}
+
+impl fmt::Display for TryInsertError {
+    fn fmt(&self, to: &mut fmt::Formatter<'_>) -> fmt::Result {
+        to.write_str(match self {
+            TryInsertError::Spent => SPENT_TEXT,
+            TryInsertError::Busy => BUSY_TEXT,
+            TryInsertError::Full => FULL_TEXT,
+            TryInsertError::NoMemory => MEMORY_TEXT,
+        })
+    }
+}
+
+impl fmt::Display for FinishError {
+    fn fmt(&self, to: &mut fmt::Formatter<'_>) -> fmt::Result {
+        to.write_str(match self {
+            FinishError::NoMemory(_) => MEMORY_TEXT,
+            FinishError::Shared => "the queue has another owner",
+        })
+    }
+}
+
+impl Error for Busy {}
+impl Error for OpenError {}
+impl Error for InsertError {}
+impl Error for TryInsertError {}
+impl Error for FinishError {}

@@ -1,0 +1,151 @@
+//! A k-LSM relaxed concurrent priority queue, for up to sixteen threads.
+//!
+//! An [`Item`] has a 64-bit key, of which the least is the most urgent, and a 64-bit load, which the
+//! queue never reads. A [`Queue`] of T threads and k has T members. Each [`Member`] is used by one
+//! thread at a time, and keeps up to k items for itself; all share the others. A deletion gives one
+//! of the small items: at most T·k smaller ones are in the queue at that moment. With k = 0 it gives
+//! the least.
+//!
+//! ```
+//! use klsm::Queue;
+//!
+//! # fn main() -> Result<(), Box<dyn std::error::Error>> {
+//! let mut queue = Queue::new(4, 64)?;
+//! std::thread::scope(|scope| {
+//!     for mut member in queue.members() {
+//!         scope.spawn(move || {
+//!             let number = u64::from(member.number());
+//!             for i in 0..1_000 {
+//!                 member.insert(i, number).expect("there is room");
+//!             }
+//!             for _ in 0..500 {
+//!                 member.delete_min();
+//!             }
+//!         });
+//!     }
+//! });
+//! let account = queue.finish()?;
+//! assert_eq!(account.inserted, 4_000);
+//! assert_eq!(account.inserted, account.deleted + account.left.len() as u64);
+//! # Ok(())
+//! # }
+//! ```
+//!
+//! # What is behind it
+//!
+//! The queue is a library that is proved in Rattle and called through its interface for C. The proof
+//! speaks of the functions of that library, call by call. It does not speak of this crate, which is
+//! thin, has no dependencies and is tested. The folder that has `libklsm.a` is named by the variable
+//! `KLSM_LIB_DIR` at build time; without it, it is `out` beside this crate's folder, where the
+//! command `bindings/build` puts the archive.
+//!
+//! # What the types keep apart
+//!
+//! The library wants a queue to stay where it is, one call at a time for each member, and the whole
+//! queue for opening, closing and dropping. Here a queue's memory is on the heap and never moves,
+//! each call that changes a member takes it by `&mut`, and members borrow their queue. So no safe
+//! code can break these rules. In particular:
+//!
+//! A queue cannot be finished while a member is in use:
+//!
+//! ```compile_fail,E0505
+//! let mut queue = klsm::Queue::new(2, 4).unwrap();
+//! let mut member = queue.members().next().unwrap();
+//! queue.finish().unwrap();
+//! member.delete_min();
+//! ```
+//!
+//! nor after it was finished:
+//!
+//! ```compile_fail,E0382
+//! let mut queue = klsm::Queue::new(2, 4).unwrap();
+//! queue.finish().unwrap();
+//! queue.members();
+//! ```
+//!
+//! A member does not outlive its queue:
+//!
+//! ```compile_fail,E0597
+//! let mut members = Vec::new();
+//! {
+//!     let mut queue = klsm::Queue::new(2, 4).unwrap();
+//!     members.extend(queue.members());
+//! }
+//! members[0].delete_min();
+//! ```
+//!
+//! The members of a queue are given once at a time, so no two threads have the same one:
+//!
+//! ```compile_fail,E0499
+//! let mut queue = klsm::Queue::new(2, 4).unwrap();
+//! let mut one = queue.members().next().unwrap();
+//! let mut same = queue.members().next().unwrap();
+//! one.delete_min();
+//! same.delete_min();
+//! ```
+//!
+//! nor is a member copied:
+//!
+//! ```compile_fail,E0382
+//! let mut queue = klsm::Queue::new(2, 4).unwrap();
+//! let mut member = queue.members().next().unwrap();
+//! let mut same = member;
+//! member.delete_min();
+//! same.delete_min();
+//! ```
+//!
+//! or shared between threads:
+//!
+//! ```compile_fail,E0277
+//! let mut queue = klsm::Queue::new(2, 4).unwrap();
+//! let member = queue.members().next().unwrap();
+//! std::thread::scope(|scope| {
+//!     scope.spawn(|| member.inserted_count());
+//! });
+//! ```
+//!
+//! Nor is a queue:
+//!
+//! ```compile_fail,E0277
+//! let queue = klsm::Queue::new(2, 4).unwrap();
+//! std::thread::scope(|scope| {
+//!     scope.spawn(|| queue.left());
+//! });
+//! ```
+//!
+//! The slot by which the library knows a member cannot be reached, so the slots of two queues cannot
+//! be exchanged:
+//!
+//! ```compile_fail,E0614
+//! let mut one = klsm::Queue::new(1, 4).unwrap();
+//! let mut other = klsm::Queue::new(1, 4).unwrap();
+//! let mut a = one.members().next().unwrap();
+//! let mut b = other.members().next().unwrap();
+//! std::mem::swap(&mut *a, &mut *b);
+//! ```
+//!
+//! ```compile_fail,E0616
+//! let mut one = klsm::Queue::new(1, 4).unwrap();
+//! let mut other = klsm::Queue::new(1, 4).unwrap();
+//! let mut a = one.members().next().unwrap();
+//! let mut b = other.members().next().unwrap();
+//! std::mem::swap(a.slot, b.slot);
+//! ```
+//!
+//! (To swap `a` and `b` themselves compiles. Each still leads to its own slot in its own queue.)
+//!
+//! # What is left to the caller
+//!
+//! No call from a signal handler, and none in a forked child of a process that had several threads.
+//! An answer "nothing" does not say that the queue is empty: see [`Member::delete_min`].
+
+mod errors;
+mod member;
+mod pause;
+mod queue;
+mod sys;
+
+pub use errors::{Busy, FinishError, InsertError, OpenError, TryInsertError};
+pub use member::{Member, Members};
+pub use queue::{Account, Pick, Queue};
+pub use sys::Item;

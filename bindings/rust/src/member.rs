@@ -1,0 +1,196 @@
+//! A member: what one thread inserts and deletes by.
+
+use crate::errors::{Busy, InsertError, TryInsertError};
+use crate::pause::until_free;
+use crate::sys::{self, code, Item, Slot};
+use std::fmt;
+use std::iter::{Enumerate, FusedIterator};
+use std::slice::IterMut;
+
+/// One member of a [`Queue`](crate::Queue), which it borrows. Send each to a thread of its own.
+///
+/// An insertion needs the member's own lock, and the shared one where the member already keeps k
+/// items. A deletion needs the own lock, and the shared one unless the least key that the member
+/// keeps is below all shared ones. A call that waits for a lock looks away for some pauses between
+/// two tries, and after some tries lets other threads run. How long it waits is not promised.
+pub struct Member<'queue> {
+    slot: &'queue mut Slot,
+    number: u32,
+}
+
+impl Member<'_> {
+    /// The member's number, from 0 to T-1: the owner of the items that it inserts.
+    #[must_use]
+    pub fn number(&self) -> u32 {
+        self.number
+    }
+
+    /// Inserts a key with a load, and waits while a lock that it needs is held.
+    ///
+    /// It takes memory only where items move to the shared part.
+    ///
+    /// # Errors
+    ///
+    /// The member has made all its insertions, the shared part is full, or memory was refused.
+    /// Nothing has changed then.
+    pub fn insert(&mut self, key: u64, load: u64) -> Result<(), InsertError> {
+        match until_free(|| self.insertion(key, load)) {
+            code::OK => Ok(()),
+            code::SPENT => Err(InsertError::Spent),
+            code::FULL => Err(InsertError::Full),
+            code::NO_MEMORY => Err(InsertError::NoMemory),
+            other => sys::unexpected("klsm_try_insert", other),
+        }
+    }
+
+    /// Inserts a key with a load, and waits for nobody.
+    ///
+    /// It takes memory only where items move to the shared part.
+    ///
+    /// # Errors
+    ///
+    /// Those of [`insert`](Member::insert), and [`TryInsertError::Busy`] where a lock that it needs is
+    /// held. No part of the queue has changed then.
+    pub fn try_insert(&mut self, key: u64, load: u64) -> Result<(), TryInsertError> {
+        match self.insertion(key, load) {
+            code::OK => Ok(()),
+            code::SPENT => Err(TryInsertError::Spent),
+            code::BUSY => Err(TryInsertError::Busy),
+            code::FULL => Err(TryInsertError::Full),
+            code::NO_MEMORY => Err(TryInsertError::NoMemory),
+            other => sys::unexpected("klsm_try_insert", other),
+        }
+    }
+
+    /// Deletes a small item and answers it, and waits while a lock that it needs is held.
+    ///
+    /// At most T·k smaller items are in the queue at that moment, and none of these was inserted by
+    /// this member and lies in its own or the shared part. It takes no memory.
+    ///
+    /// `None`: the member's own part, the shared part and each other part that could be looked into
+    /// were empty. At most (T-1)·k items were in the queue then. They may be more a moment later, and
+    /// some may be with a member that inserts right now: count open work apart from the queue to tell
+    /// when all is done.
+    pub fn delete_min(&mut self) -> Option<Item> {
+        let mut item = Item::default();
+        match until_free(|| self.deletion(&mut item)) {
+            code::OK => Some(item),
+            code::NOTHING => None,
+            other => sys::unexpected("klsm_try_delete_min", other),
+        }
+    }
+
+    /// Deletes a small item and answers it, as [`delete_min`](Member::delete_min) does, and waits for
+    /// nobody.
+    ///
+    /// # Errors
+    ///
+    /// [`Busy`] where a lock that it needs is held. No part of the queue has changed then.
+    pub fn try_delete_min(&mut self) -> Result<Option<Item>, Busy> {
+        let mut item = Item::default();
+        match self.deletion(&mut item) {
+            code::OK => Ok(Some(item)),
+            code::NOTHING => Ok(None),
+            code::BUSY => Err(Busy),
+            other => sys::unexpected("klsm_try_delete_min", other),
+        }
+    }
+
+    /// How many insertions the member has made. It takes some nanoseconds and no lock.
+    #[must_use]
+    pub fn inserted_count(&self) -> u64 {
+        inserted_by(self.slot)
+    }
+
+    /// How many items the member has deleted. It takes some nanoseconds and no lock.
+    #[must_use]
+    pub fn deleted_count(&self) -> u64 {
+        deleted_by(self.slot)
+    }
+
+    #[inline]
+    fn insertion(&mut self, key: u64, load: u64) -> i32 {
+        // SAFETY: the pointer is that of a slot of an open queue, which is as the library left it and
+        // does not move while it is borrowed. `&mut` keeps other calls for this slot out.
+        unsafe { sys::klsm_try_insert(self.slot, key, load) }
+    }
+
+    #[inline]
+    fn deletion(&mut self, item: &mut Item) -> i32 {
+        // SAFETY: as in `insertion`; and `item` is a place for an item outside of the queue.
+        unsafe { sys::klsm_try_delete_min(self.slot, item) }
+    }
+}
+
+impl fmt::Debug for Member<'_> {
+    fn fmt(&self, to: &mut fmt::Formatter<'_>) -> fmt::Result {
+        to.debug_struct("Member")
+            .field("number", &self.number)
+            .field("inserted", &self.inserted_count())
+            .field("deleted", &self.deleted_count())
+            .finish()
+    }
+}
+
+pub(crate) fn inserted_by(slot: &Slot) -> u64 {
+    // SAFETY: the slot is closed or as the library left it. It is not `Sync` and is borrowed, so no
+    // other call for it is made meanwhile. What the library writes there lies in a cell.
+    unsafe { sys::klsm_inserted(slot) }
+}
+
+pub(crate) fn deleted_by(slot: &Slot) -> u64 {
+    // SAFETY: as in `inserted_by`.
+    unsafe { sys::klsm_deleted(slot) }
+}
+
+/// The members of a queue, in the order of their numbers: what [`Queue::members`] gives.
+///
+/// [`Queue::members`]: crate::Queue::members
+pub struct Members<'queue> {
+    slots: Enumerate<IterMut<'queue, Slot>>,
+}
+
+impl<'queue> Members<'queue> {
+    pub(crate) fn of(slots: &'queue mut [Slot]) -> Self {
+        Members {
+            slots: slots.iter_mut().enumerate(),
+        }
+    }
+}
+
+fn member_of((number, slot): (usize, &mut Slot)) -> Member<'_> {
+    Member {
+        slot,
+        number: number as u32,
+    }
+}
+
+impl<'queue> Iterator for Members<'queue> {
+    type Item = Member<'queue>;
+
+    fn next(&mut self) -> Option<Member<'queue>> {
+        self.slots.next().map(member_of)
+    }
+
+    fn size_hint(&self) -> (usize, Option<usize>) {
+        self.slots.size_hint()
+    }
+}
+
+impl DoubleEndedIterator for Members<'_> {
+    fn next_back(&mut self) -> Option<Self::Item> {
+        self.slots.next_back().map(member_of)
+    }
+}
+
+impl ExactSizeIterator for Members<'_> {}
+
+impl FusedIterator for Members<'_> {}
+
+impl fmt::Debug for Members<'_> {
+    fn fmt(&self, to: &mut fmt::Formatter<'_>) -> fmt::Result {
+        to.debug_struct("Members")
+            .field("remaining", &self.slots.len())
+            .finish()
+    }
+}

@@ -1,0 +1,153 @@
+//! A queue: opened, lent by its members, and finished.
+
+use crate::errors::{FinishError, OpenError};
+use crate::member::{deleted_by, inserted_by, Members};
+use crate::sys::{self, code, Item, Slots, Totals};
+use std::fmt;
+
+/// Which of the k+1 least shared items a deletion takes, where it takes a shared one. Of those up to
+/// the one that is picked, the first that its own member inserted goes before it.
+#[derive(Clone, Copy, Debug, Default, PartialEq, Eq, Hash)]
+#[repr(u32)]
+pub enum Pick {
+    /// The least of them.
+    #[default]
+    First = 0,
+    /// The greatest of them.
+    Last = 1,
+    /// A random one. Member t draws from a generator of its own, seeded with `seed + t`.
+    Random = 2,
+}
+
+/// What a queue comes to: each item that was inserted was deleted or is left, once.
+#[derive(Clone, Debug, Default, PartialEq, Eq)]
+pub struct Account {
+    /// How many insertions all members made.
+    pub inserted: u64,
+    /// How many items all members deleted.
+    pub deleted: u64,
+    /// The items that were not deleted, in ascending order.
+    pub left: Vec<Item>,
+}
+
+/// A relaxed priority queue with a member for each of up to sixteen threads.
+///
+/// Its own memory is 2 KiB and what the library takes for its members and items. Dropping a queue
+/// drops the items that are left; [`finish`](Queue::finish) gives them.
+pub struct Queue {
+    // The library wants this memory to stay where it is. It is boxed, and no reference to it leaves
+    // this crate.
+    slots: Box<Slots>,
+    threads: usize,
+}
+
+impl Queue {
+    /// Opens a queue for `threads` threads, 1 to 16, each of which keeps at most `k` items for itself,
+    /// 0 to 64. Where a deletion takes a shared item, it is the least. It takes memory, and no lock.
+    ///
+    /// # Errors
+    ///
+    /// A number is out of its range, memory was refused, or the library is of another version.
+    pub fn new(threads: usize, k: usize) -> Result<Queue, OpenError> {
+        Queue::with_pick(threads, k, Pick::First, 0)
+    }
+
+    /// Opens a queue as [`new`](Queue::new) does, whose deletions take the shared item that `pick`
+    /// says. Only [`Pick::Random`] has a use for `seed`.
+    ///
+    /// # Errors
+    ///
+    /// Those of [`new`](Queue::new).
+    pub fn with_pick(threads: usize, k: usize, pick: Pick, seed: u64) -> Result<Queue, OpenError> {
+        // SAFETY: the call takes nothing and answers a constant.
+        let version = unsafe { sys::klsm_abi() };
+        if version != sys::ABI {
+            return Err(OpenError::Version(version, sys::ABI));
+        }
+        let mut slots = Box::new(Slots::closed());
+        // SAFETY: the pointer is that of the memory of a closed queue, which no one else has.
+        match unsafe { sys::klsm_open(&mut *slots, threads, k, pick as u32, seed) } {
+            code::OK => Ok(Queue { slots, threads }),
+            code::BAD_COUNT => Err(OpenError::BadThreads),
+            code::BAD_K => Err(OpenError::BadK),
+            code::NO_MEMORY => Err(OpenError::NoMemory),
+            other => sys::unexpected("klsm_open", other),
+        }
+    }
+
+    /// How many members it has.
+    #[must_use]
+    pub fn threads(&self) -> usize {
+        self.threads
+    }
+
+    /// Lends the members, each once, in the order of their numbers. Threads borrow them, such as those
+    /// of [`std::thread::scope`]. Once all are done, the members may be lent again.
+    pub fn members(&mut self) -> Members<'_> {
+        Members::of(&mut self.slots.members[..self.threads])
+    }
+
+    /// How many items are in the queue: those inserted less those deleted. No member is lent when this
+    /// is asked. It takes some nanoseconds for each member.
+    #[must_use]
+    pub fn left(&self) -> u64 {
+        let slots = &self.slots.members[..self.threads];
+        let inserted: u64 = slots.iter().map(inserted_by).sum();
+        let deleted: u64 = slots.iter().map(deleted_by).sum();
+        inserted - deleted
+    }
+
+    /// Ends the queue and gives the account: the totals, and the items that are left.
+    ///
+    /// It takes memory for what is left, 32 bytes for each item and as much again while it lasts, and
+    /// no lock.
+    ///
+    /// # Errors
+    ///
+    /// Where memory is refused, [`FinishError::NoMemory`] gives the queue back as it was.
+    pub fn finish(mut self) -> Result<Account, FinishError> {
+        let mut left = Vec::new();
+        // One more, so that the pointer leads to an item also where none is left.
+        let room = self.left() as usize + 1;
+        if left.try_reserve_exact(room).is_err() {
+            return Err(FinishError::NoMemory(self));
+        }
+        left.resize(room, Item::default());
+        let mut totals = Totals::default();
+        // SAFETY: the queue is as the library left it, and no member is lent. `totals` and `left` lie
+        // outside of it, and `left` has room for as many items as it is long.
+        let code = unsafe {
+            sys::klsm_close(&mut *self.slots, &mut totals, left.as_mut_ptr(), left.len())
+        };
+        match code {
+            code::OK => {
+                debug_assert_eq!(totals.left + 1, room as u64);
+                left.truncate(totals.left as usize);
+                Ok(Account {
+                    inserted: totals.inserted,
+                    deleted: totals.deleted,
+                    left,
+                })
+            }
+            code::NO_MEMORY => Err(FinishError::NoMemory(self)),
+            code::SHARED => Err(FinishError::Shared),
+            other => sys::unexpected("klsm_close", other),
+        }
+    }
+}
+
+impl Drop for Queue {
+    fn drop(&mut self) {
+        // SAFETY: the queue is open or closed, as the library left it, and no member is lent.
+        unsafe { sys::klsm_drop(&mut *self.slots) };
+    }
+}
+
+impl fmt::Debug for Queue {
+    fn fmt(&self, to: &mut fmt::Formatter<'_>) -> fmt::Result {
+        to.debug_struct("Queue")
+            .field("threads", &self.threads)
+            .field("left", &self.left())
+            .finish()
+    }
+}

@@ -1,0 +1,129 @@
+//! What each call answers, and what its arguments mean.
+
+use klsm::{InsertError, Item, OpenError, Pick, Queue, TryInsertError};
+
+#[test]
+fn the_counts_of_an_opening_are_judged_in_their_order() {
+    let refusal = |threads, k| Queue::new(threads, k).err();
+    assert_eq!(refusal(0, 4), Some(OpenError::BadThreads));
+    assert_eq!(refusal(17, 4), Some(OpenError::BadThreads));
+    assert_eq!(refusal(17, 65), Some(OpenError::BadThreads));
+    assert_eq!(refusal(usize::MAX, 4), Some(OpenError::BadThreads));
+    assert_eq!(refusal(4, 65), Some(OpenError::BadK));
+    assert_eq!(refusal(4, usize::MAX), Some(OpenError::BadK));
+    assert_eq!(refusal(1, 0), None);
+    assert_eq!(refusal(16, 64), None);
+}
+
+#[test]
+fn an_item_comes_back_as_it_was_given() {
+    let mut queue = Queue::with_pick(5, 3, Pick::Random, 77).unwrap();
+    let (key, load) = (0xfedc_ba98_7654_3210, 0x0123_4567_89ab_cdef);
+    let mut member = queue.members().nth(3).unwrap();
+    assert_eq!(member.number(), 3);
+    member.insert(1, 2).unwrap();
+    assert_eq!(member.delete_min().map(|item| item.number), Some(0));
+    member.insert(key, load).unwrap();
+    let expected = Item {
+        key,
+        load,
+        number: 1,
+        owner: 3,
+    };
+    assert_eq!(member.delete_min(), Some(expected));
+    assert_eq!(member.delete_min(), None);
+    assert_eq!(member.try_delete_min(), Ok(None));
+    assert_eq!((member.inserted_count(), member.deleted_count()), (2, 2));
+}
+
+#[test]
+fn each_member_is_lent_once_and_again() {
+    let mut queue = Queue::new(16, 0).unwrap();
+    assert_eq!(queue.threads(), 16);
+    for round in 0..2 {
+        let members: Vec<_> = queue.members().collect();
+        assert_eq!(members.len(), 16);
+        for (number, mut member) in members.into_iter().enumerate() {
+            assert_eq!(member.number() as usize, number);
+            assert_eq!(member.inserted_count(), round);
+            assert_eq!(member.try_insert(number as u64, round), Ok(()));
+        }
+    }
+    assert_eq!(queue.members().len(), 16);
+    assert_eq!(queue.members().next_back().unwrap().number(), 15);
+    assert_eq!(queue.left(), 32);
+}
+
+#[test]
+fn what_is_left_is_given_in_ascending_order() {
+    let mut queue = Queue::new(2, 2).unwrap();
+    for mut member in queue.members() {
+        for key in [9, 1, 5, 5, 3] {
+            member.insert(key, 10 * key).unwrap();
+        }
+    }
+    let gone = queue.members().next().unwrap().delete_min().unwrap();
+    let account = queue.finish().unwrap();
+    assert_eq!((account.inserted, account.deleted), (10, 1));
+    assert_eq!(account.left.len(), 9);
+    assert!(account.left.windows(2).all(|two| two[0] < two[1]));
+    assert!(account.left.iter().all(|item| item.load == 10 * item.key));
+    assert!(!account.left.contains(&gone));
+}
+
+#[test]
+fn a_full_queue_refuses_and_goes_on() {
+    let mut queue = Queue::new(1, 64).unwrap();
+    let mut member = queue.members().next().unwrap();
+    let refusal = loop {
+        let count = member.inserted_count();
+        assert!(count < 1 << 21, "the queue is never full");
+        match member.insert(1 << 40, count) {
+            Ok(()) => {}
+            Err(why) => break why,
+        }
+    };
+    assert_eq!(refusal, InsertError::Full);
+    assert_eq!(member.try_insert(0, 0), Err(TryInsertError::Full));
+    let count = member.inserted_count();
+    assert!(count >= 1 << 20, "full at {count}");
+    for _ in 0..1 << 10 {
+        assert!(member.delete_min().is_some());
+    }
+    assert_eq!(member.insert(7, 7), Ok(()));
+    assert_eq!(member.delete_min().map(|item| item.key), Some(7));
+    assert_eq!(queue.left(), count - (1 << 10));
+}
+
+#[test]
+fn a_queue_with_items_may_be_dropped() {
+    let mut queue = Queue::new(3, 8).unwrap();
+    for mut member in queue.members() {
+        for key in 0..100 {
+            member.insert(key, 0).unwrap();
+        }
+    }
+    drop(queue);
+    drop(Queue::new(1, 0).unwrap());
+}
+
+#[test]
+fn errors_have_a_text_each() {
+    let texts = [
+        OpenError::Version(2, 1).to_string(),
+        OpenError::BadThreads.to_string(),
+        OpenError::BadK.to_string(),
+        OpenError::NoMemory.to_string(),
+        InsertError::Spent.to_string(),
+        InsertError::Full.to_string(),
+        TryInsertError::Busy.to_string(),
+    ];
+    for (i, text) in texts.iter().enumerate() {
+        assert!(!text.is_empty() && !texts[..i].contains(text), "{text}");
+    }
+    for why in [InsertError::Spent, InsertError::Full, InsertError::NoMemory] {
+        assert_eq!(TryInsertError::from(why).to_string(), why.to_string());
+    }
+    let boxed: Box<dyn std::error::Error> = Box::new(Queue::new(1, 65).unwrap_err());
+    assert_eq!(boxed.to_string(), "k is above 64");
+}

@@ -1,0 +1,125 @@
+//! Members used by threads at once: the account is exact, and members may change threads.
+
+use klsm::{Member, Members, Pick, Queue};
+use std::sync::mpsc;
+use std::thread;
+
+const THREADS: usize = 4;
+const INSERTIONS: u64 = 20_000;
+
+fn is_send<T: Send>() {}
+
+#[test]
+fn queues_and_members_may_be_sent() {
+    is_send::<Queue>();
+    is_send::<Member<'_>>();
+    is_send::<Members<'_>>();
+}
+
+/// A small generator, so that each thread has keys of its own.
+fn next_of(state: &mut u64) -> u64 {
+    *state = state
+        .wrapping_mul(6_364_136_223_846_793_005)
+        .wrapping_add(1_442_695_040_888_963_407);
+    *state >> 40
+}
+
+/// Inserts loads of its own and deletes three of four, as far as it finds them. The loads that it got.
+fn work(mut member: Member<'_>) -> Vec<u64> {
+    let mut state = u64::from(member.number()) + 1;
+    let first = u64::from(member.number()) * INSERTIONS;
+    let mut got = Vec::new();
+    for i in 0..INSERTIONS {
+        let key = next_of(&mut state);
+        if i % 2 == 0 {
+            member.insert(key, first + i).unwrap();
+        } else {
+            while member.try_insert(key, first + i).is_err() {
+                thread::yield_now();
+            }
+        }
+        match i % 4 {
+            0 => {}
+            1 => got.extend(member.try_delete_min().ok().flatten().map(|item| item.load)),
+            _ => got.extend(member.delete_min().map(|item| item.load)),
+        }
+    }
+    assert_eq!(member.inserted_count(), INSERTIONS);
+    assert_eq!(member.deleted_count(), got.len() as u64);
+    got
+}
+
+fn each_load_is_deleted_or_left_once(k: usize, pick: Pick) {
+    let mut queue = Queue::with_pick(THREADS, k, pick, 7).unwrap();
+    let mut loads: Vec<u64> = thread::scope(|scope| {
+        let running: Vec<_> = queue
+            .members()
+            .map(|member| scope.spawn(move || work(member)))
+            .collect();
+        running
+            .into_iter()
+            .flat_map(|thread| thread.join().unwrap())
+            .collect()
+    });
+    let (inserted, deleted) = (THREADS as u64 * INSERTIONS, loads.len() as u64);
+    assert_eq!(queue.left(), inserted - deleted);
+    let account = queue.finish().unwrap();
+    assert_eq!((account.inserted, account.deleted), (inserted, deleted));
+    assert!(account.left.windows(2).all(|two| two[0] < two[1]));
+    loads.extend(account.left.iter().map(|item| item.load));
+    loads.sort_unstable();
+    assert!(loads.into_iter().eq(0..inserted));
+}
+
+#[test]
+fn the_account_is_exact_with_the_first_picked() {
+    each_load_is_deleted_or_left_once(64, Pick::First);
+}
+
+#[test]
+fn the_account_is_exact_with_the_last_picked() {
+    each_load_is_deleted_or_left_once(4, Pick::Last);
+}
+
+#[test]
+fn the_account_is_exact_with_a_random_pick() {
+    each_load_is_deleted_or_left_once(16, Pick::Random);
+}
+
+#[test]
+fn the_account_is_exact_without_own_items() {
+    each_load_is_deleted_or_left_once(0, Pick::First);
+}
+
+#[test]
+fn a_member_changes_threads_between_calls() {
+    let mut queue = Queue::new(2, 8).unwrap();
+    thread::scope(|scope| {
+        let (to, from) = mpsc::channel::<Member<'_>>();
+        let mut members = queue.members();
+        let mut one = members.next().unwrap();
+        let mut other = members.next().unwrap();
+        one.insert(1, 10).unwrap();
+        scope.spawn(move || {
+            for mut member in from {
+                assert_eq!(member.inserted_count(), 1);
+                member.insert(2, 20).unwrap();
+                assert_eq!(member.delete_min().map(|item| item.load), Some(10));
+            }
+        });
+        to.send(one).unwrap();
+        drop(to);
+        other.insert(3, 30).unwrap();
+    });
+    assert_eq!(queue.left(), 2);
+}
+
+#[test]
+fn a_queue_changes_threads_with_its_items() {
+    let mut queue = Queue::new(1, 8).unwrap();
+    queue.members().next().unwrap().insert(5, 50).unwrap();
+    let account = thread::spawn(move || queue.finish().unwrap())
+        .join()
+        .unwrap();
+    assert_eq!(account.left[0].load, 50);
+}

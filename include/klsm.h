@@ -1,0 +1,315 @@
+/* klsm.h: the k-LSM relaxed priority queue for up to 16 threads. C11 and C++.
+ *
+ *     #include <klsm.h>
+ *     #include <stdio.h>
+ *     static klsm_queue queue = KLSM_QUEUE_CLOSED;
+ *     int main(void) {
+ *         klsm_item item;
+ *         if (klsm_open(&queue, 4, 64, KLSM_FIRST, 0) != KLSM_OK) return 1;
+ *         if (klsm_insert(&queue.members[0], 3, 30) != KLSM_OK) return 1;  // thread t: members[t]
+ *         if (klsm_delete_min(&queue.members[0], &item) == KLSM_OK)
+ *             printf("key %d load %d\n", (int)item.key, (int)item.load);
+ *         klsm_drop(&queue);
+ *     }
+ *
+ *     cc main.c -Iinclude libklsm.a -pthread
+ *
+ * An item has a key, of which the least is the most urgent, a load that the queue never reads, and a
+ * stamp: the number of the member that inserted it, and how many insertions that member had made
+ * before. No two items of one queue have one stamp. Items are ordered by key, then owner, then
+ * number; "smaller", "least" and "ascending" mean this order.
+ *
+ * A queue has T members, one for each thread. Each keeps at most k items in a part of its own, and
+ * all other items lie in one shared part.
+ * - A deletion gives an item to which at most T*k smaller ones live when it takes effect. With k = 0
+ *   that is the least item. It passes over none that its own member inserted and that lies in its
+ *   own or in the shared part.
+ * - KLSM_NOTHING is answered only where at most (T-1)*k items live. So with one thread, or k = 0, it
+ *   means that the queue is empty; otherwise it does not, and a program that ends by it has to count
+ *   what is open for itself, as bindings/examples does.
+ * - Nothing is lost and nothing comes twice: each item whose insertion answered KLSM_OK is given by
+ *   one deletion, or is left when the queue is closed. A call with any other code has changed
+ *   nothing but what its own lines say.
+ * - What a thread wrote before an insertion is seen by the thread whose deletion gives the item, so
+ *   a load may be a pointer.
+ *
+ * Nothing checks the following, and what happens otherwise is undefined:
+ * - One call at a time for each member. Different members may be used at the same time. klsm_open,
+ *   klsm_close, klsm_drop and klsm_left have the whole queue for themselves. One call comes before
+ *   another where a thread's start or join, a lock, or a release and an acquire order them; so a
+ *   member may change threads.
+ * - A queue is all bytes 0 (KLSM_QUEUE_CLOSED, static storage, or memset), or as the last call left
+ *   it. It is aligned to 128 bytes: malloc does not give that, aligned_alloc(128, ..) does. While it
+ *   is open it is not copied, moved, written to or freed.
+ * - No pointer is null. `item`, `account` and `left` do not overlap each other or the queue. `left`
+ *   points to `room` items, and to some item also where `room` is 0.
+ * - A member is one of a klsm_queue.
+ * - No call comes from a signal handler, nor from a forked child about a queue that was open.
+ * - malloc, realloc and free keep the C standard's promises, also if they are the program's own.
+ */
+#ifndef KLSM_H
+#define KLSM_H
+
+#include <sched.h>
+#include <stddef.h>
+#include <stdint.h>
+
+#if !defined(__x86_64__) || !defined(__GNUC__)
+#error "klsm.h: the library is for x86-64, and the header for compilers like GCC and Clang"
+#endif
+
+/* The version of this header, that of `klsm --version`. */
+#define KLSM_VERSION "1.0.0"
+#define KLSM_VERSION_MAJOR 1
+#define KLSM_VERSION_MINOR 0
+#define KLSM_VERSION_PATCH 0
+
+/* The binary interface that this header describes. The library's is klsm_abi(); a program that may
+ * meet another library than it was compiled for compares the two before any other call. */
+#define KLSM_ABI 1
+
+/* The most threads of a queue, the greatest k, and the insertions that a member can make. */
+#define KLSM_MAX_THREADS 16
+#define KLSM_MAX_K 64
+#define KLSM_MAX_INSERTIONS (UINT64_C(1) << 48)
+
+#ifdef __cplusplus
+#define KLSM_ASSERT(what) static_assert(what, #what)
+#define KLSM_ALIGNED alignas(128)
+#define KLSM_INLINE inline
+#define KLSM_COLD __attribute__((noinline, cold)) inline
+#define KLSM_QUEUE_CLOSED {}
+extern "C" {
+#else
+#define KLSM_ASSERT(what) _Static_assert(what, #what)
+#define KLSM_ALIGNED _Alignas(128)
+#define KLSM_INLINE static inline
+#define KLSM_COLD __attribute__((noinline, cold, unused)) static
+#define KLSM_QUEUE_CLOSED {{{0, 0, {0}}}}
+#endif
+
+/* One member: what one thread inserts and deletes by. Its fields belong to the library. It has two
+ * lines of the cache, since processors fetch lines in pairs, so threads do not disturb each other. */
+typedef struct klsm_member {
+    KLSM_ALIGNED void *at;
+    uint64_t live;
+    uint64_t room[14];
+} klsm_member;
+
+/* A queue. Member t is &queue.members[t], for t below the number of threads that it was opened for.
+ * The others stay closed. */
+typedef struct klsm_queue {
+    klsm_member members[KLSM_MAX_THREADS];
+} klsm_queue;
+
+/* What a deletion gives. */
+typedef struct klsm_item {
+    uint64_t key;
+    uint64_t load;
+    uint64_t number; /* how many insertions its owner had made before */
+    uint32_t owner;  /* the number of the member that inserted it */
+} klsm_item;
+
+/* What a closed queue says of itself: inserted = deleted + left. */
+typedef struct klsm_account {
+    uint64_t inserted;
+    uint64_t deleted;
+    uint64_t left; /* how many items were left, however many of them were copied */
+} klsm_account;
+
+KLSM_ASSERT(sizeof(void *) == 8 && sizeof(size_t) == 8);
+KLSM_ASSERT(sizeof(klsm_member) == 128);
+KLSM_ASSERT(offsetof(klsm_member, at) == 0 && offsetof(klsm_member, live) == 8);
+KLSM_ASSERT(offsetof(klsm_member, room) == 16);
+KLSM_ASSERT(sizeof(klsm_queue) == 2048 && offsetof(klsm_queue, members) == 0);
+KLSM_ASSERT(sizeof(klsm_item) == 32);
+KLSM_ASSERT(offsetof(klsm_item, key) == 0 && offsetof(klsm_item, load) == 8);
+KLSM_ASSERT(offsetof(klsm_item, number) == 16 && offsetof(klsm_item, owner) == 24);
+KLSM_ASSERT(sizeof(klsm_account) == 24 && offsetof(klsm_account, inserted) == 0);
+KLSM_ASSERT(offsetof(klsm_account, deleted) == 8 && offsetof(klsm_account, left) == 16);
+#ifdef __cplusplus
+KLSM_ASSERT(alignof(klsm_member) == 128 && alignof(klsm_queue) == 128);
+#else
+KLSM_ASSERT(_Alignof(klsm_member) == 128 && _Alignof(klsm_queue) == 128);
+#endif
+
+/* What the calls answer. A later version may have more. */
+enum klsm_code {
+    KLSM_OK = 0,         /* done */
+    KLSM_NOTHING = 1,    /* deletion: no item was found where it looked */
+    KLSM_BUSY = 2,       /* klsm_try_..: another member holds a lock that is needed */
+    KLSM_FULL = 3,       /* insertion: the shared part, of 2^20 items, has no room for what would move */
+    KLSM_NO_MEMORY = 4,  /* malloc gave none */
+    KLSM_SPENT = 5,      /* insertion: the member has made 2^48 insertions */
+    KLSM_NOT_OPEN = 6,   /* the member, or the queue that is to be closed, is not open */
+    KLSM_OPEN = 7,       /* opening: the queue is open already */
+    KLSM_BAD_COUNT = 8,  /* opening: not 1 to 16 threads */
+    KLSM_BAD_K = 9,      /* opening: k is above 64 */
+    KLSM_BAD_PICK = 10,  /* opening: no such pick */
+    KLSM_SHARED = 11     /* closing: another owner holds the queue's parts; see klsm_close */
+};
+
+/* Which of the k + 1 least shared items a deletion takes where it takes a shared one. Of those up to
+ * the one that is picked, the first that its own member inserted goes before it. */
+enum klsm_pick {
+    KLSM_FIRST = 0, /* the least */
+    KLSM_LAST = 1,  /* the greatest: for tests, since the most items are passed over */
+    KLSM_RANDOM = 2 /* any, by a generator of each member: PCG32, seeded with seed + t for member t */
+};
+
+/* The binary interface of the library. Any thread, at any time. */
+uint32_t klsm_abi(void);
+
+/* Opens a closed queue for `threads` members, all empty. A larger k means fewer meetings of threads
+ * and less exact answers; 64 is a good one for throughput. `seed` is used by KLSM_RANDOM alone.
+ * Has the whole queue for itself. Takes some 17 KB of memory for each member, which klsm_close and
+ * klsm_drop give back.
+ * KLSM_OK, or the first of these that is true:
+ *   KLSM_OPEN        it is open already
+ *   KLSM_BAD_PICK    `pick` is none of the three
+ *   KLSM_BAD_COUNT   `threads` is 0 or above 16
+ *   KLSM_BAD_K       `k` is above 64
+ *   KLSM_NO_MEMORY   malloc gave none
+ * After these the queue is as it was, byte by byte, and no memory is kept. */
+int32_t klsm_open(klsm_queue *queue, size_t threads, size_t k, uint32_t pick, uint64_t seed);
+
+/* Inserts an item. Waits for nobody. The member's thread, one call at a time.
+ * Costs no lock but the member's own, which is free unless another member looks for items there
+ * just then, and no memory, while the own part has fewer than k items. At k items its largest block
+ * moves to the shared part: this takes the shared lock, and a block of memory.
+ * KLSM_OK, or the first of these that is true:
+ *   KLSM_NOT_OPEN    the member is not open
+ *   KLSM_SPENT       the member has made 2^48 insertions
+ *   KLSM_BUSY        the own lock, or the shared one if it is needed, is held by another member
+ *   KLSM_FULL        the own part has k items, and the shared part no room for what would move
+ *   KLSM_NO_MEMORY   it has room, but malloc gave no memory for it
+ * After these nothing is inserted and no part has changed: the same call may be made again, after
+ * KLSM_FULL once items have been deleted. */
+int32_t klsm_try_insert(klsm_member *member, uint64_t key, uint64_t load);
+
+/* Deletes a small item. Waits for nobody and takes no memory. The member's thread, one call at a
+ * time. Costs no lock but the member's own where its least own key is below all shared ones;
+ * otherwise the shared lock too, and where both parts are empty a look at the other members' parts.
+ * KLSM_OK            *item is written
+ * KLSM_NOTHING       the own part, the shared part, and each other part that was not held just then
+ *                    were empty; so at most (T-1)*k items live
+ * KLSM_BUSY          the own lock, or the shared one if it is needed, is held by another member
+ * KLSM_NOT_OPEN      the member is not open
+ * After all but KLSM_OK no part has changed, and *item is as it was. */
+int32_t klsm_try_delete_min(klsm_member *member, klsm_item *item);
+
+/* How many insertions and deletions of the member answered KLSM_OK since the queue was opened; 0
+ * where it is not open. The member's thread, one call at a time: this call, too, writes to the member.
+ * Costs no lock. */
+uint64_t klsm_inserted(klsm_member *member);
+uint64_t klsm_deleted(klsm_member *member);
+
+/* Closes a queue: writes the account, copies the least `room` of the items that are left to `left`,
+ * ascending, and gives all memory back. The rest of that array is as it was. The items that have no
+ * room there are gone, so size it by klsm_left first where they matter. Has the whole queue for
+ * itself, so no thread is left that uses a member. Waits for nobody. Costs a sort of the items that
+ * are left, and 32 bytes of memory for each while it runs.
+ * KLSM_OK            done: all members are closed, and the queue may be opened again
+ * KLSM_NOT_OPEN      it is not open
+ * KLSM_NO_MEMORY     malloc gave none. The queue is open as before, so items can be deleted, and
+ *                    the call be made again; klsm_drop needs no memory
+ * KLSM_SHARED        comes after no sequence of these calls, but no proof says so: all members are
+ *                    closed, the account and the array are as they were
+ * After KLSM_NOT_OPEN and KLSM_NO_MEMORY nothing has changed. */
+int32_t klsm_close(klsm_queue *queue, klsm_account *account, klsm_item *left, size_t room);
+
+/* Closes a queue, with all that is left in it, and gives all memory back. Takes no memory, waits for
+ * nobody, and cannot fail; a closed queue stays closed. Has the whole queue for itself. */
+void klsm_drop(klsm_queue *queue);
+
+/* ---- Inline functions over these ---- */
+
+/* How many items are in the queue: insertions less deletions, over all members. Has the whole queue
+ * for itself, and is exact. 0 where the queue is closed. */
+KLSM_INLINE uint64_t klsm_left(klsm_queue *queue) {
+    uint64_t left = 0;
+    for (size_t t = 0; t < KLSM_MAX_THREADS; t++)
+        left += klsm_inserted(&queue->members[t]) - klsm_deleted(&queue->members[t]);
+    return left;
+}
+
+/* A short English text for a code. Any thread, at any time. */
+KLSM_INLINE const char *klsm_text(int32_t code) {
+    switch (code) {
+    case KLSM_OK: return "done";
+    case KLSM_NOTHING: return "no item was found";
+    case KLSM_BUSY: return "another member holds a lock";
+    case KLSM_FULL: return "the shared part has no room";
+    case KLSM_NO_MEMORY: return "out of memory";
+    case KLSM_SPENT: return "the member has made all its insertions";
+    case KLSM_NOT_OPEN: return "not open";
+    case KLSM_OPEN: return "open already";
+    case KLSM_BAD_COUNT: return "not 1 to 16 threads";
+    case KLSM_BAD_K: return "k is above 64";
+    case KLSM_BAD_PICK: return "no such pick";
+    case KLSM_SHARED: return "the queue has another owner";
+    default: return "unknown code";
+    }
+}
+
+/* What a thread does after KLSM_BUSY: it looks away, longer each time, and then lets other threads
+ * run. For a waiting loop of one's own over the calls klsm_try_..; klsm_insert and klsm_delete_min
+ * show how. The lengths are those of the library's own waiting calls. */
+typedef struct klsm_pause {
+    uint32_t length; /* of the next pause */
+    uint32_t step;   /* how many came before, at most 11 */
+} klsm_pause;
+
+KLSM_INLINE klsm_pause klsm_first_pause(void) {
+    klsm_pause first = {400, 0};
+    return first;
+}
+
+KLSM_INLINE void klsm_wait(klsm_pause *pause) {
+    uint32_t count = pause->length + (pause->step <= 6 ? UINT32_C(1) << pause->step : 0);
+    for (uint32_t i = 0; i < count; i++)
+        __builtin_ia32_pause();
+    if (pause->step > 6)
+        sched_yield();
+    if (pause->step <= 10)
+        pause->step++;
+    pause->length = pause->length < 1600 ? 2 * pause->length : 3200;
+}
+
+/* The calls that come after a first one was KLSM_BUSY. */
+KLSM_COLD int32_t klsm_insert_after_pauses(klsm_member *member, uint64_t key, uint64_t load) {
+    klsm_pause pause = klsm_first_pause();
+    int32_t code;
+    do {
+        klsm_wait(&pause);
+        code = klsm_try_insert(member, key, load);
+    } while (code == KLSM_BUSY);
+    return code;
+}
+
+KLSM_COLD int32_t klsm_delete_min_after_pauses(klsm_member *member, klsm_item *item) {
+    klsm_pause pause = klsm_first_pause();
+    int32_t code;
+    do {
+        klsm_wait(&pause);
+        code = klsm_try_delete_min(member, item);
+    } while (code == KLSM_BUSY);
+    return code;
+}
+
+/* klsm_try_insert, again and again while it is KLSM_BUSY. How long it may wait is not promised. */
+KLSM_INLINE int32_t klsm_insert(klsm_member *member, uint64_t key, uint64_t load) {
+    int32_t code = klsm_try_insert(member, key, load);
+    return __builtin_expect(code == KLSM_BUSY, 0) ? klsm_insert_after_pauses(member, key, load) : code;
+}
+
+/* klsm_try_delete_min, again and again while it is KLSM_BUSY. It does not wait for an item. */
+KLSM_INLINE int32_t klsm_delete_min(klsm_member *member, klsm_item *item) {
+    int32_t code = klsm_try_delete_min(member, item);
+    return __builtin_expect(code == KLSM_BUSY, 0) ? klsm_delete_min_after_pauses(member, item) : code;
+}
+
+#ifdef __cplusplus
+}
+#endif
+#endif

@@ -1,0 +1,232 @@
+// klsm.hpp: the k-LSM relaxed priority queue of klsm.h as C++17 classes. Header only.
+//
+//     klsm::queue queue(threads);                          // throws klsm::error
+//     // in thread t:
+//     klsm::member member = queue.member(t).value();
+//     if (member.insert(key, load) != klsm::code::ok) ..
+//     if (std::optional<klsm::item> item = member.delete_min()) ..   // none is no sign of the end
+//     // once the members are gone:
+//     klsm::account account = queue.close();               // the totals, and what is left, ascending
+//
+// klsm.h says what a deletion may pass over, and when each code comes.
+//
+// A klsm::queue owns a klsm_queue, which lies in a block of its own on the heap. So a queue may be
+// moved, also while it is open and members of it are out: what the members point to stays where it is.
+// A klsm::member is the right to use one member, and no two of one number exist at a time. It may be
+// moved to another thread. It goes back where it is destroyed, and can then be taken again. One that
+// is there after its queue was closed or destroyed answers code::not_open, and counts 0.
+//
+// Nothing checks the following, and what happens otherwise is undefined:
+// - One call at a time for each klsm::member, and for each klsm::queue, but that several threads may
+//   call queue::member and queue::threads at once.
+// - No call of a member runs during close(), left(), and the end of its queue, or an assignment to it.
+// No call but the constructor and the close() without an argument throws.
+#ifndef KLSM_HPP
+#define KLSM_HPP
+
+#include "klsm.h"
+
+#include <atomic>
+#include <cstddef>
+#include <cstdint>
+#include <exception>
+#include <memory>
+#include <new>
+#include <optional>
+#include <utility>
+#include <vector>
+
+namespace klsm {
+
+// The codes of klsm.h.
+enum class code : std::int32_t {
+    ok = KLSM_OK,
+    nothing = KLSM_NOTHING,
+    busy = KLSM_BUSY,
+    full = KLSM_FULL,
+    no_memory = KLSM_NO_MEMORY,
+    spent = KLSM_SPENT,
+    not_open = KLSM_NOT_OPEN,
+    open = KLSM_OPEN,
+    bad_count = KLSM_BAD_COUNT,
+    bad_k = KLSM_BAD_K,
+    bad_pick = KLSM_BAD_PICK,
+    shared = KLSM_SHARED
+};
+
+// A short English text.
+[[nodiscard]] inline const char *text(code answer) noexcept {
+    return klsm_text(static_cast<std::int32_t>(answer));
+}
+
+enum class pick : std::uint32_t { first = KLSM_FIRST, last = KLSM_LAST, random = KLSM_RANDOM };
+
+using item = klsm_item;
+
+// What the constructor and close() throw.
+class error : public std::exception {
+public:
+    explicit error(klsm::code why) noexcept : why_(why) {}
+    [[nodiscard]] klsm::code code() const noexcept { return why_; }
+    [[nodiscard]] const char *what() const noexcept override { return text(why_); }
+
+private:
+    klsm::code why_;
+};
+
+// What a closed queue says of itself: inserted = deleted + left.size().
+struct account {
+    std::uint64_t inserted = 0;
+    std::uint64_t deleted = 0;
+    std::vector<item> left; // ascending
+};
+
+namespace detail {
+
+// What a queue has in its block.
+struct block {
+    klsm_queue queue = KLSM_QUEUE_CLOSED;
+    std::atomic<bool> is_out[KLSM_MAX_THREADS] = {};
+    std::size_t threads = 0;
+};
+
+} // namespace detail
+
+// What one thread inserts and deletes by.
+class member {
+public:
+    member(const member &) = delete;
+    member &operator=(const member &) = delete;
+
+    // The other one answers code::not_open afterwards.
+    member(member &&other) noexcept
+        : at_(std::exchange(other.at_, nullptr)), block_(std::move(other.block_)) {}
+    // The number that this one had goes back.
+    member &operator=(member &&other) noexcept {
+        member moved(std::move(other));
+        std::swap(at_, moved.at_);
+        std::swap(block_, moved.block_);
+        return *this;
+    }
+    ~member() {
+        if (at_ != nullptr) block_->is_out[at_ - block_->queue.members].store(false, std::memory_order_release);
+    }
+
+    // Inserts, and waits while a lock is held: never code::busy.
+    [[nodiscard]] klsm::code insert(std::uint64_t key, std::uint64_t load) noexcept {
+        return at_ == nullptr ? code::not_open : code(klsm_insert(at_, key, load));
+    }
+    // Inserts, and waits for nobody.
+    [[nodiscard]] klsm::code try_insert(std::uint64_t key, std::uint64_t load) noexcept {
+        return at_ == nullptr ? code::not_open : code(klsm_try_insert(at_, key, load));
+    }
+    // Deletes a small item, and waits while a lock is held. None where it found nothing, and where
+    // the queue is closed.
+    [[nodiscard]] std::optional<item> delete_min() noexcept {
+        item deleted;
+        if (at_ == nullptr || klsm_delete_min(at_, &deleted) != KLSM_OK) return std::nullopt;
+        return deleted;
+    }
+    // Deletes a small item, and waits for nobody. `deleted` is written exactly with code::ok.
+    [[nodiscard]] klsm::code try_delete_min(item &deleted) noexcept {
+        return at_ == nullptr ? code::not_open : code(klsm_try_delete_min(at_, &deleted));
+    }
+    // How many insertions and deletions were made by this number since the queue was opened.
+    [[nodiscard]] std::uint64_t inserted() noexcept {
+        return at_ == nullptr ? 0 : klsm_inserted(at_);
+    }
+    [[nodiscard]] std::uint64_t deleted() noexcept {
+        return at_ == nullptr ? 0 : klsm_deleted(at_);
+    }
+
+private:
+    friend class queue;
+    member(klsm_member *at, std::shared_ptr<detail::block> of) noexcept : at_(at), block_(std::move(of)) {}
+
+    klsm_member *at_;
+    std::shared_ptr<detail::block> block_;
+};
+
+class queue {
+public:
+    // Opens a queue. Throws an error with code::bad_pick, bad_count, bad_k or no_memory, the first of
+    // these that is true.
+    explicit queue(std::size_t threads, std::size_t k = 64, pick how = pick::first,
+                   std::uint64_t seed = 0) {
+        try {
+            block_ = std::make_shared<detail::block>();
+        } catch (const std::bad_alloc &) {
+            throw error(code::no_memory);
+        }
+        block_->threads = threads;
+        std::int32_t answer = klsm_open(&block_->queue, threads, k, static_cast<std::uint32_t>(how), seed);
+        if (answer != KLSM_OK) throw error(klsm::code(answer));
+    }
+    queue(const queue &) = delete;
+    queue &operator=(const queue &) = delete;
+
+    // The other one is closed, and has no members, afterwards.
+    queue(queue &&) noexcept = default;
+    // What is left in this one is dropped.
+    queue &operator=(queue &&other) noexcept {
+        queue moved(std::move(other));
+        std::swap(block_, moved.block_);
+        return *this;
+    }
+
+    // Drops what is left in it.
+    ~queue() {
+        if (block_ != nullptr) klsm_drop(&block_->queue);
+    }
+
+    // How many members it was opened for.
+    [[nodiscard]] std::size_t threads() const noexcept {
+        return block_ == nullptr ? 0 : block_->threads;
+    }
+
+    // The member of this number. None where there is none, and while it is out.
+    [[nodiscard]] std::optional<klsm::member> member(std::size_t number) noexcept {
+        if (number >= threads()) return std::nullopt;
+        if (block_->is_out[number].exchange(true, std::memory_order_acquire)) return std::nullopt;
+        return klsm::member(&block_->queue.members[number], block_);
+    }
+
+    // How many items are in it. No call of a member runs meanwhile.
+    [[nodiscard]] std::uint64_t left() noexcept {
+        return block_ == nullptr ? 0 : klsm_left(&block_->queue);
+    }
+
+    // Closes it. Throws an error with code::no_memory, and then it is open as before and has all its
+    // items, or with code::not_open where it is closed. code::shared comes by no sequence of calls.
+    [[nodiscard]] account close() {
+        account answer;
+        if (klsm::code why = close(answer); why != code::ok) throw error(why);
+        return answer;
+    }
+
+    // The same with a code. `answer` is written exactly with code::ok.
+    [[nodiscard]] klsm::code close(account &answer) noexcept {
+        if (block_ == nullptr) return code::not_open;
+        std::vector<item> left;
+        try {
+            left.resize(static_cast<std::size_t>(this->left()) + 1); // one more: an array is not empty
+        } catch (...) {
+            return code::no_memory;
+        }
+        klsm_account totals;
+        std::int32_t closed = klsm_close(&block_->queue, &totals, left.data(), left.size());
+        if (closed != KLSM_OK) return klsm::code(closed);
+        left.pop_back();
+        answer.inserted = totals.inserted;
+        answer.deleted = totals.deleted;
+        answer.left = std::move(left);
+        return code::ok;
+    }
+
+private:
+    std::shared_ptr<detail::block> block_; // aligned as klsm_queue is: C++17 sees to that
+};
+
+} // namespace klsm
+
+#endif
