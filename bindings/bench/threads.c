@@ -152,17 +152,17 @@ static uint64_t now(void) {
     return (uint64_t)time.tv_sec * 1000000000 + (uint64_t)time.tv_nsec;
 }
 
-/* Nanoseconds of a round in which each worker has a thread of its own, the first one the caller's. */
+/* Nanoseconds of a round in which each worker has a thread of its own. (Where one of them was the
+ * caller's, the others were slow to start.) */
 static uint64_t time_round(worker *crew, size_t threads) {
     pthread_t handles[MOST_THREADS];
     for (size_t t = 0; t < threads; t++)
         draw(&crew[t], PAIRS);
     uint64_t start = now();
-    for (size_t t = 1; t < threads; t++)
+    for (size_t t = 0; t < threads; t++)
         if (pthread_create(&handles[t], NULL, work, &crew[t]) != 0)
             abort();
-    work(&crew[0]);
-    for (size_t t = 1; t < threads; t++)
+    for (size_t t = 0; t < threads; t++)
         pthread_join(handles[t], NULL);
     return now() - start;
 }
