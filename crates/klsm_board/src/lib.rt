@@ -12,14 +12,19 @@
 //!
 //! ```text
 //! let (board, mut members) = Board::<64, 21>::new(alloc, 4, 16, 1 << 40)?;
-//! // each member in a thread of its own, all with the one board
-//! member.insert(&wait, &board, bound_of(&root), 0)?;
-//! while let Some(item) = member.delete_min(&wait, &board, &mut picker) {
+//! // each member in a thread of its own, all with the one board and the number of open nodes
+//! while open.load(SeqCst) > 0 {
+//!     let Some(item) = member.delete_min(&wait, &board, &mut picker) else { continue };
 //!     for node in children_of(item.load) {
+//!         open.fetch_add(1, SeqCst);
 //!         member.insert(&wait, &board, bound_of(&node), index_of(&node))?;
 //!     }
+//!     open.fetch_sub(1, SeqCst);
 //! }
 //! ```
+//!
+//! An answer `None` is no sign of the end, since another member may be about to insert. So the threads end
+//! when no node is open.
 //!
 //! `try_insert` and `try_delete_min` wait for nobody: where a lock is held they release what they
 //! acquired, and say who held it. `try_hold` acquires one part in order to look at it.

@@ -1,0 +1,40 @@
+"""The medians of a CSV of bench/run."""
+
+import csv
+import os
+
+PLACES = ("what", "queue", "parameter", "threads", "workload", "items")
+
+
+class Medians:
+    """The medians, and what is not measured, by what, queue, parameter, threads, workload and items."""
+
+    def __init__(self, path):
+        self.values = {}
+        self.rounds = 0
+        with open(path, encoding="utf-8") as file:
+            for row in csv.DictReader(line for line in file if not line.startswith("#")):
+                self.add(row)
+
+    def add(self, row):
+        if row["round"] in ("median", "-"):
+            key = tuple(int(row[name]) if name in ("threads", "items") else row[name] for name in PLACES)
+            self.values[key] = float(row["value"])
+        else:
+            self.rounds = max(self.rounds, int(row["round"]))
+
+    def get(self, *key):
+        return self.values.get(key)
+
+    def all(self, *names, **given):
+        """The different entries at these places of the keys, in the order of the file, where others are as given."""
+        found = {}
+        for key in self.values:
+            if all(key[PLACES.index(name)] == value for name, value in given.items()):
+                entries = tuple(key[PLACES.index(name)] for name in names)
+                found[entries[0] if len(entries) == 1 else entries] = True
+        return list(found)
+
+
+def default_csv():
+    return os.path.join(os.path.dirname(os.path.realpath(__file__)), "results.csv")

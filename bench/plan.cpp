@@ -1,0 +1,69 @@
+#include "plan.hpp"
+
+#include "queues/klsm_board.hpp"
+#include "threads.hpp"
+
+#include <algorithm>
+#include <cstdlib>
+#include <cstring>
+
+namespace {
+
+void make_short(plan &one) {
+    one.rounds = 3;
+    one.items = {1000, 10000};
+    one.pairs = 40000;
+    one.rank_items = {10000};
+    one.rank_pairs = 20000;
+    one.things = 36; // 17,000 nodes
+    one.knapsack_seed = 5;
+}
+
+// 1, 2, 4 and so on, and as many as there are processors.
+std::vector<std::size_t> numbers_of_threads() {
+    const std::size_t most = std::min<std::size_t>(processors().size(), KLSM_MAX_THREADS);
+    std::vector<std::size_t> numbers;
+    for (std::size_t threads = 1; threads < most; threads *= 2)
+        numbers.push_back(threads);
+    numbers.push_back(most);
+    return numbers;
+}
+
+std::size_t number_of(const char *word) {
+    char *end;
+    const unsigned long number = std::strtoul(word, &end, 10);
+    if (*end != 0 || number == 0) stop("a number above 0 was expected");
+    return number;
+}
+
+} // namespace
+
+plan plan_of(int count, char **words) {
+    plan one;
+    one.threads = numbers_of_threads();
+    for (int i = 1; i < count; i++)
+        if (std::strcmp(words[i], "--quick") == 0) make_short(one);
+    for (int i = 1; i < count; i++) {
+        const std::string word = words[i];
+        auto value = [&] {
+            if (++i == count) stop((word + " wants a value").c_str());
+            return words[i];
+        };
+        if (word == "--csv")
+            one.csv = value();
+        else if (word == "--command")
+            one.command = value();
+        else if (word == "--only")
+            one.only = value();
+        else if (word == "--rounds")
+            one.rounds = number_of(value());
+        else if (word == "--no-bind")
+            one.is_bound = false;
+        else if (word != "--quick")
+            stop(("unknown word " + word).c_str());
+    }
+    if (one.csv.empty()) stop("--csv FILE is missing");
+    if (!one.only.empty() && one.only != "throughput" && one.only != "rank" && one.only != "search")
+        stop("--only wants throughput, rank or search");
+    return one;
+}

@@ -1,0 +1,115 @@
+// Runs of a workload of which each call is recorded, with the moments before and after it.
+#ifndef BENCH_RECORD_HPP
+#define BENCH_RECORD_HPP
+
+#include "workloads.hpp"
+
+#include <atomic>
+#include <immintrin.h>
+#include <memory>
+
+struct call {
+    std::uint64_t begin, end; // in a run by turns: the call's number, twice
+    std::uint64_t key;
+    std::uint64_t load; // tells which item it was
+    bool is_insertion;
+};
+
+// Nanoseconds. What the call does comes after the one stamp and before the other for all threads to
+// see: no later load comes before the first, and all stores are out before the second.
+struct by_clock {
+    std::uint64_t before() const {
+        const std::uint64_t stamp = now();
+        _mm_lfence();
+        return stamp;
+    }
+    std::uint64_t after() const {
+        std::atomic_thread_fence(std::memory_order_seq_cst);
+        _mm_lfence();
+        return now();
+    }
+};
+
+// The number of the call, in the order of all of one thread.
+struct by_number {
+    std::uint64_t *calls;
+    std::uint64_t before() const { return ++*calls; }
+    std::uint64_t after() const { return *calls; }
+};
+
+template <class Clock> class recorded_calls {
+public:
+    explicit recorded_calls(Clock clock = Clock()) : clock_(clock) {}
+
+    void reserve(std::size_t calls) { calls_.reserve(calls); }
+
+    template <class Handle> void insert(Handle &by, item given) {
+        const std::uint64_t begin = clock_.before();
+        by.insert(given);
+        calls_.push_back({begin, clock_.after(), given.key, given.load, true});
+    }
+
+    template <class Handle> bool delete_min(Handle &by, item &out) {
+        const std::uint64_t begin = clock_.before();
+        const bool found = by.delete_min(out);
+        const std::uint64_t end = clock_.after();
+        if (found) calls_.push_back({begin, end, out.key, out.load, false});
+        return found;
+    }
+
+    const std::vector<call> &all() const { return calls_; }
+
+private:
+    Clock clock_;
+    std::vector<call> calls_;
+};
+
+// One thread makes the calls of all members by turns: the first half of each one's pair, then the second.
+template <class Queue> std::vector<call> record_by_turns(const workload &given, typename Queue::setting setting) {
+    using calls = recorded_calls<by_number>;
+    const workload_keys keys(given);
+    std::uint64_t number = 0;
+    Queue queue(given.threads, given.room(), setting);
+    auto handles = handles_of(queue, given.threads);
+    calls filling(by_number{&number});
+    fill(keys, handles, filling);
+    std::vector<worker<typename Queue::handle, calls>> workers;
+    for (std::size_t t = 0; t < given.threads; t++)
+        workers.emplace_back(given.what, keys, handles[t], calls(by_number{&number}));
+    for (std::size_t pair = 0; pair + given.threads <= given.pairs; pair += given.threads) {
+        for (std::size_t t = 0; t < given.threads; t++)
+            workers[t].first_half(pair + t);
+        for (std::size_t t = 0; t < given.threads; t++)
+            workers[t].second_half(pair + t);
+    }
+    std::vector<call> all = filling.all();
+    for (auto &one : workers)
+        all.insert(all.end(), one.calls().all().begin(), one.calls().all().end());
+    return all;
+}
+
+template <class Queue>
+std::vector<call> record_in_threads(const workload &given, const placing &where, typename Queue::setting setting) {
+    using calls = recorded_calls<by_clock>;
+    using one_worker = worker<typename Queue::handle, calls>;
+    const workload_keys keys(given);
+    Queue queue(given.threads, given.room(), setting);
+    auto handles = handles_of(queue, given.threads);
+    calls filling;
+    fill(keys, handles, filling);
+    common_pairs pairs(0, given.pairs);
+    std::vector<std::unique_ptr<one_worker>> workers(given.threads);
+    time_of(
+        given.threads, where,
+        [&](std::size_t t) {
+            workers[t] = std::make_unique<one_worker>(given.what, keys, handles[t]);
+            workers[t]->calls().reserve(2 * given.pairs);
+        },
+        [&](std::size_t t) { pairs.run(*workers[t]); });
+    std::vector<call> all = filling.all();
+    for (auto &one : workers)
+        all.insert(all.end(), one->calls().all().begin(), one->calls().all().end());
+    return all;
+}
+
+#endif

@@ -1,0 +1,114 @@
+// A branch-and-bound search by several threads that share the open nodes by one queue. A node's key is
+// how far its bound lies below the root's, so the most promising nodes come first.
+#ifndef BENCH_SEARCH_HPP
+#define BENCH_SEARCH_HPP
+
+#include "knapsack.hpp"
+#include "queues/item.hpp"
+#include "spin.hpp"
+#include "threads.hpp"
+
+#include <atomic>
+#include <numeric>
+#include <vector>
+
+struct search_result {
+    double seconds;
+    std::uint64_t nodes; // those that were examined: each cost the work of a node
+    std::uint64_t best;
+};
+
+struct search_task {
+    const instance *given;
+    std::size_t threads;
+    std::uint64_t steps; // of spin(), for each node that is examined
+};
+
+template <class Queue> class search {
+    using handle = typename Queue::handle;
+
+public:
+    static constexpr std::size_t room = std::size_t(1) << 20;
+
+    search(const search_task &task, typename Queue::setting setting)
+        : task_(task), given_(*task.given), queue_(task.threads, room, setting), top_(given_.bound(0, {0, 0})) {}
+
+    search_result run(const placing &where) {
+        std::vector<handle> handles;
+        std::vector<std::uint64_t> nodes(task_.threads);
+        for (std::size_t t = 0; t < task_.threads; t++)
+            handles.push_back(queue_.handle_of(t));
+        handles[0].insert({0, node{0, 0}.load()});
+        const double seconds = time_of(
+            task_.threads, where, [](std::size_t) {}, [&](std::size_t t) { nodes[t] = work(handles[t]); });
+        return {seconds, std::accumulate(nodes.begin(), nodes.end(), std::uint64_t(0)), best_};
+    }
+
+private:
+    // How many nodes this thread has examined. That no node is found is not the end: another thread may
+    // be about to open some.
+    std::uint64_t work(handle by) {
+        std::uint64_t examined = 0;
+        item next;
+        while (open_.load(std::memory_order_acquire) > 0) {
+            if (!by.delete_min(next))
+                pause();
+            else if (top_ - next.key <= best_.load(std::memory_order_relaxed))
+                open_.fetch_sub(1, std::memory_order_release);
+            else {
+                examined++;
+                examine(by, node::of(next.load), top_ - next.key);
+            }
+        }
+        return examined;
+    }
+
+    // Puts in the children that may still be better than the best.
+    void examine(handle &by, node at, std::uint64_t bounded) {
+        spin(task_.steps);
+        item children[2];
+        const int count = at.level == given_.things.size() ? 0 : branch(at, bounded, children);
+        // The node itself leaves. Its children count before another thread can take them.
+        if (count != 1) open_.fetch_add(count - 1, std::memory_order_release);
+        for (int i = 0; i < count; i++)
+            by.insert(children[i]);
+    }
+
+    int branch(node at, std::uint64_t bounded, item *children) {
+        int count = 0;
+        const sums without = given_.of(at);
+        const thing &next = given_.things[at.level];
+        const sums with{without.value + next.value, without.weight + next.weight};
+        if (with.weight <= given_.capacity) {
+            raise(with.value);
+            // The bound does not change by a thing that fits.
+            add(node{at.level + 1, at.picks | std::uint64_t(1) << at.level}, bounded, children, count);
+        }
+        add(node{at.level + 1, at.picks}, given_.bound(at.level + 1, without), children, count);
+        return count;
+    }
+
+    void add(node at, std::uint64_t bounded, item *children, int &count) const {
+        if (bounded > best_.load(std::memory_order_relaxed)) children[count++] = {top_ - bounded, at.load()};
+    }
+
+    void raise(std::uint64_t value) {
+        std::uint64_t best = best_.load(std::memory_order_relaxed);
+        while (value > best && !best_.compare_exchange_weak(best, value, std::memory_order_relaxed)) {
+        }
+    }
+
+    static void pause() {
+        for (int i = 0; i < 64; i++)
+            __builtin_ia32_pause();
+    }
+
+    const search_task task_;
+    const instance &given_;
+    Queue queue_;
+    const std::uint64_t top_; // the root's bound
+    alignas(128) std::atomic<std::uint64_t> best_{0};
+    alignas(128) std::atomic<std::int64_t> open_{1}; // nodes in the queue or in a thread's hands
+};
+
+#endif

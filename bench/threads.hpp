@@ -1,0 +1,89 @@
+// Threads that begin together, and the time they take.
+#ifndef BENCH_THREADS_HPP
+#define BENCH_THREADS_HPP
+
+#include <algorithm>
+#include <atomic>
+#include <chrono>
+#include <cstddef>
+#include <cstdint>
+#include <pthread.h>
+#include <sched.h>
+#include <thread>
+#include <vector>
+
+// Nanoseconds of the steady clock, which is one for all threads.
+inline std::uint64_t now() {
+    return std::uint64_t(
+        std::chrono::duration_cast<std::chrono::nanoseconds>(std::chrono::steady_clock::now().time_since_epoch())
+            .count());
+}
+
+// The processors that this program may use, in order.
+inline std::vector<int> processors() {
+    cpu_set_t allowed;
+    std::vector<int> found;
+    if (sched_getaffinity(0, sizeof allowed, &allowed) == 0)
+        for (int i = 0; i < CPU_SETSIZE; i++)
+            if (CPU_ISSET(i, &allowed)) found.push_back(i);
+    return found;
+}
+
+// Where the threads run: bound to one processor each, thread t to the t-th, or wherever they are put.
+class placing {
+public:
+    explicit placing(bool is_bound) : processors_(is_bound ? processors() : std::vector<int>()) {}
+
+    void bind(std::size_t thread) const {
+        if (processors_.empty()) return;
+        cpu_set_t one;
+        CPU_ZERO(&one);
+        CPU_SET(processors_[thread % processors_.size()], &one);
+        pthread_setaffinity_np(pthread_self(), sizeof one, &one);
+    }
+
+private:
+    std::vector<int> processors_;
+};
+
+// All threads wait until the last one has come.
+class barrier {
+public:
+    explicit barrier(std::size_t threads) : missing_(threads) {}
+
+    void wait() {
+        missing_.fetch_sub(1);
+        for (std::size_t i = 0; missing_.load() != 0; i++) {
+            __builtin_ia32_pause();
+            if (i % 4096 == 4095) std::this_thread::yield();
+        }
+    }
+
+private:
+    std::atomic<std::size_t> missing_;
+};
+
+// Runs prepare(t) and then, begun together, work(t) in thread t. Seconds from the first that begins its
+// work to the last that ends it.
+template <class Prepare, class Work>
+double time_of(std::size_t threads, const placing &where, Prepare prepare, Work work) {
+    barrier start(threads);
+    std::vector<std::uint64_t> begins(threads), ends(threads);
+    std::vector<std::thread> crew;
+    for (std::size_t t = 0; t < threads; t++)
+        crew.emplace_back([&, t] {
+            where.bind(t);
+            prepare(t);
+            start.wait();
+            const std::uint64_t begin = now();
+            work(t);
+            ends[t] = now();
+            begins[t] = begin;
+        });
+    for (std::thread &thread : crew)
+        thread.join();
+    const std::uint64_t begin = *std::min_element(begins.begin(), begins.end());
+    return double(*std::max_element(ends.begin(), ends.end()) - begin) / 1e9;
+}
+
+#endif
