@@ -93,6 +93,14 @@ impl Instance {
         self.things[i]
     }
 
+    // All things, in a list of one's own.
+    pub(crate) fn things_in(&self, alloc: Global) -> Result<Vec<Thing>, AllocError>
+        ensures things { IfOk result (λ things. things.items ≡ self.now.things) }
+        ensures range { IsInRange self.now }
+    {
+        Vec::from_slice(alloc, self.things.as_slice())
+    }
+
     /// The value and the weight of a selection, which has thing i where bit i of `picks` is set.
     pub fn totals(&self, picks: u64) -> Thing
         ensures value { result.value ≡ value_of self.now picks }

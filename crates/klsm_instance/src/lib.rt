@@ -14,7 +14,13 @@
 //! ```
 //!
 //! A solver over any queue finds here what it needs: `klsm_knapsack` is the one over the board of
-//! this repository.
+//! this repository. A search goes over the things in the order of its instance, and fewest nodes wait
+//! where those of the greatest value for their weight come first:
+//!
+//! ```text
+//! let steepest = instance.steepest_first(alloc)?;
+//! let best = steepest.restored(solve_in_turn(steepest.instance()));     // by the things of `instance`
+//! ```
 //!
 //! - **The bound is exact**, and no completion of a node is above it: clauses `exact` and `sound` of
 //!   `Instance::bound`. An instance keeps the sum and the steepest thing of each suffix, so that a
@@ -22,6 +28,8 @@
 //! - **A text is read by its rows**, and refused for the first reason that holds: `Instance::read`.
 //! - **The search in one thread answers a best selection**: the contract of `solve_in_turn`. It is
 //!   `Instance::finish` at the root, which a solver also takes for the nodes that it has left.
+//! - **What is best in another order is given back as what is best in the first one**: clause `best` of
+//!   `Reordered::restored`.
 #![tactic(auto)]
 
 mod errors;
@@ -29,6 +37,7 @@ mod instance;
 mod judge;
 mod node;
 mod reading;
+mod reordered;
 mod rows;
 mod search;
 mod tail;
@@ -37,5 +46,6 @@ mod thing;
 pub use errors::ReadError;
 pub use instance::Instance;
 pub use node::{Node, packed, unpacked};
+pub use reordered::Reordered;
 pub use search::{Best, solve_in_turn};
 pub use thing::Thing;

@@ -12,6 +12,9 @@
 //! let best = solve::<21>(&rt, alloc, &instance, 4, 16, 64, &Open)?;      // four workers, k = 16
 //! ```
 //!
+//! The search goes over the things in the order of its instance: `Instance::steepest_first` gives the
+//! one in which fewest nodes wait.
+//!
 //! - **The answer is a best selection**, for every number of workers, every k, `idle` and gate, and
 //!   whatever the threads do: clause `best` of `solve`.
 //! - **A refusal is that of the least numbered worker that met one.** Of a full board clause `refused` of
@@ -45,6 +48,6 @@ mod worker;
 pub use common::Listeners;
 pub use errors::SolveError;
 pub use incumbent::{Incumbent, Watcher};
-pub use klsm_instance::{Best, Instance, Node, ReadError, Thing, solve_in_turn};
+pub use klsm_instance::{Best, Instance, Node, ReadError, Reordered, Thing, solve_in_turn};
 pub use rule::{Highest, View};
 pub use solving::{solve, solve_told};

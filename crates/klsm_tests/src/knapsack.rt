@@ -5,4 +5,5 @@ mod drawn;
 mod gated;
 mod pruned;
 mod reading;
+mod reordered;
 mod worked;

@@ -78,11 +78,33 @@ fn solve_read<P: AllocGlobal + Wait + Threads + Sync, W: Write, G: Gate, H: Prog
     ensures { SolvesProblem search.now.threads search.now.k instance.now (W.contents writer.old)
         (W.contents writer.new) result }
 {
-    match solve_heard(rt, instance, search, listeners) {
+    match solve_in_any_order(rt, instance, search, listeners) {
         Ok(best) => write_selection(rt.alloc(), writer, instance, &best),
         Err(SolveError::Full) => write_last(writer, FULL, 0, End::Full),
         Err(_) => write_last(writer, NO_MEMORY, 0, End::NoMemory),
     }
+}
+
+// Solves an instance, whatever the order of its things: the search goes over them with those of the
+// greatest value for their weight first, since bounds are closer then.
+fn solve_in_any_order<P: AllocGlobal + Wait + Threads + Sync, G: Gate, H: Progress>(
+    rt: &P,
+    instance: &Instance,
+    search: &Search,
+    listeners: &Listeners<G, H>,
+) -> Result<Best, SolveError>
+    requires some_thread { 1 ≤ search.now.threads }
+    requires threads { search.now.threads ≤ 16 }
+    requires k { search.now.k ≤ 64 }
+    ensures best { IfOk result (λ best. IsBestAnswer instance.now best) }
+    ensures refused { IfErr result (λ why.
+        RefusesSearch 21 search.now.threads search.now.k why) }
+{
+    let Ok(steepest) = instance.steepest_first(rt.alloc()) else {
+        return Err(SolveError::NoMemory);
+    };
+    let best = solve_heard(rt, steepest.instance(), search, listeners)?;
+    Ok(steepest.restored(best))
 }
 
 // Solves an instance. Who hears of it is told when it begins and ends, so that no line stands before the

@@ -19,8 +19,9 @@
 //! Rows are read and judged by `klsm_text`, which also makes the lines and sends them. `replay` reads
 //! a row, `beside` lets the member of its thread answer and counts the skip among `live_items`, and
 //! the line goes out with others before a further row is waited for. Where threads run the rows,
-//! `live` has a `worker` for each. `knapsack` reads an instance and writes its answer. `program` runs
-//! what its words ask for, as `klsm_words` reads them.
+//! `live` has a `worker` for each. `knapsack` reads an instance, has it solved with the things of the
+//! greatest value for their weight first, and writes its answer by the rows. `program` runs what its
+//! words ask for, as `klsm_words` reads them.
 //!
 //! - **The text is that of the definition.** What goes out is the first `written` bytes of the
 //!   answer text of the rows that were read, and all of it unless the writer failed: `Replays`, the

@@ -33,9 +33,31 @@ capacity,10
 1,1\n1,1\n1,1\n1,1\n1,1\n1,1\n1,1\n1,1\n1,1\n1,1\n1,1
 ";
 
+// 28 things in the order in which they were drawn, of which one selection is best. In this order more
+// nodes would wait than the board of a search has room for.
+const DRAWN: &[u8] = b"\
+capacity,7018
+282,237\n1062,967\n129,164\n246,220\n894,879\n649,583\n441,488
+220,196\n128,129\n598,543\n976,880\n180,102\n524,556\n796,838
+631,705\n332,425\n28,122\n803,765\n106,109\n757,802\n617,532
+164,129\n422,327\n574,548\n625,666\n412,453\n749,793\n896,879
+";
+
+const DRAWN_LINE: &[u8] = b"\
+value 7795 weight 7017 picks 0 1 3 5 7 9 10 11 17 18 20 21 22 23 27
+";
+
 const WORKED: &[Told] = &[
     (KNAPSACK, INSTANCE, 0, LINE),
     (BY_FOUR, INSTANCE, 0, LINE),
+    // The steepest thing stands last.
+    (
+        KNAPSACK,
+        b"capacity,5\n1,5\n2,4\n60,5",
+        0,
+        b"value 60 weight 5 picks 2\n",
+    ),
+    (KNAPSACK, DRAWN, 0, DRAWN_LINE),
     (
         KNAPSACK,
         b"capacity,0\n60,5",
@@ -65,6 +87,22 @@ const WORKED: &[Told] = &[
 #[test]
 fn instances_are_solved_or_refused(rt: HostRuntime) {
     assert!(rt; all_go(&rt, rt.alloc(), WORKED));
+}
+
+/// Whether four workers find a selection of this value and this weight.
+fn finds(rt: &(impl AllocGlobal + Wait + Threads + Sync), instance: &[u8], head: &[u8]) -> bool {
+    let mut text = Vec::new(rt.alloc());
+    let report = knapsack_over(rt, instance, &mut text, 4, 16, 8, &Open);
+    report.end == End::Done && text.as_slice().starts_with(head)
+}
+
+// Of things that are all as steep as each other many selections are best, and any may be answered.
+#[test]
+fn things_that_are_as_steep(rt: HostRuntime) {
+    let even = b"capacity,17\n1,1\n2,2\n3,3\n4,4\n5,5\n6,6\n7,7\n8,8\n9,9\n2,2\n3,3\n";
+    assert!(rt; finds(&rt, even, b"value 17 weight 17 picks "));
+    let odd = b"capacity,11\n4,4\n6,6\n8,8\n2,2\n4,4\n1,3\n2,6\n";
+    assert!(rt; finds(&rt, odd, b"value 10 weight 10 picks "));
 }
 
 /// Whether one worker that ends after so many answers "nothing" leads to this line.
