@@ -22,5 +22,5 @@ mod opening;
 mod owned;
 
 pub use choice::{Choice, Pick};
-pub use opening::{QUOTA, open_board};
+pub use opening::open_board;
 pub use owned::OwnedMember;

@@ -13,9 +13,6 @@ use klsm_board::{Board, MOST_INSERTIONS, MakeError, Member};
 use std::alloc::{AllocError, Global};
 use std::sync::Arc;
 
-/// The most insertions of each member: 2^48.
-pub const QUOTA: u64 = MOST_INSERTIONS;
-
 /// A new board of empty parts, and its members in the order of their numbers, each in a box of its own.
 ///
 /// Member `t` picks with the seed `seed + t`, by the remainder of 2^64.
@@ -35,7 +32,7 @@ pub fn open_board(
         ↔ ((1 ≤ threads) × (threads ≤ 16) × (64 < k)) }
     ensures bad_quota { IsErrAnd result (λ why. why ≡ MakeError.BadQuota) ↔ ⊥ }
 {
-    let (board, members) = Board::new(alloc, threads, k, QUOTA)?;
+    let (board, members) = Board::new(alloc, threads, k, MOST_INSERTIONS)?;
     let Ok(board) = Arc::new(alloc, board) else {
         return Err(MakeError::NoMemory);
     };
