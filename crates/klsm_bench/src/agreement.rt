@@ -2,7 +2,7 @@
 
 use crate::contenders::{Contender, Heap};
 use crate::crew::{OnBoard, board_of_one};
-use crate::instances::{KINDS, Kind};
+use crate::kinds::{KINDS, Kind};
 use crate::pair::Pair;
 use crate::searches::search_all;
 use crate::workloads::{WORKLOADS, Workload, fill};
@@ -93,7 +93,7 @@ fn searches_agree<R: Clock + AllocGlobal + Threads + Wait + Sync>(
     rt: &R,
     kind: Kind,
 ) -> io::Result<Option<bool>> {
-    let Some(instance) = kind.instance(rt.alloc(), THINGS, false, 7) else {
+    let Some(instance) = kind.instance(rt.alloc(), THINGS, 7) else {
         return Ok(None);
     };
     let best = solve_in_turn(&instance).value;

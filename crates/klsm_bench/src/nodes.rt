@@ -1,13 +1,16 @@
 //! The measurements of branch and bound: nodes of a search over a heap and over a board.
 ghost use Rattle.std.specs.Prelude.{◌<◌};
 
-use crate::instances::{KINDS, Kind};
+use crate::kinds::Kind;
 use crate::rounds::ROUNDS;
 use crate::searches::{Search, Searches, search_all};
 use std::io;
 use std::sync::Wait;
 use std::thread::Threads;
 use std::time::Clock;
+
+// The kinds whose instances are searched.
+const KINDS: &[Kind] = &[Kind::Uncorrelated, Kind::Weakly, Kind::Circle];
 
 // How many instances of a kind are drawn.
 const INSTANCES: u64 = 10;
@@ -112,11 +115,19 @@ fn search_set<R: Clock + AllocGlobal + Threads + Wait + Sync>(
 ) -> io::Result<Option<Rounds>> {
     let mut rounds = Rounds::none();
     for seed in 0..INSTANCES {
-        let Some(instance) = kind.instance(rt.alloc(), things, is_sorted, seed) else {
+        let Some(drawn) = kind.instance(rt.alloc(), things, seed) else {
             return Ok(None);
         };
+        let Ok(steepest) = drawn.steepest_first(rt.alloc()) else {
+            return Ok(None);
+        };
+        let instance = if is_sorted {
+            steepest.instance()
+        } else {
+            &drawn
+        };
         for round in 0..ROUNDS {
-            if let Some(searches) = search_all(rt, &instance, threads)? {
+            if let Some(searches) = search_all(rt, instance, threads)? {
                 rounds.add(round, searches);
             }
         }
