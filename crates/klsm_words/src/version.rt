@@ -5,4 +5,4 @@
 /// kit under "What is trusted" in README.md.
 pub(crate) const VERSION: &str = "\
 1.0.0, proved with \
-rattle-kit-13b logic dac8208d650f15bf";
+rattle-kit-13f logic dac8208d650f15bf";
