@@ -5,10 +5,10 @@ use Rattle.rand_core.specs.Steps.{stream_of, steps_u32}
 use Rattle.rand_core.specs.Stream.{next_u64}
 use Rattle.rand_pcg.specs.Lcg.{Lcg}
 use Rattle.rand_pcg.specs.Pcg.{pcg32, pcg32_of_seed}
-use Rattle.klsm_owned.specs.declared.choice.Pick.{Pick}
-use Rattle.klsm_owned.specs.declared.choice.Pick.TheVariants as pick
-use Rattle.klsm_owned.specs.declared.choice.Choice.{Choice}
-use Rattle.klsm_owned.specs.declared.choice.Choice.TheVariants as choice
+use Rattle.klsm_choice.specs.declared.choice.Pick.{Pick}
+use Rattle.klsm_choice.specs.declared.choice.Pick.TheVariants as pick
+use Rattle.klsm_choice.specs.declared.choice.Choice.{Choice}
+use Rattle.klsm_choice.specs.declared.choice.Choice.TheVariants as choice
 
 -- the picker of a kind, with a seed where it is random
 abbrev pub choice_by : Pick → ℕ → Choice

@@ -1,6 +1,6 @@
 //! Pickers that are chosen while a program runs.
 ghost use Rattle.std.specs.Prelude.{◌≡◌};
-ghost use Rattle.klsm_owned.specs.Choices.{choice_by, may_choose};
+ghost use Rattle.klsm_choice.specs.Choices.{choice_by, may_choose};
 
 use klsm_parts::{First, Last, Picker, Random, random_of};
 use rand_pcg::Pcg32;

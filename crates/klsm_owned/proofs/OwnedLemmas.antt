@@ -1,7 +1,7 @@
 -- All members of one board.
 use Rattle.std.proofs.Common.{ℕ, List, sym, ap, ◌∙◌}
 use Rattle.klsm_board.specs.declared.board.Member.{Member}
-use Rattle.klsm_owned.specs.declared.choice.Pick.{Pick}
+use Rattle.klsm_choice.specs.declared.choice.Pick.{Pick}
 use Rattle.klsm_owned.specs.declared.owned.OwnedMember.{OwnedMember}
 use Rattle.klsm_owned.specs.Owned.{AreNew, IsWhole, member_of, members_of}
 use Rattle.klsm_owned.proofs.ListLemmas.{length_mapped, unmapped}

@@ -7,10 +7,10 @@ use Rattle.klsm_board.specs.declared.board.Board.{Board}
 use Rattle.klsm_board.specs.declared.board.Member.{Member}
 use Rattle.klsm_board.specs.Boards.{IsOf, IsSame, own_steps}
 use Rattle.klsm_board.specs.Members.{sizes_of}
-use Rattle.klsm_owned.specs.declared.choice.Choice.{Choice}
-use Rattle.klsm_owned.specs.declared.choice.Pick.{Pick}
+use Rattle.klsm_choice.specs.declared.choice.Choice.{Choice}
+use Rattle.klsm_choice.specs.declared.choice.Pick.{Pick}
 use Rattle.klsm_owned.specs.declared.owned.OwnedMember.{OwnedMember}
-use Rattle.klsm_owned.specs.Choices.{choice_by}
+use Rattle.klsm_choice.specs.Choices.{choice_by}
 
 abbrev pub member_of : OwnedMember → Member 64 21
 member_of owned = owned.member

@@ -17,10 +17,9 @@
 #![tactic(auto)]
 
 mod calls;
-mod choice;
 mod opening;
 mod owned;
 
-pub use choice::{Choice, Pick};
+pub use klsm_choice::{Choice, Pick};
 pub use opening::open_board;
 pub use owned::OwnedMember;

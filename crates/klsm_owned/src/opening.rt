@@ -7,9 +7,9 @@ ghost use Rattle.klsm_board.specs.Boards.{IsCrew, IsOf};
 ghost use Rattle.klsm_owned.specs.declared.owned.OwnedMember.{OwnedMember as Owned};
 ghost use Rattle.klsm_owned.specs.Owned.{AreNew, IsNew, IsWhole, members_of};
 
-use crate::choice::{Choice, Pick};
 use crate::owned::OwnedMember;
 use klsm_board::{Board, MOST_INSERTIONS, MakeError, Member};
+use klsm_choice::{Choice, Pick};
 use std::alloc::{AllocError, Global};
 use std::sync::Arc;
 

@@ -2,8 +2,8 @@
 ghost use Rattle.std.specs.Arc.{arc_value};
 ghost use Rattle.klsm_board.specs.Boards.{IsOf};
 
-use crate::choice::Choice;
 use klsm_board::{Board, Member};
+use klsm_choice::Choice;
 use std::alloc::Global;
 use std::sync::Arc;
 

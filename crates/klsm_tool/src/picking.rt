@@ -1,10 +1,11 @@
 //! How the deletions of each thread pick.
 ghost use Rattle.std.specs.Prelude.{◌≡◌, length, IfOk};
+ghost use Rattle.klsm_choice.specs.Choices.{may_choose};
 ghost use Rattle.klsm_tool.specs.Picking.{choice_of};
 
-use klsm_parts::{First, Last, Picker, Random, random_of};
-use klsm_words::{Pick, Settings};
-use rand_pcg::Pcg32;
+use klsm_choice::Choice;
+use klsm_parts::Picker;
+use klsm_words::Settings;
 use std::alloc::{AllocError, Global};
 
 /// The picker of one thread.
@@ -15,24 +16,12 @@ pub(crate) struct ThreadPicker {
     choice: Choice,
 }
 
-/// Which candidate it picks.
-#[derive(Drop)]
-enum Choice {
-    /// The least.
-    First,
-    /// The greatest.
-    Last,
-    /// One drawn at random.
-    Random(Random<Pcg32>),
-}
-
 impl Picker for ThreadPicker {
+    ghost may_pick = { λ before candidates index after.
+        may_choose before.choice candidates index after.choice × (after.thread ≡ before.thread) };
+
     fn pick(&mut self, candidates: usize) -> usize {
-        match &mut self.choice {
-            Choice::First => First.pick(candidates),
-            Choice::Last => Last.pick(candidates),
-            Choice::Random(random) => random.pick(candidates),
-        }
+        self.choice.pick(candidates)
     }
 }
 
@@ -42,12 +31,11 @@ impl ThreadPicker {
         ensures thread { result.thread ≡ thread }
         ensures choice { result.choice ≡ choice_of settings.now thread }
     {
-        let choice = match settings.pick {
-            Pick::First => Choice::First,
-            Pick::Last => Choice::Last,
-            Pick::Random => Choice::Random(random_of(settings.seed.wrapping_add(thread))),
-        };
-        ThreadPicker { thread, choice }
+        let seed = settings.seed.wrapping_add(thread);
+        ThreadPicker {
+            thread,
+            choice: Choice::of(settings.pick, seed),
+        }
     }
 }
 

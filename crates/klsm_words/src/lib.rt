@@ -25,4 +25,5 @@ mod settings;
 mod version;
 
 pub use command_line::{Action, Fault, USAGE, parse};
-pub use settings::{Pick, Search, Settings};
+pub use klsm_choice::Pick;
+pub use settings::{Search, Settings};

@@ -9,9 +9,10 @@ ghost use Rattle.klsm_words.specs.Options.{with_search_options as with_search_op
 ghost use Rattle.klsm_words.specs.Options.{with_pick as with_pick_of};
 ghost use Rattle.klsm_words.specs.Options.{with_threads as with_threads_of};
 
-use crate::settings::{Pick, Search, Settings};
+use crate::settings::{Search, Settings};
 use clap::builder::ValueParser;
 use clap::{Arg, ArgMatches, Command, value_parser};
+use klsm_choice::Pick;
 use std::alloc::{AllocError, Global};
 
 /// A command over scripts, with its options.

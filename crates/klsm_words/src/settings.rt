@@ -1,15 +1,6 @@
 //! How a script is run, and how an instance is solved.
 
-/// Which candidate of the shared part a deletion picks.
-#[derive(Clone, Copy, Debug, PartialEq, Eq)]
-pub enum Pick {
-    /// The least.
-    First,
-    /// The greatest.
-    Last,
-    /// One drawn at random.
-    Random,
-}
+use klsm_choice::Pick;
 
 /// How a script is run.
 #[derive(Clone, Copy, Debug, PartialEq, Eq)]
