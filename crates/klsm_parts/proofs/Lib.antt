@@ -18,6 +18,7 @@ pub mod PivotListLemmas
 pub mod QueueLemmas
 pub mod RankingCutLemmas
 pub mod RankingLemmas
+pub mod RefillLemmas
 pub mod RisingLemmas
 pub mod RowLemmas
 pub mod SpyLemmas

@@ -76,6 +76,13 @@ pub record MaySpy (own victim moved : List Item) : Type 0 where
   pub ascending : IsAscending moved
   pub within : IsWithin moved victim
 
+-- Refill: items move from the shared part to the own one, which has room for them
+pub record MayRefill (k : ℕ) (own shared moved : List Item) : Type 0 where
+  pub some : moved ≢ []
+  pub ascending : IsAscending moved
+  pub within : IsWithin moved shared
+  pub room : length own + length moved ≤ k
+
 -- what a Put leaves in the own part
 abbrev pub own_after_put : List Item → Item → List Item
 own_after_put own x = plus own (x ∷ [])
@@ -104,3 +111,10 @@ own_after_spy moved = moved
 
 abbrev pub victim_after_spy : List Item → List Item → List Item
 victim_after_spy victim moved = minus victim moved
+
+-- what a Refill leaves in the own part and in the shared one
+abbrev pub own_after_refill : List Item → List Item → List Item
+own_after_refill own moved = plus own moved
+
+abbrev pub shared_after_refill : List Item → List Item → List Item
+shared_after_refill shared moved = minus shared moved

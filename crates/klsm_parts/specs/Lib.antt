@@ -4,6 +4,7 @@ pub mod Least  -- the least items of a content
 pub mod Pivots  -- exact pivots
 pub mod Events  -- the events: when each may happen, and what it leaves
 pub mod Flushing  -- what moves at a flush
+pub mod Refilling  -- what moves at a refill
 pub mod Taking  -- how a deletion chooses
 pub mod EitherPart  -- a part of either kind
 pub mod Queues  -- the queue for one thread

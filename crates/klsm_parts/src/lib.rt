@@ -26,14 +26,15 @@
 //! let next = take(member, &mut own, &mut shared, &mut picker);
 //! let least = take_least(&mut own);                     // its key is below the front
 //! let count = spy(&mut own, &mut victim);               // it is empty: items move from another's
+//! let count = refill(&mut own, &mut shared, most);      // it has room: the least shared items move
 //! ```
 //!
 //! - **Lawful at all times.** The invariants of `Local` and `Shared` hold of every value: a lawful
 //!   LSM of at most k items, and one within its limit with exact pivots. `Local::len`,
 //!   `Shared::len` and `Shared::pivot` tell it to their callers.
-//! - **Each call is its event.** The clauses `event` of `put`, `flush`, `take`, `take_least` and `spy` say that
-//!   the event may happen, and what it leaves of the contents; the other clauses say which blocks
-//!   move, and which item goes.
+//! - **Each call is its event.** The clauses `event` of `put`, `flush`, `take`, `take_least`, `spy` and `refill`
+//!   say that the event may happen, and what it leaves of the contents; the other clauses say which
+//!   blocks move, and which item goes.
 //! - **A deletion skips at most k items** of the two parts: clause `skips` of `take`.
 //!   `laws::takes_skip_few` says the same of the event, however the candidate was picked.
 //! - **A member's own order is kept.** A deletion skips no item of the two parts that the member
@@ -42,6 +43,10 @@
 //! - **The front tells when the shared part need not be looked at.** `Shared::front` is the key of its
 //!   least item. Where that of the least own item is below it, `take_least` is the deletion, and
 //!   skips no item of the two: clause `early`, and `laws::earlies_skip_none`.
+//! - **A refill makes the next deletions cheap.** A member that has both parts in hand moves the least shared
+//!   items to its own part, as far as that has room; what it deletes next then lies below the front,
+//!   but for equal keys, and needs no shared lock. Own parts have at most k items as before, so no
+//!   bound changes.
 //! - **A `Queue` holds what was inserted and not yet deleted**, each item once: clauses `items` of
 //!   `Queue::insert` and `Queue::delete_min`, and `ascending` of `Queue::len`. It asks nothing of
 //!   its callers.
@@ -66,6 +71,7 @@ mod picker;
 mod queue;
 mod ranking;
 mod ranks;
+mod refilling;
 mod row;
 mod shared;
 mod spying;
@@ -77,6 +83,7 @@ pub use local::{Local, put, take_least};
 pub use part::Part;
 pub use picker::{First, Last, Picker, Random, random_of};
 pub use queue::Queue;
+pub use refilling::refill;
 pub use shared::Shared;
 pub use spying::spy;
 pub use taking::take;
