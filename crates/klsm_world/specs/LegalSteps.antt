@@ -1,9 +1,9 @@
 -- Which events a thread may commit, and which lists of own steps are legal.
 use Rattle.std.specs.Prelude.{ℕ, ◌≡◌, ◌≢◌, ◌≤◌, List, length, take, slice_get, Some, None}
 use Rattle.klsm_run.specs.declared.item.Item.{Item}
-use Rattle.klsm_parts.specs.Events.{MayPut, MayFlush, MayTake, MayTakeEarly, MayFindNothing, MaySpy}
+use Rattle.klsm_parts.specs.Events.{MayPut, MayFlush, MayTake, MayTakeEarly, MayFindNothing, MaySpy, MayRefill}
 use Rattle.klsm_world.specs.declared.step.Event.{Event}
-use Rattle.klsm_world.specs.declared.step.Event.TheVariants.{Put, Flush, Take, Early, Nothing, Spy}
+use Rattle.klsm_world.specs.declared.step.Event.TheVariants.{Put, Flush, Take, Early, Nothing, Spy, Refill}
 use Rattle.klsm_world.specs.declared.step.Entry.{Entry}
 use Rattle.klsm_world.specs.declared.step.Entry.TheVariants.{Acquired, Committed, Released, Missed}
 use Rattle.klsm_world.specs.OwnSteps.{Hand, Holds, HoldsSome, found_in, shared_part, own_part, hand_of, inserted}
@@ -48,6 +48,8 @@ MayCommit k t hand n (Early x front) = HoldsOwn t hand (λ own. MayTakeEarly own
 MayCommit k t hand n Nothing = HoldsBoth t shared_part hand MayFindNothing
 MayCommit k t hand n (Spy victim moved) =
     MaySpyOn t victim (HoldsBoth t (own_part victim) hand (λ own from. MaySpy own from moved))
+MayCommit k t hand n (Refill moved) =
+    HoldsBoth t shared_part hand (λ own shared. MayRefill k own shared moved)
 
 -- a part that is not in the hand was found with this content; an own part has at most k items
 pub record MayFind (k : ℕ) (hand : Hand) (p : ℕ) (found : List Item) : Type 0 where

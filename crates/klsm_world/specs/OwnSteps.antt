@@ -4,9 +4,9 @@
 use Rattle.std.specs.Prelude.{ℕ, ◌≡◌, ◌+◌, ◌==◌, if◌then◌else◌, List, [], ◌∷◌, Option, Some, None, unwrap_or}
 use Rattle.std.specs.List.{fold, flat_map}
 use Rattle.klsm_run.specs.declared.item.Item.{Item}
-use Rattle.klsm_parts.specs.Events.{own_after_put, own_after_flush, shared_after_flush, own_after_take, shared_after_take, own_after_early, own_after_spy, victim_after_spy}
+use Rattle.klsm_parts.specs.Events.{own_after_put, own_after_flush, shared_after_flush, own_after_take, shared_after_take, own_after_early, own_after_spy, victim_after_spy, own_after_refill, shared_after_refill}
 use Rattle.klsm_world.specs.declared.step.Event.{Event}
-use Rattle.klsm_world.specs.declared.step.Event.TheVariants.{Put, Flush, Take, Early, Nothing, Spy}
+use Rattle.klsm_world.specs.declared.step.Event.TheVariants.{Put, Flush, Take, Early, Nothing, Spy, Refill}
 use Rattle.klsm_world.specs.declared.step.Entry.{Entry}
 use Rattle.klsm_world.specs.declared.step.Entry.TheVariants.{Acquired, Committed, Released, Missed}
 
@@ -67,6 +67,10 @@ after_event t hand (Spy victim moved) =
     changed
     (changed hand (own_part t) (own_after_spy moved))
     (own_part victim) (victim_after_spy (content_in hand (own_part victim)) moved)
+after_event t hand (Refill moved) =
+    changed
+    (changed hand (own_part t) (own_after_refill (content_in hand (own_part t)) moved))
+    shared_part (shared_after_refill (content_in hand shared_part) moved)
 
 -- thread t's hand after one more of its own steps
 abbrev pub after_entry : ℕ → Hand → Entry → Hand
@@ -87,6 +91,7 @@ inserted_by (Take x) = []
 inserted_by (Early x front) = []
 inserted_by Nothing = []
 inserted_by (Spy victim moved) = []
+inserted_by (Refill moved) = []
 
 abbrev pub deleted_by : Event → List Item
 deleted_by (Put x) = []
@@ -95,6 +100,7 @@ deleted_by (Take x) = x ∷ []
 deleted_by (Early x front) = x ∷ []
 deleted_by Nothing = []
 deleted_by (Spy victim moved) = []
+deleted_by (Refill moved) = []
 
 -- the event that an entry commits
 abbrev pub event_at : Entry → List Event

@@ -2,7 +2,7 @@
 use Rattle.std.specs.Prelude.{ℕ, ◌≡◌, ◌+◌, ◌<◌, ◌≤◌, ◌⊎◌, List, [], ◌∷◌, None}
 use Rattle.std.specs.List.{Contains}
 use Rattle.klsm_world.specs.declared.step.Event.{Event}
-use Rattle.klsm_world.specs.declared.step.Event.TheVariants.{Put, Flush, Take, Early, Nothing, Spy}
+use Rattle.klsm_world.specs.declared.step.Event.TheVariants.{Put, Flush, Take, Early, Nothing, Spy, Refill}
 use Rattle.klsm_world.specs.declared.step.Step.{Step}
 use Rattle.klsm_world.specs.declared.step.Step.TheVariants.{Acquire, Commit, Release, Miss}
 use Rattle.klsm_world.specs.declared.errors.StepError.{StepError}
@@ -19,6 +19,7 @@ NamesNoVictim limits t (Take x) = ⊥
 NamesNoVictim limits t (Early x front) = ⊥
 NamesNoVictim limits t Nothing = ⊥
 NamesNoVictim limits t (Spy victim moved) = (limits.threads ≤ victim) ⊎ (victim ≡ t)
+NamesNoVictim limits t (Refill moved) = ⊥
 
 -- a step names a thread, a part or a victim that is not there, or the thread itself as the victim
 abbrev pub NamesNone : Limits → Step → Type 0
@@ -35,6 +36,7 @@ parts_for t (Take x) = own_part t ∷ shared_part ∷ []
 parts_for t (Early x front) = own_part t ∷ []
 parts_for t Nothing = own_part t ∷ shared_part ∷ []
 parts_for t (Spy victim moved) = own_part t ∷ own_part victim ∷ []
+parts_for t (Refill moved) = own_part t ∷ shared_part ∷ []
 
 -- thread t does not hold one of these parts
 abbrev pub LacksOne : World → ℕ → List ℕ → Type 0

@@ -1,7 +1,7 @@
 //! Whether events may happen, on contents of parts.
 ghost use Rattle.std.specs.Prelude.{◌≡◌, ◌+◌, ◌≤◌, ◌<◌, ◌↔◌, ◌∷◌, [], IsTrue, length};
 ghost use Rattle.klsm_run.specs.Content.{sorted, IsAscending};
-ghost use Rattle.klsm_parts.specs.Events.{times, IsWithin, IsInReach, SkipsNoneOf, MayFlush, MayTake, MayTakeEarly, MaySpy};
+ghost use Rattle.klsm_parts.specs.Events.{times, IsWithin, IsInReach, SkipsNoneOf, MayFlush, MayTake, MayTakeEarly, MaySpy, MayRefill};
 
 use klsm_run::Item;
 
@@ -115,4 +115,17 @@ pub(crate) fn may_spy(own: &[Item], victim: &[Item], moved: &[Item]) -> bool
     ensures { IsTrue result ↔ MaySpy own.now victim.now moved.now }
 {
     own.is_empty() && !moved.is_empty() && is_ascending(moved) && are_within(moved, victim)
+}
+
+/// Whether items may move from the shared part to another, which is to hold at most `k`.
+pub(crate) fn may_refill(k: usize, own: &[Item], shared: &[Item], moved: &[Item]) -> bool
+    ensures { IsTrue result ↔ MayRefill k own.now shared.now moved.now }
+{
+    if moved.is_empty() || !is_ascending(moved) {
+        return false;
+    }
+    if !are_within(moved, shared) {
+        return false;
+    }
+    own.len() + moved.len() <= k
 }

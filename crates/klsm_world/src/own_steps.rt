@@ -20,6 +20,7 @@ pub(crate) enum KeptStep {
     Early(Item, u64),
     Nothing,
     Spy(u32),
+    Refill,
     Released(u32),
     Missed(u32, u32),
 }

@@ -35,6 +35,11 @@ pub enum Event {
         /// The items that move, ascending without repeats.
         moved: Items,
     },
+    /// Items move from the shared part to the own one, which has room for them.
+    Refill {
+        /// The items that move, ascending without repeats.
+        moved: Items,
+    },
 }
 
 /// A step of one thread. Part 0 is the shared one, and part t + 1 is thread t's own.

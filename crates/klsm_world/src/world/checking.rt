@@ -11,7 +11,7 @@ ghost use Rattle.klsm_world.specs.Schedules.{MayStep, NamesFront};
 ghost use Rattle.klsm_world.specs.Worlds.{content_of, hand_in, steps_of, word_of};
 
 use super::World;
-use crate::conditions::{may_flush, may_spy, may_take, may_take_early};
+use crate::conditions::{may_flush, may_refill, may_spy, may_take, may_take_early};
 use crate::errors::StepError;
 use crate::step::{Event, Step};
 use klsm_run::Item;
@@ -169,9 +169,10 @@ impl<A: Allocator + Copy> World<A> {
         let own = self.holds(thread, own_part(thread));
         match event {
             Event::Put(_) | Event::Early { item: _, front: _ } => own,
-            Event::Flush { item: _, moved: _ } | Event::Take(_) | Event::Nothing => {
-                own && self.holds(thread, SHARED)
-            }
+            Event::Flush { item: _, moved: _ }
+            | Event::Take(_)
+            | Event::Nothing
+            | Event::Refill { moved: _ } => own && self.holds(thread, SHARED),
             Event::Spy { victim, moved: _ } => own && self.holds(thread, own_part(*victim)),
         }
     }
@@ -206,6 +207,9 @@ impl<A: Allocator + Copy> World<A> {
             Event::Nothing => own.is_empty() && self.items_of(SHARED).is_empty(),
             Event::Spy { victim, moved } => {
                 may_spy(own, self.items_of(own_part(*victim)), moved.as_slice())
+            }
+            Event::Refill { moved } => {
+                may_refill(self.k, own, self.items_of(SHARED), moved.as_slice())
             }
         }
     }

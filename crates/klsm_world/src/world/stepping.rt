@@ -1,7 +1,7 @@
 //! The steps of a world that are legal, each by its kind.
 ghost use Rattle.std.specs.Prelude.{◌≡◌, ◌<◌, ◌++◌, ◌∷◌, [], slice_index_or, slice_set, OnOk, OnErr, IfErr};
 ghost use Rattle.std.specs.Vec.{vec_len};
-ghost use Rattle.klsm_world.specs.declared.step.Event.TheVariants.{Put, Flush, Take, Early, Nothing, Spy};
+ghost use Rattle.klsm_world.specs.declared.step.Event.TheVariants.{Put, Flush, Take, Early, Nothing, Spy, Refill};
 ghost use Rattle.klsm_world.specs.declared.step.Step.TheVariants.{Acquire, Commit, Release, Miss};
 ghost use Rattle.klsm_world.specs.Kept.{entry_of};
 ghost use Rattle.klsm_world.specs.WorldView.{IsStepped};
@@ -77,6 +77,7 @@ impl<A: Allocator + Copy> World<A> {
             Event::Early { item, front } => self.take_early(thread, *item, *front),
             Event::Nothing => self.find_nothing(thread),
             Event::Spy { victim, moved } => self.spy(thread, *victim, moved.as_slice()),
+            Event::Refill { moved } => self.refill(thread, moved.as_slice()),
         }
     }
 
@@ -154,6 +155,20 @@ impl<A: Allocator + Copy> World<A> {
         note(&mut self.lists, thread, KeptStep::Spy(victim), listed)?;
         self.contents[own_part(thread)] = Items::new(own_after);
         self.contents[from] = Items::new(left);
+        Ok(())
+    }
+
+    fn refill(&mut self, thread: u32, moved: &[Item]) -> Result<(), StepError>
+        requires { MayStep self.old.limits self.old.world (Commit thread (Refill moved.now)) }
+        ensures { IsStepped self.old (Commit thread (Refill moved.now)) result self.new }
+    {
+        let own = own_part(thread);
+        let own_after = with_all(self.alloc, self.contents[own].as_slice(), moved)?;
+        let left = without_all(self.alloc, self.contents[SHARED].as_slice(), moved)?;
+        let listed = Items::new(copied(self.alloc, moved)?);
+        note(&mut self.lists, thread, KeptStep::Refill, listed)?;
+        self.contents[own] = Items::new(own_after);
+        self.contents[SHARED] = Items::new(left);
         Ok(())
     }
 }

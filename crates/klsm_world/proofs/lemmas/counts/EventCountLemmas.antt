@@ -15,7 +15,7 @@ use Rattle.klsm_run.proofs.LeastLemmas.{Has, same_as_itself, without_first}
 use Rattle.klsm_run.proofs.RankLemmas.{count_none, count_sorted}
 use Rattle.klsm_run.proofs.WithoutLemmas.{same_not, same_or_other, without_later, without_new, has_or_new}
 use Rattle.klsm_parts.specs.Least.{least}
-use Rattle.klsm_parts.specs.Events.{times, IsWithin, plus, minus, MayFlush, IsInReach, MayTakeEarly, MaySpy, own_after_put, own_after_flush, shared_after_flush, own_after_take, shared_after_take, own_after_early, own_after_spy, victim_after_spy}
+use Rattle.klsm_parts.specs.Events.{times, IsWithin, plus, minus, MayFlush, IsInReach, MayTakeEarly, MaySpy, MayRefill, own_after_put, own_after_flush, shared_after_flush, own_after_take, shared_after_take, own_after_early, own_after_spy, victim_after_spy, own_after_refill, shared_after_refill}
 use Rattle.klsm_parts.proofs.EventLemmas.{is_in}
 
 -- one more item counts where it is the item sought
@@ -194,3 +194,8 @@ pub spy_counts : (own victim : List Item) (y : Item) (moved : List Item) → May
 spy_counts own victim y moved may =
     let none : times y own ≡ 0 = ap (times y) may.own_empty in
     omega (arith, none, times_minus y moved victim may.within)
+
+-- so they have after a Refill
+pub refill_counts : (k : ℕ) (own shared : List Item) (y : Item) (moved : List Item) → MayRefill k own shared moved
+    → times y (own_after_refill own moved) + times y (shared_after_refill shared moved) ≡ times y own + times y shared
+refill_counts k own shared y moved may = omega (arith, times_plus y own moved, times_minus y moved shared may.within)

@@ -2,9 +2,9 @@
 use Rattle.std.proofs.Common.{◌≡◌, ℕ, ◌+◌, ◌<◌, ◌≤◌, List, [], ◌∷◌, length, Option, Some, None, refl, sym, ap, ◌∙◌, subst, arith, inl, inr, unwrap_or}
 use Rattle.std.proofs.lemmas.Bool.{cases_eq}
 use Rattle.klsm_run.specs.declared.item.Item.{Item}
-use Rattle.klsm_parts.specs.Events.{own_after_put, own_after_flush, shared_after_flush, own_after_take, shared_after_take, own_after_early, own_after_spy, victim_after_spy}
+use Rattle.klsm_parts.specs.Events.{own_after_put, own_after_flush, shared_after_flush, own_after_take, shared_after_take, own_after_early, own_after_spy, victim_after_spy, own_after_refill, shared_after_refill}
 use Rattle.klsm_world.specs.declared.step.Event.{Event}
-use Rattle.klsm_world.specs.declared.step.Event.TheVariants.{Put, Flush, Take, Early, Nothing, Spy}
+use Rattle.klsm_world.specs.declared.step.Event.TheVariants.{Put, Flush, Take, Early, Nothing, Spy, Refill}
 use Rattle.klsm_world.specs.declared.step.Step.{Step}
 use Rattle.klsm_world.specs.declared.step.Step.TheVariants.{Acquire, Commit, Release, Miss}
 use Rattle.klsm_world.specs.OwnSteps.{Hand, Holds, found_in, content_in, changed, after_event, own_part, shared_part, inserted}
@@ -54,6 +54,11 @@ few_after_event k t n hand (Early x front) may few =
     let had : length own ≡ length may.own = ap (λ o. length (unwrap_or o [])) may.holds_own in
     changed_few k hand (own_part t) (own_after_early own x) few (λ u same. omega (arith, length_without_at_most x own, had, few t may.own may.holds_own))
 few_after_event k t n hand Nothing may few = few
+few_after_event k t n hand (Refill moved) may few =
+    let own = content_in hand (own_part t) in
+    let had : length own ≡ length may.own = ap (λ o. length (unwrap_or o [])) may.holds_own in
+    shared_few k (changed hand (own_part t) (own_after_refill own moved)) (shared_after_refill (content_in hand shared_part) moved)
+    (changed_few k hand (own_part t) (own_after_refill own moved) few (λ u same. omega (arith, length_plus own moved, had, may.fits.room)))
 few_after_event k t n hand (Spy victim moved) may few =
     let from = may.held.other in
     let theirs = content_in hand (own_part victim) in

@@ -1,16 +1,16 @@
 -- How often an item is live after each event that a thread may commit.
 use Rattle.std.proofs.Common.{◌≡◌, ◌≢◌, ℕ, ◌+◌, ◌<◌, List, [], ◌∷◌, length, refl, sym, ap, ◌∙◌, arith, unwrap_or}
 use Rattle.klsm_run.specs.declared.item.Item.{Item}
-use Rattle.klsm_parts.specs.Events.{times, own_after_put, own_after_flush, shared_after_flush, own_after_take, shared_after_take, own_after_early, own_after_spy, victim_after_spy}
+use Rattle.klsm_parts.specs.Events.{times, own_after_put, own_after_flush, shared_after_flush, own_after_take, shared_after_take, own_after_early, own_after_spy, victim_after_spy, own_after_refill, shared_after_refill}
 use Rattle.klsm_world.specs.declared.step.Event.{Event}
-use Rattle.klsm_world.specs.declared.step.Event.TheVariants.{Put, Flush, Take, Early, Nothing, Spy}
+use Rattle.klsm_world.specs.declared.step.Event.TheVariants.{Put, Flush, Take, Early, Nothing, Spy, Refill}
 use Rattle.klsm_world.specs.declared.step.Step.TheVariants.{Commit}
 use Rattle.klsm_world.specs.OwnSteps.{Hand, Holds, found_in, content_in, changed, after_event, own_part, shared_part}
 use Rattle.klsm_world.specs.LegalSteps.{MayCommit}
 use Rattle.klsm_world.specs.Worlds.{Limits, World, hand_in, content_of, live}
 use Rattle.klsm_world.specs.LawfulWorlds.{AreAgreed}
 use Rattle.klsm_world.specs.Schedules.{next}
-use Rattle.klsm_world.proofs.lemmas.counts.EventCountLemmas.{put_counts, flush_counts, take_counts, early_counts, spy_counts}
+use Rattle.klsm_world.proofs.lemmas.counts.EventCountLemmas.{put_counts, flush_counts, take_counts, early_counts, spy_counts, refill_counts}
 use Rattle.klsm_world.proofs.lemmas.hands.HandLemmas.{found_changed, found_elsewhere}
 use Rattle.klsm_world.proofs.lemmas.counts.LiveCountLemmas.{live_same, live_changed, live_changed_two}
 use Rattle.klsm_world.proofs.lemmas.hands.PartContentLemmas.{content_held, held_away, content_unchanged, content_committed}
@@ -159,6 +159,29 @@ module _ (limits : Limits) (w : World) (agreed : AreAgreed limits w) (t : ℕ) (
         live_after_two (Spy victim moved) (own_part t) (own_part victim) own from (own_after_spy moved) left apart has_own has_from
             (first_of_two hand (own_part t) (own_part victim) own (own_after_spy moved) left apart has_own) (second_of_two hand (own_part t) (own_part victim) from (own_after_spy moved) left apart has_from)
             (neither_of_two hand (own_part t) (own_part victim) (own_after_spy moved) left),
+      )
+
+  -- so does a Refill
+  pub live_after_refill : (n : ℕ) (moved : List Item) → MayCommit limits.k t (hand_in w t) n (Refill moved) → times x (live (next w (Commit t (Refill moved)))) ≡ times x (live w)
+  live_after_refill n moved may =
+      let hand = hand_in w t in
+      let own = may.own in
+      let shared = may.other in
+      let has_own = may.holds_own in
+      let has_shared = may.holds_other in
+      let left_own : List Item = own_after_refill (content_in hand (own_part t)) moved in
+      let left_shared : List Item = shared_after_refill (content_in hand shared_part) moved in
+      let own_is : times x left_own ≡ times x (own_after_refill own moved) = ap (λ o. times x (own_after_refill (unwrap_or o []) moved)) has_own in
+      let shared_is : times x left_shared ≡ times x (shared_after_refill shared moved) = ap (λ o. times x (shared_after_refill (unwrap_or o []) moved)) has_shared in
+      let apart : own_part t ≢ shared_part = λ same. let bad : t + 1 ≡ 0 = same in absurd (omega (arith, bad)) in
+      omega (
+        arith,
+        own_is,
+        shared_is,
+        refill_counts limits.k own shared x moved may.fits,
+        live_after_two (Refill moved) (own_part t) shared_part own shared left_own left_shared apart has_own has_shared
+            (first_of_two hand (own_part t) shared_part own left_own left_shared apart has_own) (second_of_two hand (own_part t) shared_part shared left_own left_shared apart has_shared)
+            (neither_of_two hand (own_part t) shared_part left_own left_shared),
       )
 
   -- so does an answer of nothing

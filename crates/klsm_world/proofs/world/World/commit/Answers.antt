@@ -1,5 +1,5 @@
 use Rattle.std.proofs.Common.{◌∙◌, sym, subst, ap}
-use Rattle.klsm_world.specs.declared.step.Event.TheVariants.{Flush, Spy}
+use Rattle.klsm_world.specs.declared.step.Event.TheVariants.{Flush, Spy, Refill}
 use Rattle.klsm_world.specs.declared.step.Step.TheVariants.{Commit}
 use Rattle.klsm_world.specs.Schedules.{MayStep}
 use Rattle.klsm_world.specs.WorldView.{IsStepped}
@@ -40,3 +40,9 @@ spy-requires g c = subst (λ event. MayStep c.args.self.now.limits c.args.self.n
 
 pub returns-in-Spy : goal.returns-in-Spy
 returns-in-Spy g c = subst (λ event. IsStepped c.args.self.now (Commit c.args.thread event) c.spy.result c.spy.new.self) (sym (c.in-Spy.is ∙ ap (Spy c.in-Spy.victim) (sym c.as_slice-in-Spy.ensures))) c.spy.ensures
+
+pub refill-requires : goal.refill-requires
+refill-requires g c = subst (λ event. MayStep c.args.self.now.limits c.args.self.now.world (Commit c.args.thread event)) (c.in-Refill.is ∙ ap Refill (sym c.as_slice-in-Refill.ensures)) c.requires
+
+pub returns-in-Refill : goal.returns-in-Refill
+returns-in-Refill g c = subst (λ event. IsStepped c.args.self.now (Commit c.args.thread event) c.refill.result c.refill.new.self) (sym (c.in-Refill.is ∙ ap Refill (sym c.as_slice-in-Refill.ensures))) c.refill.ensures

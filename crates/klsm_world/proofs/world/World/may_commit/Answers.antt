@@ -1,7 +1,7 @@
 use Rattle.std.proofs.Common.{◌≡◌, ◌==◌, ◌↔◌, [], IsTrue, List, length, true, false, inr, refl, sym, ap, subst, ◌∙◌, arith}
 use Rattle.std.proofs.lemmas.Bool.{ltb-true}
-use Rattle.klsm_parts.specs.Events.{MayPut, MayFlush, MayTake, MayTakeEarly, MayFindNothing, MaySpy}
-use Rattle.klsm_world.specs.declared.step.Event.TheVariants.{Put, Flush, Take, Early, Nothing, Spy}
+use Rattle.klsm_parts.specs.Events.{MayPut, MayFlush, MayTake, MayTakeEarly, MayFindNothing, MaySpy, MayRefill}
+use Rattle.klsm_world.specs.declared.step.Event.TheVariants.{Put, Flush, Take, Early, Nothing, Spy, Refill}
 use Rattle.klsm_world.specs.Kept.{HoldsAll}
 use Rattle.klsm_world.specs.LawfulWorlds.{IsLawful}
 use Rattle.klsm_world.specs.LegalSteps.{MayCommit}
@@ -150,4 +150,20 @@ returns-in-Spy g c =
         another = λ same. subst (λ event. NamesNoVictim r.limits c.args.thread event → ⊥) c.in-Spy.is c.requires.victim (inr same);
       },
       λ may. c.may_spy.ensures.1 (subst (MaySpy own from) (sym c.as_slice-in-Spy.ensures) (both.1 may.held)),
+    )
+
+pub returns-in-Refill : goal.returns-in-Refill
+returns-in-Refill g c =
+    let r : WorldView = c.args.self.now in
+    let own = c.items_of-own.result.now in
+    let n = length (inserted (steps_of r.world c.args.thread)) in
+    let moved = c.in-Refill.moved in let shared = c.items_of-in-Refill.result.now in
+    let lawful : IsLawful r.limits r.world = subst (λ (z : WorldView). IsLawful z.limits z.world) c.self.view_is c.self.invariant.lawful in
+    let held : HoldsAll r.world c.args.thread (parts_for c.args.thread (Refill moved)) = subst (λ event. HoldsAll r.world c.args.thread (parts_for c.args.thread event)) c.in-Refill.is c.requires.held in
+    let k : c.self.inside.k ≡ r.limits.k = ap (λ (z : WorldView). z.limits.k) c.self.view_is in
+    let both = holds_both r.limits r.world c.args.thread lawful.agreed c.requires.thread shared_part (λ own shared. MayRefill r.limits.k own shared moved) own shared
+    (subst (λ p. own ≡ content_of r.world p) c.own_part.ensures c.items_of-own.ensures.content) c.items_of-in-Refill.ensures.content held.0 held.1.0 in
+    subst (λ event. IsTrue c.may_refill.result ↔ MayCommit r.limits.k c.args.thread (hand_in r.world c.args.thread) n event) (sym c.in-Refill.is) (
+      λ goes. both.0 (subst (λ z. MayRefill z own shared moved) k (subst (MayRefill c.self.inside.k own shared) c.as_slice-in-Refill.ensures (c.may_refill.ensures.0 goes))),
+      λ may. c.may_refill.ensures.1 (subst (MayRefill c.self.inside.k own shared) (sym c.as_slice-in-Refill.ensures) (subst (λ z. MayRefill z own shared moved) (sym k) (both.1 may))),
     )
