@@ -1,9 +1,10 @@
 -- What a deletion adds to its member's list.
-use Rattle.std.specs.Prelude.{◌≡◌, ℕ, zero, suc, ◌+◌, ◌-◌, ◌<◌, ◌⊎◌, if◌then◌else◌, ltb, List, [], ◌∷◌, ◌++◌, Option, MatchOption, IsSomeAnd}
+use Rattle.std.specs.Prelude.{◌≡◌, ℕ, zero, suc, ◌+◌, ◌-◌, ◌<◌, ◌⊎◌, ◌==◌, if◌then◌else◌, ltb, List, [], ◌∷◌, ◌++◌, Option, MatchOption, IsSomeAnd}
 use Rattle.klsm_run.specs.declared.item.Item.{Item}
 use Rattle.klsm_parts.specs.Least.{IsLeast}
-use Rattle.klsm_parts.specs.Events.{MayTake, MayTakeEarly, MaySpy}
-use Rattle.klsm_world.specs.declared.step.Event.TheVariants.{Take, Early, Nothing, Spy}
+use Rattle.klsm_parts.specs.Events.{times, MayTake, MayTakeEarly, MaySpy, own_after_take, shared_after_take}
+use Rattle.klsm_parts.specs.Refilling.{refill_of}
+use Rattle.klsm_world.specs.declared.step.Event.TheVariants.{Take, Early, Nothing, Spy, Refill}
 use Rattle.klsm_world.specs.declared.step.Entry.{Entry}
 use Rattle.klsm_world.specs.declared.step.Entry.TheVariants.{Acquired, Committed, Released, Missed}
 use Rattle.klsm_world.specs.OwnSteps.{own_part}
@@ -45,13 +46,27 @@ pub record SpiesAfter (threads t : ℕ) (es es' : List Entry) (moved : List Item
   pub passes : Passes threads t passed added
   pub spies : Spies (victim_of threads t (suc passed)) (es ++ added) es' moved
 
+-- what the moving of some items adds to a list, and of none nothing
+abbrev pub refilled : List Item → List Entry
+refilled [] = []
+refilled (x ∷ moved) = Committed (Refill (x ∷ moved)) ∷ []
+
+-- what a list has behind a Take of x: where x was a shared item, the least of those left there move to
+-- the own part, `most` at most
+abbrev pub refilled_after : ℕ → ℕ → List Item → List Item → Item → List Entry
+refilled_after most k own shared x =
+    if times x own == 0
+    then refilled (refill_of most k (own_after_take own x) (shared_after_take own shared x))
+    else []
+
 -- From the list `acquired`, with both parts in hand: the item was taken out of one of them. It skips at
--- most T·k items, and none of the two parts that the thread inserted.
+-- most T·k items, and none of the two parts that the thread inserted. Where it was a shared one, the
+-- own part is filled again, with no more items than the board says.
 pub record TakesOut (m : Sizes) (t : ℕ) (own shared : List Item) (acquired es' : List Entry) (x : Item) : Type 0 where
   pub may : MayTake m.k t own shared x
   pub skips : SkipsFew (world_limits m) t acquired x
   pub keeps : KeepsOwnOrder (world_limits m) t acquired x
-  pub steps : es' ≡ acquired ++ Committed (Take x) ∷ both_released t
+  pub steps : es' ≡ acquired ++ Committed (Take x) ∷ (refilled_after m.refill m.k own shared x ++ both_released t)
 
 -- From the list `acquired`, with the own part in hand: the least own item was deleted, as its key is
 -- below the front that was read. In the worlds of that front it skips at most (T-1)·k items, and none

@@ -20,9 +20,9 @@ most_insertions = 281474976710656
 abbrev pub most_deletions : ℕ
 most_deletions = 4503599627370496
 
--- the sizes of a board whose members may make the most insertions
+-- the sizes of a board whose members may make the most insertions, and whose deletions move no items
 abbrev pub sizes_of : ℕ → ℕ → Sizes
-sizes_of threads k = record { threads = threads; k = k; quota = most_insertions }
+sizes_of threads k = record { threads = threads; k = k; quota = most_insertions; refill = 0 }
 
 -- what a board can be made for
 pub record AreSizes (capacity : ℕ) (m : Sizes) : Type 0 where
@@ -30,6 +30,7 @@ pub record AreSizes (capacity : ℕ) (m : Sizes) : Type 0 where
   pub threads : m.threads ≤ 16
   pub k : m.k ≤ capacity
   pub quota : m.quota ≤ most_insertions
+  pub refill : m.refill ≤ m.k
 
 -- the seat has no part, and its list has so many insertions and deletions, within the quota and
 -- within what all members may insert

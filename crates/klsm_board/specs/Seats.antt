@@ -5,7 +5,7 @@ use Rattle.atomic_table.specs.Seated.{TableId}
 use Rattle.klsm_run.specs.declared.item.Item.{Item}
 use Rattle.klsm_parts.specs.Events.{front_of}
 use Rattle.klsm_world.specs.declared.step.Event.{Event}
-use Rattle.klsm_world.specs.declared.step.Event.TheVariants.{Put, Flush, Take, Early, Nothing, Spy}
+use Rattle.klsm_world.specs.declared.step.Event.TheVariants.{Put, Flush, Take, Early, Nothing, Spy, Refill}
 use Rattle.klsm_world.specs.declared.step.Entry.{Entry}
 use Rattle.klsm_world.specs.OwnSteps.{Hand, own_part, shared_part, content_in, hand_of, after_event, inserted, inserted_by}
 use Rattle.klsm_world.specs.LegalSteps.{MayCommit}
@@ -83,9 +83,10 @@ LeavesShared t hand (Take x) =
 LeavesShared t hand (Early x front) = ⊥
 LeavesShared t hand Nothing = ⊤
 LeavesShared t hand (Spy victim moved) = ⊤
+LeavesShared t hand (Refill moved) = ⊥
 
--- an event that a store of the front commits, and the front that it leaves: a Flush, and a Take of a
--- shared item
+-- an event that a store of the front commits, and the front that it leaves: a Flush, a Refill, and a
+-- Take of a shared item
 abbrev pub SetsFront : ℕ → Hand → Event → ℕ → Type 0
 SetsFront t hand (Put x) front = ⊥
 SetsFront t hand (Flush x moved) front =
@@ -96,6 +97,8 @@ SetsFront t hand (Take x) front =
 SetsFront t hand (Early x least) front = ⊥
 SetsFront t hand Nothing front = ⊥
 SetsFront t hand (Spy victim moved) front = ⊥
+SetsFront t hand (Refill moved) front =
+    front ≡ front_of (content_in (after_event t hand (Refill moved)) shared_part)
 
 -- where an event inserts an item, the quota has room for it
 abbrev pub QuotaAllows : ℕ → List Entry → Event → Type 0

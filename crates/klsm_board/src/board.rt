@@ -100,4 +100,13 @@ impl<const CAP: usize, const LEVELS: usize> Board<CAP, LEVELS> {
     {
         self.sizes.quota
     }
+
+    /// How many shared items a deletion that took one moves to the own part, at most.
+    #[inline]
+    pub fn refill(&self) -> usize
+        ensures refill { result ≡ self.now.sizes.refill }
+        ensures in_range { AreSizes CAP self.now.sizes }
+    {
+        self.sizes.refill
+    }
 }

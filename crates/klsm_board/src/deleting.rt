@@ -3,7 +3,8 @@
 ghost use Rattle.std.specs.Prelude.{◌≡◌, ◌≢◌, ◌≤◌, ◌++◌, ℕ, List, [], ◌∷◌, length, IfOk, IfErr, MatchOption};
 ghost use Rattle.klsm_run.specs.declared.item.Item.{Item};
 ghost use Rattle.klsm_run.specs.Content.{ShareNone};
-ghost use Rattle.klsm_parts.specs.Events.{MayTake, MayFindNothing, own_after_take, shared_after_take, front_of};
+ghost use Rattle.klsm_parts.specs.Events.{MayTake, MayFindNothing, MayRefill, own_after_take, shared_after_take, own_after_refill, shared_after_refill, front_of};
+ghost use Rattle.klsm_parts.specs.Refilling.{refill_of};
 ghost use Rattle.klsm_world.specs.declared.step.Event.TheVariants.{Take};
 ghost use Rattle.klsm_world.specs.declared.step.Entry.TheVariants.{Committed};
 ghost use Rattle.klsm_world.specs.OwnSteps.{shared_part, hand_of};
@@ -13,7 +14,7 @@ ghost use Rattle.klsm_board.specs.Steps.{mine};
 ghost use Rattle.klsm_board.specs.Seats.{Carries, Stands, Has, CarriedOut, QuotaAllows, LeavesShared, SetsFront, IsSeatOf, both_in_hand};
 ghost use Rattle.klsm_board.specs.Entries.{both_released};
 ghost use Rattle.klsm_board.specs.Choosing.{Chooses};
-ghost use Rattle.klsm_board.specs.Deleting.{AnswersDeletion, Deletes, FindsNothing, MissesDeletion};
+ghost use Rattle.klsm_board.specs.Deleting.{AnswersDeletion, Deletes, FindsNothing, MissesDeletion, refilled, refilled_after};
 
 use crate::acquiring::{acquire_waiting, try_acquire};
 use crate::early::delete_early;
@@ -22,7 +23,9 @@ use crate::lending::{lend_shared, return_shared};
 use crate::rule::{Locks, MemberSeat};
 use crate::slot::PartSlot;
 use crate::spying::search_victims;
-use crate::steps::{commit_by_front, commit_event, release_both, release_part};
+use crate::steps::{
+    Refilling, commit_by_front, commit_event, commit_moving_by_front, release_both, release_part,
+};
 use klsm_parts::Picker;
 use klsm_run::Item;
 use klsm_world::Event;
@@ -34,11 +37,13 @@ pub(crate) fn delete_now<S: PartSlot, P: Picker>(
     seat: &mut MemberSeat<S>,
     thread: usize,
     threads: usize,
+    refill: usize,
     picker: &mut P,
 ) -> Result<Option<Item>, Busy>
     requires sized { S.is_sized }
     requires seat { IsSeatOf seat.old.table_id table.now.table_id table.now.key thread }
     requires threads { threads ≡ table.now.key.threads }
+    requires refill { refill ≡ table.now.key.refill }
     requires stands { Stands S.content S.suits table.now.key thread [] seat.old.me }
     ensures same { seat.new.table_id ≡ seat.old.table_id }
     ensures has { Has S.content S.suits table.now.key thread [] seat.new.me }
@@ -55,7 +60,7 @@ pub(crate) fn delete_now<S: PartSlot, P: Picker>(
         release_part(table, seat, thread + 1, thread);
         return Err(busy);
     }
-    Ok(delete_under_both(table, seat, thread, threads, picker))
+    Ok(delete_under_both(table, seat, thread, threads, refill, picker))
 }
 
 /// Deletes an item, and waits for the locks that it needs.
@@ -65,11 +70,13 @@ pub(crate) fn delete_waiting<S: PartSlot, P: Picker>(
     seat: &mut MemberSeat<S>,
     thread: usize,
     threads: usize,
+    refill: usize,
     picker: &mut P,
 ) -> Option<Item>
     requires sized { S.is_sized }
     requires seat { IsSeatOf seat.old.table_id table.now.table_id table.now.key thread }
     requires threads { threads ≡ table.now.key.threads }
+    requires refill { refill ≡ table.now.key.refill }
     requires stands { Stands S.content S.suits table.now.key thread [] seat.old.me }
     ensures same { seat.new.table_id ≡ seat.old.table_id }
     ensures has { Has S.content S.suits table.now.key thread [] seat.new.me }
@@ -82,7 +89,7 @@ pub(crate) fn delete_waiting<S: PartSlot, P: Picker>(
         return Some(item);
     }
     acquire_waiting(rt, table, seat, 0, thread);
-    delete_under_both(table, seat, thread, threads, picker)
+    delete_under_both(table, seat, thread, threads, refill, picker)
 }
 
 // Deletes an item, with both parts in hand, and releases them. Where they are empty, others' parts
@@ -92,11 +99,13 @@ fn delete_under_both<S: PartSlot, P: Picker>(
     seat: &mut MemberSeat<S>,
     thread: usize,
     threads: usize,
+    refill: usize,
     picker: &mut P,
 ) -> Option<Item>
     requires sized { S.is_sized }
     requires seat { IsSeatOf seat.old.table_id table.now.table_id table.now.key thread }
     requires threads { threads ≡ table.now.key.threads }
+    requires refill { refill ≡ table.now.key.refill }
     requires has { (own : List Item) × (shared : List Item)
         × Has S.content S.suits table.now.key thread (both_in_hand thread own shared) seat.old.me }
     ensures same { seat.new.table_id ≡ seat.old.table_id }
@@ -109,11 +118,11 @@ fn delete_under_both<S: PartSlot, P: Picker>(
         (Deletes P.may_pick picker.old picker.new table.now.key thread own shared
         (mine seat.old.me.0) (mine seat.new.me.0)) }
 {
-    if let Some(item) = take_both_out(table, seat, thread, threads, picker) {
+    if let Some(item) = take_both_out(table, seat, thread, threads, refill, picker) {
         return Some(item);
     }
     if search_victims(table, seat, thread, threads) {
-        return take_both_out(table, seat, thread, threads, picker);
+        return take_both_out(table, seat, thread, threads, refill, picker);
     }
     release_committed(table, seat, thread, &Event::Nothing);
     None
@@ -126,11 +135,13 @@ fn take_both_out<S: PartSlot, P: Picker>(
     seat: &mut MemberSeat<S>,
     thread: usize,
     threads: usize,
+    refill: usize,
     picker: &mut P,
 ) -> Option<Item>
     requires sized { S.is_sized }
     requires seat { IsSeatOf seat.old.table_id table.now.table_id table.now.key thread }
     requires threads { threads ≡ table.now.key.threads }
+    requires refill { refill ≡ table.now.key.refill }
     requires has { (own : List Item) × (shared : List Item)
         × Has S.content S.suits table.now.key thread (both_in_hand thread own shared) seat.old.me }
     ensures same { seat.new.table_id ≡ seat.old.table_id }
@@ -146,40 +157,114 @@ fn take_both_out<S: PartSlot, P: Picker>(
         × SkipsFew (world_limits table.now.key) thread (mine seat.old.me.0) item
         × KeepsOwnOrder (world_limits table.now.key) thread (mine seat.old.me.0) item
         × (mine seat.new.me.0
-        ≡ mine seat.old.me.0 ++ Committed (Take item) ∷ both_released thread)) }
+        ≡ mine seat.old.me.0 ++ Committed (Take item)
+        ∷ (refilled_after refill table.now.key.k own shared item ++ both_released thread))) }
 {
     let (item, front) = take_out(table, seat, thread, picker)?;
     match front {
-        Some(front) => release_by_front(table, seat, threads, thread, front, &Event::Take(item)),
+        Some(front) => release_by_front(table, seat, threads, thread, refill, front, item),
         None => release_committed(table, seat, thread, &Event::Take(item)),
     }
     Some(item)
 }
 
-// Commits an event that was carried out in the two parts in hand by setting the front, and releases
-// them.
+// Commits the deletion of a shared item, which was taken out of the two parts in hand, by setting the
+// front, moves the least shared items to the own part, at most `refill`, and releases both parts.
 fn release_by_front<S: PartSlot>(
     table: &Locks<S>,
     seat: &mut MemberSeat<S>,
     threads: usize,
     thread: usize,
+    refill: usize,
     front: u64,
-    event: &Event,
+    item: Item,
 )
+    requires sized { S.is_sized }
     requires seat { IsSeatOf seat.old.table_id table.now.table_id table.now.key thread }
     requires threads { threads ≡ table.now.key.threads }
-    requires room { QuotaAllows table.now.key.quota (mine seat.old.me.0) event.now }
-    requires sets { SetsFront thread (hand_of thread (mine seat.old.me.0)) event.now front }
+    requires room { QuotaAllows table.now.key.quota (mine seat.old.me.0) (Take item) }
+    requires sets { SetsFront thread (hand_of thread (mine seat.old.me.0)) (Take item) front }
     requires out { (own : List Item) × (shared : List Item)
-        × CarriedOut S.content S.suits table.now.key thread event.now
+        × CarriedOut S.content S.suits table.now.key thread (Take item)
         (both_in_hand thread own shared) seat.old.me }
     ensures same { seat.new.table_id ≡ seat.old.table_id }
     ensures has { Has S.content S.suits table.now.key thread [] seat.new.me }
-    ensures list { mine seat.new.me.0
-        ≡ mine seat.old.me.0 ++ Committed event.now ∷ both_released thread }
+    ensures list { (own : List Item) → (shared : List Item)
+        → CarriedOut S.content S.suits table.now.key thread (Take item)
+        (both_in_hand thread own shared) seat.old.me
+        → mine seat.new.me.0 ≡ mine seat.old.me.0 ++ Committed (Take item)
+        ∷ (refilled (refill_of refill table.now.key.k own shared) ++ both_released thread) }
 {
-    commit_by_front(table, seat, threads, thread, front, event);
+    commit_by_front(table, seat, threads, thread, front, &Event::Take(item));
+    refill_own(table, seat, threads, thread, refill);
     release_both(table, seat, thread);
+}
+
+// Moves the least shared items to the own part, at most `refill` and as many as it has room for, and
+// commits that by setting the front. The seat keeps both parts.
+fn refill_own<S: PartSlot>(
+    table: &Locks<S>,
+    seat: &mut MemberSeat<S>,
+    threads: usize,
+    thread: usize,
+    refill: usize,
+)
+    requires sized { S.is_sized }
+    requires seat { IsSeatOf seat.old.table_id table.now.table_id table.now.key thread }
+    requires threads { threads ≡ table.now.key.threads }
+    requires has { (own : List Item) × (shared : List Item)
+        × Has S.content S.suits table.now.key thread (both_in_hand thread own shared) seat.old.me }
+    ensures same { seat.new.table_id ≡ seat.old.table_id }
+    ensures has { (own : List Item) × (shared : List Item)
+        × Has S.content S.suits table.now.key thread (both_in_hand thread own shared) seat.new.me }
+    ensures list { (own : List Item) → (shared : List Item)
+        → Has S.content S.suits table.now.key thread (both_in_hand thread own shared) seat.old.me
+        → mine seat.new.me.0
+        ≡ mine seat.old.me.0 ++ refilled (refill_of refill table.now.key.k own shared) }
+{
+    if refill == 0 {
+        return;
+    }
+    if let Some(front) = refill_in(table, seat, thread, refill) {
+        commit_moving_by_front(table, seat, threads, thread, front, &Refilling);
+    }
+}
+
+// Moves the least shared items to the own part, at most `refill` and as many as it has room for. The seat
+// carries both. It answers the front of what the shared part then has, where some moved.
+fn refill_in<S: PartSlot>(
+    table: &Locks<S>,
+    seat: &mut MemberSeat<S>,
+    thread: usize,
+    refill: usize,
+) -> Option<u64>
+    requires sized { S.is_sized }
+    requires seat { IsSeatOf seat.old.table_id table.now.table_id table.now.key thread }
+    requires carries { (own : List Item) × (shared : List Item)
+        × Carries S.content S.suits table.now.key thread (both_in_hand thread own shared)
+        seat.old.me
+        × ShareNone own shared }
+    ensures same { (seat.new.table_id ≡ seat.old.table_id) × (seat.new.id ≡ seat.old.id)
+        × (seat.new.me.0 ≡ seat.old.me.0) }
+    ensures done { (own : List Item) → (shared : List Item)
+        → Carries S.content S.suits table.now.key thread (both_in_hand thread own shared)
+        seat.old.me
+        → MatchOption result
+        ((refill_of refill table.now.key.k own shared ≡ [])
+        × Carries S.content S.suits table.now.key thread (both_in_hand thread own shared)
+        seat.new.me)
+        (λ front. MayRefill table.now.key.k own shared (refill_of refill table.now.key.k own shared)
+        × Carries S.content S.suits table.now.key thread (both_in_hand thread
+        (own_after_refill own (refill_of refill table.now.key.k own shared))
+        (shared_after_refill shared (refill_of refill table.now.key.k own shared))) seat.new.me
+        × (front ≡ front_of
+        (shared_after_refill shared (refill_of refill table.now.key.k own shared)))) }
+{
+    let mut shared = lend_shared(table, seat, thread);
+    let moves = seat.slot_mut(table, thread + 1).refill(&mut shared, refill);
+    let front = shared.front();
+    return_shared(table, seat, thread, shared);
+    if moves { Some(front) } else { None }
 }
 
 // Commits an event that inserts nothing, leaves the shared part and was carried out in the two parts in

@@ -24,6 +24,9 @@ pub enum MakeError {
     /// More than 2^48 insertions for each member.
     #[error("the quota is more than 2^48 insertions")]
     BadQuota,
+    /// More items moved by a deletion than an own part may have.
+    #[error("a deletion cannot move more than k items")]
+    BadRefill,
     /// A growth was refused.
     #[error("out of memory")]
     NoMemory,

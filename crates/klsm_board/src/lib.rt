@@ -10,6 +10,11 @@
 //! both parts are empty it spies items from another member's part. So members seldom meet, and in
 //! return a deletion may skip as many as T·k smaller items.
 //!
+//! A board made by `Board::with_refill` lets a deletion that took a shared item move some more of the
+//! least ones to its own part, as long as it has the shared lock. Its member's next deletions then go by
+//! the front, and need no other lock than their own. All bounds are the same, as an own part has at most
+//! k items in any case.
+//!
 //! ```text
 //! let (board, mut members) = Board::<64, 21>::new(alloc, 4, 16, 1 << 40)?;
 //! // each member in a thread of its own, all with the one board and the number of open nodes

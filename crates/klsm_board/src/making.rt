@@ -37,7 +37,7 @@ impl<const CAP: usize, const LEVELS: usize> Board<CAP, LEVELS> {
         requires capacity { IsCapacity CAP }
         requires levels { IsLevelCount LEVELS }
         ensures sizes { IfOk result (λ made.
-            made.0.sizes ≡ record { threads = threads; k = k; quota = quota }) }
+            made.0.sizes ≡ record { threads = threads; k = k; quota = quota; refill = 0 }) }
         ensures of { IfOk result (λ made. All (λ member. IsOf member made.0) made.1.items) }
         ensures count { IfOk result (λ made. length made.1.items ≡ threads) }
         ensures crew { IfOk result (λ made. IsCrew made.1.items) }
@@ -49,8 +49,40 @@ impl<const CAP: usize, const LEVELS: usize> Board<CAP, LEVELS> {
             ↔ ((1 ≤ threads) × (threads ≤ 16) × (CAP < k)) }
         ensures bad_quota { IsErrAnd result (λ why. why ≡ MakeError.BadQuota)
             ↔ ((1 ≤ threads) × (threads ≤ 16) × (k ≤ CAP) × (most_insertions < quota)) }
+        ensures bad_refill { IsErrAnd result (λ why. why ≡ MakeError.BadRefill) ↔ ⊥ }
     {
-        let sizes = sizes_for(CAP, threads, k, quota)?;
+        Board::with_refill(alloc, threads, k, quota, 0)
+    }
+
+    /// The same, and a deletion that took a shared item moves at most `refill` of the least shared items
+    /// to its member's own part, which is at most k. Its member's next deletions then go by the front.
+    pub fn with_refill(
+        alloc: Global,
+        threads: usize,
+        k: usize,
+        quota: u64,
+        refill: usize,
+    ) -> Result<(Self, Vec<Member<CAP, LEVELS>>), MakeError>
+        requires capacity { IsCapacity CAP }
+        requires levels { IsLevelCount LEVELS }
+        ensures sizes { IfOk result (λ made. made.0.sizes
+            ≡ record { threads = threads; k = k; quota = quota; refill = refill }) }
+        ensures of { IfOk result (λ made. All (λ member. IsOf member made.0) made.1.items) }
+        ensures count { IfOk result (λ made. length made.1.items ≡ threads) }
+        ensures crew { IfOk result (λ made. IsCrew made.1.items) }
+
+        // Each refusal comes exactly where its cause holds and none before it; else memory lacks.
+        ensures bad_threads { IsErrAnd result (λ why. why ≡ MakeError.BadThreads)
+            ↔ ((threads ≡ 0) ⊎ (16 < threads)) }
+        ensures bad_k { IsErrAnd result (λ why. why ≡ MakeError.BadK)
+            ↔ ((1 ≤ threads) × (threads ≤ 16) × (CAP < k)) }
+        ensures bad_quota { IsErrAnd result (λ why. why ≡ MakeError.BadQuota)
+            ↔ ((1 ≤ threads) × (threads ≤ 16) × (k ≤ CAP) × (most_insertions < quota)) }
+        ensures bad_refill { IsErrAnd result (λ why. why ≡ MakeError.BadRefill)
+            ↔ ((1 ≤ threads) × (threads ≤ 16) × (k ≤ CAP) × (quota ≤ most_insertions)
+            × (k < refill)) }
+    {
+        let sizes = sizes_for(CAP, threads, k, quota, refill)?;
         let Ok((board, seat)) = table_of(alloc, sizes) else {
             return Err(MakeError::NoMemory);
         };
@@ -62,9 +94,15 @@ impl<const CAP: usize, const LEVELS: usize> Board<CAP, LEVELS> {
 }
 
 // The sizes of a board, if one can be made for them.
-fn sizes_for(capacity: usize, threads: usize, k: usize, quota: u64) -> Result<Sizes, MakeError>
+fn sizes_for(
+    capacity: usize,
+    threads: usize,
+    k: usize,
+    quota: u64,
+    refill: usize,
+) -> Result<Sizes, MakeError>
     ensures sizes { IfOk result (λ sizes.
-        sizes ≡ record { threads = threads; k = k; quota = quota }) }
+        sizes ≡ record { threads = threads; k = k; quota = quota; refill = refill }) }
     ensures in_range { IfOk result (λ sizes. AreSizes capacity sizes) }
     ensures bad_threads { IsErrAnd result (λ why. why ≡ MakeError.BadThreads)
         ↔ ((threads ≡ 0) ⊎ (16 < threads)) }
@@ -72,6 +110,9 @@ fn sizes_for(capacity: usize, threads: usize, k: usize, quota: u64) -> Result<Si
         ↔ ((1 ≤ threads) × (threads ≤ 16) × (capacity < k)) }
     ensures bad_quota { IsErrAnd result (λ why. why ≡ MakeError.BadQuota)
         ↔ ((1 ≤ threads) × (threads ≤ 16) × (k ≤ capacity) × (most_insertions < quota)) }
+    ensures bad_refill { IsErrAnd result (λ why. why ≡ MakeError.BadRefill)
+        ↔ ((1 ≤ threads) × (threads ≤ 16) × (k ≤ capacity) × (quota ≤ most_insertions)
+        × (k < refill)) }
 {
     if threads == 0 || threads > MOST_THREADS {
         return Err(MakeError::BadThreads);
@@ -82,7 +123,15 @@ fn sizes_for(capacity: usize, threads: usize, k: usize, quota: u64) -> Result<Si
     if quota > MOST_INSERTIONS {
         return Err(MakeError::BadQuota);
     }
-    Ok(Sizes { threads, k, quota })
+    if refill > k {
+        return Err(MakeError::BadRefill);
+    }
+    Ok(Sizes {
+        threads,
+        k,
+        quota,
+        refill,
+    })
 }
 
 // The board, and a seat that knows all members' lists.

@@ -146,6 +146,9 @@ impl<const CAP: usize, const LEVELS: usize> Member<CAP, LEVELS> {
     /// most T·k smaller items live then, in all parts together, at most (T-1)·k where the shared lock
     /// was not acquired, and none of its own in the two parts; where the answer is `None`, at most (T-1)·k
     /// items live.
+    ///
+    /// Where the item was a shared one, and the board was made to say so, some of the least shared items
+    /// then move to the own part, before the shared lock is released.
     pub fn try_delete_min<P: Picker>(
         &mut self,
         board: &Board<CAP, LEVELS>,
@@ -162,7 +165,9 @@ impl<const CAP: usize, const LEVELS: usize> Member<CAP, LEVELS> {
     {
         let thread = self.number as usize;
         let threads = self.sizes.threads;
-        let answer = delete_now(&board.table.shared, &mut self.seat, thread, threads, picker)?;
+        let refill = self.sizes.refill;
+        let table = &board.table.shared;
+        let answer = delete_now(table, &mut self.seat, thread, threads, refill, picker)?;
         if answer.is_some() {
             self.deleted += 1;
         }
@@ -186,12 +191,14 @@ impl<const CAP: usize, const LEVELS: usize> Member<CAP, LEVELS> {
     {
         let thread = self.number as usize;
         let threads = self.sizes.threads;
+        let refill = self.sizes.refill;
         let answer = delete_waiting(
             rt,
             &board.table.shared,
             &mut self.seat,
             thread,
             threads,
+            refill,
             picker,
         );
         if answer.is_some() {

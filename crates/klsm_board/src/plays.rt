@@ -23,7 +23,7 @@ pub trait Told {
 }
 
 impl Told for Brand {
-    ghost sizes = { record { threads = 0; k = 0; quota = 0 } };
+    ghost sizes = { record { threads = 0; k = 0; quota = 0; refill = 0 } };
 
     ghost thread = { 0 };
 

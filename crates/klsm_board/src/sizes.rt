@@ -9,4 +9,6 @@ pub struct Sizes {
     pub k: usize,
     /// How many insertions a member may make.
     pub quota: u64,
+    /// How many shared items a deletion that took one moves to the own part, at most.
+    pub refill: usize,
 }

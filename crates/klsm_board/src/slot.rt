@@ -7,13 +7,14 @@ ghost use Rattle.klsm_run.specs.Content.{ShareNone, sorted};
 ghost use Rattle.klsm_parts.specs.Limit.{IsLevelCount, limit_of};
 ghost use Rattle.klsm_parts.specs.Parts.{items_in};
 ghost use Rattle.klsm_parts.specs.Least.{IsLeast};
-ghost use Rattle.klsm_parts.specs.Events.{MayPut, MayFlush, MayTake, MayFindNothing, MaySpy, own_after_put, own_after_flush, shared_after_flush, own_after_take, shared_after_take, own_after_early, own_after_spy, victim_after_spy, front_of};
+ghost use Rattle.klsm_parts.specs.Events.{MayPut, MayFlush, MayTake, MayFindNothing, MaySpy, MayRefill, own_after_put, own_after_flush, shared_after_flush, own_after_take, shared_after_take, own_after_early, own_after_spy, victim_after_spy, own_after_refill, shared_after_refill, front_of};
+ghost use Rattle.klsm_parts.specs.Refilling.{refill_of};
 ghost use Rattle.klsm_world.specs.OwnSteps.{own_part, shared_part};
 ghost use Rattle.klsm_board.specs.Choosing.{Chooses};
 
 use crate::boxed::Boxed;
 use crate::rule::Holding;
-use klsm_parts::{Local, LsmError, Picker, Shared, flush, put, spy, take, take_least};
+use klsm_parts::{Local, LsmError, Picker, Shared, flush, put, refill, spy, take, take_least};
 use klsm_run::Item;
 use std::alloc::AllocError;
 
@@ -156,6 +157,28 @@ pub trait PartSlot: Holding + Drop {
             × (Self.content victim.new ≡ victim_after_spy (Self.content victim.old) moved))
             ((Self.content victim.old ≡ []) × (Self.content self.new ≡ Self.content self.old)
             × (Self.content victim.new ≡ Self.content victim.old)) };
+
+    /// Moves the least items of the shared part to an own one: at most `most`, and as many as there are
+    /// and as the own part has room for. True where some moved.
+    fn refill(&mut self, shared: &mut Self, most: usize) -> bool
+        requires sized { is_sized }
+        requires parts { (k : ℕ) × (t : ℕ) × Self.suits k (own_part t) self.old
+            × Self.suits k shared_part shared.old }
+        requires apart { ShareNone (Self.content self.old) (Self.content shared.old) }
+        ensures kind { (k t : ℕ) → Self.suits k (own_part t) self.old
+            → Self.suits k (own_part t) self.new }
+        ensures shared_kind { (k : ℕ) → Self.suits k shared_part shared.old
+            → Self.suits k shared_part shared.new }
+        ensures done { (k t : ℕ) → Self.suits k (own_part t) self.old → MatchBool result
+            (MayRefill k (Self.content self.old) (Self.content shared.old)
+            (refill_of most k (Self.content self.old) (Self.content shared.old))
+            × (Self.content self.new ≡ own_after_refill (Self.content self.old)
+            (refill_of most k (Self.content self.old) (Self.content shared.old)))
+            × (Self.content shared.new ≡ shared_after_refill (Self.content shared.old)
+            (refill_of most k (Self.content self.old) (Self.content shared.old))))
+            ((refill_of most k (Self.content self.old) (Self.content shared.old) ≡ [])
+            × (Self.content self.new ≡ Self.content self.old)
+            × (Self.content shared.new ≡ Self.content shared.old)) };
 }
 
 /// A part on the heap, so that a call that acquires it moves a tag and a pointer.
@@ -281,6 +304,16 @@ impl<const CAP: usize, const LEVELS: usize> PartSlot for BoardSlot<CAP, LEVELS> 
     fn spy(&mut self, victim: &mut Self) -> bool {
         match (self, victim) {
             (Slot::Own(own), Slot::Own(victim)) => spy(own.get_mut(), victim.get_mut()) != 0,
+            _ => unreachable!(),
+        }
+    }
+
+    #[inline]
+    fn refill(&mut self, shared: &mut Self, most: usize) -> bool {
+        match (self, shared) {
+            (Slot::Own(own), Slot::Common(shared)) => {
+                refill(own.get_mut(), shared.get_mut(), most) != 0
+            }
             _ => unreachable!(),
         }
     }

@@ -253,6 +253,15 @@ impl Moving for Item {
     ghost event = { Flush };
 }
 
+/// A moving of shared items to the own part.
+pub(crate) struct Refilling;
+
+impl Moving for Refilling {
+    ghost use Rattle.klsm_world.specs.declared.step.Event.TheVariants.{Refill};
+
+    ghost event = { λ _ moved. Refill moved };
+}
+
 /// A spying on the member with this number.
 impl Moving for u32 {
     ghost use Rattle.klsm_world.specs.declared.step.Event.TheVariants.{Spy};

@@ -5,6 +5,7 @@ pub mod TakeLemmas  -- the deletion from an own part alone
 pub mod EventLemmas  -- which events the entries have
 pub mod AddLemmas  -- what the calls insert and delete
 pub mod AddedLemmas  -- the events of each call
+pub mod RefillLemmas  -- what a refill adds
 pub mod DeletedLemmas  -- those of a deletion
 pub mod EarlyLemmas  -- the deletion by the front, from the own part in hand
 pub mod FullLemmas  -- an insertion that found its own part full

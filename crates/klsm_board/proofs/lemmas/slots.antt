@@ -3,3 +3,4 @@ pub mod KindLemmas  -- what is said of a slot and what of the part in it
 pub mod FlushLemmas  -- a flush, by its answer
 pub mod SpyLemmas  -- a spy, by its answer
 pub mod TakeLemmas  -- a take, by its answer
+pub mod RefillLemmas  -- a refill, by its answer

@@ -1,15 +1,16 @@
-use Rattle.std.proofs.Common.{◌≡◌, ◌-◌, ◌∷◌, ◌++◌, ◌∙◌, [], List, ap, refl, subst, inr}
+use Rattle.std.proofs.Common.{◌≡◌, ◌-◌, ◌∷◌, ◌++◌, ◌∙◌, [], List, ap, refl, subst, inl, inr}
 use Rattle.klsm_run.specs.declared.item.Item.{Item}
 use Rattle.klsm_world.specs.declared.step.Entry.TheVariants.{Committed}
-use Rattle.klsm_world.specs.declared.step.Event.TheVariants.{Nothing}
+use Rattle.klsm_world.specs.declared.step.Event.TheVariants.{Take, Nothing}
 use Rattle.klsm_world.specs.OwnListLaws.{LeavesFew}
 use Rattle.klsm_board.specs.Rule.{world_limits}
 use Rattle.klsm_board.specs.Steps.{mine}
 use Rattle.klsm_board.specs.Entries.{both_released}
 use Rattle.klsm_board.specs.Seats.{Has, both_in_hand}
-use Rattle.klsm_board.specs.Deleting.{Passes, SpiesAfter}
+use Rattle.klsm_board.specs.Deleting.{Passes, SpiesAfter, refilled_after}
 use Rattle.klsm_board.proofs.lemmas.hands.PossibleLemmas.{nothing_leaves_few}
 use Rattle.klsm_board.proofs.lemmas.calls.TakeLemmas.{least_alone}
+use Rattle.klsm_board.proofs.lemmas.calls.RefillLemmas.{none_refilled_alone}
 use Rattle.klsm_board.proofs.lemmas.calls.TestLemmas.{either_option, where_some}
 use Rattle.klsm_board.proofs.deleting.delete_under_both.Goals as goal
 
@@ -58,7 +59,7 @@ returns-then-search_victims-clause-done g c own shared has_both =
         spies = subst (λ n. SpiesAfter n t (mine me.0) (mine me2.0) spied.0) c.requires.threads (subst (λ es. SpiesAfter c.args.threads t es (mine me2.0) spied.0) none.2 spied.2);
         skips = took.3;
         keeps = took.4;
-        steps = took.5;
+        steps = took.5 ∙ ap (λ z. mine me2.0 ++ Committed (Take item) ∷ (z ++ both_released t)) (none_refilled_alone c.args.refill m.k spied.0 item (least_alone m.k t spied.0 item took.1));
       },
       (chosen.unasked refl).0 ∙ none.3,
     ))
@@ -80,4 +81,18 @@ returns-clause-done g c own shared has_both =
         steps = c.release_committed.ensures.list ∙ ap (λ z. z ++ Committed Nothing ∷ both_released t) list;
       },
       none.3,
+    )
+
+pub returns-in-Some-clause-done : goal.returns-in-Some-clause-done
+returns-in-Some-clause-done g c own shared has_both =
+    let m = c.args.table.now.key in let t = c.args.thread in let me = c.args.seat.now.me in let item = c.in-Some.item in
+    let took = c.in-Some.ensures.done own shared has_both in
+    inl (
+      record {
+        may = took.1;
+        skips = took.3;
+        keeps = took.4;
+        steps = took.5 ∙ ap (λ n. mine me.0 ++ Committed (Take item) ∷ (refilled_after n m.k own shared item ++ both_released t)) c.requires.refill;
+      },
+      took.2,
     )

@@ -1,20 +1,24 @@
 -- The events of a deletion's entries.
 use Rattle.std.proofs.Common.{◌≡◌, ℕ, zero, suc, ◌-◌, true, false, true≢false, length, List, [], ◌∷◌, ◌++◌, sym, refl, ap, ◌∙◌, inl, inr, append_assoc}
 use Rattle.std.specs.Prelude.{MatchOption, IsSomeAnd, Option, Some, None}
+use Rattle.std.specs.List.{flat_map}
+use Rattle.std.proofs.lemmas.List.{append-nil}
+use Rattle.std.proofs.lemmas.List.Concat.{flat_map-cons}
 use Rattle.std.specs.Option.{is_some, option_to_list}
 use Rattle.klsm_run.specs.declared.item.Item.{Item}
 use Rattle.klsm_world.specs.declared.step.Event.{Event}
 use Rattle.klsm_world.specs.declared.step.Event.TheVariants.{Take, Early, Nothing, Spy}
 use Rattle.klsm_world.specs.declared.step.Entry.{Entry}
 use Rattle.klsm_world.specs.declared.step.Entry.TheVariants.{Acquired, Committed, Released, Missed}
-use Rattle.klsm_world.specs.OwnSteps.{own_part}
+use Rattle.klsm_world.specs.OwnSteps.{own_part, event_at, inserted_by, deleted_by}
 use Rattle.klsm_board.specs.declared.sizes.Sizes.{Sizes}
 use Rattle.klsm_board.specs.declared.errors.Busy.{Busy}
 use Rattle.klsm_board.specs.Entries.{own_acquired, both_acquired, both_released}
-use Rattle.klsm_board.specs.Deleting.{Passes, PassesBy, TakesOut, TakesEarly, TakesSpied, FindsNothing, Deletes, AnswersDeletion, MissesDeletion, victim_of}
+use Rattle.klsm_board.specs.Deleting.{Passes, PassesBy, TakesOut, TakesEarly, TakesSpied, FindsNothing, Deletes, AnswersDeletion, MissesDeletion, victim_of, refilled, refilled_after}
 use Rattle.klsm_board.proofs.lemmas.calls.EventLemmas.{events, IsQuiet, events_append, quiet_append, same_events}
 use Rattle.klsm_board.proofs.lemmas.calls.AddLemmas.{goes_on, inserts, deletes, own_quiet, both_quiet}
 use Rattle.klsm_board.proofs.lemmas.calls.AddedLemmas.{Gains, quiet_gains}
+use Rattle.klsm_board.proofs.lemmas.calls.RefillLemmas.{is_refilled}
 
 -- victims that were passed by
 pass_is_quiet : (victim : ℕ) (added : List Entry) → PassesBy victim added → IsQuiet added
@@ -33,12 +37,24 @@ gained es es' added ins dels e i d = record {
   deleted_are = deletes es es' added e ∙ ap (λ z. Rattle.klsm_world.specs.OwnSteps.deleted es ++ z) (sym d);
 }
 
+-- items that move behind a Take are neither inserted nor deleted
+none_more : (x : Item) (moved : List Item) → ([] ≡ flat_map inserted_by (Take x ∷ events (refilled moved))) × (x ∷ [] ≡ flat_map deleted_by (Take x ∷ events (refilled moved)))
+none_more x [] = (refl, refl)
+none_more x (y ∷ moved) = (refl, refl)
+
 module _ (m : Sizes) (t : ℕ) (own shared : List Item) (es acquired es' : List Entry) (quiet : events acquired ≡ events es) where
-  pub takes_events : (x : Item) → TakesOut m t own shared acquired es' x → events es' ≡ events es ++ Take x ∷ []
-  takes_events x takes = goes_on es acquired (Committed (Take x) ∷ both_released t) es' quiet takes.steps
+  pub takes_events : (x : Item) → TakesOut m t own shared acquired es' x → events es' ≡ events es ++ Take x ∷ events (refilled_after m.refill m.k own shared x)
+  takes_events x takes =
+      let added : List Entry = refilled_after m.refill m.k own shared x in
+      let behind : events (added ++ both_released t) ≡ events added = events_append added (both_released t) ∙ append-nil (events added) in
+      goes_on es acquired (Committed (Take x) ∷ (added ++ both_released t)) es' quiet takes.steps
+      ∙ ap (λ z. events es ++ z) (flat_map-cons event_at (Committed (Take x)) (added ++ both_released t) ∙ ap (λ z. Take x ∷ z) behind)
 
   takes_gain : (x : Item) → TakesOut m t own shared acquired es' x → Gains es es' [] (x ∷ [])
-  takes_gain x takes = gained es es' (Take x ∷ []) [] (x ∷ []) (takes_events x takes) refl refl
+  takes_gain x takes =
+      let some = is_refilled m.refill m.k own shared x in
+      let none = none_more x some.0 in
+      gained es es' (Take x ∷ events (refilled some.0)) [] (x ∷ []) (takes_events x takes ∙ ap (λ z. events es ++ Take x ∷ events z) some.1) none.0 none.1
 
   pub spied_events : (x : Item) → (takes : TakesSpied m t own shared acquired es' x) → events es' ≡ events es ++ Spy (victim_of m.threads t (suc takes.spies.passed)) takes.moved ∷ Take x ∷ []
   spied_events x takes =

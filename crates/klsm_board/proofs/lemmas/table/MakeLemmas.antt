@@ -7,7 +7,7 @@ use Rattle.klsm_parts.specs.Parts.{PartState}
 use Rattle.klsm_world.specs.declared.step.Entry.{Entry}
 use Rattle.klsm_world.specs.OwnSteps.{inserted}
 use Rattle.klsm_world.specs.Worlds.{first_world}
-use Rattle.klsm_board.specs.declared.errors.MakeError.TheVariants.{BadThreads, BadK, BadQuota, NoMemory}
+use Rattle.klsm_board.specs.declared.errors.MakeError.TheVariants.{BadThreads, BadK, BadQuota, BadRefill, NoMemory}
 use Rattle.klsm_board.specs.declared.sizes.Sizes.{Sizes}
 use Rattle.klsm_board.specs.declared.rule.View.{View}
 use Rattle.klsm_board.specs.declared.slot.Slot.{Slot}
@@ -95,3 +95,6 @@ memory_is_not_k same = cc
 
 pub memory_is_not_quota : NoMemory ≢ BadQuota
 memory_is_not_quota same = cc
+
+pub memory_is_not_refill : NoMemory ≢ BadRefill
+memory_is_not_refill same = cc

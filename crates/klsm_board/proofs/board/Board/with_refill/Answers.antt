@@ -1,7 +1,7 @@
 use Rattle.std.proofs.Common.{rules}
 use Rattle.klsm_parts.proofs.FitLemmas.{local_fits, shared_fits}
-use Rattle.klsm_board.proofs.lemmas.table.MakeLemmas.{memory_is_not_threads, memory_is_not_k, memory_is_not_quota}
-use Rattle.klsm_board.proofs.board.Board.new.Goals as goal
+use Rattle.klsm_board.proofs.lemmas.table.MakeLemmas.{memory_is_not_threads, memory_is_not_k, memory_is_not_quota, memory_is_not_refill}
+use Rattle.klsm_board.proofs.board.Board.with_refill.Goals as goal
 
 pub drop-board-requires-room-P-TableRule : goal.drop-board-requires-room-P-TableRule
 drop-board-requires-room-P-TableRule g c κs = local_fits _ c.requires.capacity
@@ -44,3 +44,12 @@ table_of-requires g c = (search rules, (local_fits _ c.requires.capacity, (share
 
 pub deal-requires : goal.deal-requires
 deal-requires g c = (search rules, (local_fits _ c.requires.capacity, (shared_fits _ c.requires.levels, (search rules, (search rules, search rules)))))
+
+pub returns-in_default-clause-bad_refill : goal.returns-in_default-clause-bad_refill
+returns-in_default-clause-bad_refill g c = (λ same. absurd (memory_is_not_refill same), λ bad. absurd (c.in_ok-sizes.ensures.bad_refill.1 bad))
+
+pub returns-in_default-deal-clause-bad_refill : goal.returns-in_default-deal-clause-bad_refill
+returns-in_default-deal-clause-bad_refill g c = (λ same. absurd (memory_is_not_refill same), λ bad. absurd (c.in_ok-sizes.ensures.bad_refill.1 bad))
+
+pub returns-clause-bad_refill : goal.returns-clause-bad_refill
+returns-clause-bad_refill g c = (λ never. absurd never, λ bad. absurd (c.in_ok-sizes.ensures.bad_refill.1 bad))
