@@ -44,7 +44,7 @@ pub extern "C" fn klsm_open(
         }
         Err(MakeError::BadThreads) => BAD_COUNT,
         Err(MakeError::BadK) => BAD_K,
-        Err(MakeError::BadQuota | MakeError::NoMemory) => NO_MEMORY,
+        Err(MakeError::BadQuota | MakeError::BadRefill | MakeError::NoMemory) => NO_MEMORY,
     }
 }
 
