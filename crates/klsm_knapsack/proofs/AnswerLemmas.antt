@@ -1,15 +1,18 @@
 -- What a call of a member leaves at the end of its list, and which events the list gains.
-use Rattle.std.proofs.Common.{ℕ, suc, inl, inr, List, [], ◌∷◌, ◌++◌, Option, Some, None, arith}
+use Rattle.std.proofs.Common.{◌≡◌, ◌≢◌, ℕ, suc, inl, inr, List, [], ◌∷◌, ◌++◌, Option, Some, None, sym, ap, ◌∙◌, append_assoc, arith}
+use Rattle.std.specs.List.{AllByRecursion}
 use Rattle.klsm_run.specs.declared.item.Item.{Item}
-use Rattle.klsm_world.specs.declared.step.Event.TheVariants.{Put, Flush, Take, Early, Nothing, Spy}
+use Rattle.klsm_world.specs.declared.step.Event.TheVariants.{Put, Flush, Take, Early, Nothing, Spy, Refill}
 use Rattle.klsm_world.specs.declared.step.Entry.{Entry}
 use Rattle.klsm_world.specs.declared.step.Entry.TheVariants.{Committed, Released}
 use Rattle.klsm_world.specs.OwnSteps.{own_part}
 use Rattle.klsm_board.specs.declared.sizes.Sizes.{Sizes}
 use Rattle.klsm_board.specs.Inserting.{Inserts}
-use Rattle.klsm_board.specs.Deleting.{Deletes, FindsNothing, AnswersDeletion, victim_of}
+use Rattle.klsm_board.specs.Deleting.{Deletes, FindsNothing, AnswersDeletion, victim_of, refilled}
 use Rattle.klsm_board.specs.Entries.{own_acquired, both_acquired, both_released}
 use Rattle.klsm_board.proofs.lemmas.calls.AddLemmas.{goes_on, own_quiet, both_quiet}
+use Rattle.klsm_board.proofs.lemmas.calls.EventLemmas.{events}
+use Rattle.klsm_board.proofs.lemmas.calls.RefillLemmas.{is_refilled}
 use Rattle.klsm_board.proofs.lemmas.calls.DeletedLemmas.{takes_events, spied_events, nothing_events, early_events}
 use Rattle.klsm_knapsack.specs.Ends.{EndsAnswered}
 use Rattle.klsm_knapsack.specs.Answers.{GainsNothing, GainsOthers, GainsSome}
@@ -18,8 +21,16 @@ pub after_insertion : (levels k t : ℕ) (own_misses shared_misses : List ℕ) (
 after_insertion levels k t own_misses shared_misses es es' x (inl puts) = inr (own_acquired t own_misses puts.own es, Put x, inl puts.steps)
 after_insertion levels k t own_misses shared_misses es es' x (inr flushes) = inr (both_acquired t own_misses shared_misses flushes.own flushes.shared es, Flush x flushes.moved, inr flushes.steps)
 
+-- items may have moved behind a Take
+after_take : (t : ℕ) (taken es' : List Entry) (x : Item) (moved : List Item) → es' ≡ taken ++ Committed (Take x) ∷ (refilled moved ++ both_released t) → EndsAnswered t es'
+after_take t taken es' x [] steps = inr (taken, Take x, inr steps)
+after_take t taken es' x (y ∷ moved) steps =
+    inr (taken ++ Committed (Take x) ∷ [], Refill (y ∷ moved), inr (steps ∙ sym (append_assoc taken (Committed (Take x) ∷ []) (Committed (Refill (y ∷ moved)) ∷ both_released t))))
+
 after_deletion : {P : Type 0} (may_pick : P → ℕ → ℕ → P → Type 0) (before after : P) (m : Sizes) (t : ℕ) (own shared : List Item) (taken es' : List Entry) (x : Item) → Deletes may_pick before after m t own shared taken es' x → EndsAnswered t es'
-after_deletion may_pick before after m t own shared taken es' x (inl takes) = inr (taken, Take x, inr takes.0.steps)
+after_deletion may_pick before after m t own shared taken es' x (inl takes) =
+    let some = is_refilled m.refill m.k own shared x in
+    after_take t taken es' x some.0 (takes.0.steps ∙ ap (λ z. taken ++ Committed (Take x) ∷ (z ++ both_released t)) some.1)
 after_deletion may_pick before after m t own shared taken es' x (inr takes) = inr (takes.0.spied, Take x, inr takes.0.steps)
 
 after_nothing : (m : Sizes) (t : ℕ) (own shared : List Item) (taken es' : List Entry) → FindsNothing m t own shared taken es' → EndsAnswered t es'
@@ -32,6 +43,10 @@ after_answer may_pick before after m t own_misses shared_misses es es' (Some x) 
 after_answer may_pick before after m t own_misses shared_misses es es' None (own, inr both) = after_nothing m t own both.0 (both_acquired t own_misses shared_misses own both.0 es) es' both.1.0
 after_answer may_pick before after m t own_misses shared_misses es es' (Some x) (own, inr both) =
     after_deletion may_pick before after m t own both.0 (both_acquired t own_misses shared_misses own both.0 es) es' x both.1
+
+-- and of one that gave an item
+pub after_item : {P : Type 0} (may_pick : P → ℕ → ℕ → P → Type 0) (before after : P) (m : Sizes) (t : ℕ) (own_misses shared_misses : List ℕ) (es es' : List Entry) (x : Item) → AnswersDeletion may_pick before after m t own_misses shared_misses es es' (Some x) → EndsAnswered t es'
+after_item may_pick before after m t own_misses shared_misses es es' x told = after_answer may_pick before after m t own_misses shared_misses es es' (Some x) told
 
 -- an insertion gains one event, and no answer "nothing"
 pub insertion_gains : (levels k t : ℕ) (own_misses shared_misses : List ℕ) (es es' : List Entry) (x : Item) → Inserts levels k t own_misses shared_misses es es' x → GainsOthers es es'
@@ -46,6 +61,11 @@ insertion_gains levels k t own_misses shared_misses es es' x (inr flushes) = rec
   events = goes_on es (both_acquired t own_misses shared_misses flushes.own flushes.shared es) (Committed (Flush x flushes.moved) ∷ both_released t) es' (both_quiet t own_misses shared_misses flushes.own flushes.shared es) flushes.steps;
 }
 
+-- neither a Take nor what moves behind it is an answer "nothing"
+take_and_more : (x : Item) (moved : List Item) → AllByRecursion (λ event. event ≢ Nothing) (Take x ∷ events (refilled moved))
+take_and_more x [] = (λ is. cc, tt)
+take_and_more x (y ∷ moved) = (λ is. cc, (λ is. cc, tt))
+
 -- so it is with a deletion that gave an item
 pub deletion_gains : {P : Type 0} (may_pick : P → ℕ → ℕ → P → Type 0) (before after : P) (m : Sizes) (t : ℕ) (own_misses shared_misses : List ℕ) (es es' : List Entry) (x : Item)
     → AnswersDeletion may_pick before after m t own_misses shared_misses es es' (Some x) → GainsSome es es'
@@ -59,9 +79,10 @@ deletion_gains may_pick before after m t own_misses shared_misses es es' x (own,
 }
 deletion_gains may_pick before after m t own_misses shared_misses es es' x (own, inr (shared, inl takes)) = record {
   gains = record {
-    gained = Take x ∷ [];
-    others = (λ is. cc, tt);
-    events = takes_events m t own shared es (both_acquired t own_misses shared_misses own shared es) es' (both_quiet t own_misses shared_misses own shared es) x takes.0;
+    gained = Take x ∷ events (refilled (is_refilled m.refill m.k own shared x).0);
+    others = take_and_more x (is_refilled m.refill m.k own shared x).0;
+    events = takes_events m t own shared es (both_acquired t own_misses shared_misses own shared es) es' (both_quiet t own_misses shared_misses own shared es) x takes.0
+        ∙ ap (λ z. events es ++ Take x ∷ events z) (is_refilled m.refill m.k own shared x).1;
   };
   some = omega arith;
 }

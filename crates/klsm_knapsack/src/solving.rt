@@ -112,7 +112,7 @@ fn board_for<const LEVELS: usize>(
         Ok(made) => Ok(made),
         Err(MakeError::BadThreads) => Err(SolveError::BadThreads),
         Err(MakeError::BadK) => Err(SolveError::BadK),
-        Err(MakeError::BadQuota) => unreachable!(),
+        Err(MakeError::BadQuota | MakeError::BadRefill) => unreachable!(),
         Err(MakeError::NoMemory) => Err(SolveError::NoMemory),
     }
 }

@@ -1,7 +1,10 @@
-use Rattle.std.proofs.Common.{◌∙◌, refl, lit<}
+use Rattle.std.proofs.Common.{◌≡◌, ◌≤◌, ◌+◌, ◌∙◌, length, refl, lit<, ap, subst, sym, arith}
 use Rattle.std.proofs.lemmas.List.{append-nil}
+use Rattle.klsm_world.specs.OwnSteps.{inserted}
+use Rattle.klsm_board.specs.Boards.{own_steps}
+use Rattle.klsm_knapsack.specs.Ends.{EndsAnswered}
 use Rattle.klsm_knapsack.specs.Workers.{work_of}
-use Rattle.klsm_knapsack.proofs.AnswerLemmas.{deletion_gains, no_deletion_gains}
+use Rattle.klsm_knapsack.proofs.AnswerLemmas.{after_item, deletion_gains, no_deletion_gains}
 use Rattle.klsm_knapsack.proofs.IdleLemmas.{gains_more}
 use Rattle.klsm_knapsack.proofs.WorkLemmas.{inserts_same, inserts_both, same_both, worked_on}
 use Rattle.klsm_knapsack.proofs.common.Worker.turn.Goals as goal
@@ -44,3 +47,11 @@ pub returns-clause-answers : goal.returns-clause-answers
 returns-clause-answers g c =
     let ok = c.in-Some.ensures.ok in
     gains_more _ _ _ (deletion_gains _ _ _ _ _ ok.0 ok.1 _ _ _ ok.2) c.in_ok-examine.ensures.gains
+
+pub examine-requires : goal.examine-requires
+examine-requires g c =
+    let told = c.in-Some.ensures in let of = c.requires.of.member in let same = told.same in let new = c.delete_min.new.self in
+    let many : length (inserted (own_steps new)) ≡ length (inserted (own_steps c.args.self.now.member)) = ap length (told.adds.inserted_are ∙ append-nil _) in
+    let room : length (inserted (own_steps new)) + 2 ≤ new.sizes.quota = omega (arith, many, c.requires.room, ap (λ m. m.quota) same.1) in
+    let answered = subst (λ t. EndsAnswered t (own_steps new)) (sym same.0) (after_item _ _ _ _ _ told.ok.0 told.ok.1 _ _ _ told.ok.2) in
+    (lit< tt, (lit< tt, (record { member = (same.2 ∙ of.0, same.1 ∙ of.1); watcher = c.requires.of.watcher }, (room, (c.requires.problem, answered)))))
