@@ -1,5 +1,5 @@
 -- What the calls of a member show in the text.
-use Rattle.std.proofs.Common.{◌≡◌, ◌≤◌, ℕ, suc, List, [], ◌∷◌, ◌++◌, length, length-append, ap, ◌∙◌, inl, inr, arith, Some, None}
+use Rattle.std.proofs.Common.{◌≡◌, ◌≤◌, ℕ, suc, List, [], ◌∷◌, ◌++◌, length, length-append, refl, ap, ◌∙◌, inl, inr, arith, Some, None}
 use Rattle.std.proofs.lemmas.Grind.{flat_map-append}
 use Rattle.std.proofs.lemmas.List.Concat.{flat_map-cons}
 use Rattle.std.specs.List.{flat_map}
@@ -12,11 +12,12 @@ use Rattle.klsm_board.specs.declared.sizes.Sizes.{Sizes}
 use Rattle.klsm_board.specs.declared.errors.InsertError.{InsertError}
 use Rattle.klsm_board.specs.Entries.{own_acquired, both_acquired}
 use Rattle.klsm_board.specs.Inserting.{Inserts, RefusesInsertWaiting}
-use Rattle.klsm_board.specs.Deleting.{Deletes, FindsNothing, AnswersDeletion, victim_of}
+use Rattle.klsm_board.specs.Deleting.{Deletes, FindsNothing, AnswersDeletion, victim_of, refilled}
 use Rattle.klsm_board.proofs.lemmas.calls.EventLemmas.{events}
 use Rattle.klsm_board.proofs.lemmas.calls.AddLemmas.{own_quiet, both_quiet}
 use Rattle.klsm_board.proofs.lemmas.calls.AddedLemmas.{puts_events, flushes_events, refused_waiting_events}
 use Rattle.klsm_board.proofs.lemmas.calls.DeletedLemmas.{takes_events, early_events, spied_events, nothing_events}
+use Rattle.klsm_board.proofs.lemmas.calls.RefillLemmas.{is_refilled}
 use Rattle.klsm_text.specs.declared.answer.Answer.TheVariants.{Inserted, Deleted, Nothing}
 use Rattle.klsm_tool.specs.Shown.{shown, shown_in}
 
@@ -35,6 +36,7 @@ inserted_within es = by_events (events es)
     one (event.Early x front) = omega arith
     one event.Nothing = omega arith
     one (event.Spy victim moved) = omega arith
+    one (event.Refill moved) = omega arith
 
     by_events : (all : List Event) → length (flat_map inserted_by all) ≤ length (flat_map shown all)
     by_events [] = omega arith
@@ -54,6 +56,11 @@ insertion_shows levels k t own_misses shared_misses es es' x (inr flushes) =
 pub refusal_shows : (levels k t : ℕ) (es es' : List Entry) (why : InsertError) → RefusesInsertWaiting ⊥ levels k t es es' why → shown_in es' ≡ shown_in es
 refusal_shows levels k t es es' why told = ap (flat_map shown) (refused_waiting_events levels k t es es' why told)
 
+-- what moves behind a Take is not shown
+take_shows : (x : Item) (moved : List Item) → flat_map shown (event.Take x ∷ events (refilled moved)) ≡ Deleted x ∷ []
+take_shows x [] = refl
+take_shows x (y ∷ moved) = refl
+
 module _ (m : Sizes) (t : ℕ) (own_misses shared_misses : List ℕ) (own shared : List Item) (es es' : List Entry) where
   abbrev taken : List Entry
   taken = both_acquired t own_misses shared_misses own shared es
@@ -64,7 +71,10 @@ module _ (m : Sizes) (t : ℕ) (own_misses shared_misses : List ℕ) (own shared
   -- a deletion from both parts shows its item
   deletion_shows : {P : Type 0} (may_pick : P → ℕ → ℕ → P → Type 0) (before after : P) (x : Item) → Deletes may_pick before after m t own shared taken es' x
       → shown_in es' ≡ shown_in es ++ Deleted x ∷ []
-  deletion_shows may_pick before after x (inl takes) = shows_more es es' (event.Take x ∷ []) (takes_events m t own shared es taken es' quiet x takes.0)
+  deletion_shows may_pick before after x (inl takes) =
+      let some = is_refilled m.refill m.k own shared x in
+      shows_more es es' (event.Take x ∷ events (refilled some.0)) (takes_events m t own shared es taken es' quiet x takes.0 ∙ ap (λ z. events es ++ event.Take x ∷ events z) some.1)
+      ∙ ap (λ z. shown_in es ++ z) (take_shows x some.0)
   deletion_shows may_pick before after x (inr takes) =
       shows_more es es' (event.Spy (victim_of m.threads t (suc takes.0.spies.passed)) takes.0.moved ∷ event.Take x ∷ []) (spied_events m t own shared es taken es' quiet x takes.0)
 
