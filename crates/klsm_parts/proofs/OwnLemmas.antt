@@ -1,5 +1,5 @@
 -- An own part after an item was put in or taken out.
-use Rattle.std.proofs.Common.{◌≡◌, ℕ, ◌<◌, ◌≤◌, List, [], ◌∷◌, length, get_or, drop, Option, Some, None, sym, ap, ◌∙◌, arith}
+use Rattle.std.proofs.Common.{◌≡◌, ℕ, ◌+◌, ◌<◌, ◌≤◌, List, [], ◌∷◌, length, get_or, drop, Option, Some, None, sym, ap, ◌∙◌, arith}
 use Rattle.std.specs.List.{Contains, slice_get}
 use Rattle.std.proofs.lemmas.List.{length-append}
 use Rattle.std.proofs.lemmas.List.Elements.{Contains-append_right}
@@ -38,6 +38,14 @@ own_added capacity k old bs x found own room = record {
   k_in_range = own.k_in_range;
   capacity_in_range = own.capacity_in_range;
   found_is = none_found (add bs (x ∷ []));
+}
+
+pub own_absorbed : (capacity k : ℕ) (bs : List (List Item)) (run : List Item) (found : Option ℕ) → IsOwn capacity (record { k = k; blocks = bs }) found → length (content bs) + length run ≤ k → IsOwn capacity (record { k = k; blocks = add bs run }) None
+own_absorbed capacity k bs run found own room = record {
+  few = omega (arith, length_add bs run, room);
+  k_in_range = own.k_in_range;
+  capacity_in_range = own.capacity_in_range;
+  found_is = none_found (add bs run);
 }
 
 pub own_cut : (capacity k : ℕ) (bs : List (List Item)) (at index : ℕ) (x : Item) (found : Option ℕ) → IsOwn capacity (record { k = k; blocks = bs }) found → slice_get (get_or bs at []) index ≡ Some x → IsOwn capacity (record { k = k; blocks = cut bs at index }) None

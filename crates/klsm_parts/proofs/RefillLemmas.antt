@@ -1,27 +1,30 @@
 -- The least items of a shared part on their way to an own one.
 use Rattle.std.proofs.Common.{◌≡◌, ◌≢◌, ℕ, ◌+◌, ◌<◌, ◌≤◌, cond, zero, suc, List, [], ◌∷◌, ◌++◌, length, take, drop, Some, refl, sym, ap, ◌∙◌, subst, arith, add-one}
 use Rattle.std.specs.List.{AllByRecursion, Contains, slice_get, count_by}
-use Rattle.std.proofs.lemmas.List.{length-append, length-drop, length-take, take-append-drop, append_assoc}
+use Rattle.std.proofs.lemmas.List.{length-drop, length-take, take-append-drop}
+use Rattle.std.proofs.lemmas.List.Elements.{Contains-append_left}
 use Rattle.std.proofs.lemmas.List.Sums.{sum_by-append}
 use Rattle.std.proofs.lemmas.Option.{none-some, same_Some}
 use Rattle.klsm_run.specs.declared.item.Item.{Item}
 use Rattle.klsm_run.specs.ItemOrder.{IsSmaller, is_same}
-use Rattle.klsm_run.specs.Content.{placed, sorted, without, IsAscending, ShareNone}
-use Rattle.klsm_run.proofs.AllLemmas.{all_weaker, all_append}
-use Rattle.klsm_run.proofs.ApartLemmas.{AreApart, apart_if_sharing_none}
-use Rattle.klsm_run.proofs.ContainsLemmas.{contains_sorted}
-use Rattle.klsm_run.proofs.ContentLemmas.{sorted_middle, sorted_itself, sharing_none_if_apart}
+use Rattle.klsm_run.specs.Content.{sorted, without, IsAscending, ShareNone}
+use Rattle.klsm_run.proofs.AllLemmas.{all_weaker}
+use Rattle.klsm_run.proofs.ApartLemmas.{AreApart}
+use Rattle.klsm_run.proofs.ContainsLemmas.{contains_sorted, contains_unsorted}
+use Rattle.klsm_run.proofs.ContentLemmas.{sorted_itself, sharing_none_if_apart}
 use Rattle.klsm_run.proofs.HalfLemmas.{ascending_take, ascending_drop}
 use Rattle.klsm_run.proofs.LeastLemmas.{without_first}
 use Rattle.klsm_run.proofs.OrderLemmas.{not_smaller_than_itself}
-use Rattle.klsm_run.proofs.SortedLemmas.{IsNew, all_sorted, length_sorted, sorted_ascending}
-use Rattle.klsm_parts.specs.Events.{MayRefill, own_after_put, own_after_refill, shared_after_refill}
-use Rattle.klsm_parts.proofs.EventLemmas.{minus_moved}
+use Rattle.klsm_run.proofs.SortedLemmas.{length_sorted, sorted_ascending}
+use Rattle.klsm_lsm.specs.Lsm.{content}
+use Rattle.klsm_lsm.specs.Adding.{add}
+use Rattle.klsm_parts.specs.Events.{MayRefill, own_after_refill, shared_after_refill}
+use Rattle.klsm_parts.proofs.EventLemmas.{minus_moved, shared_flushed}
 
--- the n least items of an ascending content are moved to an own one
-pub record AreMoved (n : ℕ) (own shared own_after shared_after : List Item) : Type 0 where
-  pub own_is : own_after ≡ sorted (take n shared ++ own)
-  pub shared_is : shared_after ≡ drop n shared
+-- the n least items of an ascending content are moved to a run
+pub record AreMoved (n : ℕ) (shared run left : List Item) : Type 0 where
+  pub run_is : run ≡ take n shared
+  pub left_is : left ≡ drop n shared
 
 -- the first of what is left comes next
 left_next : (n : ℕ) (s : List Item) (x : Item) → slice_get (drop n s) 0 ≡ Some x → drop n s ≡ x ∷ drop (suc n) s
@@ -37,20 +40,18 @@ moved_next (suc n) [] x first = absurd (none-some x first)
 moved_next (suc n) (y ∷ s) x first = ap (λ zs. y ∷ zs) (moved_next n s x first)
 
 -- at first none is moved
-pub none_moved_yet : (own shared : List Item) → sorted own ≡ own → AreMoved 0 own shared own shared
-none_moved_yet own shared own_sorted = record { own_is = sym own_sorted; shared_is = refl }
+pub none_moved_yet : (shared : List Item) → AreMoved 0 shared [] shared
+none_moved_yet shared = record { run_is = refl; left_is = refl }
 
 -- and then one more
-pub one_more_moved : (n : ℕ) (own shared o s o' s' : List Item) (x : Item) → AreMoved n own shared o s → slice_get s 0 ≡ Some x → o' ≡ own_after_put o x → s' ≡ without x s → AreMoved (n + 1) own shared o' s'
-one_more_moved n own shared o s o' s' x moved first own_is shared_is =
-    let here : slice_get (drop n shared) 0 ≡ Some x = ap (λ xs. slice_get xs 0) (sym moved.shared_is) ∙ first in
-    let before = take n shared ++ own in
+pub one_more_moved : (n : ℕ) (shared r s r' s' : List Item) (x : Item) → IsAscending shared → AreMoved n shared r s → slice_get s 0 ≡ Some x → r' ≡ sorted (r ++ x ∷ []) → s' ≡ without x s → AreMoved (n + 1) shared r' s'
+one_more_moved n shared r s r' s' x up moved first run_is left_is =
+    let here : slice_get (drop n shared) 0 ≡ Some x = ap (λ xs. slice_get xs 0) (sym moved.left_is) ∙ first in
     let left : drop n shared ≡ x ∷ drop (suc n) shared = left_next n shared x here in
-    let joined : sorted (x ∷ before) ≡ sorted (take (suc n) shared ++ own) =
-    sym (sorted_middle x (take n shared) own) ∙ ap sorted (sym (append_assoc (take n shared) (x ∷ []) own) ∙ ap (λ xs. xs ++ own) (sym (moved_next n shared x here))) in
-    subst (λ j. AreMoved j own shared o' s') (sym (add-one n)) (record {
-      own_is = own_is ∙ (ap (λ c. placed x (sorted c)) moved.own_is ∙ (ap (placed x) (sorted_itself before) ∙ joined));
-      shared_is = shared_is ∙ (ap (without x) (moved.shared_is ∙ left) ∙ without_first x (drop (suc n) shared));
+    let joined : r ++ x ∷ [] ≡ take (suc n) shared = ap (λ xs. xs ++ x ∷ []) moved.run_is ∙ sym (moved_next n shared x here) in
+    subst (λ j. AreMoved j shared r' s') (sym (add-one n)) (record {
+      run_is = run_is ∙ (ap sorted joined ∙ sorted_ascending (take (suc n) shared) (ascending_take (suc n) shared up));
+      left_is = left_is ∙ (ap (without x) (moved.left_is ∙ left) ∙ without_first x (drop (suc n) shared));
     })
 
 all_drop : (P : Item → Type 0) (n : ℕ) (xs : List Item) → AllByRecursion P xs → AllByRecursion P (drop n xs)
@@ -67,23 +68,22 @@ split_apart (suc n) (x ∷ s) up = (
   split_apart n s up.1,
 )
 
--- so the two contents still share no item
-moved_apart : (n : ℕ) (own shared : List Item) → IsAscending shared → ShareNone own shared → AreApart (sorted (take n shared ++ own)) (drop n shared)
-moved_apart n own shared up apart =
-    let left = drop n shared in
-    let of_own = all_weaker (λ x. IsNew x shared) (λ x. IsNew x left) (λ x new. all_drop (λ y. y ≢ x) n shared new) own (apart_if_sharing_none own shared apart) in
-    all_sorted (λ x. IsNew x left) (take n shared ++ own) (all_append (λ x. IsNew x left) (take n shared) own (split_apart n shared up) of_own)
+-- so the run and what is left share no item
+pub moved_share_none : (n : ℕ) (shared r d : List Item) → IsAscending shared → AreMoved n shared r (sorted d) → ShareNone r d
+moved_share_none n shared r d up moved x in_run in_d =
+    let still = sharing_none_if_apart (take n shared) (drop n shared) (split_apart n shared up) in
+    still x (subst (λ xs. Contains xs x) moved.run_is in_run) (subst (λ xs. Contains xs x) moved.left_is (contains_sorted x d in_d))
 
-pub moved_share_none : (n : ℕ) (own shared c d : List Item) → IsAscending shared → ShareNone own shared → AreMoved n own shared (sorted c) (sorted d) → ShareNone c d
-moved_share_none n own shared c d up apart moved x in_c in_d =
-    let still = sharing_none_if_apart (sorted (take n shared ++ own)) (drop n shared) (moved_apart n own shared up apart) in
-    still x (subst (λ xs. Contains xs x) moved.own_is (contains_sorted x c in_c)) (subst (λ xs. Contains xs x) moved.shared_is (contains_sorted x d in_d))
+-- nor do an own part and the run
+pub run_shares_none : (n : ℕ) (own c r s : List Item) → ShareNone own c → AreMoved n (sorted c) r s → ShareNone own r
+run_shares_none n own c r s apart moved x in_own in_run =
+    apart x in_own (contains_unsorted x c (subst (λ xs. Contains xs x) (take-append-drop n (sorted c)) (Contains-append_left (take n (sorted c)) (drop n (sorted c)) x (subst (λ xs. Contains xs x) moved.run_is in_run))))
 
 -- how many there are then
-pub count_moved : (n : ℕ) (own shared c d : List Item) → AreMoved n own shared (sorted c) (sorted d) → n ≤ length shared → (length c ≡ n + length own) × (n + length d ≡ length shared)
-count_moved n own shared c d moved few = (
-  omega (arith, length_sorted c, ap length moved.own_is, length_sorted (take n shared ++ own), length-append (take n shared) own, length-take n shared, few),
-  omega (arith, length_sorted d, ap length moved.shared_is, length-drop n shared, few),
+pub count_moved : (n : ℕ) (shared r d : List Item) → AreMoved n shared r (sorted d) → n ≤ length shared → (length r ≡ n) × (n + length d ≡ length shared)
+count_moved n shared r d moved few = (
+  omega (arith, ap length moved.run_is, length-take n shared, few),
+  omega (arith, length_sorted d, ap length moved.left_is, length-drop n shared, few),
 )
 
 -- the n least items of a content may move, where there is room
@@ -103,10 +103,11 @@ may_refill k n own c some few room up =
     }
 
 -- and what they leave is the rest
-pub refill_leaves : (n : ℕ) (own c o s : List Item) → IsAscending (sorted c) → AreMoved n own (sorted c) o s → (o ≡ own_after_refill own (take n (sorted c))) × (s ≡ shared_after_refill (sorted c) (take n (sorted c)))
-refill_leaves n own c o s up moved =
+pub refill_leaves : (n : ℕ) (own after : List (List Item)) (c r s : List Item) → IsAscending (sorted c) → AreMoved n (sorted c) r s → after ≡ add own r
+    → (sorted (content after) ≡ own_after_refill (sorted (content own)) (take n (sorted c))) × (s ≡ shared_after_refill (sorted c) (take n (sorted c)))
+refill_leaves n own after c r s up moved added =
     let all = sorted c in
     let same : sorted c ≡ sorted (take n all ++ drop n all) = sym (ap sorted (take-append-drop n all) ∙ sorted_itself c) in (
-      moved.own_is,
-      moved.shared_is ∙ sym (minus_moved (take n all) (drop n all) c same ∙ sorted_ascending (drop n all) (ascending_drop n all up)),
+      ap (λ bs. sorted (content bs)) added ∙ (ap (λ xs. sorted (content (add own xs))) moved.run_is ∙ shared_flushed own (take n all)),
+      moved.left_is ∙ sym (minus_moved (take n all) (drop n all) c same ∙ sorted_ascending (drop n all) (ascending_drop n all up)),
     )

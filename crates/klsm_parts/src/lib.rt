@@ -44,9 +44,9 @@
 //!   least item. Where that of the least own item is below it, `take_least` is the deletion, and
 //!   skips no item of the two: clause `early`, and `laws::earlies_skip_none`.
 //! - **A refill makes the next deletions cheap.** A member that has both parts in hand moves the least shared
-//!   items to its own part, as far as that has room; what it deletes next then lies below the front,
-//!   but for equal keys, and needs no shared lock. Own parts have at most k items as before, so no
-//!   bound changes.
+//!   items to its own part, into half the room that it has, so that its next insertions do not carry them
+//!   back; what it deletes next then lies below the front, but for equal keys, and needs no shared
+//!   lock. Own parts have at most k items as before, so no bound changes.
 //! - **A `Queue` holds what was inserted and not yet deleted**, each item once: clauses `items` of
 //!   `Queue::insert` and `Queue::delete_min`, and `ascending` of `Queue::len`. It asks nothing of
 //!   its callers.

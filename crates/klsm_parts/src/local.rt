@@ -3,7 +3,7 @@ ghost use Rattle.std.specs.Prelude.{ℕ, ◌≡◌, ◌<◌, ◌≤◌, ◌↔�
 ghost use Rattle.std.specs.List.{Contains};
 ghost use Rattle.std.specs.Option.{option_to_list};
 ghost use Rattle.klsm_run.specs.Capacity.{IsCapacity};
-ghost use Rattle.klsm_run.specs.Content.{sorted, without};
+ghost use Rattle.klsm_run.specs.Content.{sorted, without, ShareNone};
 ghost use Rattle.klsm_lsm.specs.Lsm.{content, IsLsm};
 ghost use Rattle.klsm_lsm.specs.Adding.{add};
 ghost use Rattle.klsm_lsm.specs.Spying.{spied, left_by_spy};
@@ -158,6 +158,20 @@ impl<const CAP: usize> Local<CAP> {
     {
         self.found = None;
         self.lsm.remove(block, index)
+    }
+
+    // Puts the items of a run in, for which there is room.
+    pub(crate) fn absorb(&mut self, run: FixedRun<CAP>)
+        requires capacity { IsCapacity CAP }
+        requires some { 0 < length run }
+        requires apart { ShareNone (content self.old.blocks) run }
+        requires room { length (content self.old.blocks) + length run ≤ self.old.k }
+        ensures { self.new ≡ record { k = self.old.k; blocks = add self.old.blocks run.entry } }
+    {
+        self.found = None;
+        let Ok(()) = self.lsm.absorb(run) else {
+            unreachable!();
+        };
     }
 
     // Takes what goes to a member that spies from a victim.

@@ -22,16 +22,13 @@ remove-requires g c =
     let found = c.place_of_candidate-least.ensures in
     (search, (found.block, (slice_get_within (get_or c.args.shared.now.blocks place.block []) place.index place.item found.index, found.index ∙ sym found.candidate)))
 
-pub put-requires : goal.put-requires
-put-requires g c =
+pub insert-requires : goal.insert-requires
+insert-requires g c =
     let bs = c.args.shared.now.blocks in
     let place = c.place_of_candidate-least.result in
     let first = taken_at (c.args.shared.now.k + 1) (sorted (content bs)) 0 place.item c.place_of_candidate-least.ensures.candidate in
     let within = contains_unsorted place.item (content bs) (contains_at (sorted (content bs)) 0 place.item first.1) in
-    (search, (c.requires.capacity, (c.requires.room, λ in_own. c.requires.apart place.item in_own within)))
-
-pub returns-clause-own_k : goal.returns-clause-own_k
-returns-clause-own_k g c = ap (λ (p : PartState). p.k) c.put.ensures.blocks
+    (search, (c.requires.room, λ in_run. c.requires.apart place.item in_run within))
 
 pub returns-clause-shared_k : goal.returns-clause-shared_k
 returns-clause-shared_k g c = ap (λ (p : PartState). p.k) c.remove.ensures
@@ -41,4 +38,4 @@ returns-clause-moved g c =
     let bs = c.args.shared.now.blocks in
     let place = c.place_of_candidate-least.result in
     let first = taken_at (c.args.shared.now.k + 1) (sorted (content bs)) 0 place.item c.place_of_candidate-least.ensures.candidate in
-    (place.item, first.1, c.put.ensures.event.1, cut_is_taken bs c.remove.new.self.blocks place.item (place.block, place.index, c.place_of_candidate-least.ensures.index, ap (λ (p : PartState). p.blocks) c.remove.ensures))
+    (place.item, first.1, c.insert.ensures, cut_is_taken bs c.remove.new.self.blocks place.item (place.block, place.index, c.place_of_candidate-least.ensures.index, ap (λ (p : PartState). p.blocks) c.remove.ensures))
