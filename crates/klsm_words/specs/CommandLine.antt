@@ -1,6 +1,6 @@
 -- The command line, as the library clap reads it. Words are the bytes of those after the program's
 -- name.
-use Rattle.std.specs.Prelude.{ℕ, ⊤, ◌≡◌, true, if◌then◌else◌, List, [], ◌∷◌, Option, Some, None, codes, IsUtf8}
+use Rattle.std.specs.Prelude.{ℕ, ⊤, ◌≡◌, ◌≤◌, true, if◌then◌else◌, List, [], ◌∷◌, Option, Some, None, codes, IsUtf8}
 use Rattle.std.specs.Prelude.{option_and_then, option_map}
 use Rattle.std.specs.Str.{bytes_eq}
 use Rattle.std.specs.List.{All}
@@ -11,7 +11,7 @@ use Rattle.clap.specs.declared.error.kind.ErrorKind.TheVariants as kind
 use Rattle.klsm_words.specs.declared.command_line.Action.{Action}
 use Rattle.klsm_words.specs.declared.command_line.Action.TheVariants.{Replay, Live, Knapsack}
 use Rattle.klsm_words.specs.declared.command_line.Fault.{Fault}
-use Rattle.klsm_words.specs.declared.command_line.Fault.TheVariants.{Said, UnknownPick, NotText, NoMemory}
+use Rattle.klsm_words.specs.declared.command_line.Fault.TheVariants.{Said, UnknownPick, BadRefill, NotText, NoMemory}
 use Rattle.klsm_choice.specs.declared.choice.Pick.TheVariants.{First}
 use Rattle.klsm_words.specs.declared.settings.Settings.{Settings}
 use Rattle.klsm_words.specs.Options.{AreInRange, IsSearchInRange, search_at, settings_at, with_options, with_search_options}
@@ -81,15 +81,21 @@ action_under = option_and_then (λ found. action_of found.0 found.1)
 unfoldable pub action_in : List (List ℕ) → Option Action
 action_in words = action_under (subcommand_of klsm_command words)
 
--- the options let its settings through
+-- its settings are in their range
 abbrev pub IsActionInRange : Action → Type 0
 IsActionInRange (Replay settings) = AreInRange settings
 IsActionInRange (Live settings) = AreInRange settings
 IsActionInRange (Knapsack search) = IsSearchInRange search
 
+-- its deletions move no more items to a thread than it keeps for itself
+abbrev pub RefillsAtMostK : Action → Type 0
+RefillsAtMostK (Replay settings) = settings.refill ≤ settings.k
+RefillsAtMostK (Live settings) = settings.refill ≤ settings.k
+RefillsAtMostK (Knapsack search) = ⊤
+
 -- where no option is given
 abbrev pub usual_settings : Settings
-usual_settings = record { threads = 1; k = 64; pick = First; seed = 1 }
+usual_settings = record { threads = 1; k = 64; refill = 0; pick = First; seed = 1 }
 
 -- the words are text, in which the parser finds a command
 abbrev pub IsCommand : List (List ℕ) → Type 0
@@ -107,11 +113,22 @@ HasStatus words status =
     All IsUtf8 words
     × ((what : ErrorKind) × IsAmong what (found_in words) × (status ≡ status_of_text what))
 
--- why words ask for no run: the parser has a text on them, the word of `--pick` is none that it
--- takes, one of them is not UTF-8, or memory is wanted
+-- why what was asked for is not run: the word of `--pick` is none that it takes; or, where it is one,
+-- the number of `--refill` is above that of `--k`
+abbrev pub IsRefused : Option Action → Fault → Type 0
+IsRefused asked UnknownPick = asked ≡ None
+IsRefused asked BadRefill =
+    (action : Action) × (asked ≡ Some action) × ¬ (RefillsAtMostK action)
+IsRefused asked (Said text status) = ⊥
+IsRefused asked NotText = ⊥
+IsRefused asked NoMemory = ⊥
+
+-- why words ask for no run: the parser has a text on them, the word of `--pick` or the number of
+-- `--refill` is none that it takes, one of them is not UTF-8, or memory is wanted
 abbrev pub IsFaultIn : List (List ℕ) → Fault → Type 0
 IsFaultIn words (Said text status) = HasStatus words status
-IsFaultIn words UnknownPick = IsCommand words × (action_in words ≡ None)
+IsFaultIn words UnknownPick = IsCommand words × IsRefused (action_in words) UnknownPick
+IsFaultIn words BadRefill = IsCommand words × IsRefused (action_in words) BadRefill
 IsFaultIn words NotText = ¬ (All IsUtf8 words)
 IsFaultIn words NoMemory = ⊤
 
@@ -119,5 +136,6 @@ IsFaultIn words NoMemory = ⊤
 abbrev pub Explains : ErrorKind → Fault → Type 0
 Explains what (Said text status) = status ≡ status_of_text what
 Explains what UnknownPick = ⊥
+Explains what BadRefill = ⊥
 Explains what NotText = ⊥
 Explains what NoMemory = ⊤

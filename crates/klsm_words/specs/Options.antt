@@ -38,9 +38,15 @@ with_threads a =
     let threads = option_rule (codes "threads") (codes "1") (Some (parser.Unsigned 1 16)) in
     with_rule (with_rule a threads) k_rule
 
+-- these and `--refill`, from 0 to 64
+abbrev pub with_refill : App → App
+with_refill a =
+    let refill = option_rule (codes "refill") (codes "0") (Some (parser.Unsigned 0 64)) in
+    with_rule (with_threads a) refill
+
 -- these and `--pick`
 abbrev pub with_pick : App → App
-with_pick a = with_rule (with_threads a) (option_rule (codes "pick") (codes "first") None)
+with_pick a = with_rule (with_refill a) (option_rule (codes "pick") (codes "first") None)
 
 -- these and `--seed`
 abbrev pub with_options : App → App
@@ -81,6 +87,7 @@ abbrev pub settings_at : List Row → Option Settings
 settings_at rows = option_map (λ pick. record {
   threads = number_at rows (codes "threads") 1 16;
   k = number_at rows (codes "k") 0 64;
+  refill = number_at rows (codes "refill") 0 64;
   pick = pick;
   seed = number_at rows (codes "seed") 0 18446744073709551615;
 }) (pick_at rows)
@@ -96,6 +103,8 @@ search_at rows = record {
 abbrev pub IsSearchInRange : Search → Type 0
 IsSearchInRange search = (1 ≤ search.threads) × (search.threads ≤ 16) × (search.k ≤ 64)
 
--- what the options let through
+-- what a script can be run by
 abbrev pub AreInRange : Settings → Type 0
-AreInRange settings = (1 ≤ settings.threads) × (settings.threads ≤ 16) × (settings.k ≤ 64)
+AreInRange settings =
+    (1 ≤ settings.threads) × (settings.threads ≤ 16) × (settings.k ≤ 64)
+    × (settings.refill ≤ settings.k)

@@ -1,9 +1,10 @@
 //! The command line: what its words ask for.
-ghost use Rattle.std.specs.Prelude.{◌≡◌, Some, IfErr, IfOk, IfSome, OnOk, IsUtf8, false, map};
+ghost use Rattle.std.specs.Prelude.{◌≡◌, ◌≤◌, ◌↔◌, Some, IfErr, IfOk, IfSome, OnOk, IsUtf8, false, true, map};
 ghost use Rattle.std.specs.List.{All};
 ghost use Rattle.clap.specs.Words.{app_of, found_of, kind_of, rows_of, subcommand_rows_of};
 ghost use Rattle.clap.specs.declared.builder.command.Command.TheViews.{out-Command as fields_of};
 ghost use Rattle.klsm_words.specs.CommandLine.{Explains, IsCommand, IsFaultIn, IsActionInRange, action_in as action_in_words};
+ghost use Rattle.klsm_words.specs.CommandLine.{IsRefused, RefillsAtMostK};
 ghost use Rattle.klsm_words.specs.CommandLine.{action_of, action_under, bare_app, klsm_command, knapsack_app};
 ghost use Rattle.klsm_words.specs.CommandLine.{command_over_rows, command_over_scripts, live_app, replay_app, script_action};
 ghost use Rattle.klsm_words.specs.Options.{AreInRange};
@@ -43,6 +44,8 @@ pub enum Fault {
     },
     /// The word of `--pick` is none that it takes.
     UnknownPick,
+    /// The number of `--refill` is above that of `--k`.
+    BadRefill,
     /// One of them is not UTF-8.
     NotText,
     /// A growth was refused.
@@ -62,15 +65,38 @@ pub fn parse(alloc: Global, words: &[Vec<u8>]) -> Result<Action, Fault>
         return Err(Fault::NoMemory);
     };
     match command.try_get_matches_from(texts.as_slice()) {
-        Ok(matches) => action_in(&matches).ok_or(Fault::UnknownPick),
+        Ok(matches) => run_of(action_in(&matches)),
         Err(error) => Err(fault_of(alloc, &error)),
+    }
+}
+
+// What was asked for, unless it is refused.
+fn run_of(asked: Option<Action>) -> Result<Action, Fault>
+    requires range { IfSome asked (λ action. RefillsAtMostK action → IsActionInRange action) }
+    ensures fault { IfErr result (IsRefused asked) }
+    ensures action { IfOk result (λ action. asked ≡ Some action) }
+    ensures range { IfOk result IsActionInRange }
+{
+    match asked {
+        None => Err(Fault::UnknownPick),
+        Some(action) if refills_at_most_k(action) => Ok(action),
+        Some(_) => Err(Fault::BadRefill),
+    }
+}
+
+fn refills_at_most_k(action: Action) -> bool
+    ensures { result ≡ true ↔ RefillsAtMostK action }
+{
+    match action {
+        Action::Replay(settings) | Action::Live(settings) => settings.refill <= settings.k,
+        Action::Knapsack(_) => true,
     }
 }
 
 // What the command that the words name does, with its options.
 fn action_in(matches: &ArgMatches) -> Option<Action>
     ensures action { result ≡ action_under (subcommand_rows_of matches.now) }
-    ensures range { IfSome result IsActionInRange }
+    ensures range { IfSome result (λ action. RefillsAtMostK action → IsActionInRange action) }
 {
     let (name, options) = matches.subcommand()?;
     action_named(name, options)
@@ -78,7 +104,7 @@ fn action_in(matches: &ArgMatches) -> Option<Action>
 
 fn action_named(name: &str, options: &ArgMatches) -> Option<Action>
     ensures action { result ≡ action_of name.now (rows_of (found_of options.now)) }
-    ensures range { IfSome result IsActionInRange }
+    ensures range { IfSome result (λ action. RefillsAtMostK action → IsActionInRange action) }
 {
     match name {
         "knapsack" => Some(Action::Knapsack(search_of(options))),
@@ -87,9 +113,9 @@ fn action_named(name: &str, options: &ArgMatches) -> Option<Action>
 }
 
 fn over_scripts(name: &str, settings: Settings) -> Action
-    requires { AreInRange settings }
+    requires { settings.refill ≤ settings.k → AreInRange settings }
     ensures action { result ≡ script_action name.now settings }
-    ensures range { IsActionInRange result }
+    ensures range { RefillsAtMostK result → IsActionInRange result }
 {
     match name {
         "live" => Action::Live(settings),

@@ -14,7 +14,9 @@ Rows:
 Threads are numbered from 0, so THREAD has to be below THREADS, the value of
 --threads. Each thread keeps K items for itself; what is more goes to a part
 that all share, of which a deletion takes a candidate, but none above one of its
-thread's own.
+thread's own. Where it took a shared one, some of the least that are left there
+go to its thread's own, at most as many as --refill says. A number of --refill
+above K is refused, with status 2.
 
 Answers:
   THREAD i KEY STAMP                      The item was inserted
@@ -62,7 +64,7 @@ Rows:
   THREAD,d,,         Delete an item, one of the least
 
 Threads are numbered from 0, so THREAD has to be below THREADS, the value of
---threads.
+--threads. A number of --refill above that of --k is refused, with status 2.
 
 The line, and the status of the program:
   inserted I deleted D left N  0  All rows were run: I items were inserted, D of

@@ -1,5 +1,5 @@
 //! The options of the commands.
-ghost use Rattle.std.specs.Prelude.{◌≡◌, Some, None, IfOk, IfSome, false};
+ghost use Rattle.std.specs.Prelude.{◌≡◌, ◌≤◌, Some, None, IfOk, IfSome, false};
 ghost use Rattle.clap.specs.Words.{app_of, found_of, rows_of, rule_of};
 ghost use Rattle.clap.specs.declared.builder.command.Command.TheViews.{out-Command as fields_of};
 ghost use Rattle.klsm_words.specs.Options.{AreInRange, number_at, option_rule, pick_at, pick_of};
@@ -7,6 +7,7 @@ ghost use Rattle.klsm_words.specs.Options.{IsSearchInRange, k_rule, search_at, s
 ghost use Rattle.klsm_words.specs.Options.{with_options as with_options_of};
 ghost use Rattle.klsm_words.specs.Options.{with_search_options as with_search_options_of};
 ghost use Rattle.klsm_words.specs.Options.{with_pick as with_pick_of};
+ghost use Rattle.klsm_words.specs.Options.{with_refill as with_refill_of};
 ghost use Rattle.klsm_words.specs.Options.{with_threads as with_threads_of};
 
 use crate::settings::{Search, Settings};
@@ -33,8 +34,18 @@ fn with_pick<'a>(alloc: Global, command: Command<'a>) -> Result<Command<'a>, All
     ensures local { (fields_of command.entry).has_globals ≡ false
         → IfOk result (λ with. (fields_of with).has_globals ≡ false) }
 {
+    with_refill(alloc, command)?.arg(option(alloc, PICK, "first", "PICK", PICK_HELP))
+}
+
+// Those of how many threads and items there are.
+fn with_refill<'a>(alloc: Global, command: Command<'a>) -> Result<Command<'a>, AllocError>
+    ensures app { IfOk result (λ with. app_of with ≡ with_refill_of (app_of command.entry)) }
+    ensures local { (fields_of command.entry).has_globals ≡ false
+        → IfOk result (λ with. (fields_of with).has_globals ≡ false) }
+{
     let command = with_threads(alloc, command, THREADS_HELP, K_HELP)?;
-    command.arg(option(alloc, PICK, "first", "PICK", PICK_HELP))
+    let up_to_64 = value_parser!(u64).range(0..=64);
+    command.arg(number(alloc, REFILL, "0", REFILL_HELP, up_to_64))
 }
 
 /// A command over instances, with its options.
@@ -110,15 +121,18 @@ fn option<'a>(
         .help(help)
 }
 
-/// The settings that the options come to, or `None` where the word of `--pick` is no pick.
+/// The settings that the options come to, or `None` where the word of `--pick` is no pick. Whether the
+/// number of `--refill` is at most that of `--k` is still to be seen.
 pub(crate) fn settings_of(options: &ArgMatches) -> Option<Settings>
     ensures settings { result ≡ settings_at (rows_of (found_of options.now)) }
-    ensures range { IfSome result AreInRange }
+    ensures range { IfSome result (λ settings.
+        settings.refill ≤ settings.k → AreInRange settings) }
 {
     let pick = pick_in(options)?;
     Some(Settings {
         threads: number_in(options, THREADS, 1, 16) as usize,
         k: number_in(options, K, 0, 64) as usize,
+        refill: number_in(options, REFILL, 0, 64) as usize,
         pick,
         seed: number_in(options, SEED, 0, u64::MAX),
     })
@@ -171,6 +185,8 @@ const THREADS: &str = "threads";
 
 const K: &str = "k";
 
+const REFILL: &str = "refill";
+
 const PICK: &str = "pick";
 
 const SEED: &str = "seed";
@@ -182,6 +198,10 @@ const IDLE: &str = "idle";
 const THREADS_HELP: &str = "How many threads the rows may name, 1 to 16";
 
 const K_HELP: &str = "How many items each keeps for itself, 0 to 64";
+
+const REFILL_HELP: &str = "\
+How many items a deletion of a shared one moves to its
+thread at most, 0 to 64, but no more than K";
 
 const PICK_HELP: &str = "\
 Which candidate a deletion picks:

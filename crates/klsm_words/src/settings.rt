@@ -9,6 +9,8 @@ pub struct Settings {
     pub threads: usize,
     /// How many items a thread keeps for itself, at most 64.
     pub k: usize,
+    /// How many shared items a deletion that took one moves to its thread's own, at most k.
+    pub refill: usize,
     /// How deletions pick a candidate.
     pub pick: Pick,
     /// The seed of thread 0's random picks. Each further thread has a seed that is greater by one.

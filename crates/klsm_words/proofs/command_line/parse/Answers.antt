@@ -1,5 +1,5 @@
 use Rattle.std.proofs.Common.{◌≡◌, ℕ, List, Option, Some, None, Result, Ok, Err, true, ap, ap₂, map, refl, sym, ◌∙◌, subst, inl, inr}
-use Rattle.std.specs.Prelude.{◌⊎◌, IfErr, IfOk, IfSome, OnOk, IsUtf8, ok_or}
+use Rattle.std.specs.Prelude.{◌⊎◌, IfErr, IfOk, OnOk, IsUtf8}
 use Rattle.std.specs.List.{All}
 use Rattle.clap.specs.Words.{App, HasMatchesOf, IsAmong, fault_of, is_simple, is_simple_and_free, subcommand_of, subcommand_rows_of}
 use Rattle.clap.specs.declared.parser.matches.ArgMatches.{ArgMatches}
@@ -7,10 +7,10 @@ use Rattle.clap.specs.declared.error.kind.ErrorKind.{ErrorKind}
 use Rattle.clap.specs.declared.error.kind.ErrorKind.TheVariants as kind
 use Rattle.clap.proofs.OnLiterals.{clap_on_literals}
 use Rattle.klsm_words.specs.declared.command_line.Fault.{Fault}
-use Rattle.klsm_words.specs.declared.command_line.Fault.TheVariants.{Said, UnknownPick, NotText, NoMemory}
+use Rattle.klsm_words.specs.declared.command_line.Fault.TheVariants.{Said, UnknownPick, BadRefill, NotText, NoMemory}
 use Rattle.klsm_words.specs.declared.command_line.Action.{Action}
-use Rattle.klsm_words.specs.CommandLine.{IsCommand, IsActionInRange, action_in, action_under, found_in, klsm_command}
-use Rattle.klsm_words.specs.CommandLine.{Explains, IsFaultIn}
+use Rattle.klsm_words.specs.CommandLine.{IsCommand, action_in, action_under, found_in, klsm_command}
+use Rattle.klsm_words.specs.CommandLine.{Explains, IsFaultIn, IsRefused}
 use Rattle.klsm_words.proofs.command_line.parse.Goals as goal
 
 -- the command is one of which the parser's answers are known
@@ -27,6 +27,7 @@ found_is a texts words is same = ap₂ fault_of is same
 explained : (words : List (List ℕ)) (what : ErrorKind) (fault : Fault) → All IsUtf8 words → (what ≡ kind.OutOfMemory) ⊎ IsAmong what (found_in words) → Explains what fault → (what ≡ kind.OutOfMemory → fault ≡ NoMemory) → IsFaultIn words fault
 explained words what NoMemory text among explains memory = tt
 explained words what UnknownPick text among explains memory = absurd explains
+explained words what BadRefill text among explains memory = absurd explains
 explained words what NotText text among explains memory = absurd explains
 explained words what (Said said status) text (inr among) explains memory = (text, (what, among, explains))
 explained words what (Said said status) text (inl lacks) explains memory = subst (IsFaultIn words) (sym (memory lacks)) tt
@@ -41,14 +42,21 @@ action_found : (a : App) (texts words : List (List ℕ)) (m : ArgMatches) → a 
 unfolding action_in
 action_found a texts words m is same has = sym (ap action_under ((has (matches_known a is)).1 ∙ ap₂ subcommand_of is same))
 
--- an unknown pick is what keeps a command from a run
-unknown_pick : (words : List (List ℕ)) (asked : Option Action) (r : Result Action Fault) → r ≡ ok_or asked UnknownPick → IsCommand words → action_in words ≡ asked → IfErr r (IsFaultIn words)
-unknown_pick words None r is command found = subst (λ (x : Result Action Fault). IfErr x (IsFaultIn words)) (sym is) (command, found)
-unknown_pick words (Some action) r is command found = subst (λ (x : Result Action Fault). IfErr x (IsFaultIn words)) (sym is) tt
+-- what is refused of what the words ask for is a fault in them
+refused_in : (words : List (List ℕ)) (asked : Option Action) (fault : Fault) → IsCommand words → action_in words ≡ asked → IsRefused asked fault → IsFaultIn words fault
+refused_in words asked UnknownPick command found is = (command, found ∙ is)
+refused_in words asked BadRefill command found is = (command, (is.0, found ∙ is.1, is.2))
+refused_in words asked (Said said status) command found is = absurd is
+refused_in words asked NotText command found is = absurd is
+refused_in words asked NoMemory command found is = absurd is
 
-action_asked : (words : List (List ℕ)) (asked : Option Action) (r : Result Action Fault) → r ≡ ok_or asked UnknownPick → action_in words ≡ asked → IfOk r (λ action. action_in words ≡ Some action)
-action_asked words None r is found = subst (λ (x : Result Action Fault). IfOk x (λ action. action_in words ≡ Some action)) (sym is) tt
-action_asked words (Some action) r is found = subst (λ (x : Result Action Fault). IfOk x (λ action'. action_in words ≡ Some action')) (sym is) found
+run_refused : (words : List (List ℕ)) (asked : Option Action) (r : Result Action Fault) → IfErr r (IsRefused asked) → IsCommand words → action_in words ≡ asked → IfErr r (IsFaultIn words)
+run_refused words asked (Err fault) is command found = refused_in words asked fault command found is
+run_refused words asked (Ok action) is command found = tt
+
+action_asked : (words : List (List ℕ)) (asked : Option Action) (r : Result Action Fault) → IfOk r (λ action. asked ≡ Some action) → action_in words ≡ asked → IfOk r (λ action. action_in words ≡ Some action)
+action_asked words asked (Ok action) is found = found ∙ is
+action_asked words asked (Err fault) is found = tt
 
 command_asked : (words : List (List ℕ)) (r : Result Action Fault) → IsCommand words → OnOk r (IsCommand words)
 command_asked words (Ok action) command = command
@@ -57,27 +65,19 @@ command_asked words (Err fault) command = tt
 pub returns-in-Ok-try_get_matches_from-clause-asked : goal.returns-in-Ok-try_get_matches_from-clause-asked
 returns-in-Ok-try_get_matches_from-clause-asked c =
     let same = ap (map (λ text. text.now)) c.as_slice.ensures.value ∙ c.in_ok-texts.ensures.texts in
-    command_asked _ c.ok_or.result (c.in_ok-texts.ensures.readable, sym (found_is _ _ _ c.in-Ok.ensures same) ∙ c.in-Ok-try_get_matches_from.ensures.kinds (command_simple _ c.in-Ok.ensures))
+    command_asked _ c.run_of.result (c.in_ok-texts.ensures.readable, sym (found_is _ _ _ c.in-Ok.ensures same) ∙ c.in-Ok-try_get_matches_from.ensures.kinds (command_simple _ c.in-Ok.ensures))
 
 pub returns-in-Ok-try_get_matches_from-clause-action : goal.returns-in-Ok-try_get_matches_from-clause-action
 returns-in-Ok-try_get_matches_from-clause-action c =
     let same = ap (map (λ text. text.now)) c.as_slice.ensures.value ∙ c.in_ok-texts.ensures.texts in
-    action_asked _ c.action_in.result c.ok_or.result c.ok_or.ensures.value (action_found _ _ _ c.in-Ok-try_get_matches_from.matches c.in-Ok.ensures same c.in-Ok-try_get_matches_from.ensures.matches ∙ sym c.action_in.ensures.action)
+    action_asked _ c.action_in.result c.run_of.result c.run_of.ensures.action (action_found _ _ _ c.in-Ok-try_get_matches_from.matches c.in-Ok.ensures same c.in-Ok-try_get_matches_from.ensures.matches ∙ sym c.action_in.ensures.action)
 
 pub returns-in-Ok-try_get_matches_from-clause-fault : goal.returns-in-Ok-try_get_matches_from-clause-fault
 returns-in-Ok-try_get_matches_from-clause-fault c =
     let same = ap (map (λ text. text.now)) c.as_slice.ensures.value ∙ c.in_ok-texts.ensures.texts in
-    unknown_pick _ c.action_in.result c.ok_or.result c.ok_or.ensures.value (c.in_ok-texts.ensures.readable, sym (found_is _ _ _ c.in-Ok.ensures same) ∙ c.in-Ok-try_get_matches_from.ensures.kinds (command_simple _ c.in-Ok.ensures)) (action_found _ _ _ c.in-Ok-try_get_matches_from.matches c.in-Ok.ensures same c.in-Ok-try_get_matches_from.ensures.matches ∙ sym c.action_in.ensures.action)
+    run_refused _ c.action_in.result c.run_of.result c.run_of.ensures.fault (c.in_ok-texts.ensures.readable, sym (found_is _ _ _ c.in-Ok.ensures same) ∙ c.in-Ok-try_get_matches_from.ensures.kinds (command_simple _ c.in-Ok.ensures)) (action_found _ _ _ c.in-Ok-try_get_matches_from.matches c.in-Ok.ensures same c.in-Ok-try_get_matches_from.ensures.matches ∙ sym c.action_in.ensures.action)
 
 pub returns-clause-fault : goal.returns-clause-fault
 returns-clause-fault c =
     let same = ap (map (λ text. text.now)) c.as_slice.ensures.value ∙ c.in_ok-texts.ensures.texts in
     explained _ _ c.fault_of.result c.in_ok-texts.ensures.readable (rw (found_is _ _ _ c.in-Ok.ensures same) at c.in-Err.ensures.kinds (command_simple _ c.in-Ok.ensures)) c.fault_of.ensures.fault c.fault_of.ensures.memory
-
--- the options let its settings through
-range_asked : (asked : Option Action) (r : Result Action Fault) → r ≡ ok_or asked UnknownPick → IfSome asked IsActionInRange → IfOk r IsActionInRange
-range_asked None r is range = subst (λ (x : Result Action Fault). IfOk x IsActionInRange) (sym is) tt
-range_asked (Some action) r is range = subst (λ (x : Result Action Fault). IfOk x IsActionInRange) (sym is) range
-
-pub returns-in-Ok-try_get_matches_from-clause-range : goal.returns-in-Ok-try_get_matches_from-clause-range
-returns-in-Ok-try_get_matches_from-clause-range c = range_asked c.action_in.result c.ok_or.result c.ok_or.ensures.value c.action_in.ensures.range
