@@ -1,5 +1,6 @@
 -- The workers of a search at its start and at its end.
 use Rattle.std.proofs.Common.{◌≡◌, ℕ, zero, suc, ◌+◌, ◌<◌, ◌≤◌, ◌⊎◌, ◌↔◌, inl, inr, List, [], ◌∷◌, ◌++◌, length, map, take, get_or, All, Option, Some, None, refl, sym, ap, ◌∙◌, subst, arith}
+use Rattle.std.proofs.Math.Logic.{∥∥₁_map}
 use Rattle.std.specs.List.{Contains, flat_map}
 use Rattle.std.proofs.lemmas.List.{length-map, take_at}
 use Rattle.std.proofs.lemmas.List.Elements.{recursion_from_All, All-map}
@@ -7,6 +8,7 @@ use mathlib.Core.Option.{some, some-injective, some-ne-none}
 use lib.ListN.{get_elem?}
 use Rattle.klsm_run.specs.declared.item.Item.{Item}
 use Rattle.klsm_parts.specs.Events.{times}
+use Rattle.klsm_world.specs.declared.step.Entry.{Entry}
 use Rattle.klsm_world.specs.OwnSteps.{inserted, deleted}
 use Rattle.klsm_world.specs.Account.{account}
 use Rattle.klsm_world.proofs.lemmas.counts.EventCountLemmas.{times_contained, contained_if_counted}
@@ -20,14 +22,15 @@ use Rattle.klsm_knapsack.specs.declared.common.Common.{Common}
 use Rattle.klsm_knapsack.specs.declared.common.Worker.{Worker}
 use Rattle.klsm_knapsack.specs.declared.errors.Refusal.{Refusal}
 use Rattle.klsm_knapsack.specs.declared.errors.Refusal.TheVariants as refusal
-use Rattle.klsm_knapsack.specs.declared.errors.SolveError.TheVariants.{BadThreads, BadK, NoMemory}
+use Rattle.klsm_knapsack.specs.declared.errors.SolveError.{SolveError}
+use Rattle.klsm_knapsack.specs.declared.errors.SolveError.TheVariants.{BadThreads, BadK, BadRefill, Full, NoMemory}
 use Rattle.klsm_instance.specs.Selections.{Problem}
 use Rattle.klsm_knapsack.specs.Watching.{IsWatchedBy, found_by}
 use Rattle.klsm_knapsack.specs.Work.{HasNode, HasWorked, all_inserted, all_deleted}
 use Rattle.klsm_knapsack.specs.Ends.{End, HasEnded, IsLeastRefusal, first_refusal}
 use Rattle.klsm_knapsack.specs.Workers.{HasEndedSo, HaveWorked, AreWorkersOf, IsNew, IsSearched, IsWorkerOf, work_of}
 use Rattle.klsm_board.specs.Members.{sizes_of}
-use Rattle.klsm_knapsack.specs.Refusals.{RefusesSearch, error_of}
+use Rattle.klsm_knapsack.specs.Refusals.{RefusesSearch, RefusesWithRefill, error_of}
 use Rattle.klsm_knapsack.proofs.CrewLemmas.{stands_at}
 
 -- what a list is after its store was lent as a slice
@@ -50,9 +53,9 @@ flat_of_map f g [] = refl
 flat_of_map f g (x ∷ xs) = ap (λ ys. g (f x) ++ ys) (flat_of_map f g xs)
 
 -- the refusal of a worker is that of the search
-pub refuses : (levels threads k : ℕ) (why : Refusal) → (1 ≤ threads) × (threads ≤ 16) × (k ≤ 64) → IsLeastRefusal levels (sizes_of threads k) why → RefusesSearch levels threads k (error_of why)
-refuses levels threads k refusal.Full in_range least = least
-refuses levels threads k refusal.NoMemory in_range least = in_range
+pub refuses : (levels threads k refill : ℕ) (why : Refusal) → (1 ≤ threads) × (threads ≤ 16) × (k ≤ 64) → IsLeastRefusal levels (sizes_of threads k) why → RefusesWithRefill levels threads k refill (error_of why)
+refuses levels threads k refill refusal.Full in_range least = least
+refuses levels threads k refill refusal.NoMemory in_range least = in_range
 
 -- a search of sizes in range is not refused for them
 pub good_threads : {A : Type 0} (threads k : ℕ) → (A → ⊥) → (1 ≤ threads) × (threads ≤ 16) × (k ≤ 64) → A ↔ ((threads ≡ 0) ⊎ (16 < threads))
@@ -60,6 +63,9 @@ good_threads {A} threads k none in_range = (λ a. absurd (none a), outside) wher
   outside : (threads ≡ 0) ⊎ (16 < threads) → A
   outside (inl few) = absurd (omega (arith, few, in_range.0))
   outside (inr many) = absurd (omega (arith, many, in_range.1))
+
+pub good_refill : {A : Type 0} (threads k refill : ℕ) → (A → ⊥) → refill ≤ k → A ↔ ((1 ≤ threads) × (threads ≤ 16) × (k ≤ 64) × (k < refill))
+good_refill threads k refill none fits = (λ a. absurd (none a), λ big. absurd (omega (arith, big.3, fits)))
 
 pub good_k : {A : Type 0} (threads k : ℕ) → (A → ⊥) → (1 ≤ threads) × (threads ≤ 16) × (k ≤ 64) → A ↔ ((1 ≤ threads) × (threads ≤ 16) × (64 < k))
 good_k threads k none in_range = (λ a. absurd (none a), λ big. absurd (omega (arith, big.2, in_range.2)))
@@ -69,6 +75,31 @@ memory_is_not_threads is = cc
 
 pub memory_is_not_k : NoMemory ≡ BadK → ⊥
 memory_is_not_k is = cc
+
+pub memory_is_not_refill : NoMemory ≡ BadRefill → ⊥
+memory_is_not_refill is = cc
+
+-- which lists a schedule leads to, and how workers end, has nothing to do with how many items deletions
+-- move
+reached_too : (m : Sizes) (refill t : ℕ) (es : List Entry) → IsReached (record m { refill = refill }) t es → IsReached m t es
+reached_too m refill t es is = record { world = is.world; schedule = is.schedule; leads = is.leads; within = is.within; list_is = is.list_is; thread = is.thread }
+
+pub refused_too : (levels : ℕ) (m : Sizes) (refill : ℕ) (why : Refusal) → IsLeastRefusal levels (record m { refill = refill }) why → IsLeastRefusal levels m why
+refused_too levels m refill why is = record {
+  ends = is.ends;
+  many = is.many;
+  reached = λ t end there. ∥∥₁_map (is.reached t end there) (reached_too m refill t end.steps);
+  ended = is.ended;
+  first = is.first;
+}
+
+-- a search whose deletions move no more than k items is refused for the reasons of any other
+pub refused_as_any : (levels threads k refill : ℕ) (why : SolveError) → refill ≤ k → RefusesWithRefill levels threads k refill why → RefusesSearch levels threads k why
+refused_as_any levels threads k refill BadThreads fits is = is
+refused_as_any levels threads k refill BadK fits is = is
+refused_as_any levels threads k refill BadRefill fits is = omega (arith, is.3, fits)
+refused_as_any levels threads k refill Full fits is = is
+refused_as_any levels threads k refill NoMemory fits is = is
 
 module _ {LEVELS : ℕ} where
   abbrev member_of : Worker LEVELS → Member 64 LEVELS

@@ -11,6 +11,9 @@ pub enum SolveError {
     /// More than 64 items in a member's own part.
     #[error("an own part cannot hold k items")]
     BadK,
+    /// More items to move than k.
+    #[error("a deletion cannot move more than k items")]
+    BadRefill,
     /// The shared part of the board had no room for a node.
     #[error("the board is full")]
     Full,

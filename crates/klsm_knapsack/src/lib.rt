@@ -16,10 +16,12 @@
 //! one in which fewest nodes wait.
 //!
 //! - **The answer is a best selection**, for every number of workers, every k, `idle` and gate, and
-//!   whatever the threads do: clause `best` of `solve`.
+//!   whatever the threads do: clause `best` of `solve`; and for every number of nodes that deletions
+//!   move: that of `solve_with_refill`.
 //! - **A refusal is that of the least numbered worker that met one.** Of a full board clause `refused` of
-//!   `solve` says so; want of memory could also be that of the board itself. The clauses `bad_threads` and
-//!   `bad_k` say when the arguments are refused. No growth stands between the joins and that answer.
+//!   `solve` says so; want of memory could also be that of the board itself. The clauses `bad_threads`,
+//!   `bad_k` and `bad_refill` say when the arguments are refused. No growth stands between the joins and
+//!   that answer.
 //! - **The incumbent is never lowered.** It is one word of a table of its own, whose rule every step
 //!   keeps: the word is the greatest of the numbers that the seats raised it by, and never below one
 //!   that a seat found there: `Highest`, and clause `rule` of `Incumbent::finish`.
@@ -50,4 +52,4 @@ pub use errors::SolveError;
 pub use incumbent::{Incumbent, Watcher};
 pub use klsm_instance::{Best, Instance, Node, ReadError, Reordered, Thing, solve_in_turn};
 pub use rule::{Highest, View};
-pub use solving::{solve, solve_told};
+pub use solving::{solve, solve_told, solve_with_refill};

@@ -4,7 +4,7 @@ ghost use Rattle.klsm_parts.specs.Limit.{IsLevelCount};
 ghost use Rattle.klsm_board.specs.Members.{sizes_of};
 ghost use Rattle.klsm_board.specs.Boards.{IsCrew, IsOf};
 ghost use Rattle.klsm_instance.specs.Answers.{IsBestAnswer};
-ghost use Rattle.klsm_knapsack.specs.Refusals.{RefusesSearch};
+ghost use Rattle.klsm_knapsack.specs.Refusals.{RefusesSearch, RefusesWithRefill};
 
 use crate::common::{Common, Listeners};
 use crate::crew::{dismiss, recruit, search};
@@ -17,6 +17,10 @@ use klsm_progress::{Progress, Silent};
 use std::alloc::Global;
 use std::sync::Wait;
 use std::thread::Threads;
+
+/// How many nodes a deletion of a shared one moves to its worker's own at most, where the caller does not
+/// say.
+const REFILL: usize = 16;
 
 /// A best selection, found by `threads` workers over a board with this k.
 ///
@@ -40,6 +44,7 @@ pub fn solve<const LEVELS: usize>(
         ↔ ((threads ≡ 0) ⊎ (16 < threads)) }
     ensures bad_k { IsErrAnd result (λ why. why ≡ SolveError.BadK)
         ↔ ((1 ≤ threads) × (threads ≤ 16) × (64 < k)) }
+    ensures bad_refill { IsErrAnd result (λ why. why ≡ SolveError.BadRefill) ↔ ⊥ }
 {
     let listeners = Listeners {
         gate,
@@ -65,8 +70,35 @@ pub fn solve_told<G: Gate, P: Progress, const LEVELS: usize>(
         ↔ ((threads ≡ 0) ⊎ (16 < threads)) }
     ensures bad_k { IsErrAnd result (λ why. why ≡ SolveError.BadK)
         ↔ ((1 ≤ threads) × (threads ≤ 16) × (64 < k)) }
+    ensures bad_refill { IsErrAnd result (λ why. why ≡ SolveError.BadRefill) ↔ ⊥ }
 {
-    let (board, members) = board_for::<LEVELS>(alloc, threads, k)?;
+    let refill = k.min(REFILL);
+    solve_with_refill::<G, P, LEVELS>(rt, alloc, instance, threads, k, refill, idle, listeners)
+}
+
+/// The same, where a deletion of a shared node moves at most `refill` more of them to its worker's own,
+/// which is at most k. The answer is a best selection for every `refill`.
+pub fn solve_with_refill<G: Gate, P: Progress, const LEVELS: usize>(
+    rt: &(impl Threads + Wait + Sync),
+    alloc: Global,
+    instance: &Instance,
+    threads: usize,
+    k: usize,
+    refill: usize,
+    idle: u32,
+    listeners: &Listeners<G, P>,
+) -> Result<Best, SolveError>
+    requires levels { IsLevelCount LEVELS }
+    ensures best { IfOk result (λ best. IsBestAnswer instance.now best) }
+    ensures refused { IfErr result (λ why. RefusesWithRefill LEVELS threads k refill why) }
+    ensures bad_threads { IsErrAnd result (λ why. why ≡ SolveError.BadThreads)
+        ↔ ((threads ≡ 0) ⊎ (16 < threads)) }
+    ensures bad_k { IsErrAnd result (λ why. why ≡ SolveError.BadK)
+        ↔ ((1 ≤ threads) × (threads ≤ 16) × (64 < k)) }
+    ensures bad_refill { IsErrAnd result (λ why. why ≡ SolveError.BadRefill)
+        ↔ ((1 ≤ threads) × (threads ≤ 16) × (k ≤ 64) × (k < refill)) }
+{
+    let (board, members) = board_for::<LEVELS>(alloc, threads, k, refill)?;
     let Ok((incumbent, mut first)) = Incumbent::new(alloc, instance) else {
         return Err(SolveError::NoMemory);
     };
@@ -95,24 +127,30 @@ fn board_for<const LEVELS: usize>(
     alloc: Global,
     threads: usize,
     k: usize,
+    refill: usize,
 ) -> Result<(Board<64, LEVELS>, Vec<Member<64, LEVELS>>), SolveError>
     requires levels { IsLevelCount LEVELS }
-    ensures sizes { IfOk result (λ made. made.0.sizes ≡ sizes_of threads k) }
+    ensures sizes { IfOk result (λ made. made.0.sizes
+        ≡ record (sizes_of threads k) { refill = refill }) }
     ensures in_range { IfOk result (λ _. (1 ≤ threads) × (threads ≤ 16) × (k ≤ 64)) }
+    ensures refill { IfOk result (λ _. refill ≤ k) }
     ensures of { IfOk result (λ made. All (λ member. IsOf member made.0) made.1.items) }
     ensures count { IfOk result (λ made. length made.1.items ≡ threads) }
     ensures crew { IfOk result (λ made. IsCrew made.1.items) }
-    ensures refused { IfErr result (λ why. RefusesSearch LEVELS threads k why) }
+    ensures refused { IfErr result (λ why. RefusesWithRefill LEVELS threads k refill why) }
     ensures bad_threads { IsErrAnd result (λ why. why ≡ SolveError.BadThreads)
         ↔ ((threads ≡ 0) ⊎ (16 < threads)) }
     ensures bad_k { IsErrAnd result (λ why. why ≡ SolveError.BadK)
         ↔ ((1 ≤ threads) × (threads ≤ 16) × (64 < k)) }
+    ensures bad_refill { IsErrAnd result (λ why. why ≡ SolveError.BadRefill)
+        ↔ ((1 ≤ threads) × (threads ≤ 16) × (k ≤ 64) × (k < refill)) }
 {
-    match Board::new(alloc, threads, k, MOST_INSERTIONS) {
+    match Board::with_refill(alloc, threads, k, MOST_INSERTIONS, refill) {
         Ok(made) => Ok(made),
         Err(MakeError::BadThreads) => Err(SolveError::BadThreads),
         Err(MakeError::BadK) => Err(SolveError::BadK),
-        Err(MakeError::BadQuota | MakeError::BadRefill) => unreachable!(),
+        Err(MakeError::BadQuota) => unreachable!(),
+        Err(MakeError::BadRefill) => Err(SolveError::BadRefill),
         Err(MakeError::NoMemory) => Err(SolveError::NoMemory),
     }
 }

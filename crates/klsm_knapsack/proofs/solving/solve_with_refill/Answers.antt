@@ -1,19 +1,19 @@
 use Rattle.std.proofs.Common.{◌≡◌, ◌<◌, ◌≤◌, ◌++◌, rules, All, length, drop, take, vec_capacity, lit<, sym, ap, subst, ◌∙◌, arith, List}
 use Rattle.klsm_board.specs.declared.board.Member.{Member}
 use Rattle.klsm_board.specs.declared.sizes.Sizes.{Sizes}
-use Rattle.klsm_board.specs.Members.{most_insertions}
+use Rattle.klsm_board.specs.Members.{most_insertions, sizes_of}
 use Rattle.klsm_board.specs.Boards.{IsOf}
 use Rattle.klsm_knapsack.specs.declared.common.Common.{Common}
 use Rattle.klsm_knapsack.specs.declared.common.Worker.{Worker}
 use Rattle.klsm_knapsack.specs.declared.errors.SolveError.{SolveError}
 use Rattle.klsm_knapsack.specs.Watching.{IsWatchedBy}
 use Rattle.klsm_knapsack.specs.Ends.{IsLeastRefusal}
-use Rattle.klsm_knapsack.specs.Refusals.{RefusesSearch}
+use Rattle.klsm_knapsack.specs.Refusals.{RefusesWithRefill}
 use Rattle.klsm_knapsack.specs.Workers.{AreWorkersOf, IsNew, HaveWorked, IsSearched}
 use Rattle.klsm_knapsack.proofs.CrewLemmas.{none_refused}
 use Rattle.klsm_parts.proofs.FitLemmas.{shared_fits}
-use Rattle.klsm_knapsack.proofs.FinishLemmas.{good_threads, good_k, memory_is_not_threads, memory_is_not_k, whole, refuses, recruited, are_new, members_of, least_refusal, searched}
-use Rattle.klsm_knapsack.proofs.solving.solve_told.Goals as goal
+use Rattle.klsm_knapsack.proofs.FinishLemmas.{good_threads, good_k, good_refill, memory_is_not_threads, memory_is_not_k, memory_is_not_refill, whole, refuses, refused_too, recruited, are_new, members_of, least_refusal, searched}
+use Rattle.klsm_knapsack.proofs.solving.solve_with_refill.Goals as goal
 
 pub search-requires-after_bounds : goal.search-requires-after_bounds
 search-requires-after_bounds g c κs within =
@@ -61,9 +61,9 @@ returns-in-Err-clause-refused g c =
     let is : take c.in-Ok-recruit.crew.len (after ++ drop (length after) c.in-Ok-recruit.crew.items) ≡ after = whole c.in-Ok-recruit.crew.len after (drop (length after) c.in-Ok-recruit.crew.items) as_long in
     let first = rw is at c.in-Err.ensures.refused in
     let least : IsLeastRefusal g.row.LEVELS c.in_ok-board.board.sizes c.in-Err.why = least_refusal common after c.search.ensures.crew c.in-Err.why c.search.ensures.ended first in
-    subst (λ (why : SolveError). RefusesSearch g.row.LEVELS c.args.threads c.args.k why) (sym c.error.ensures)
-    (refuses g.row.LEVELS c.args.threads c.args.k c.in-Err.why c.in_ok-board.ensures.in_range
-    (subst (λ (m : Sizes). IsLeastRefusal g.row.LEVELS m c.in-Err.why) c.in_ok-board.ensures.sizes least))
+    let told = refused_too g.row.LEVELS (sizes_of c.args.threads c.args.k) c.args.refill c.in-Err.why (subst (λ (m : Sizes). IsLeastRefusal g.row.LEVELS m c.in-Err.why) c.in_ok-board.ensures.sizes least) in
+    subst (λ (why : SolveError). RefusesWithRefill g.row.LEVELS c.args.threads c.args.k c.args.refill why) (sym c.error.ensures)
+    (refuses g.row.LEVELS c.args.threads c.args.k c.args.refill c.in-Err.why c.in_ok-board.ensures.in_range told)
 
 pub finish-requires : goal.finish-requires
 finish-requires g c =
@@ -158,6 +158,9 @@ returns-in_default-clause-bad_threads g c = good_threads _ _ memory_is_not_threa
 pub returns-in_default-clause-bad_k : goal.returns-in_default-clause-bad_k
 returns-in_default-clause-bad_k g c = good_k _ _ memory_is_not_k c.in_ok-board.ensures.in_range
 
+pub returns-in_default-clause-bad_refill : goal.returns-in_default-clause-bad_refill
+returns-in_default-clause-bad_refill g c = good_refill _ _ _ memory_is_not_refill c.in_ok-board.ensures.refill
+
 pub returns-in_default-with_capacity-clause-refused : goal.returns-in_default-with_capacity-clause-refused
 returns-in_default-with_capacity-clause-refused g c = c.in_ok-board.ensures.in_range
 
@@ -166,6 +169,9 @@ returns-in_default-with_capacity-clause-bad_threads g c = good_threads _ _ memor
 
 pub returns-in_default-with_capacity-clause-bad_k : goal.returns-in_default-with_capacity-clause-bad_k
 returns-in_default-with_capacity-clause-bad_k g c = good_k _ _ memory_is_not_k c.in_ok-board.ensures.in_range
+
+pub returns-in_default-with_capacity-clause-bad_refill : goal.returns-in_default-with_capacity-clause-bad_refill
+returns-in_default-with_capacity-clause-bad_refill g c = good_refill _ _ _ memory_is_not_refill c.in_ok-board.ensures.refill
 
 pub returns-in_default-recruit-clause-refused : goal.returns-in_default-recruit-clause-refused
 returns-in_default-recruit-clause-refused g c = c.in_ok-board.ensures.in_range
@@ -176,6 +182,9 @@ returns-in_default-recruit-clause-bad_threads g c = good_threads _ _ memory_is_n
 pub returns-in_default-recruit-clause-bad_k : goal.returns-in_default-recruit-clause-bad_k
 returns-in_default-recruit-clause-bad_k g c = good_k _ _ memory_is_not_k c.in_ok-board.ensures.in_range
 
+pub returns-in_default-recruit-clause-bad_refill : goal.returns-in_default-recruit-clause-bad_refill
+returns-in_default-recruit-clause-bad_refill g c = good_refill _ _ _ memory_is_not_refill c.in_ok-board.ensures.refill
+
 pub returns-in_default-finish-clause-refused : goal.returns-in_default-finish-clause-refused
 returns-in_default-finish-clause-refused g c = c.in_ok-board.ensures.in_range
 
@@ -185,8 +194,14 @@ returns-in_default-finish-clause-bad_threads g c = good_threads _ _ memory_is_no
 pub returns-in_default-finish-clause-bad_k : goal.returns-in_default-finish-clause-bad_k
 returns-in_default-finish-clause-bad_k g c = good_k _ _ memory_is_not_k c.in_ok-board.ensures.in_range
 
+pub returns-in_default-finish-clause-bad_refill : goal.returns-in_default-finish-clause-bad_refill
+returns-in_default-finish-clause-bad_refill g c = good_refill _ _ _ memory_is_not_refill c.in_ok-board.ensures.refill
+
 pub returns-clause-bad_threads : goal.returns-clause-bad_threads
 returns-clause-bad_threads g c = good_threads _ _ (λ none. none) c.in_ok-board.ensures.in_range
 
 pub returns-clause-bad_k : goal.returns-clause-bad_k
 returns-clause-bad_k g c = good_k _ _ (λ none. none) c.in_ok-board.ensures.in_range
+
+pub returns-clause-bad_refill : goal.returns-clause-bad_refill
+returns-clause-bad_refill g c = good_refill _ _ _ (λ none. none) c.in_ok-board.ensures.refill
