@@ -4,6 +4,7 @@ use Rattle.std.proofs.lemmas.List.{length-map}
 use Rattle.std.proofs.lemmas.List.{length-replicate}
 use Rattle.klsm_board.specs.declared.board.Board.{Board}
 use Rattle.klsm_board.specs.declared.board.Member.{Member}
+use Rattle.klsm_board.specs.declared.sizes.Sizes.{Sizes}
 use Rattle.klsm_board.specs.Boards.{own_steps}
 use Rattle.klsm_board.specs.Rule.{IsReached}
 use Rattle.klsm_board.specs.Finishing.{AreListsAtEnd, lists_of}
@@ -14,7 +15,6 @@ use Rattle.klsm_text.specs.declared.report.Report.{Report}
 use Rattle.klsm_tool.specs.Crews.{AreMembers, lists_in, steps_in}
 use Rattle.klsm_tool.specs.Shown.{shown_in}
 use Rattle.klsm_text.specs.Reports.{GoesOrFails}
-use Rattle.klsm_board.specs.Members.{sizes_of}
 use Rattle.klsm_tool.specs.Replay.{ReplaysAlone, ReplaysToTheEnd}
 use Rattle.klsm_tool.proofs.ClosingLemmas.{replays_nothing}
 use Rattle.klsm_tool.proofs.CrewLemmas.{crew_lists, crew_reached}
@@ -29,25 +29,25 @@ empty_at zero t = refl
 empty_at (suc n) zero = refl
 empty_at (suc n) (suc t) = empty_at n t
 
-module _ (threads k : ℕ) (input before after : Option (List ℕ)) (report : Report) where
+module _ (m : Sizes) (input before after : Option (List ℕ)) (report : Report) where
   -- the lists are those of the members
-  pub alone : (board : Board 64 21) (members : List (Member 64 21)) → AreMembers board members → board.sizes ≡ sizes_of threads k → ReplaysToTheEnd threads k (lists_in members) input before after report
-      → (report.end ≡ end.Done → AreListsAtEnd board.sizes (lists_of board.sizes.threads members)) → ReplaysAlone threads k input before after report
+  pub alone : (board : Board 64 21) (members : List (Member 64 21)) → AreMembers board members → board.sizes ≡ m → ReplaysToTheEnd m.threads m.k (lists_in members) input before after report
+      → (report.end ≡ end.Done → AreListsAtEnd board.sizes (lists_of board.sizes.threads members)) → ReplaysAlone m input before after report
   alone board members crew sizes replays at_end =
       let threads_are = ap (λ z. z.threads) sizes in record {
         lists = lists_in members;
         many = length-map members own_steps ∙ (crew.many ∙ threads_are);
-        reached = λ t below. subst (λ m. ∥ IsReached m t (steps_in (lists_in members) t) ∥₁) sizes (crew_reached board members crew t (omega (arith, below, threads_are)));
+        reached = λ t below. subst (λ z. ∥ IsReached z t (steps_in (lists_in members) t) ∥₁) sizes (crew_reached board members crew t (omega (arith, below, threads_are)));
         replays = replays;
-        at_end = λ done. subst (λ m. AreListsAtEnd m (lists_in members)) sizes (subst (λ ls. AreListsAtEnd board.sizes ls) (sym (crew_lists board members crew)) (at_end done));
+        at_end = λ done. subst (λ z. AreListsAtEnd z (lists_in members)) sizes (subst (λ ls. AreListsAtEnd board.sizes ls) (sym (crew_lists board members crew)) (at_end done));
       }
 
   -- where there was no memory for a board, they are empty
-  pub alone_without : GoesOrFails before after (codes "no memory\n") 0 report.written end.NoMemory report.end → ReplaysAlone threads k input before after report
+  pub alone_without : GoesOrFails before after (codes "no memory\n") 0 report.written end.NoMemory report.end → ReplaysAlone m input before after report
   alone_without goes = record {
-    lists = replicate threads [];
-    many = length-replicate threads [];
-    reached = λ t below. subst (λ es. ∥ IsReached (sizes_of threads k) t es ∥₁) (sym (empty_at threads t)) ∣ fresh_is_reached (sizes_of threads k) t below ∣₁;
-    replays = inl (replays_nothing threads k (replicate threads []) input before after report (λ t below. ap shown_in (sym (empty_at threads t))) goes);
+    lists = replicate m.threads [];
+    many = length-replicate m.threads [];
+    reached = λ t below. subst (λ es. ∥ IsReached m t es ∥₁) (sym (empty_at m.threads t)) ∣ fresh_is_reached m t below ∣₁;
+    replays = inl (replays_nothing m.threads m.k (replicate m.threads []) input before after report (λ t below. ap shown_in (sym (empty_at m.threads t))) goes);
     at_end = λ done. absurd (not_done before after (codes "no memory\n") 0 report.written report.end goes done);
   }

@@ -20,7 +20,6 @@ use Rattle.klsm_tool.specs.declared.worker.GaveUp.{GaveUp}
 use Rattle.klsm_tool.specs.declared.worker.Worker.{Worker}
 use Rattle.klsm_tool.specs.Crews.{AreMembers, lists_in, steps_in}
 use Rattle.klsm_tool.specs.Live.{GaveUpAt, GivesUpFirst, HasNoTotals, RunsAll, RunsScript, RunsUntilFull}
-use Rattle.klsm_board.specs.Members.{sizes_of}
 use Rattle.klsm_rows.specs.Rows.{AreAllRows, Row}
 use Rattle.klsm_tool.specs.Shown.{shown_in}
 use Rattle.klsm_text.specs.ThreadRows.{AreAccepted, Asked, asked_of}
@@ -115,10 +114,10 @@ all_back board asked crew many ran none =
     )
 
 -- the totals of members that are back
-pub all_run : (threads k : ℕ) (input : Option (List ℕ)) (rows : List Row) (m : Sizes) (lists : List (List Entry)) (totals : Totals) → m ≡ sizes_of threads k → AreAllRows input rows → AreAccepted threads rows → length lists ≡ threads
-    → ((t : ℕ) → t < threads → AreAnswers (asked_of threads t rows) (shown_in (steps_in lists t))) → AreAccounted m lists totals → RunsAll threads k input totals
-all_run threads k input rows m lists totals sizes all accepted many answers accounted =
-    let insertions = insertions_are threads rows lists accepted many answers in
+pub all_run : (m : Sizes) (input : Option (List ℕ)) (rows : List Row) (lists : List (List Entry)) (totals : Totals) → AreAllRows input rows → AreAccepted m.threads rows → length lists ≡ m.threads
+    → ((t : ℕ) → t < m.threads → AreAnswers (asked_of m.threads t rows) (shown_in (steps_in lists t))) → AreAccounted m lists totals → RunsAll m input totals
+all_run m input rows lists totals all accepted many answers accounted =
+    let insertions = insertions_are m.threads rows lists accepted many answers in
     let sum = adds_up m lists accounted.at_end in
     record {
       rows = rows;
@@ -126,7 +125,7 @@ all_run threads k input rows m lists totals sizes all accepted many answers acco
       accepted = accepted;
       lists = lists;
       many = many;
-      at_end = subst (λ z. AreListsAtEnd z lists) sizes accounted.at_end;
+      at_end = accounted.at_end;
       answers = answers;
       inserted_is = accounted.inserted_is;
       deleted_is = accounted.deleted_is;
@@ -136,15 +135,16 @@ all_run threads k input rows m lists totals sizes all accepted many answers acco
     }
 
 -- or, where memory was wanted for that, none
-pub finished : (failed : Bool) (threads k : ℕ) (input : Option (List ℕ)) (rows : List Row) (board : Board 64 21) (crew : List (Option Worker)) (ms : List (Member 64 21)) (result : Result Totals Closing) → board.sizes ≡ sizes_of threads k → AreAllRows input rows → AreAccepted threads rows
-    → crew ≡ map ready ms → AreMembers board ms → ((t : ℕ) → t < board.sizes.threads → AreAnswers (asked_of threads t rows) (shown_in (steps_in (lists_in ms) t)))
-    → IfOk result (λ totals. (members : List (Member 64 21)) × (crew ≡ map ready members) × AreMembers board members × AreAccounted board.sizes (lists_in members) totals) → IfErr result (λ closing. closing.stop ≡ stop.NoMemory) → RunsScript failed threads k input result
-finished failed threads k input rows board crew ms (Ok totals) sizes all accepted is back answers ok err =
-    let same = same_members ms ok.0 (sym is ∙ ok.1) in let threads_are = ap (λ m. m.threads) sizes in
-    all_run threads k input rows board.sizes (lists_in ok.0) totals sizes all accepted (length-map ok.0 own_steps ∙ (ok.2.many ∙ threads_are))
-    (λ t below. subst (λ (z : List (Member 64 21)). AreAnswers (asked_of threads t rows) (shown_in (steps_in (lists_in z) t))) same (answers t (omega (arith, below, threads_are)))) ok.3
-finished failed threads k input rows board crew ms (Err closing) sizes all accepted is back answers ok err =
-    subst (HasNoTotals failed threads k input closing.row) (sym err) tt
+pub finished : (failed : Bool) (m : Sizes) (input : Option (List ℕ)) (rows : List Row) (board : Board 64 21) (crew : List (Option Worker)) (ms : List (Member 64 21)) (result : Result Totals Closing) → board.sizes ≡ m → AreAllRows input rows → AreAccepted m.threads rows
+    → crew ≡ map ready ms → AreMembers board ms → ((t : ℕ) → t < board.sizes.threads → AreAnswers (asked_of m.threads t rows) (shown_in (steps_in (lists_in ms) t)))
+    → IfOk result (λ totals. (members : List (Member 64 21)) × (crew ≡ map ready members) × AreMembers board members × AreAccounted board.sizes (lists_in members) totals) → IfErr result (λ closing. closing.stop ≡ stop.NoMemory) → RunsScript failed m input result
+finished failed m input rows board crew ms (Ok totals) sizes all accepted is back answers ok err =
+    let same = same_members ms ok.0 (sym is ∙ ok.1) in let threads_are = ap (λ z. z.threads) sizes in
+    all_run m input rows (lists_in ok.0) totals all accepted (length-map ok.0 own_steps ∙ (ok.2.many ∙ threads_are))
+    (λ t below. subst (λ (z : List (Member 64 21)). AreAnswers (asked_of m.threads t rows) (shown_in (steps_in (lists_in z) t))) same (answers t (omega (arith, below, threads_are))))
+    (subst (λ z. AreAccounted z (lists_in ok.0) totals) sizes ok.3)
+finished failed m input rows board crew ms (Err closing) sizes all accepted is back answers ok err =
+    subst (HasNoTotals failed m input closing.row) (sym err) tt
 
 -- ---- when one gave up
 
@@ -168,21 +168,21 @@ answers_at : (board : Board 64 21) (t : ℕ) (asked : List Asked) (place : Optio
 answers_at board t asked None ran is = absurd ran
 answers_at board t asked (Some worker) ran is = subst (Works board.sizes.k t asked (own_steps worker.member)) is ran.works
 
-module _ (threads k : ℕ) (input : Option (List ℕ)) (rows : List Row) (all : AreAllRows input rows) (accepted : AreAccepted threads rows) (board : Board 64 21) (sizes : board.sizes ≡ sizes_of threads k) (crew : List (Option Worker)) (many : length crew ≡ threads)
-    (ran : (t : ℕ) (d : Option Worker) → t < length crew → HasRunAt board t (asked_of threads t rows) (slice_index_or crew t d)) where
-  first_of : (gave_up : GaveUp) (t : ℕ) → t < length crew → gave_up_at (slice_index_or crew t None) ≡ Some gave_up → ((u : ℕ) (d : Option Worker) → u < t → gave_up_at (slice_index_or crew u d) ≡ None) → GivesUpFirst threads k rows (map steps_at crew) gave_up.row gave_up.stop
+module _ (m : Sizes) (input : Option (List ℕ)) (rows : List Row) (all : AreAllRows input rows) (accepted : AreAccepted m.threads rows) (board : Board 64 21) (sizes : board.sizes ≡ m) (crew : List (Option Worker)) (many : length crew ≡ m.threads)
+    (ran : (t : ℕ) (d : Option Worker) → t < length crew → HasRunAt board t (asked_of m.threads t rows) (slice_index_or crew t d)) where
+  first_of : (gave_up : GaveUp) (t : ℕ) → t < length crew → gave_up_at (slice_index_or crew t None) ≡ Some gave_up → ((u : ℕ) (d : Option Worker) → u < t → gave_up_at (slice_index_or crew u d) ≡ None) → GivesUpFirst m.threads m.k rows (map steps_at crew) gave_up.row gave_up.stop
   first_of gave_up t below is lesser =
-      let k_is : board.sizes.k ≡ k = ap (λ m. m.k) sizes in
+      let k_is : board.sizes.k ≡ m.k = ap (λ z. z.k) sizes in
       record {
         thread = t;
         below = omega (arith, below, many);
         lesser = λ u before. let within : u < length crew = omega (arith, before, below) in
-            subst (λ es. AreAnswers (asked_of threads u rows) (shown_in es)) (sym (steps_there crew u None within)) (answers_at board u (asked_of threads u rows) (slice_index_or crew u None) (ran u None within) (lesser u None before));
-        gave_up = subst (λ es. GaveUpAt k t (asked_of threads t rows) es gave_up.row gave_up.stop) (sym (steps_there crew t None below))
-            (subst (λ n. GaveUpAt n t (asked_of threads t rows) (steps_at (slice_index_or crew t None)) gave_up.row gave_up.stop) k_is (gives_up_at board t (asked_of threads t rows) (slice_index_or crew t None) gave_up (ran t None below) is));
+            subst (λ es. AreAnswers (asked_of m.threads u rows) (shown_in es)) (sym (steps_there crew u None within)) (answers_at board u (asked_of m.threads u rows) (slice_index_or crew u None) (ran u None within) (lesser u None before));
+        gave_up = subst (λ es. GaveUpAt m.k t (asked_of m.threads t rows) es gave_up.row gave_up.stop) (sym (steps_there crew t None below))
+            (subst (λ n. GaveUpAt n t (asked_of m.threads t rows) (steps_at (slice_index_or crew t None)) gave_up.row gave_up.stop) k_is (gives_up_at board t (asked_of m.threads t rows) (slice_index_or crew t None) gave_up (ran t None below) is));
       }
 
-  until_full : (number : ℕ) → GivesUpFirst threads k rows (map steps_at crew) number stop.Full → RunsUntilFull threads k input number
+  until_full : (number : ℕ) → GivesUpFirst m.threads m.k rows (map steps_at crew) number stop.Full → RunsUntilFull m input number
   until_full number first = record {
     rows = rows;
     all = all;
@@ -190,15 +190,15 @@ module _ (threads k : ℕ) (input : Option (List ℕ)) (rows : List Row) (all : 
     lists = map steps_at crew;
     many = length-map crew steps_at ∙ many;
     reached = λ t below. let within : t < length crew = omega (arith, below, many) in
-        subst (λ m. ∥ IsReached m t (steps_in (map steps_at crew) t) ∥₁) sizes
-        (subst (λ es. ∥ IsReached board.sizes t es ∥₁) (sym (steps_there crew t None within)) (reached_at board t (asked_of threads t rows) (slice_index_or crew t None) (ran t None within)));
+        subst (λ z. ∥ IsReached z t (steps_in (map steps_at crew) t) ∥₁) sizes
+        (subst (λ es. ∥ IsReached board.sizes t es ∥₁) (sym (steps_there crew t None within)) (reached_at board t (asked_of m.threads t rows) (slice_index_or crew t None) (ran t None within)));
     first = first;
   }
 
-  pub one_gave_up : (failed : Bool) (gave_up : GaveUp) (t : ℕ) → t < length crew → gave_up_at (slice_index_or crew t None) ≡ Some gave_up → ((u : ℕ) (d : Option Worker) → u < t → gave_up_at (slice_index_or crew u d) ≡ None) → HasNoTotals failed threads k input gave_up.row gave_up.stop
+  pub one_gave_up : (failed : Bool) (gave_up : GaveUp) (t : ℕ) → t < length crew → gave_up_at (slice_index_or crew t None) ≡ Some gave_up → ((u : ℕ) (d : Option Worker) → u < t → gave_up_at (slice_index_or crew u d) ≡ None) → HasNoTotals failed m input gave_up.row gave_up.stop
   one_gave_up failed gave_up t below is lesser = by_cause gave_up.stop (first_of gave_up t below is lesser)
     where
-      by_cause : (why : Stop) → GivesUpFirst threads k rows (map steps_at crew) gave_up.row why → HasNoTotals failed threads k input gave_up.row why
+      by_cause : (why : Stop) → GivesUpFirst m.threads m.k rows (map steps_at crew) gave_up.row why → HasNoTotals failed m input gave_up.row why
       by_cause stop.AtEnd first = absurd first.gave_up.gives_up
       by_cause (stop.Refused refusal) first = absurd first.gave_up.gives_up
       by_cause stop.Full first = until_full gave_up.row first

@@ -1,13 +1,20 @@
--- The members of a board that answer the rows of a script, and how one of them goes on.
+-- The board that answers the rows of a script, its members, and how one of them goes on.
 use Rattle.std.specs.Prelude.{ℕ, ◌≡◌, ◌≢◌, ◌<◌, ◌≤◌, List, ◌++◌, length, map, slice_index_or, []}
 use mathlib.Core.Option.{some}
 use lib.ListN.{get_elem?}
 use Rattle.klsm_world.specs.declared.step.Entry.{Entry}
 use Rattle.klsm_board.specs.declared.board.Board.{Board}
 use Rattle.klsm_board.specs.declared.board.Member.{Member}
+use Rattle.klsm_board.specs.declared.sizes.Sizes.{Sizes}
 use Rattle.klsm_board.specs.Boards.{IsOf, own_steps}
+use Rattle.klsm_board.specs.Members.{sizes_of}
 use Rattle.klsm_text.specs.declared.answer.Answer.{Answer}
+use Rattle.klsm_words.specs.declared.settings.Settings.{Settings}
 use Rattle.klsm_tool.specs.Shown.{shown_in}
+
+-- the sizes of a board over which a script is run by these settings
+abbrev pub board_sizes : Settings → Sizes
+board_sizes settings = record (sizes_of settings.threads settings.k) { refill = settings.refill }
 
 module _ {CAP LEVELS : ℕ} where
   -- the members of the board, in the order of their numbers

@@ -2,6 +2,7 @@
 use Rattle.std.specs.Prelude.{ℕ, ⊤, Bool, true, ◌≡◌, ◌+◌, ◌<◌, List, ◌∷◌, ◌++◌, length, Option, Result, Ok, Err}
 use Rattle.klsm_world.specs.declared.step.Entry.{Entry}
 use Rattle.klsm_world.specs.Account.{account}
+use Rattle.klsm_board.specs.declared.sizes.Sizes.{Sizes}
 use Rattle.klsm_board.specs.Rule.{IsReached}
 use Rattle.klsm_board.specs.Finishing.{AreListsAtEnd}
 use Rattle.klsm_text.specs.declared.report.End.{End}
@@ -18,7 +19,6 @@ use Rattle.klsm_tool.specs.Shown.{shown_in}
 use Rattle.klsm_tool.specs.Crews.{steps_in}
 use Rattle.klsm_tool.specs.Turns.{StopsInsertion}
 use Rattle.klsm_text.specs.Reports.{GoesOrFails, end_of}
-use Rattle.klsm_board.specs.Members.{sizes_of}
 use Rattle.klsm_text.specs.ThreadRows.{AreAccepted, Asked, StopsReading, asked_of, insertion_rows}
 use Rattle.klsm_tool.specs.Turns.{AreAnswers}
 
@@ -43,33 +43,33 @@ pub record GivesUpFirst (threads k : ℕ) (rows : List Row) (lists : List (List 
       → AreAnswers (asked_of threads t rows) (shown_in (steps_in lists t))
   pub gave_up : GaveUpAt k thread (asked_of threads thread rows) (steps_in lists thread) number why
 
--- all rows were run: each thread's list answers its rows, one by one and in order, the lists are
--- those of one world to which a schedule leads, and the totals are those of their account
-pub record RunsAll (threads k : ℕ) (input : Option (List ℕ)) (totals : Totals) : Type 0 where
+-- all rows were run over a board of these sizes: each thread's list answers its rows, one by one and
+-- in order, the lists are those of one world to which a schedule leads, and the totals are those of
+-- their account
+pub record RunsAll (m : Sizes) (input : Option (List ℕ)) (totals : Totals) : Type 0 where
   pub rows : List Row
   pub all : AreAllRows input rows
-  pub accepted : AreAccepted threads rows
+  pub accepted : AreAccepted m.threads rows
   pub lists : List (List Entry)
-  pub many : length lists ≡ threads
-  pub at_end : AreListsAtEnd (sizes_of threads k) lists
-  pub answers : (t : ℕ) → t < threads
-      → AreAnswers (asked_of threads t rows) (shown_in (steps_in lists t))
+  pub many : length lists ≡ m.threads
+  pub at_end : AreListsAtEnd m lists
+  pub answers : (t : ℕ) → t < m.threads
+      → AreAnswers (asked_of m.threads t rows) (shown_in (steps_in lists t))
   pub inserted_is : totals.inserted ≡ (account lists).inserted
   pub deleted_is : totals.deleted ≡ (account lists).deleted
   pub left_is : totals.left ≡ length (account lists).left
-  pub insertions : totals.inserted ≡ insertion_rows threads rows
+  pub insertions : totals.inserted ≡ insertion_rows m.threads rows
   pub sum : totals.inserted ≡ totals.deleted + totals.left
 
 -- a thread's insertion found no room: each list is that of a world to which a schedule leads
-pub record RunsUntilFull (threads k : ℕ) (input : Option (List ℕ)) (number : ℕ) : Type 0 where
+pub record RunsUntilFull (m : Sizes) (input : Option (List ℕ)) (number : ℕ) : Type 0 where
   pub rows : List Row
   pub all : AreAllRows input rows
-  pub accepted : AreAccepted threads rows
+  pub accepted : AreAccepted m.threads rows
   pub lists : List (List Entry)
-  pub many : length lists ≡ threads
-  pub reached : (t : ℕ) → t < threads
-      → ∥ IsReached (sizes_of threads k) t (steps_in lists t) ∥₁
-  pub first : GivesUpFirst threads k rows lists number stop.Full
+  pub many : length lists ≡ m.threads
+  pub reached : (t : ℕ) → t < m.threads → ∥ IsReached m t (steps_in lists t) ∥₁
+  pub first : GivesUpFirst m.threads m.k rows lists number stop.Full
 
 -- the first row that is not accepted, or the one behind those that were read when reading failed
 pub record IsNotRun (threads : ℕ) (input : Option (List ℕ)) (number : ℕ) (why : Stop) : Type 0 where
@@ -80,21 +80,20 @@ pub record IsNotRun (threads : ℕ) (input : Option (List ℕ)) (number : ℕ) (
 
 -- why there are no totals. `failed` says here and below whether the reader has failed. Of want of memory
 -- nothing is said
-abbrev pub HasNoTotals : Bool → ℕ → ℕ → Option (List ℕ) → ℕ → Stop → Type 0
-HasNoTotals failed threads k input number stop.AtEnd = ⊥
-HasNoTotals failed threads k input number (stop.Refused why) =
-    IsNotRun threads input number (stop.Refused why)
-HasNoTotals failed threads k input number stop.Full = RunsUntilFull threads k input number
-HasNoTotals failed threads k input number stop.NoMemory = ⊤
-HasNoTotals failed threads k input number stop.ReadFault =
-    IsNotRun threads input number stop.ReadFault × (failed ≡ true)
-HasNoTotals failed threads k input number stop.WriteFault = ⊥
+abbrev pub HasNoTotals : Bool → Sizes → Option (List ℕ) → ℕ → Stop → Type 0
+HasNoTotals failed m input number stop.AtEnd = ⊥
+HasNoTotals failed m input number (stop.Refused why) =
+    IsNotRun m.threads input number (stop.Refused why)
+HasNoTotals failed m input number stop.Full = RunsUntilFull m input number
+HasNoTotals failed m input number stop.NoMemory = ⊤
+HasNoTotals failed m input number stop.ReadFault =
+    IsNotRun m.threads input number stop.ReadFault × (failed ≡ true)
+HasNoTotals failed m input number stop.WriteFault = ⊥
 
 -- how the run of a script ends
-abbrev pub RunsScript : Bool → ℕ → ℕ → Option (List ℕ) → Result Totals Closing → Type 0
-RunsScript failed threads k input (Ok totals) = RunsAll threads k input totals
-RunsScript failed threads k input (Err closing) =
-    HasNoTotals failed threads k input closing.row closing.stop
+abbrev pub RunsScript : Bool → Sizes → Option (List ℕ) → Result Totals Closing → Type 0
+RunsScript failed m input (Ok totals) = RunsAll m input totals
+RunsScript failed m input (Err closing) = HasNoTotals failed m input closing.row closing.stop
 
 abbrev pub outcome_text : Result Totals Closing → List ℕ
 outcome_text (Ok totals) = totals_text totals
@@ -105,14 +104,13 @@ outcome_end (Ok totals) = end.Done
 outcome_end (Err closing) = end_of closing.stop
 
 -- the line of the outcome goes out, or the writer fails before its end
-abbrev pub LivesBy : Bool → ℕ → ℕ → Option (List ℕ) → Option (List ℕ) → Option (List ℕ) → Report
+abbrev pub LivesBy : Bool → Sizes → Option (List ℕ) → Option (List ℕ) → Option (List ℕ) → Report
     → Type 0
-LivesBy failed threads k input before after report =
-    (outcome : Result Totals Closing) × RunsScript failed threads k input outcome
+LivesBy failed m input before after report =
+    (outcome : Result Totals Closing) × RunsScript failed m input outcome
     × GoesOrFails before after (outcome_text outcome) 0 report.written (outcome_end outcome)
     report.end
 
 -- the same, where nothing is known of the reader
-abbrev pub Lives : ℕ → ℕ → Option (List ℕ) → Option (List ℕ) → Option (List ℕ) → Report → Type 0
-Lives threads k input before after report =
-    (failed : Bool) × LivesBy failed threads k input before after report
+abbrev pub Lives : Sizes → Option (List ℕ) → Option (List ℕ) → Option (List ℕ) → Report → Type 0
+Lives m input before after report = (failed : Bool) × LivesBy failed m input before after report

@@ -1,5 +1,5 @@
 -- What the program does on its words.
-use Rattle.std.specs.Prelude.{ℕ, ◌≡◌, ◌<◌, ◌⊎◌, List, length, take, Option, Some, None, codes, IsUtf8}
+use Rattle.std.specs.Prelude.{ℕ, ◌≡◌, ◌<◌, ◌≤◌, ◌⊎◌, List, length, take, Option, Some, None, codes, IsUtf8}
 use Rattle.std.specs.List.{All}
 use Rattle.std.specs.Io.KnownBytes.{Appends}
 use Rattle.klsm_words.specs.declared.command_line.Action.{Action}
@@ -10,6 +10,7 @@ use Rattle.klsm_text.specs.declared.report.Report.{Report}
 use Rattle.klsm_words.specs.declared.settings.Search.{Search}
 use Rattle.klsm_words.specs.declared.settings.Settings.{Settings}
 use Rattle.klsm_words.specs.CommandLine.{HasStatus, IsCommand, action_in, usual_settings}
+use Rattle.klsm_tool.specs.Crews.{board_sizes}
 use Rattle.klsm_tool.specs.Replay.{ReplaysAlone}
 use Rattle.klsm_tool.specs.Live.{Lives}
 use Rattle.klsm_tool.specs.Knapsack.{Solves}
@@ -49,13 +50,13 @@ AnswersWords words before after result =
 -- the input is replayed, and the status is that of the replay's end
 abbrev pub RunsReplay : Settings → Option (List ℕ) → Option (List ℕ) → Option (List ℕ) → ℕ → Type 0
 RunsReplay settings input before after result =
-    (report : Report) × ReplaysAlone settings.threads settings.k input before after report
+    (report : Report) × ReplaysAlone (board_sizes settings) input before after report
     × (result ≡ status_of report.end)
 
 -- the rows of the input are run by threads, and the status is that of the run's end
 abbrev pub RunsLive : Settings → Option (List ℕ) → Option (List ℕ) → Option (List ℕ) → ℕ → Type 0
 RunsLive settings input before after result =
-    (report : Report) × Lives settings.threads settings.k input before after report
+    (report : Report) × Lives (board_sizes settings) input before after report
     × (result ≡ status_of report.end)
 
 -- the instance of the input is solved, and the status is that of the end
@@ -64,13 +65,19 @@ RunsKnapsack search input before after result =
     (report : Report) × Solves search.threads search.k input before after report
     × (result ≡ status_of report.end)
 
--- a command is run by its settings, unless it names an unknown pick
+-- a script is run by its settings, unless deletions were to move more items to a thread than it keeps
+abbrev pub RunsIfFits : Settings → Type 0 → Option (List ℕ) → Option (List ℕ) → ℕ → Type 0
+RunsIfFits settings Run before after result =
+    ((settings.refill ≤ settings.k) × Run)
+    ⊎ ((settings.k < settings.refill) × Says before after (codes "refused: refill\n") 2 result)
+
+-- a command is run by its settings, unless it names an unknown pick, or these do not fit
 abbrev pub RunsBy : Option Action → Option (List ℕ) → Option (List ℕ) → Option (List ℕ) → ℕ
     → Type 0
 RunsBy (Some (Replay settings)) input before after result =
-    RunsReplay settings input before after result
+    RunsIfFits settings (RunsReplay settings input before after result) before after result
 RunsBy (Some (Live settings)) input before after result =
-    RunsLive settings input before after result
+    RunsIfFits settings (RunsLive settings input before after result) before after result
 RunsBy (Some (Knapsack search)) input before after result =
     RunsKnapsack search input before after result
 RunsBy None input before after result = Says before after (codes "refused: pick\n") 2 result

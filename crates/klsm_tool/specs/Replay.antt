@@ -3,7 +3,7 @@ use Rattle.std.specs.Prelude.{ℕ, ◌≡◌, ◌*◌, ◌<◌, ◌≤◌, ◌�
 use Rattle.std.specs.Prelude.{Ok, Err, codes}
 use Rattle.std.specs.Io.KnownBytes.{Appends}
 use Rattle.klsm_world.specs.declared.step.Entry.{Entry}
-use Rattle.klsm_board.specs.Members.{sizes_of}
+use Rattle.klsm_board.specs.declared.sizes.Sizes.{Sizes}
 use Rattle.klsm_board.specs.Rule.{IsReached}
 use Rattle.klsm_board.specs.Finishing.{AreListsAtEnd}
 use Rattle.klsm_text.specs.declared.answer.Line.{Line}
@@ -74,13 +74,12 @@ ReplaysToTheEnd threads k lists input before after report =
     × GoesOrFails middle after (codes "no memory\n") done.written report.written end.NoMemory
     report.end)
 
--- the lists are those of a board of its own: each is that of a world to which a schedule leads, and
--- where all is done they are so together
-pub record ReplaysAlone (threads k : ℕ) (input before after : Option (List ℕ)) (report : Report)
+-- the lists are those of a board of its own, of these sizes: each is that of a world to which a
+-- schedule leads, and where all is done they are so together
+pub record ReplaysAlone (m : Sizes) (input before after : Option (List ℕ)) (report : Report)
     : Type 0 where
   pub lists : List (List Entry)
-  pub many : length lists ≡ threads
-  pub reached : (t : ℕ) → t < threads
-      → ∥ IsReached (sizes_of threads k) t (steps_in lists t) ∥₁
-  pub replays : ReplaysToTheEnd threads k lists input before after report
-  pub at_end : report.end ≡ end.Done → AreListsAtEnd (sizes_of threads k) lists
+  pub many : length lists ≡ m.threads
+  pub reached : (t : ℕ) → t < m.threads → ∥ IsReached m t (steps_in lists t) ∥₁
+  pub replays : ReplaysToTheEnd m.threads m.k lists input before after report
+  pub at_end : report.end ≡ end.Done → AreListsAtEnd m lists

@@ -7,7 +7,7 @@
 //! ```text
 //! let script: &[u8] = b"0,i,5,50\n0,i,3,30\n0,d,,\n";
 //! let mut text = Vec::new(rt.alloc());
-//! let settings = Settings { threads: 1, k: 64, pick: Pick::First, seed: 1 };
+//! let settings = Settings { threads: 1, k: 64, refill: 0, pick: Pick::First, seed: 1 };
 //! let report = replay_over(&rt, script, &mut text, &settings);
 //! // report.end is End::Done, and the text ends with "max skip 0 bound 64"
 //! ```
@@ -19,7 +19,7 @@
 //! Rows are read and judged by `klsm_text`, which also makes the lines and sends them. `replay` reads
 //! a row, `beside` lets the member of its thread answer and counts the skip among `live_items`, and
 //! the line goes out with others before a further row is waited for. Where threads run the rows,
-//! `live` has a `worker` for each. `knapsack` reads an instance, has it solved with the things of the
+//! `live` has a `worker` for each; `making` has the board of either. `knapsack` reads an instance, has it solved with the things of the
 //! greatest value for their weight first, and writes its answer by the rows. `program` runs what its
 //! words ask for, as `klsm_words` reads them.
 //!
@@ -47,6 +47,7 @@ mod beside;
 mod knapsack;
 mod live;
 mod live_items;
+mod making;
 mod picking;
 mod process_words;
 mod program;

@@ -4,7 +4,7 @@ ghost use Rattle.std.specs.Prelude.{Option, Some, None, IfErr, IfOk, IfSome};
 ghost use Rattle.klsm_rows.specs.Rows.{Row, AreAllRows};
 ghost use Rattle.klsm_text.specs.Script.{row_limit};
 ghost use Rattle.klsm_text.specs.Reports.{GoesOrFails};
-ghost use Rattle.klsm_tool.specs.Crews.{AreMembers, lists_in};
+ghost use Rattle.klsm_tool.specs.Crews.{AreMembers, board_sizes, lists_in};
 ghost use Rattle.klsm_text.specs.ThreadRows.{AreAccepted};
 ghost use Rattle.klsm_text.specs.Keeping.{AreKept, kept_for};
 ghost use Rattle.klsm_text.specs.Reading.{HasReadScript, reader_failed};
@@ -13,9 +13,10 @@ ghost use Rattle.klsm_tool.specs.Live.{Lives, LivesBy, RunsScript, outcome_end, 
 ghost use Rattle.klsm_tool.specs.declared.worker.Worker.{Worker};
 ghost use Rattle.klsm_board.specs.declared.board.Member.{Member};
 
+use crate::making::board_for;
 use crate::picking::ThreadPicker;
 use crate::worker::{GaveUp, Worker};
-use klsm_board::{Board, Gate, MOST_INSERTIONS, Member};
+use klsm_board::{Board, Gate, Member};
 use klsm_progress::{Progress, Silent};
 use klsm_text::{
     Closing, End, Report, Script, Stop, ThreadRow, Totals, keep_rows, no_rows, write_last,
@@ -44,7 +45,8 @@ pub fn live_over<P: AllocGlobal + Wait + Threads + Sync, R: Read + Drop, W: Writ
     requires some_thread { 1 ≤ settings.now.threads }
     requires threads { settings.now.threads ≤ 16 }
     requires k { settings.now.k ≤ 64 }
-    ensures { Lives settings.now.threads settings.now.k (R.remaining reader)
+    requires refill { settings.now.refill ≤ settings.now.k }
+    ensures { Lives (board_sizes settings.now) (R.remaining reader)
         (W.contents writer.old) (W.contents writer.new) result }
 {
     live_told(rt, reader, writer, settings, gate, &Silent)
@@ -62,7 +64,8 @@ pub fn live_told<P: AllocGlobal + Wait + Threads + Sync, R: Read + Drop, W: Writ
     requires some_thread { 1 ≤ settings.now.threads }
     requires threads { settings.now.threads ≤ 16 }
     requires k { settings.now.k ≤ 64 }
-    ensures { Lives settings.now.threads settings.now.k (R.remaining reader)
+    requires refill { settings.now.refill ≤ settings.now.k }
+    ensures { Lives (board_sizes settings.now) (R.remaining reader)
         (W.contents writer.old) (W.contents writer.new) result }
 {
     let mut script = Script::new(rt.alloc(), reader);
@@ -82,9 +85,10 @@ pub fn live_script<P: AllocGlobal + Wait + Threads + Sync, R: Read + Drop, W: Wr
     requires some_thread { 1 ≤ settings.now.threads }
     requires threads { settings.now.threads ≤ 16 }
     requires k { settings.now.k ≤ 64 }
+    requires refill { settings.now.refill ≤ settings.now.k }
     requires read { (input : Option (List ℕ)) × HasReadScript R.remaining input [] script.old }
     ensures { (input : Option (List ℕ)) → HasReadScript R.remaining input [] script.old
-        → LivesBy (reader_failed script.new) settings.now.threads settings.now.k input
+        → LivesBy (reader_failed script.new) (board_sizes settings.now) input
         (W.contents writer.old) (W.contents writer.new) result }
 {
     let outcome = run_script(rt, script, settings, gate, progress);
@@ -114,9 +118,10 @@ fn run_script<P: AllocGlobal + Wait + Threads + Sync, R: Read + Drop>(
     requires some_thread { 1 ≤ settings.now.threads }
     requires threads { settings.now.threads ≤ 16 }
     requires k { settings.now.k ≤ 64 }
+    requires refill { settings.now.refill ≤ settings.now.k }
     requires read { (input : Option (List ℕ)) × HasReadScript R.remaining input [] script.old }
     ensures { (input : Option (List ℕ)) → HasReadScript R.remaining input [] script.old
-        → RunsScript (reader_failed script.new) settings.now.threads settings.now.k input result }
+        → RunsScript (reader_failed script.new) (board_sizes settings.now) input result }
 {
     let Ok(mut rows) = no_rows(rt.alloc(), settings.threads) else {
         return Err(Closing::at(Stop::NoMemory, 1));
@@ -141,15 +146,15 @@ fn run_rows<P: AllocGlobal + Wait + Threads + Sync>(
     requires some_thread { 1 ≤ settings.now.threads }
     requires threads { settings.now.threads ≤ 16 }
     requires k { settings.now.k ≤ 64 }
+    requires refill { settings.now.refill ≤ settings.now.k }
     requires many { length rows.now ≡ settings.now.threads }
     requires few { (t : ℕ) → length (kept_for (map (λ list. list.items) rows.now) t) ≤ row_limit }
     ensures { (failed : Bool) (input : Option (List ℕ)) (all : List Row) → AreAllRows input all
         → AreAccepted settings.now.threads all
         → AreKept settings.now.threads all (map (λ list. list.items) rows.now)
-        → RunsScript failed settings.now.threads settings.now.k input result }
+        → RunsScript failed (board_sizes settings.now) input result }
 {
-    let Ok((board, members)) = Board::new(rt.alloc(), settings.threads, settings.k, MOST_INSERTIONS)
-    else {
+    let Ok((board, members)) = board_for(rt.alloc(), settings) else {
         return Err(Closing::at(Stop::NoMemory, 1));
     };
     let Ok(mut crew) = crew_of(rt.alloc(), members) else {

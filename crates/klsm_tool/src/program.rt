@@ -74,6 +74,7 @@ fn run_told<R: Read + Drop, W: Write>(
         Ok(Action::Knapsack(search)) => run_knapsack(rt, reader, writer, &search, progress),
         Err(Fault::Said { text, status }) => say(writer, text.as_bytes(), status),
         Err(Fault::UnknownPick) => say(writer, UNKNOWN_PICK, USAGE),
+        Err(Fault::BadRefill) => say(writer, BAD_REFILL, USAGE),
         Err(Fault::NotText) => refuse_bytes(writer),
         Err(Fault::NoMemory) => say(writer, NO_MEMORY, EXHAUSTED),
     }
@@ -157,3 +158,5 @@ const FAULT: u8 = 4;
 const NOT_TEXT: &[u8] = b"error: a word is not UTF-8\n\nFor more information, try '--help'.\n";
 
 const UNKNOWN_PICK: &[u8] = b"refused: pick\n";
+
+const BAD_REFILL: &[u8] = b"refused: refill\n";

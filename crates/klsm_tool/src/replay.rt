@@ -4,7 +4,6 @@ ghost use Rattle.std.specs.Prelude.{length, Option, IfOk, MatchResult, true};
 ghost use Rattle.std.specs.List.{All};
 ghost use Rattle.klsm_run.specs.declared.item.Item.{Item};
 ghost use Rattle.klsm_world.specs.declared.step.Entry.{Entry};
-ghost use Rattle.klsm_board.specs.Members.{sizes_of};
 ghost use Rattle.klsm_board.specs.Boards.{IsCrew, IsOf};
 ghost use Rattle.klsm_text.specs.Output.{pending, put_count};
 ghost use Rattle.klsm_text.specs.AnswerText.{live_by, skip_of};
@@ -12,7 +11,7 @@ ghost use Rattle.klsm_text.specs.declared.answer.Line.{Line};
 ghost use Rattle.klsm_text.specs.declared.stop.Stop.TheVariants as stop;
 ghost use Rattle.klsm_rows.specs.Rows.{Row};
 ghost use Rattle.klsm_text.specs.Script.{row_limit};
-ghost use Rattle.klsm_tool.specs.Crews.{AreFew, AreMembers, lists_in};
+ghost use Rattle.klsm_tool.specs.Crews.{AreFew, AreMembers, board_sizes, lists_in};
 ghost use Rattle.klsm_tool.specs.Answering.{live_beside, picker_count};
 ghost use Rattle.klsm_text.specs.Reading.{HasReadScript, reader_failed};
 ghost use Rattle.klsm_tool.specs.Progress.{HasStopped, IsCutOff, IsTold, StandsAfter};
@@ -20,7 +19,8 @@ ghost use Rattle.klsm_tool.specs.Progress.{StopsBefore};
 ghost use Rattle.klsm_tool.specs.Replay.{Replays, ReplaysAlone};
 
 use crate::beside::Beside;
-use klsm_board::{Board, MOST_INSERTIONS, Member};
+use crate::making::board_for;
+use klsm_board::{Board, Member};
 use klsm_progress::{Counted, Pace, Progress, Silent};
 use klsm_text::{
     Closing, End, NO_MEMORY, Output, Printed, ROW_LIMIT, Refusal, Report, Script, Stop, request_of,
@@ -41,7 +41,8 @@ pub fn replay_over<P: AllocGlobal + Wait, R: Read + Drop, W: Write>(
     requires some_thread { 1 ≤ settings.now.threads }
     requires threads { settings.now.threads ≤ 16 }
     requires k { settings.now.k ≤ 64 }
-    ensures { ReplaysAlone settings.now.threads settings.now.k (R.remaining reader)
+    requires refill { settings.now.refill ≤ settings.now.k }
+    ensures { ReplaysAlone (board_sizes settings.now) (R.remaining reader)
         (W.contents writer.old) (W.contents writer.new) result }
 {
     replay_told(rt, reader, writer, settings, &Silent)
@@ -58,15 +59,11 @@ pub fn replay_told<P: AllocGlobal + Wait, R: Read + Drop, W: Write>(
     requires some_thread { 1 ≤ settings.now.threads }
     requires threads { settings.now.threads ≤ 16 }
     requires k { settings.now.k ≤ 64 }
-    ensures { ReplaysAlone settings.now.threads settings.now.k (R.remaining reader)
+    requires refill { settings.now.refill ≤ settings.now.k }
+    ensures { ReplaysAlone (board_sizes settings.now) (R.remaining reader)
         (W.contents writer.old) (W.contents writer.new) result }
 {
-    let Ok((board, mut members)) = Board::new(
-        rt.alloc(),
-        settings.threads,
-        settings.k,
-        MOST_INSERTIONS,
-    ) else {
+    let Ok((board, mut members)) = board_for(rt.alloc(), settings) else {
         return write_last(writer, NO_MEMORY, 0, End::NoMemory);
     };
     let mut script = Script::new(rt.alloc(), reader);
@@ -100,7 +97,7 @@ pub fn replay_on<P: AllocGlobal + Wait, R: Read + Drop, W: Write>(
     board: &Board<64, 21>,
     members: &mut [Member<64, 21>],
 ) -> Report
-    requires sizes { board.now.sizes ≡ sizes_of settings.now.threads settings.now.k }
+    requires sizes { board.now.sizes ≡ board_sizes settings.now }
     requires of { All (λ member. IsOf member board.now) members.old }
     requires count { length members.old ≡ settings.now.threads }
     requires crew { IsCrew members.old }
@@ -124,7 +121,7 @@ pub fn replay_script<P: AllocGlobal + Wait, R: Read + Drop, W: Write>(
     members: &mut [Member<64, 21>],
     progress: &impl Progress,
 ) -> Report
-    requires sizes { board.now.sizes ≡ sizes_of settings.now.threads settings.now.k }
+    requires sizes { board.now.sizes ≡ board_sizes settings.now }
     requires of { All (λ member. IsOf member board.now) members.old }
     requires count { length members.old ≡ settings.now.threads }
     requires crew { IsCrew members.old }
@@ -177,7 +174,7 @@ impl Replay {
         settings: &Settings,
         progress: &impl Progress,
     ) -> Closing
-        requires sizes { board.now.sizes ≡ sizes_of settings.now.threads settings.now.k }
+        requires sizes { board.now.sizes ≡ board_sizes settings.now }
         requires members { AreMembers board.now members.old }
         requires pickers { picker_count self.old.beside ≡ board.now.sizes.threads }
         requires few { AreFew board.now.sizes.threads 0 (lists_in members.old) }

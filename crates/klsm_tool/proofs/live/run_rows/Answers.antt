@@ -1,11 +1,13 @@
 use Rattle.std.proofs.Common.{◌≡◌, ◌<◌, ◌∙◌, ℕ, List, map, length, drop, slice_index_or, Bool, Option, Some, None, refl, sym, ap, subst, arith}
 use Rattle.std.proofs.lemmas.List.{length-map}
 use Rattle.klsm_board.specs.declared.board.Member.{Member}
+use Rattle.klsm_board.specs.declared.sizes.Sizes.{Sizes}
 use Rattle.klsm_text.specs.declared.stop.Stop.{Stop}
 use Rattle.klsm_text.specs.declared.stop.Stop.TheVariants as stop
 use Rattle.klsm_tool.specs.declared.worker.Worker.{Worker}
 use Rattle.klsm_text.specs.Keeping.{kept_for}
 use Rattle.klsm_text.specs.ThreadRows.{asked_of}
+use Rattle.klsm_tool.specs.Crews.{board_sizes}
 use Rattle.klsm_tool.specs.Live.{HasNoTotals}
 use Rattle.klsm_tool.specs.Working.{HasRunAt, IsReadyAt, gave_up_at, ready}
 use Rattle.klsm_tool.proofs.CrewLemmas.{written_back}
@@ -17,14 +19,14 @@ as_many : (crew : List (Option Worker)) (members : List (Member 64 21)) (threads
 as_many crew members threads is count = ap (λ (z : List (Option Worker)). length z) is ∙ (length-map members ready ∙ count)
 
 -- of want of memory nothing is said
-none_run : (failed : Bool) (threads k number : ℕ) (input : Option (List ℕ)) (why : Stop) → why ≡ stop.NoMemory → HasNoTotals failed threads k input number why
-none_run failed threads k number input why is = subst (HasNoTotals failed threads k input number) (sym is) tt
+none_run : (failed : Bool) (m : Sizes) (number : ℕ) (input : Option (List ℕ)) (why : Stop) → why ≡ stop.NoMemory → HasNoTotals failed m input number why
+none_run failed m number input why is = subst (HasNoTotals failed m input number) (sym is) tt
 
 pub returns-in_default : goal.returns-in_default
-returns-in_default g c = λ failed input _ _ _ _. none_run failed c.args.settings.now.threads c.args.settings.now.k _ input _ c.at.ensures.stop
+returns-in_default g c = λ failed input _ _ _ _. none_run failed (board_sizes c.args.settings.now) _ input _ c.at.ensures.stop
 
 pub returns-in_default-crew_of : goal.returns-in_default-crew_of
-returns-in_default-crew_of g c = λ failed input _ _ _ _. none_run failed c.args.settings.now.threads c.args.settings.now.k _ input _ c.at-in_default-crew_of.ensures.stop
+returns-in_default-crew_of g c = λ failed input _ _ _ _. none_run failed (board_sizes c.args.settings.now) _ input _ c.at-in_default-crew_of.ensures.stop
 
 pub run_all-requires-clause-some : goal.run_all-requires-clause-some
 run_all-requires-clause-some g c =
@@ -58,9 +60,9 @@ returns-in-Some g c = λ failed input all rows accepted kept.
     let first = c.in-Some.ensures.some in
     let within : first.0 < length crew = subst (λ (z : List (Option Worker)). first.0 < length z) whole first.1 in
     let here = first.2 None in
-    subst (λ n. HasNoTotals failed threads c.args.settings.now.k input n c.at-in-Some.result.stop) (sym c.at-in-Some.ensures.row)
-    (subst (HasNoTotals failed threads c.args.settings.now.k input c.in-Some.field-0.row) (sym c.at-in-Some.ensures.stop)
-    (one_gave_up threads c.args.settings.now.k input all rows accepted c.in-Ok.board c.in-Ok.ensures.sizes crew many ran failed c.in-Some.field-0 first.0 within
+    subst (λ n. HasNoTotals failed (board_sizes c.args.settings.now) input n c.at-in-Some.result.stop) (sym c.at-in-Some.ensures.row)
+    (subst (HasNoTotals failed (board_sizes c.args.settings.now) input c.in-Some.field-0.row) (sym c.at-in-Some.ensures.stop)
+    (one_gave_up (board_sizes c.args.settings.now) input all rows accepted c.in-Ok.board c.in-Ok.ensures.sizes crew many ran failed c.in-Some.field-0 first.0 within
     (subst (λ (z : List (Option Worker)). gave_up_at (slice_index_or z first.0 None) ≡ Some c.in-Some.field-0) whole here)
     (λ u d before. subst (λ (z : List (Option Worker)). gave_up_at (slice_index_or z u d) ≡ None) whole (first.3 u d before))))
 
@@ -91,4 +93,4 @@ returns g c = λ failed input all rows accepted kept.
     let told = all_back c.in-Ok.board (λ t. asked_of threads t all) crew (many ∙ sym threads_are)
     (λ t d below. subst (λ asked. HasRunAt c.in-Ok.board t asked (slice_index_or crew t d)) (kept.each t (omega (arith, below, many))) (c.run_all.ensures t d (omega (arith, below, many, lent))))
     (λ t d below. subst (λ (z : List (Option Worker)). gave_up_at (slice_index_or z t d) ≡ None) whole (c.in_default-first_to_give_up.ensures.none refl t d (subst (λ (z : List (Option Worker)). t < length z) (sym whole) below))) in
-    finished failed threads c.args.settings.now.k input all c.in-Ok.board _ told.0 c.finish.result c.in-Ok.ensures.sizes rows accepted (back ∙ told.1) told.2 told.3 c.finish.ensures.totals c.finish.ensures.refused
+    finished failed (board_sizes c.args.settings.now) input all c.in-Ok.board _ told.0 c.finish.result c.in-Ok.ensures.sizes rows accepted (back ∙ told.1) told.2 told.3 c.finish.ensures.totals c.finish.ensures.refused

@@ -4,6 +4,7 @@ use Rattle.klsm_text.specs.declared.stop.Stop.TheVariants as stop
 use Rattle.klsm_text.specs.declared.thread_rows.ThreadRow.{ThreadRow}
 use Rattle.klsm_text.specs.Keeping.{AreKept}
 use Rattle.klsm_text.specs.Reading.{reader_failed}
+use Rattle.klsm_tool.specs.Crews.{board_sizes}
 use Rattle.klsm_tool.specs.Live.{HasNoTotals}
 use Rattle.klsm_text.specs.Script.{row_limit}
 use Rattle.klsm_text.specs.ThreadRows.{StopsReading}
@@ -17,15 +18,14 @@ kept_lists lists = map (λ (list : Vec ThreadRow Global). list.items) lists
 
 pub returns-in_default : goal.returns-in_default
 returns-in_default g c = λ input read.
-    let threads = c.args.settings.now.threads in let k = c.args.settings.now.k in
-    subst (HasNoTotals (reader_failed c.args.script.now) threads k input c.at.result.row) (sym c.at.ensures.stop) tt
+    subst (HasNoTotals (reader_failed c.args.script.now) (board_sizes c.args.settings.now) input c.at.result.row) (sym c.at.ensures.stop) tt
 
 pub returns-then-ne : goal.returns-then-ne
 returns-then-ne g c = λ input read.
     let threads = c.args.settings.now.threads in
     let other : c.keep_rows-closing.result.stop ≢ stop.AtEnd = search rules in
     let kept : AreKept threads [] (kept_lists c.as_mut_slice.result.now) = subst (λ (z : List (Vec ThreadRow Global)). AreKept threads [] (kept_lists z)) (sym c.as_mut_slice.ensures.value) c.in-Ok.ensures in
-    not_run _ threads c.args.settings.now.k c.keep_rows-closing.result.row _ _ _ (c.keep_rows-closing.ensures threads input read kept) other
+    not_run _ (board_sizes c.args.settings.now) c.keep_rows-closing.result.row _ _ _ (c.keep_rows-closing.ensures threads input read kept) other
 
 pub run_rows-requires-clause-few : goal.run_rows-requires-clause-few
 run_rows-requires-clause-few g c =

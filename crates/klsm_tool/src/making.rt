@@ -1,0 +1,30 @@
+//! The board over which a script is run.
+ghost use Rattle.std.specs.Prelude.{All, ◌≡◌, ◌≤◌, IfOk, length};
+ghost use Rattle.klsm_board.specs.Boards.{IsCrew, IsOf};
+ghost use Rattle.klsm_tool.specs.Crews.{board_sizes};
+
+use klsm_board::{Board, MOST_INSERTIONS, Member};
+use klsm_words::Settings;
+use std::alloc::{AllocError, Global};
+
+/// The board of these settings, and its members, unless a growth was refused.
+pub(crate) fn board_for(
+    alloc: Global,
+    settings: &Settings,
+) -> Result<(Board<64, 21>, Vec<Member<64, 21>>), AllocError>
+    requires some_thread { 1 ≤ settings.now.threads }
+    requires threads { settings.now.threads ≤ 16 }
+    requires k { settings.now.k ≤ 64 }
+    requires refill { settings.now.refill ≤ settings.now.k }
+    ensures sizes { IfOk result (λ made. made.0.sizes ≡ board_sizes settings.now) }
+    ensures of { IfOk result (λ made. All (λ member. IsOf member made.0) made.1.items) }
+    ensures count { IfOk result (λ made. length made.1.items ≡ settings.now.threads) }
+    ensures crew { IfOk result (λ made. IsCrew made.1.items) }
+{
+    let Settings { threads, k, refill, .. } = *settings;
+    match Board::with_refill(alloc, threads, k, MOST_INSERTIONS, refill) {
+        Ok(made) => Ok(made),
+        // The settings are in range, so it is memory that is wanted.
+        Err(_) => Err(AllocError),
+    }
+}
