@@ -7,8 +7,8 @@ use Rattle.klsm_owned.specs.Owned.{AreNew, IsWhole, member_of, members_of}
 use Rattle.klsm_owned.proofs.ListLemmas.{length_mapped, unmapped}
 
 -- new members are all those of their board
-pub new_are_whole : (threads k : ℕ) (pick : Pick) (seed : ℕ) (owned : List OwnedMember) → AreNew threads k pick seed owned → IsWhole (members_of owned)
-new_are_whole threads k pick seed owned new = record {
+pub new_are_whole : (threads k : ℕ) (pick : Pick) (seed refill : ℕ) (owned : List OwnedMember) → AreNew threads k pick seed refill owned → IsWhole (members_of owned)
+new_are_whole threads k pick seed refill owned new = record {
   numbers = λ i a there. let x = unmapped member_of owned i a there in
       ap (λ (m : Member 64 21). m.number) (sym x.2) ∙ (new.each i x.0 x.1).number;
   count = λ i a there. let x = unmapped member_of owned i a there in

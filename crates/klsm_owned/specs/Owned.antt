@@ -6,7 +6,8 @@ use lib.ListN.{get_elem?}
 use Rattle.klsm_board.specs.declared.board.Board.{Board}
 use Rattle.klsm_board.specs.declared.board.Member.{Member}
 use Rattle.klsm_board.specs.Boards.{IsOf, IsSame, own_steps}
-use Rattle.klsm_board.specs.Members.{sizes_of}
+use Rattle.klsm_board.specs.declared.sizes.Sizes.{Sizes}
+use Rattle.klsm_board.specs.Members.{most_insertions}
 use Rattle.klsm_choice.specs.declared.choice.Choice.{Choice}
 use Rattle.klsm_choice.specs.declared.choice.Pick.{Pick}
 use Rattle.klsm_owned.specs.declared.owned.OwnedMember.{OwnedMember}
@@ -39,11 +40,15 @@ pub record IsNew (board : Board 64 21) (pick : Pick) (seed i : ℕ) (owned : Own
   pub steps : own_steps (member_of owned) ≡ []
   pub choice : choice_of owned ≡ choice_by pick ((seed + i) % 2 ^ 64)
 
+-- the sizes of a board whose members may make the most insertions, and whose deletions move so many items
+abbrev pub sizes_with : ℕ → ℕ → ℕ → Sizes
+sizes_with threads k refill = record { threads = threads; k = k; quota = most_insertions; refill = refill }
+
 -- all members of one new board of these sizes, in the order of their numbers
-pub record AreNew (threads k : ℕ) (pick : Pick) (seed : ℕ) (owned : List OwnedMember) : Type 0 where
+pub record AreNew (threads k : ℕ) (pick : Pick) (seed refill : ℕ) (owned : List OwnedMember) : Type 0 where
   pub count : length owned ≡ threads
   pub board : Board 64 21
-  pub sizes : board.sizes ≡ sizes_of threads k
+  pub sizes : board.sizes ≡ sizes_with threads k refill
   pub each : (i : ℕ) (x : OwnedMember) → get_elem? owned i ≡ some x → IsNew board pick seed i x
 
 -- These are all members of one board, in the order of their numbers; or there are none. No board is

@@ -6,7 +6,7 @@
 //! one value without type parameters.
 //!
 //! ```text
-//! let members = open_board(alloc, 4, 64, Pick::First, 0)?;      // one for each thread, in a box of its own
+//! let members = open_board(alloc, 4, 64, Pick::First, 0, 16)?;  // one for each thread, in a box of its own
 //! member.try_insert(key, load)?;                                // as the member's own calls
 //! let item = member.try_delete_min()?;
 //! ```

@@ -15,24 +15,29 @@ use std::sync::Arc;
 
 /// A new board of empty parts, and its members in the order of their numbers, each in a box of its own.
 ///
-/// Member `t` picks with the seed `seed + t`, by the remainder of 2^64.
+/// Member `t` picks with the seed `seed + t`, by the remainder of 2^64. A deletion that took a shared item
+/// moves at most `refill` of the least shared items to its member's own part.
 pub fn open_board(
     alloc: Global,
     threads: usize,
     k: usize,
     pick: Pick,
     seed: u64,
+    refill: usize,
 ) -> Result<Vec<Box<OwnedMember, Global>>, MakeError>
     ensures count { IfOk result (λ boxes. length boxes.items ≡ threads) }
-    ensures new { IfOk result (λ boxes. AreNew threads k pick seed (map (λ b. b.value) boxes.items)) }
+    ensures new { IfOk result (λ boxes.
+        AreNew threads k pick seed refill (map (λ b. b.value) boxes.items)) }
     ensures whole { IfOk result (λ boxes. IsWhole (members_of (map (λ b. b.value) boxes.items))) }
     ensures bad_threads { IsErrAnd result (λ why. why ≡ MakeError.BadThreads)
         ↔ ((threads ≡ 0) ⊎ (16 < threads)) }
     ensures bad_k { IsErrAnd result (λ why. why ≡ MakeError.BadK)
         ↔ ((1 ≤ threads) × (threads ≤ 16) × (64 < k)) }
+    ensures bad_refill { IsErrAnd result (λ why. why ≡ MakeError.BadRefill)
+        ↔ ((1 ≤ threads) × (threads ≤ 16) × (k ≤ 64) × (k < refill)) }
     ensures bad_quota { IsErrAnd result (λ why. why ≡ MakeError.BadQuota) ↔ ⊥ }
 {
-    let (board, members) = Board::new(alloc, threads, k, MOST_INSERTIONS)?;
+    let (board, members) = Board::with_refill(alloc, threads, k, MOST_INSERTIONS, refill)?;
     let Ok(board) = Arc::new(alloc, board) else {
         return Err(MakeError::NoMemory);
     };

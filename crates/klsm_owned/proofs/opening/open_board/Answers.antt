@@ -16,4 +16,4 @@ returns-clause-new c =
     }
 
 pub returns-clause-whole : goal.returns-clause-whole
-returns-clause-whole c = new_are_whole c.args.threads c.args.k c.args.pick c.args.seed (map (λ b. b.value) c.in-Ok-box_members.boxes.items) (returns-clause-new c)
+returns-clause-whole c = new_are_whole c.args.threads c.args.k c.args.pick c.args.seed c.args.refill (map (λ b. b.value) c.in-Ok-box_members.boxes.items) (returns-clause-new c)
