@@ -14,6 +14,6 @@ pick_by (suc (suc n)) = pick.Random
 
 -- the first slots have the members of one new board of these sizes, in the order of their numbers, and
 -- the others none
-pub record AreOpened (threads k pick seed : ℕ) (slots : List Slot) : Type 0 where
+pub record AreOpened (threads k pick seed refill : ℕ) (slots : List Slot) : Type 0 where
   pub front : held_in slots ≡ map alone (owned_in slots) ++ replicate (16 - threads) []
-  pub new : AreNew threads k (pick_by pick) seed (owned_in slots)
+  pub new : AreNew threads k (pick_by pick) seed refill (owned_in slots)

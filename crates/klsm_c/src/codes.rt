@@ -32,3 +32,5 @@ pub(crate) const BAD_K: i32 = 9;
 pub(crate) const BAD_PICK: i32 = 10;
 
 pub(crate) const SHARED: i32 = 11;
+
+pub(crate) const BAD_REFILL: i32 = 12;

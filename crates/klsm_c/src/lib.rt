@@ -2,7 +2,7 @@
 //!
 //! A queue is memory of the caller's: sixteen slots of two cache lines each. A slot that is open has one
 //! member of a board, behind a pointer; a slot of zeros is closed. `klsm_open` makes a board and puts its
-//! members into the first slots. From then on each thread uses one slot (`klsm_try_insert`,
+//! members into the first slots; so does `klsm_open_with_refill`. From then on each thread uses one slot (`klsm_try_insert`,
 //! `klsm_try_delete_min`), and once they are done, `klsm_close` ends the board with the account of all
 //! members and what is left. `klsm_drop` lets a queue go without an account.
 //!
@@ -36,7 +36,7 @@ pub use closing::{Account, klsm_close, klsm_drop};
 pub use codes::klsm_abi;
 pub use handle::Handle;
 pub use item::PlainItem;
-pub use opening::klsm_open;
+pub use opening::{klsm_open, klsm_open_with_refill};
 pub use queue::Queue;
 pub use slot::Slot;
 

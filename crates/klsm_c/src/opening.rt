@@ -3,14 +3,15 @@ ghost use Rattle.std.specs.Prelude.{◌≡◌, ◌≢◌, ◌<◌, ◌≤◌, �
 ghost use Rattle.klsm_c.specs.Slots.{alone, held_in, some_open};
 ghost use Rattle.klsm_c.specs.Opening.{AreOpened, pick_by};
 
-use crate::codes::{BAD_COUNT, BAD_K, BAD_PICK, NO_MEMORY, OK, OPEN};
+use crate::codes::{BAD_COUNT, BAD_K, BAD_PICK, BAD_REFILL, NO_MEMORY, OK, OPEN};
 use crate::queue::Queue;
 use crate::slot::Slot;
 use klsm_board::MakeError;
 use klsm_owned::{OwnedMember, Pick, open_board};
 use std::alloc::Global;
 
-/// Opens a queue with a member in each of its first slots. Where it is refused, nothing changes.
+/// Opens a queue with a member in each of its first slots, whose deletions move no items. Where it is
+/// refused, nothing changes.
 #[unsafe(no_mangle)]
 pub extern "C" fn klsm_open(
     alloc: Global,
@@ -20,7 +21,7 @@ pub extern "C" fn klsm_open(
     pick: u32,
     seed: u64,
 ) -> i32
-    ensures ok { result ≡ pos 0 → AreOpened threads k pick seed queue.new.slots }
+    ensures ok { result ≡ pos 0 → AreOpened threads k pick seed 0 queue.new.slots }
     ensures refused { result ≢ pos 0 → queue.new ≡ queue.old }
     ensures open { (result ≡ pos 7) ↔ (some_open queue.old.slots ≡ true) }
     ensures bad_pick { (result ≡ pos 10) ↔ ((some_open queue.old.slots ≡ false) × (2 < pick)) }
@@ -31,20 +32,49 @@ pub extern "C" fn klsm_open(
     ensures codes { (result ≡ pos 0) ⊎ (result ≡ pos 4) ⊎ (result ≡ pos 7) ⊎ (result ≡ pos 8)
         ⊎ (result ≡ pos 9) ⊎ (result ≡ pos 10) }
 {
+    klsm_open_with_refill(alloc, queue, threads, k, pick, seed, 0)
+}
+
+/// The same, and a deletion that took a shared item moves at most `refill` of the least shared items to
+/// its member's own part.
+#[unsafe(no_mangle)]
+pub extern "C" fn klsm_open_with_refill(
+    alloc: Global,
+    queue: &mut Queue,
+    threads: usize,
+    k: usize,
+    pick: u32,
+    seed: u64,
+    refill: usize,
+) -> i32
+    ensures ok { result ≡ pos 0 → AreOpened threads k pick seed refill queue.new.slots }
+    ensures refused { result ≢ pos 0 → queue.new ≡ queue.old }
+    ensures open { (result ≡ pos 7) ↔ (some_open queue.old.slots ≡ true) }
+    ensures bad_pick { (result ≡ pos 10) ↔ ((some_open queue.old.slots ≡ false) × (2 < pick)) }
+    ensures bad_count { (result ≡ pos 8) ↔ ((some_open queue.old.slots ≡ false) × (pick ≤ 2)
+        × ((threads ≡ 0) ⊎ (16 < threads))) }
+    ensures bad_k { (result ≡ pos 9) ↔ ((some_open queue.old.slots ≡ false) × (pick ≤ 2)
+        × (1 ≤ threads) × (threads ≤ 16) × (64 < k)) }
+    ensures bad_refill { (result ≡ pos 12) ↔ ((some_open queue.old.slots ≡ false) × (pick ≤ 2)
+        × (1 ≤ threads) × (threads ≤ 16) × (k ≤ 64) × (k < refill)) }
+    ensures codes { (result ≡ pos 0) ⊎ (result ≡ pos 4) ⊎ (result ≡ pos 7) ⊎ (result ≡ pos 8)
+        ⊎ (result ≡ pos 9) ⊎ (result ≡ pos 10) ⊎ (result ≡ pos 12) }
+{
     if some_is_open(&queue.slots) {
         return OPEN;
     }
     let Some(pick) = pick_from(pick) else {
         return BAD_PICK;
     };
-    match open_board(alloc, threads, k, pick, seed) {
+    match open_board(alloc, threads, k, pick, seed, refill) {
         Ok(members) => {
             fill_front(&mut queue.slots, members);
             OK
         }
         Err(MakeError::BadThreads) => BAD_COUNT,
         Err(MakeError::BadK) => BAD_K,
-        Err(MakeError::BadQuota | MakeError::BadRefill | MakeError::NoMemory) => NO_MEMORY,
+        Err(MakeError::BadRefill) => BAD_REFILL,
+        Err(MakeError::BadQuota | MakeError::NoMemory) => NO_MEMORY,
     }
 }
 

@@ -1,6 +1,8 @@
 //! The exports, called as C calls them.
 
-use crate::{Account, PlainItem, Queue, klsm_abi, klsm_close, klsm_drop, klsm_open};
+use crate::{
+    Account, PlainItem, Queue, klsm_abi, klsm_close, klsm_drop, klsm_open, klsm_open_with_refill,
+};
 use std::alloc::Global;
 
 // As C has it at first: all bytes 0.
@@ -53,6 +55,49 @@ fn each_refusal_to_open_has_its_code(rt: HostRuntime) {
     assert_eq!(rt; klsm_open(rt.alloc(), &mut queue, 17, 65, 3, 0), 7);
     klsm_drop(rt.alloc(), &mut queue);
     assert_eq!(rt; klsm_open(rt.alloc(), &mut queue, 1, 0, 1, 0), 0);
+    klsm_drop(rt.alloc(), &mut queue);
+}
+
+#[test]
+fn a_refill_above_k_has_its_code(rt: HostRuntime) {
+    let mut queue = Queue::closed();
+    assert_eq!(rt;
+        klsm_open_with_refill(rt.alloc(), &mut queue, 2, 65, 0, 0, 66),
+        9
+    );
+    assert_eq!(rt;
+        klsm_open_with_refill(rt.alloc(), &mut queue, 2, 8, 0, 0, 9),
+        12
+    );
+    assert_eq!(rt;
+        klsm_open_with_refill(rt.alloc(), &mut queue, 2, 8, 0, 0, 8),
+        0
+    );
+    klsm_drop(rt.alloc(), &mut queue);
+}
+
+// Member 1 of two, with k = 1, deletes one of the three shared items. With a refill it keeps the next one.
+fn after_a_refill(alloc: Global, queue: &mut Queue, found: &mut PlainItem, refill: usize) -> i32 {
+    klsm_open_with_refill(alloc, queue, 2, 1, 0, 0, refill)
+        | queue.try_insert(alloc, 0, 1, 10)
+        | queue.try_insert(alloc, 0, 2, 20)
+        | queue.try_insert(alloc, 0, 3, 30)
+        | queue.try_insert(alloc, 0, 9, 90)
+        | queue.try_delete_min(alloc, 1, found)
+        | queue.try_delete_min(alloc, 0, found)
+}
+
+#[test]
+fn a_refill_keeps_the_next_item_for_its_member(rt: HostRuntime) {
+    let mut queue = Queue::closed();
+    let mut found = BLANK;
+    assert_eq!(rt; after_a_refill(rt.alloc(), &mut queue, &mut found, 0), 0);
+    assert_eq!(rt; found, item(2, 20, 1, 0));
+    klsm_drop(rt.alloc(), &mut queue);
+    assert_eq!(rt; after_a_refill(rt.alloc(), &mut queue, &mut found, 1), 0);
+    assert_eq!(rt; found, item(3, 30, 2, 0));
+    assert_eq!(rt; queue.try_delete_min(rt.alloc(), 1, &mut found), 0);
+    assert_eq!(rt; found, item(2, 20, 1, 0));
     klsm_drop(rt.alloc(), &mut queue);
 }
 
