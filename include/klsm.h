@@ -34,14 +34,14 @@
  *   a load may be a pointer.
  *
  * Nothing checks the following, and what happens otherwise is undefined:
- * - One call at a time for each member. Different members may be used at the same time. klsm_open,
+ * - One call at a time for each member. Different members may be used at the same time. The openings,
  *   klsm_close, klsm_drop and klsm_left have the whole queue for themselves. One call comes before
  *   another where a thread's start or join, a lock, or a release and an acquire order them; so a
  *   member may change threads.
  * - A queue is all bytes 0 (KLSM_QUEUE_CLOSED, static storage, or memset), or as the last call left
  *   it. It is aligned to 128 bytes: malloc does not give that, aligned_alloc(128, ..) does. While it
  *   is open it is not copied, moved, written to or freed.
- * - No pointer is null. `item`, `account` and `left` do not overlap each other or the queue. `left`
+ * - No pointer is null. `item`, `account`, `left` and `options` do not overlap each other or the queue. `left`
  *   points to `room` items, and to some item also where `room` is 0.
  * - A member is one of a klsm_queue.
  * - No call comes from a signal handler, nor from a forked child about a queue that was open.
@@ -72,6 +72,13 @@
 #define KLSM_MAX_THREADS 16
 #define KLSM_MAX_K 64
 #define KLSM_MAX_INSERTIONS (UINT64_C(1) << 48)
+
+/* What klsm_open_with takes where klsm_options has 0. The refill is never above k. */
+#define KLSM_DEFAULT_K 64
+#define KLSM_DEFAULT_REFILL 16
+
+/* In klsm_options: the number 0, where 0 itself stands for the default. */
+#define KLSM_ZERO SIZE_MAX
 
 #ifdef __cplusplus
 #define KLSM_ASSERT(what) static_assert(what, #what)
@@ -117,6 +124,16 @@ typedef struct klsm_account {
     uint64_t left; /* how many items were left, however many of them were copied */
 } klsm_account;
 
+/* How klsm_open_with opens a queue. What is 0 stands for the default. */
+typedef struct klsm_options {
+    size_t threads; /* 1 to 16; it has no default */
+    size_t k;       /* 0 to 64, 0 written as KLSM_ZERO; the default is KLSM_DEFAULT_K */
+    uint32_t pick;  /* one of klsm_pick; the default is KLSM_FIRST */
+    uint64_t seed;  /* the default is 0 */
+    size_t refill;  /* 0 to k, 0 written as KLSM_ZERO; the default is the lesser of
+                     * KLSM_DEFAULT_REFILL and k */
+} klsm_options;
+
 KLSM_ASSERT(sizeof(void *) == 8 && sizeof(size_t) == 8);
 KLSM_ASSERT(sizeof(klsm_member) == 128);
 KLSM_ASSERT(offsetof(klsm_member, at) == 0 && offsetof(klsm_member, live) == 8);
@@ -146,7 +163,8 @@ enum klsm_code {
     KLSM_BAD_COUNT = 8,  /* opening: not 1 to 16 threads */
     KLSM_BAD_K = 9,      /* opening: k is above 64 */
     KLSM_BAD_PICK = 10,  /* opening: no such pick */
-    KLSM_SHARED = 11     /* closing: another owner holds the queue's parts; see klsm_close */
+    KLSM_SHARED = 11,    /* closing: another owner holds the queue's parts; see klsm_close */
+    KLSM_BAD_REFILL = 12 /* opening: the refill is above k */
 };
 
 /* Which of the k + 1 least shared items a deletion takes where it takes a shared one. Of those up to
@@ -160,7 +178,7 @@ enum klsm_pick {
 /* The binary interface of the library. Any thread, at any time. */
 uint32_t klsm_abi(void);
 
-/* Opens a closed queue for `threads` members, all empty. A larger k means fewer meetings of threads
+/* Opens a closed queue for `threads` members, all empty, and with no refill (see klsm_open_with_refill). A larger k means fewer meetings of threads
  * and less exact answers; 64 is a good one for throughput. `seed` is used by KLSM_RANDOM alone.
  * Has the whole queue for itself. Takes some 17 KB of memory for each member, which klsm_close and
  * klsm_drop give back.
@@ -172,6 +190,22 @@ uint32_t klsm_abi(void);
  *   KLSM_NO_MEMORY   malloc gave none
  * After these the queue is as it was, byte by byte, and no memory is kept. */
 int32_t klsm_open(klsm_queue *queue, size_t threads, size_t k, uint32_t pick, uint64_t seed);
+
+/* Opens a closed queue as klsm_open does, with a refill, 0 to k. A deletion that took its item from
+ * the shared part then moves the least shared items to its member's own part, at most `refill` of them
+ * and at most half as many as there is room for, rounded up, while it holds the shared lock; so the
+ * member's next deletions need its own lock alone. In the mean more smaller items are passed over,
+ * since up to `refill` of the least items wait in the own part of each member; the bound stays T*k.
+ * KLSM_OK, or the first of these that is true:
+ *   KLSM_OPEN        it is open already
+ *   KLSM_BAD_PICK    `pick` is none of the three
+ *   KLSM_BAD_COUNT   `threads` is 0 or above 16
+ *   KLSM_BAD_K       `k` is above 64
+ *   KLSM_BAD_REFILL  `refill` is above `k`
+ *   KLSM_NO_MEMORY   malloc gave none
+ * After these the queue is as it was, byte by byte, and no memory is kept. */
+int32_t klsm_open_with_refill(klsm_queue *queue, size_t threads, size_t k, uint32_t pick, uint64_t seed,
+                              size_t refill);
 
 /* Inserts an item. Waits for nobody. The member's thread, one call at a time.
  * Costs no lock but the member's own, which is free unless another member looks for items there
@@ -224,6 +258,20 @@ void klsm_drop(klsm_queue *queue);
 
 /* ---- Inline functions over these ---- */
 
+KLSM_INLINE size_t klsm_or_default(size_t number, size_t standard) {
+    return number == KLSM_ZERO ? 0 : number == 0 ? standard : number;
+}
+
+/* Opens a closed queue by klsm_open_with_refill, whose codes it has in their order: so `threads` of 0
+ * is KLSM_BAD_COUNT, and a refill that is named and above k is KLSM_BAD_REFILL. In C, for the defaults:
+ * klsm_open_with(&queue, &(klsm_options){.threads = 4}). */
+KLSM_INLINE int32_t klsm_open_with(klsm_queue *queue, const klsm_options *options) {
+    size_t k = klsm_or_default(options->k, KLSM_DEFAULT_K);
+    size_t most = k < KLSM_DEFAULT_REFILL ? k : KLSM_DEFAULT_REFILL;
+    return klsm_open_with_refill(queue, options->threads, k, options->pick, options->seed,
+                                 klsm_or_default(options->refill, most));
+}
+
 /* How many items are in the queue: insertions less deletions, over all members. Has the whole queue
  * for itself, and is exact. 0 where the queue is closed. */
 KLSM_INLINE uint64_t klsm_left(klsm_queue *queue) {
@@ -248,6 +296,7 @@ KLSM_INLINE const char *klsm_text(int32_t code) {
     case KLSM_BAD_K: return "k is above 64";
     case KLSM_BAD_PICK: return "no such pick";
     case KLSM_SHARED: return "the queue has another owner";
+    case KLSM_BAD_REFILL: return "the refill is above k";
     default: return "unknown code";
     }
 }

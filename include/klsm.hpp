@@ -20,12 +20,13 @@
 // - One call at a time for each klsm::member, and for each klsm::queue, but that several threads may
 //   call queue::member and queue::threads at once.
 // - No call of a member runs during close(), left(), and the end of its queue, or an assignment to it.
-// No call but the constructor and the close() without an argument throws.
+// No call but the constructors and the close() without an argument throws.
 #ifndef KLSM_HPP
 #define KLSM_HPP
 
 #include "klsm.h"
 
+#include <algorithm>
 #include <atomic>
 #include <cstddef>
 #include <cstdint>
@@ -51,7 +52,8 @@ enum class code : std::int32_t {
     bad_count = KLSM_BAD_COUNT,
     bad_k = KLSM_BAD_K,
     bad_pick = KLSM_BAD_PICK,
-    shared = KLSM_SHARED
+    shared = KLSM_SHARED,
+    bad_refill = KLSM_BAD_REFILL
 };
 
 // A short English text.
@@ -63,7 +65,17 @@ enum class pick : std::uint32_t { first = KLSM_FIRST, last = KLSM_LAST, random =
 
 using item = klsm_item;
 
-// What the constructor and close() throw.
+// How a queue is opened: klsm::options{4}, or in C++20 klsm::options{.threads = 4, .refill = 8}. A number
+// here is itself, also 0. klsm.h says at klsm_open_with_refill what a refill does.
+struct options {
+    std::size_t threads = 0; // 1 to 16: it has to be named
+    std::size_t k = KLSM_DEFAULT_K;
+    pick how = pick::first;
+    std::uint64_t seed = 0;
+    std::optional<std::size_t> refill = std::nullopt; // none: the lesser of KLSM_DEFAULT_REFILL and k
+};
+
+// What the constructors and close() throw.
 class error : public std::exception {
 public:
     explicit error(klsm::code why) noexcept : why_(why) {}
@@ -149,17 +161,24 @@ private:
 
 class queue {
 public:
-    // Opens a queue. Throws an error with code::bad_pick, bad_count, bad_k or no_memory, the first of
-    // these that is true.
+    // Opens a queue with no refill. Throws an error with code::bad_pick, bad_count, bad_k or no_memory,
+    // the first of these that is true.
     explicit queue(std::size_t threads, std::size_t k = 64, pick how = pick::first,
-                   std::uint64_t seed = 0) {
+                   std::uint64_t seed = 0)
+        : queue(options{threads, k, how, seed, 0}) {}
+
+    // Opens a queue as the options say. Throws as the other one does, and code::bad_refill, which comes
+    // after bad_k, where the refill is above k.
+    explicit queue(const options &by) {
         try {
             block_ = std::make_shared<detail::block>();
         } catch (const std::bad_alloc &) {
             throw error(code::no_memory);
         }
-        block_->threads = threads;
-        std::int32_t answer = klsm_open(&block_->queue, threads, k, static_cast<std::uint32_t>(how), seed);
+        block_->threads = by.threads;
+        std::size_t refill = by.refill.value_or(std::min<std::size_t>(by.k, KLSM_DEFAULT_REFILL));
+        std::int32_t answer = klsm_open_with_refill(&block_->queue, by.threads, by.k,
+                                                    static_cast<std::uint32_t>(by.how), by.seed, refill);
         if (answer != KLSM_OK) throw error(klsm::code(answer));
     }
     queue(const queue &) = delete;

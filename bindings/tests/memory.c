@@ -42,7 +42,7 @@ static klsm_item left[ITEMS + 1], untouched;
 static int is_same(void) { return memcmp(&before, &queue, sizeof queue) == 0; }
 
 /* Opens with each allocation refused in turn. Answers how many there are. */
-static long opening(void) {
+static long opening(size_t refill) {
     int32_t code = KLSM_NO_MEMORY;
     int codes = 1, bytes = 1, kept = 1;
     long tries = 0;
@@ -51,7 +51,7 @@ static long opening(void) {
         long had = blocks;
         allocations = 0;
         fails_at = tries;
-        code = klsm_open(&queue, THREADS, 16, KLSM_RANDOM, 1);
+        code = klsm_open_with_refill(&queue, THREADS, 16, KLSM_RANDOM, 1, refill);
         fails_at = -1;
         if (code == KLSM_OK)
             break;
@@ -178,10 +178,10 @@ static void closing(uint64_t gone) {
 }
 
 int main(void) {
-    long first = opening();
+    long first = opening(0);
     klsm_drop(&queue);
     check("no block is kept by drop", blocks == 0);
-    check("a second opening takes as many allocations", opening() == first);
+    check("a second opening, with a refill, takes as many allocations", opening(8) == first);
     insertions();
     closing(calls_without());
     check("no block is kept at the end", blocks == 0);

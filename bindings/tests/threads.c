@@ -109,13 +109,13 @@ static void check_run(const char *name, int holds) {
     check(whole, holds);
 }
 
-static void run(size_t k, uint32_t pick) {
+static void run(size_t k, uint32_t pick, size_t refill) {
     const uint64_t all = 2 * insertions * THREADS;
-    snprintf(run_name, sizeof run_name, "k = %zu, pick %u", k, pick);
+    snprintf(run_name, sizeof run_name, "k = %zu, pick %u, refill %zu", k, pick, refill);
     unsigned char *seen = calloc(all + 1, 1);
     klsm_item *left = calloc(all + 1, sizeof *left);
     check_or_stop("memory for the test", seen != NULL && left != NULL);
-    check_or_stop("open", klsm_open(&queue, THREADS, k, pick, 9) == KLSM_OK);
+    check_or_stop("open", klsm_open_with_refill(&queue, THREADS, k, pick, 9, refill) == KLSM_OK);
     for (uint32_t t = 0; t < THREADS; t++) {
         klsm_item *deleted = calloc(2 * insertions + 1, sizeof *deleted);
         check_or_stop("memory for the test", deleted != NULL);
@@ -153,9 +153,10 @@ static void run(size_t k, uint32_t pick) {
 
 int main(int argc, char **argv) {
     insertions = argc > 1 ? strtoull(argv[1], NULL, 10) : 20000;
-    const size_t ks[] = {0, 1, 64};
+    const size_t ks[] = {0, 1, 64}, refills[] = {0, 1, 8, 16, 64};
     for (size_t i = 0; i < 3; i++)
-        for (uint32_t pick = KLSM_FIRST; pick <= KLSM_RANDOM; pick++)
-            run(ks[i], pick);
+        for (size_t j = 0; j < 5 && refills[j] <= ks[i]; j++)
+            for (uint32_t pick = KLSM_FIRST; pick <= KLSM_RANDOM; pick++)
+                run(ks[i], pick, refills[j]);
     return check_status();
 }

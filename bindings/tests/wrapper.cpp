@@ -1,4 +1,4 @@
-// The classes of klsm.hpp: opening, members, codes, moves, closing and want of memory.
+// The classes of klsm.hpp: opening, options, members, codes, moves, closing and want of memory.
 #include "klsm.hpp"
 
 #include "check.h"
@@ -57,6 +57,53 @@ static void openings() {
     refuses = false;
     klsm::queue queue(3);
     check("three members", queue.threads() == 3 && queue.left() == 0);
+}
+
+static void options_throw(const char *name, const klsm::options &by, klsm::code expected) {
+    try {
+        klsm::queue queue(by);
+        check(name, 0);
+    } catch (const klsm::error &why) {
+        check(name, why.code() == expected && std::strcmp(why.what(), klsm::text(expected)) == 0);
+    }
+}
+
+static void options() {
+    const klsm::options standard;
+    check("the defaults", standard.threads == 0 && standard.k == 64 && standard.how == klsm::pick::first &&
+                              standard.seed == 0 && !standard.refill);
+    options_throw("no threads are named", {}, klsm::code::bad_count);
+    options_throw("a refill above k", {4, 8, klsm::pick::first, 0, 9}, klsm::code::bad_refill);
+    options_throw("above k = 0", {4, 0, klsm::pick::first, 0, 1}, klsm::code::bad_refill);
+    options_throw("k comes before the refill", {4, 65, klsm::pick::first, 0, 66}, klsm::code::bad_k);
+    options_throw("the count comes before k", {17, 65, klsm::pick::first, 0, 66}, klsm::code::bad_count);
+    options_throw("the pick comes before the count", {17, 65, klsm::pick(3), 0, 66}, klsm::code::bad_pick);
+    refuses = true;
+    options_throw("no memory", {4}, klsm::code::no_memory);
+    refuses = false;
+    klsm::queue queue(klsm::options{3});
+    check("three members by options", queue.threads() == 3 && queue.left() == 0);
+}
+
+// How many items move when member 1 takes the least of a thousand keys that member 0 inserted: the next
+// deletion of member 0 gives the first that did not move.
+static std::uint64_t moved_in(klsm::queue queue) {
+    klsm::member first = queue.member(0).value(), second = queue.member(1).value();
+    for (std::uint64_t i = 0; i < 1000; i++) check_or_stop("insert", first.insert(i, i) == klsm::code::ok);
+    check_or_stop("the least", second.delete_min()->key == 0);
+    std::uint64_t moved = first.delete_min()->key - 1;
+    for (std::uint64_t i = 1; i <= moved; i++) check_or_stop("what moved", second.delete_min()->key == i);
+    return moved;
+}
+
+static void refills() {
+    const klsm::pick first = klsm::pick::first;
+    check("the old constructor has no refill", moved_in(klsm::queue(2)) == 0);
+    check("the default is 16", moved_in(klsm::queue(klsm::options{2})) == 16);
+    check("or k where that is less, into half the room", moved_in(klsm::queue(klsm::options{2, 8})) == 4);
+    check("none with k = 0", moved_in(klsm::queue(klsm::options{2, 0})) == 0);
+    check("a refill that is named", moved_in(klsm::queue(klsm::options{2, 64, first, 0, 5})) == 5);
+    check("0 is none", moved_in(klsm::queue(klsm::options{2, 64, first, 0, 0})) == 0);
 }
 
 static void members() {
@@ -178,7 +225,7 @@ static void closing() {
 
 // Each thread takes its own member, and they all race for one number more.
 static void threads() {
-    klsm::queue queue(4);
+    klsm::queue queue(klsm::options{4});
     std::atomic<std::uint64_t> deleted{0}, taken{0};
     std::vector<std::thread> crew;
     for (std::size_t t = 0; t < 4; t++)
@@ -206,6 +253,8 @@ static void threads() {
 
 int main() {
     openings();
+    options();
+    refills();
     members();
     calls();
     moves();

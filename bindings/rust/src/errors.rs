@@ -17,6 +17,8 @@ pub enum OpenError {
     BadThreads,
     /// k is above 64.
     BadK,
+    /// The refill is above k.
+    BadRefill,
     /// Memory was refused.
     NoMemory,
 }
@@ -87,6 +89,7 @@ impl fmt::Display for OpenError {
             }
             OpenError::BadThreads => to.write_str("the number of threads is not 1 to 16"),
             OpenError::BadK => to.write_str("k is above 64"),
+            OpenError::BadRefill => to.write_str("the refill is above k"),
             OpenError::NoMemory => to.write_str(MEMORY_TEXT),
         }
     }

@@ -139,12 +139,14 @@
 //! No call from a signal handler, and none in a forked child of a process that had several threads.
 //! An answer "nothing" does not say that the queue is empty: see [`Member::delete_min`].
 
+mod builder;
 mod errors;
 mod member;
 mod pause;
 mod queue;
 mod sys;
 
+pub use builder::Builder;
 pub use errors::{Busy, FinishError, InsertError, OpenError, TryInsertError};
 pub use member::{Member, Members};
 pub use queue::{Account, Pick, Queue};

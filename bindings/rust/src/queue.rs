@@ -1,5 +1,6 @@
 //! A queue: opened, lent by its members, and finished.
 
+use crate::builder::Builder;
 use crate::errors::{FinishError, OpenError};
 use crate::member::{deleted_by, inserted_by, Members};
 use crate::sys::{self, code, Item, Slots, Totals};
@@ -43,7 +44,8 @@ pub struct Queue {
 
 impl Queue {
     /// Opens a queue for `threads` threads, 1 to 16, each of which keeps at most `k` items for itself,
-    /// 0 to 64. Where a deletion takes a shared item, it is the least. It takes memory, and no lock.
+    /// 0 to 64. Where a deletion takes a shared item, it is the least, and it moves no others. It takes
+    /// memory, and no lock. [`builder`](Queue::builder) names more.
     ///
     /// # Errors
     ///
@@ -59,19 +61,46 @@ impl Queue {
     ///
     /// Those of [`new`](Queue::new).
     pub fn with_pick(threads: usize, k: usize, pick: Pick, seed: u64) -> Result<Queue, OpenError> {
+        Queue::open(threads, k, pick, seed, 0)
+    }
+
+    /// Begins a queue for `threads` threads, 1 to 16, whose other numbers are the defaults of a
+    /// [`Builder`] until they are named.
+    ///
+    /// ```
+    /// # fn main() -> Result<(), klsm::OpenError> {
+    /// let queue = klsm::Queue::builder(4).k(64).refill(16).open()?;
+    /// assert_eq!(queue.threads(), 4);
+    /// # Ok(())
+    /// # }
+    /// ```
+    #[must_use]
+    pub fn builder(threads: usize) -> Builder {
+        Builder::of(threads)
+    }
+
+    pub(crate) fn open(
+        threads: usize,
+        k: usize,
+        pick: Pick,
+        seed: u64,
+        refill: usize,
+    ) -> Result<Queue, OpenError> {
         // SAFETY: the call takes nothing and answers a constant.
         let version = unsafe { sys::klsm_abi() };
         if version != sys::ABI {
             return Err(OpenError::Version(version, sys::ABI));
         }
         let mut slots = Box::new(Slots::closed());
+        let (at, pick): (*mut Slots, _) = (&mut *slots, pick as u32);
         // SAFETY: the pointer is that of the memory of a closed queue, which no one else has.
-        match unsafe { sys::klsm_open(&mut *slots, threads, k, pick as u32, seed) } {
+        match unsafe { sys::klsm_open_with_refill(at, threads, k, pick, seed, refill) } {
             code::OK => Ok(Queue { slots, threads }),
             code::BAD_COUNT => Err(OpenError::BadThreads),
             code::BAD_K => Err(OpenError::BadK),
+            code::BAD_REFILL => Err(OpenError::BadRefill),
             code::NO_MEMORY => Err(OpenError::NoMemory),
-            other => sys::unexpected("klsm_open", other),
+            other => sys::unexpected("klsm_open_with_refill", other),
         }
     }
 

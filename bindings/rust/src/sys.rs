@@ -27,6 +27,7 @@ pub(crate) mod code {
     pub(crate) const BAD_COUNT: i32 = 8;
     pub(crate) const BAD_K: i32 = 9;
     pub(crate) const SHARED: i32 = 11;
+    pub(crate) const BAD_REFILL: i32 = 12;
 }
 
 /// One member's slot, on two lines of the cache, since processors fetch two at once.
@@ -125,12 +126,13 @@ const _: () = {
 
 extern "C" {
     pub(crate) fn klsm_abi() -> u32;
-    pub(crate) fn klsm_open(
+    pub(crate) fn klsm_open_with_refill(
         queue: *mut Slots,
         threads: usize,
         k: usize,
         pick: u32,
         seed: u64,
+        refill: usize,
     ) -> i32;
     pub(crate) fn klsm_close(
         queue: *mut Slots,

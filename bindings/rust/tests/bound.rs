@@ -52,8 +52,15 @@ impl Model {
     }
 }
 
-fn compare(threads: usize, k: usize, pick: Pick) {
-    let mut queue = Queue::with_pick(threads, k, pick, 3).unwrap();
+fn compare(threads: usize, k: usize, pick: Pick, refill: usize) {
+    let mut numbers = Queue::builder(threads);
+    let mut queue = numbers
+        .k(k)
+        .pick(pick)
+        .seed(3)
+        .refill(refill)
+        .open()
+        .unwrap();
     let mut draw = Draw(0x9e37_79b9_7f4a_7c15 + (threads * 100 + k) as u64);
     let mut model = Model::default();
     let mut members: Vec<_> = queue.members().collect();
@@ -72,7 +79,7 @@ fn compare(threads: usize, k: usize, pick: Pick) {
     let account = queue.finish().unwrap();
     assert_eq!(account.deleted, deleted);
     assert!(account.left.iter().eq(model.live.iter()));
-    if k == 0 {
+    if k == 0 || threads == 1 {
         assert_eq!(model.worst, 0);
     }
 }
@@ -81,7 +88,9 @@ fn compare(threads: usize, k: usize, pick: Pick) {
 fn a_deletion_passes_over_few_smaller_items() {
     for pick in [Pick::First, Pick::Last, Pick::Random] {
         for (threads, k) in [(1, 0), (1, 64), (2, 1), (3, 4), (4, 0), (4, 64), (16, 8)] {
-            compare(threads, k, pick);
+            for refill in [0, 1, 8, 16, 64].into_iter().filter(|refill| *refill <= k) {
+                compare(threads, k, pick, refill);
+            }
         }
     }
 }

@@ -1,6 +1,6 @@
 //! What each call answers, and what its arguments mean.
 
-use klsm::{InsertError, Item, OpenError, Pick, Queue, TryInsertError};
+use klsm::{Builder, InsertError, Item, OpenError, Pick, Queue, TryInsertError};
 
 #[test]
 fn the_counts_of_an_opening_are_judged_in_their_order() {
@@ -13,6 +13,71 @@ fn the_counts_of_an_opening_are_judged_in_their_order() {
     assert_eq!(refusal(4, usize::MAX), Some(OpenError::BadK));
     assert_eq!(refusal(1, 0), None);
     assert_eq!(refusal(16, 64), None);
+}
+
+#[test]
+fn a_refill_is_judged_after_the_counts() {
+    let refusal = |threads, k, refill| Queue::builder(threads).k(k).refill(refill).open().err();
+    assert_eq!(refusal(4, 8, 9), Some(OpenError::BadRefill));
+    assert_eq!(refusal(4, 0, 1), Some(OpenError::BadRefill));
+    assert_eq!(refusal(4, 64, usize::MAX), Some(OpenError::BadRefill));
+    assert_eq!(refusal(4, 65, 66), Some(OpenError::BadK));
+    assert_eq!(refusal(17, 8, 9), Some(OpenError::BadThreads));
+    assert_eq!(refusal(0, 65, 66), Some(OpenError::BadThreads));
+    assert_eq!(refusal(4, 8, 8), None);
+    assert_eq!(refusal(16, 64, 0), None);
+    assert_eq!(Queue::builder(0).open().err(), Some(OpenError::BadThreads));
+    assert_eq!(Queue::builder(4).k(65).open().err(), Some(OpenError::BadK));
+}
+
+/// How many items move when member 1 takes the least of a thousand keys that member 0 inserted: the next
+/// deletion of member 0 gives the first that did not move.
+fn moved_in(mut queue: Queue) -> u64 {
+    let mut members = queue.members();
+    let (mut one, mut other) = (members.next().unwrap(), members.next().unwrap());
+    for key in 0..1_000 {
+        one.insert(key, key).unwrap();
+    }
+    assert_eq!(other.delete_min().map(|item| item.key), Some(0));
+    let moved = one.delete_min().unwrap().key - 1;
+    for key in 1..=moved {
+        assert_eq!(other.delete_min().map(|item| item.key), Some(key));
+    }
+    moved
+}
+
+#[test]
+fn the_numbers_that_are_not_named_are_the_defaults() {
+    let moved_by = |builder: &mut Builder| moved_in(builder.open().unwrap());
+    assert_eq!(moved_in(Queue::new(2, 64).unwrap()), 0);
+    assert_eq!(moved_by(&mut Queue::builder(2)), 16);
+    assert_eq!(moved_by(Queue::builder(2).k(8)), 4);
+    assert_eq!(moved_by(Queue::builder(2).k(0)), 0);
+    assert_eq!(moved_by(Queue::builder(2).refill(5)), 5);
+    assert_eq!(moved_by(Queue::builder(2).refill(0)), 0);
+    let (one, other) = (
+        Queue::builder(2),
+        Queue::builder(2).seed(0).pick(Pick::First).k(64).clone(),
+    );
+    assert_eq!(format!("{one:?}"), format!("{other:?}"));
+}
+
+#[test]
+fn a_pick_and_a_seed_arrive() {
+    let first_of = |builder: &mut Builder| {
+        let mut queue = builder.open().unwrap();
+        let mut members = queue.members();
+        let (mut one, mut other) = (members.next().unwrap(), members.next().unwrap());
+        for key in 0..1_000 {
+            one.insert(key, key).unwrap();
+        }
+        other.delete_min().unwrap().key
+    };
+    assert_eq!(first_of(&mut Queue::builder(2)), 0);
+    assert_eq!(first_of(Queue::builder(2).pick(Pick::Last)), 64);
+    let by_seed = |seed| first_of(Queue::builder(2).pick(Pick::Random).seed(seed));
+    assert!((0..20).any(|seed| by_seed(seed) != by_seed(20)));
+    assert_eq!(by_seed(3), by_seed(3));
 }
 
 #[test]
@@ -113,6 +178,7 @@ fn errors_have_a_text_each() {
         OpenError::Version(2, 1).to_string(),
         OpenError::BadThreads.to_string(),
         OpenError::BadK.to_string(),
+        OpenError::BadRefill.to_string(),
         OpenError::NoMemory.to_string(),
         InsertError::Spent.to_string(),
         InsertError::Full.to_string(),

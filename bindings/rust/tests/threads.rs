@@ -49,8 +49,15 @@ fn work(mut member: Member<'_>) -> Vec<u64> {
     got
 }
 
-fn each_load_is_deleted_or_left_once(k: usize, pick: Pick) {
-    let mut queue = Queue::with_pick(THREADS, k, pick, 7).unwrap();
+fn each_load_is_deleted_or_left_once(k: usize, pick: Pick, refill: usize) {
+    let mut numbers = Queue::builder(THREADS);
+    let mut queue = numbers
+        .k(k)
+        .pick(pick)
+        .seed(7)
+        .refill(refill)
+        .open()
+        .unwrap();
     let mut loads: Vec<u64> = thread::scope(|scope| {
         let running: Vec<_> = queue
             .members()
@@ -73,22 +80,30 @@ fn each_load_is_deleted_or_left_once(k: usize, pick: Pick) {
 
 #[test]
 fn the_account_is_exact_with_the_first_picked() {
-    each_load_is_deleted_or_left_once(64, Pick::First);
+    each_load_is_deleted_or_left_once(64, Pick::First, 0);
 }
 
 #[test]
 fn the_account_is_exact_with_the_last_picked() {
-    each_load_is_deleted_or_left_once(4, Pick::Last);
+    each_load_is_deleted_or_left_once(4, Pick::Last, 0);
 }
 
 #[test]
 fn the_account_is_exact_with_a_random_pick() {
-    each_load_is_deleted_or_left_once(16, Pick::Random);
+    each_load_is_deleted_or_left_once(16, Pick::Random, 0);
 }
 
 #[test]
 fn the_account_is_exact_without_own_items() {
-    each_load_is_deleted_or_left_once(0, Pick::First);
+    each_load_is_deleted_or_left_once(0, Pick::First, 0);
+}
+
+#[test]
+fn the_account_is_exact_with_refills() {
+    for refill in [1, 8, 16, 64] {
+        each_load_is_deleted_or_left_once(64, Pick::First, refill);
+    }
+    each_load_is_deleted_or_left_once(8, Pick::Random, 8);
 }
 
 #[test]

@@ -1,0 +1,63 @@
+/* What klsm_open_with makes of its options: this program has its own klsm_open_with_refill, and takes none
+ * of the library. */
+#include "check.h"
+
+static klsm_queue queue = KLSM_QUEUE_CLOSED;
+static klsm_queue *opened;
+static klsm_options asked;
+static int32_t answer;
+
+int32_t klsm_open_with_refill(klsm_queue *at, size_t threads, size_t k, uint32_t pick, uint64_t seed,
+                              size_t refill) {
+    opened = at;
+    asked = (klsm_options){threads, k, pick, seed, refill};
+    return answer;
+}
+
+/* What these options ask for. */
+static void asks(const char *name, klsm_options options, klsm_options expected) {
+    opened = NULL;
+    answer = KLSM_OK;
+    check_code(name, klsm_open_with(&queue, &options), KLSM_OK);
+    check("of this queue", opened == &queue);
+    check("its threads", asked.threads == expected.threads);
+    check("its k", asked.k == expected.k);
+    check("its pick and seed", asked.pick == expected.pick && asked.seed == expected.seed);
+    check("its refill", asked.refill == expected.refill);
+}
+
+static void defaults(void) {
+    asks("all defaults", (klsm_options){.threads = 4}, (klsm_options){4, 64, KLSM_FIRST, 0, 16});
+    asks("not even threads", (klsm_options){.k = 0}, (klsm_options){0, 64, KLSM_FIRST, 0, 16});
+    asks("all named", (klsm_options){3, 40, KLSM_RANDOM, 7, 30}, (klsm_options){3, 40, KLSM_RANDOM, 7, 30});
+    asks("k = 16", (klsm_options){.threads = 1, .k = 16}, (klsm_options){1, 16, KLSM_FIRST, 0, 16});
+    asks("k = 15", (klsm_options){.threads = 1, .k = 15}, (klsm_options){1, 15, KLSM_FIRST, 0, 15});
+    asks("k = 1", (klsm_options){.threads = 1, .k = 1}, (klsm_options){1, 1, KLSM_FIRST, 0, 1});
+    check("k is 64 by default", KLSM_DEFAULT_K == 64 && KLSM_DEFAULT_K == KLSM_MAX_K);
+    check("the refill is 16 by default", KLSM_DEFAULT_REFILL == 16);
+}
+
+static void zeros(void) {
+    asks("k is 0", (klsm_options){.threads = 2, .k = KLSM_ZERO}, (klsm_options){2, 0, KLSM_FIRST, 0, 0});
+    asks("no refill", (klsm_options){.threads = 2, .refill = KLSM_ZERO}, (klsm_options){2, 64, KLSM_FIRST, 0, 0});
+    asks("both", (klsm_options){2, KLSM_ZERO, KLSM_LAST, 5, KLSM_ZERO}, (klsm_options){2, 0, KLSM_LAST, 5, 0});
+    asks("k is 0, with a refill", (klsm_options){2, KLSM_ZERO, KLSM_LAST, 5, 1}, (klsm_options){2, 0, KLSM_LAST, 5, 1});
+}
+
+/* Numbers out of range are passed on, so the library judges them. */
+static void out_of_range(void) {
+    asks("k = 65", (klsm_options){.threads = 2, .k = 65}, (klsm_options){2, 65, KLSM_FIRST, 0, 16});
+    asks("a refill above k", (klsm_options){2, 8, 3, 0, 9}, (klsm_options){2, 8, 3, 0, 9});
+    asks("no count is 0 by that name", (klsm_options){.threads = KLSM_ZERO},
+         (klsm_options){SIZE_MAX, 64, KLSM_FIRST, 0, 16});
+    answer = KLSM_BAD_REFILL;
+    klsm_options options = {2, 8, 0, 0, 9};
+    check_code("the code is handed on", klsm_open_with(&queue, &options), KLSM_BAD_REFILL);
+}
+
+int main(void) {
+    defaults();
+    zeros();
+    out_of_range();
+    return check_status();
+}
