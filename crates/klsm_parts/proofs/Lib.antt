@@ -19,6 +19,7 @@ pub mod QueueLemmas
 pub mod RankingCutLemmas
 pub mod RankingLemmas
 pub mod RefillLemmas
+pub mod RefilledLemmas
 pub mod RisingLemmas
 pub mod RowLemmas
 pub mod SpyLemmas

@@ -1,6 +1,6 @@
 //! Laws of the definitions that the contracts cite. The functions do nothing: what they ensure is a
 //! theorem.
-ghost use Rattle.klsm_parts.specs.Laws.{TakesSkipFewOfBoth, OwnOrderMayTake, EarliesSkipNone, FirstGivesLeast};
+ghost use Rattle.klsm_parts.specs.Laws.{TakesSkipFewOfBoth, OwnOrderMayTake, EarliesSkipNone, FirstGivesLeast, RefilledMayGoEarly};
 
 /// Whatever the parts hold and whichever candidate is picked, a deletion skips at most k items of
 /// the two.
@@ -24,4 +24,11 @@ pub fn earlies_skip_none()
 /// none is skipped.
 pub fn first_gives_least()
     ensures { FirstGivesLeast }
+{}
+
+/// What a refill moves may be deleted by the front that the refill leaves, with no look at the shared
+/// part: all but the items whose key is that of the front. It may, as long as the own part has it, also
+/// where items were put there or taken out since.
+pub fn refilled_may_go_early()
+    ensures { RefilledMayGoEarly }
 {}

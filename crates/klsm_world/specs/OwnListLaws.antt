@@ -1,9 +1,11 @@
 -- What a thread can know from its own list alone, of every world in which it has this list.
-use Rattle.std.specs.Prelude.{ℕ, ◌≡◌, ◌≢◌, ◌*◌, ◌-◌, ◌<◌, ◌≤◌, List, ◌++◌, length}
+use Rattle.std.specs.Prelude.{ℕ, ◌≡◌, ◌≢◌, ◌*◌, ◌-◌, ◌<◌, ◌≤◌, ◌^◌, List, ◌++◌, length}
 use Rattle.std.specs.List.{Contains}
 use Rattle.klsm_run.specs.declared.item.Item.{Item}
-use Rattle.klsm_run.specs.Content.{skipped, ShareNone}
-use Rattle.klsm_parts.specs.Events.{SkipsNoneOf}
+use Rattle.klsm_run.specs.Content.{skipped, IsAscending, ShareNone}
+use Rattle.klsm_parts.specs.Least.{IsLeast}
+use Rattle.klsm_parts.specs.Events.{SkipsNoneOf, front_of, shared_after_refill}
+use Rattle.klsm_parts.specs.Refilling.{refill_of}
 use Rattle.klsm_world.specs.declared.step.Event.TheVariants.{Take, Early, Nothing}
 use Rattle.klsm_world.specs.declared.step.Entry.{Entry}
 use Rattle.klsm_world.specs.declared.step.Entry.TheVariants.{Committed}
@@ -67,6 +69,15 @@ abbrev pub ListsLeaveFew : Type 0
 ListsLeaveFew = (limits : Limits) (t : ℕ) (own : List Entry) → t < limits.threads
     → MayFollow limits.k t own (Committed Nothing)
     → LeavesFew limits t own
+
+-- where the least shared items were moved by a Refill, each of them may be deleted by the front that it left, all but those
+-- of the front's own key: as long as thread t has such an item in its own part, the least one there may be
+abbrev pub RefilledMayFollowEarly : Type 0
+RefilledMayFollowEarly = (k t most : ℕ) (own : List Entry) (part shared later : List Item) (x y : Item)
+    → IsAscending shared → Contains (refill_of most k part shared) x → x.key < 2 ^ 64
+    → x.key ≢ front_of (shared_after_refill shared (refill_of most k part shared))
+    → Holds (hand_of t own) (own_part t) later → Contains later x → IsLeast y later
+    → MayFollow k t own (Committed (Early y (front_of (shared_after_refill shared (refill_of most k part shared)))))
 
 -- this is thread t's list in some lawful world in which no thread made more insertions than the
 -- quota; each world to which a schedule leads is lawful

@@ -1,8 +1,9 @@
 -- Schedules that reach the bounds of the laws, so that none of the laws is empty.
 use Rattle.std.specs.Prelude.{ℕ, ◌≡◌, ◌*◌, ◌-◌, List, length}
+use Rattle.std.specs.List.{Contains}
 use Rattle.klsm_run.specs.declared.item.Item.{Item}
 use Rattle.klsm_run.specs.Content.{skipped}
-use Rattle.klsm_world.specs.declared.step.Event.TheVariants.{Take, Early, Nothing}
+use Rattle.klsm_world.specs.declared.step.Event.TheVariants.{Take, Early, Nothing, Refill}
 use Rattle.klsm_world.specs.declared.step.Step.{Step}
 use Rattle.klsm_world.specs.declared.step.Step.TheVariants.{Commit}
 use Rattle.klsm_world.specs.Worlds.{Limits, World, live, limits_of}
@@ -42,3 +43,16 @@ pub record ReachesMostLeft (limits : Limits) : Type 0 where
   pub leads : Leads limits steps world
   pub legal : MayStep limits world (Commit thread Nothing)
   pub reached : length (live world) ≡ (limits.threads - 1) * limits.k
+
+-- and such schedules in which shared items moved to an own part
+abbrev pub HasRefill : List Step → Type 0
+HasRefill steps = (thread : ℕ) × (moved : List Item) × Contains steps (Commit thread (Refill moved))
+
+abbrev pub ReachesMostSkippedRefilled : Limits → Type 0
+ReachesMostSkippedRefilled limits = (reached : ReachesMostSkipped limits) × HasRefill reached.steps
+
+abbrev pub ReachesMostSkippedEarlyRefilled : Limits → Type 0
+ReachesMostSkippedEarlyRefilled limits = (reached : ReachesMostSkippedEarly limits) × HasRefill reached.steps
+
+abbrev pub ReachesMostLeftRefilled : Limits → Type 0
+ReachesMostLeftRefilled limits = (reached : ReachesMostLeft limits) × HasRefill reached.steps

@@ -1,8 +1,8 @@
 //! Laws of the definitions that the contracts cite. The functions do nothing: what they ensure is a
 //! theorem.
 ghost use Rattle.klsm_world.specs.Laws.{AccountsAddUp, AccountsLeaveLive, AcquiresFindContents, DeletionsAreFew, EarliesKeepOwnOrder, EarliesSkipFew, FirstWorldIsLawful, ListsHaveEvents, LiveItemsDiffer, NothingLeavesFew, PartsShareNone, RefusedIsNotLegal, SchedulesAreRuns, SchedulesKeepLawful, StepsKeepLawful, TakesKeepOwnOrder, TakesSkipFew};
-ghost use Rattle.klsm_world.specs.OwnListLaws.{HandsAreApart, ListsKeepOwnOrder, ListsKeepOwnOrderEarly, ListsLeaveFew, ListsSkipFew, ListsSkipFewEarly, NextIsNewInHand, OwnDeletionsAreFew};
-ghost use Rattle.klsm_world.specs.Reached.{ReachesMostLeft, ReachesMostSkipped, ReachesMostSkippedEarly, two_threads};
+ghost use Rattle.klsm_world.specs.OwnListLaws.{HandsAreApart, ListsKeepOwnOrder, ListsKeepOwnOrderEarly, ListsLeaveFew, ListsSkipFew, ListsSkipFewEarly, NextIsNewInHand, OwnDeletionsAreFew, RefilledMayFollowEarly};
+ghost use Rattle.klsm_world.specs.Reached.{ReachesMostLeft, ReachesMostLeftRefilled, ReachesMostSkipped, ReachesMostSkippedEarly, ReachesMostSkippedEarlyRefilled, ReachesMostSkippedRefilled, two_threads};
 
 /// The first world is lawful.
 pub fn first_world_is_lawful()
@@ -33,11 +33,14 @@ pub fn own_order_is_kept()
 {}
 
 /// With two threads, and at most one item in an own part, there are schedules that reach the
-/// bounds.
+/// bounds, without a refill and with one.
 pub fn bounds_are_reached()
     ensures takes { ReachesMostSkipped two_threads }
     ensures earlies { ReachesMostSkippedEarly two_threads }
     ensures nothing { ReachesMostLeft two_threads }
+    ensures takes_refilled { ReachesMostSkippedRefilled two_threads }
+    ensures earlies_refilled { ReachesMostSkippedEarlyRefilled two_threads }
+    ensures nothing_refilled { ReachesMostLeftRefilled two_threads }
 {}
 
 /// The events of a schedule are a run of the relaxed queue of one thread.
@@ -62,7 +65,8 @@ pub fn parts_share_none()
 /// that the thread inserted and that lies in its own part or in the shared one. Of a deletion by the
 /// front this is said of the worlds of that front. Where there is such a
 /// world, within the quota, the parts in the thread's hand share no item, none of them has the item
-/// of its next insertion, and its deletions are counted in a word.
+/// of its next insertion, and its deletions are counted in a word. And what a refill of the least shared
+/// items moved may go by the front that the refill left, all but the items of the front's own key.
 pub fn own_lists_tell()
     ensures takes { ListsSkipFew }
     ensures earlies { ListsSkipFewEarly }
@@ -72,6 +76,7 @@ pub fn own_lists_tell()
     ensures apart { HandsAreApart }
     ensures new { NextIsNewInHand }
     ensures deletions { OwnDeletionsAreFew }
+    ensures refilled { RefilledMayFollowEarly }
 {}
 
 /// A thread's own steps have its events of the schedule, in their order.

@@ -1,6 +1,7 @@
 -- The laws that the functions of src/laws.rt ensure.
 pub mod SkipLemmas  -- a deletion skips few, and "nothing" leaves few
-pub mod ReachedLemmas  -- a schedule that reaches both bounds
+pub mod ReachedLemmas  -- schedules that reach the bounds
+pub mod RefillReachedLemmas  -- such schedules with a refill
 pub mod StampLemmas  -- the item of the next insertion is new
 pub mod RunLemmas  -- a schedule is a run of the relaxed queue
 pub mod FoundContentLemmas  -- an acquire records the content at home

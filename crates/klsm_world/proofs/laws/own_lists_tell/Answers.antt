@@ -1,4 +1,4 @@
-use Rattle.klsm_world.proofs.lemmas.theorems.OwnListLemmas.{hands_are_apart, next_is_new_in_hand, own_deletions_are_few, lists_skip_few, lists_skip_few_early, lists_keep_order, lists_keep_order_early, lists_leave_few}
+use Rattle.klsm_world.proofs.lemmas.theorems.OwnListLemmas.{hands_are_apart, next_is_new_in_hand, own_deletions_are_few, lists_skip_few, lists_skip_few_early, lists_keep_order, lists_keep_order_early, lists_leave_few, refilled_may_follow}
 use Rattle.klsm_world.proofs.laws.own_lists_tell.Goals as goal
 
 pub returns-clause-takes : goal.returns-clause-takes
@@ -24,3 +24,6 @@ returns-clause-new c = next_is_new_in_hand
 
 pub returns-clause-deletions : goal.returns-clause-deletions
 returns-clause-deletions c = own_deletions_are_few
+
+pub returns-clause-refilled : goal.returns-clause-refilled
+returns-clause-refilled c = refilled_may_follow

@@ -1,10 +1,11 @@
 -- What a thread can know from its own list alone.
 use Rattle.std.proofs.Common.{ℕ, ◌*◌, ◌≤◌, length, sym, ap, subst, arith}
 use Rattle.std.specs.List.{flat_map}
+use Rattle.klsm_parts.proofs.RefilledLemmas.{refilled_go_early}
 use Rattle.klsm_world.specs.declared.step.Event.TheVariants.{Take, Early, Nothing}
 use Rattle.klsm_world.specs.OwnSteps.{Holds, hand_of, inserted, deleted}
 use Rattle.klsm_world.specs.LegalSteps.{BearsStamp, MayCommit}
-use Rattle.klsm_world.specs.OwnListLaws.{HandsAreApart, NextIsNewInHand, OwnDeletionsAreFew, ListsSkipFew, ListsSkipFewEarly, ListsKeepOwnOrder, ListsKeepOwnOrderEarly, ListsLeaveFew}
+use Rattle.klsm_world.specs.OwnListLaws.{HandsAreApart, NextIsNewInHand, OwnDeletionsAreFew, ListsSkipFew, ListsSkipFewEarly, ListsKeepOwnOrder, ListsKeepOwnOrderEarly, ListsLeaveFew, RefilledMayFollowEarly}
 use Rattle.klsm_world.proofs.lemmas.theorems.AccountLemmas.{one_of_all, deletions_are_few}
 use Rattle.klsm_world.proofs.lemmas.theorems.LiveOnceLemmas.{hands_share_none, next_is_new_to_hand}
 use Rattle.klsm_world.proofs.lemmas.theorems.SkipLemmas.{live_takes_skip_few, live_earlies_skip_few, live_takes_keep_order, live_earlies_keep_order, live_nothing_leaves_few}
@@ -34,6 +35,14 @@ pub lists_leave_few : ListsLeaveFew
 lists_leave_few limits t own inside may w lawful same =
     live_nothing_leaves_few limits w t lawful
     (record { thread = inside; commit = subst (λ o. MayCommit limits.k t (hand_of t o) (length (inserted o)) Nothing) (sym same) may; front = tt })
+
+-- what a refill moved may be followed by its deletion by the front
+pub refilled_may_follow : RefilledMayFollowEarly
+refilled_may_follow k t most own part shared later x y up moved fits other holds within first = record {
+  own = later;
+  holds_own = holds;
+  fits = refilled_go_early most k part shared later x y up moved fits other within first;
+}
 
 -- of what some world has, the parts in the thread's hand share no item, and its next item is in none
 pub hands_are_apart : HandsAreApart

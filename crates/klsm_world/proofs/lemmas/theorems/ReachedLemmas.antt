@@ -8,14 +8,14 @@ use Rattle.klsm_world.specs.Worlds.{World, first_world}
 use Rattle.klsm_world.specs.Schedules.{next, Leads}
 use Rattle.klsm_world.specs.Reached.{two_threads, ReachesMostLeft, ReachesMostSkipped, ReachesMostSkippedEarly}
 
-abbrev item : ℕ → ℕ → ℕ → Item
+abbrev pub item : ℕ → ℕ → ℕ → Item
 item key owner number = record { key = key; stamp = record { owner = owner; number = number }; load = 0 }
 
 -- thread 0 takes its part and puts 1 there
 abbrev one : Item
 one = item 1 0 0
 
-abbrev own_acquired : World
+abbrev pub own_acquired : World
 own_acquired = next (first_world two_threads) (Acquire 0 1)
 
 abbrev one_put : World
@@ -118,22 +118,22 @@ most_skipped_early_is_reached = record {
 }
 
 -- where thread 0 has both parts, flushes 3 and then 2, each of which goes to the shared part, and puts 1
-abbrev three : Item
+abbrev pub three : Item
 three = item 3 0 0
 
-abbrev two : Item
+abbrev pub two : Item
 two = item 2 0 1
 
-abbrev last : Item
+abbrev pub last : Item
 last = item 1 0 2
 
-abbrev shared_acquired : World
+abbrev pub shared_acquired : World
 shared_acquired = next own_acquired (Acquire 0 0)
 
-abbrev three_flushed : World
+abbrev pub three_flushed : World
 three_flushed = next shared_acquired (Commit 0 (Flush three (three ∷ [])))
 
-abbrev two_flushed : World
+abbrev pub two_flushed : World
 two_flushed = next three_flushed (Commit 0 (Flush two (two ∷ [])))
 
 abbrev last_put : World
@@ -148,16 +148,16 @@ other_own_acquired = next shared_released (Acquire 1 2)
 abbrev other_both_acquired : World
 other_both_acquired = next other_own_acquired (Acquire 1 0)
 
-abbrev to_shared_acquired : List Step
+abbrev pub to_shared_acquired : List Step
 to_shared_acquired = Acquire 0 0 ∷ Acquire 0 1 ∷ []
 
-abbrev to_two_flushed : List Step
+abbrev pub to_two_flushed : List Step
 to_two_flushed = Commit 0 (Flush two (two ∷ [])) ∷ Commit 0 (Flush three (three ∷ [])) ∷ to_shared_acquired
 
 abbrev to_other_both_acquired : List Step
 to_other_both_acquired = Acquire 1 0 ∷ Acquire 1 2 ∷ Release 0 0 ∷ Commit 0 (Put last) ∷ to_two_flushed
 
-leads_to_shared_acquired : Leads two_threads to_shared_acquired shared_acquired
+pub leads_to_shared_acquired : Leads two_threads to_shared_acquired shared_acquired
 leads_to_shared_acquired = record {
   before = own_acquired;
   led = leads_to_own_acquired;
@@ -165,7 +165,7 @@ leads_to_shared_acquired = record {
   after = refl;
 }
 
-leads_to_three_flushed : Leads two_threads (Commit 0 (Flush three (three ∷ [])) ∷ to_shared_acquired) three_flushed
+pub leads_to_three_flushed : Leads two_threads (Commit 0 (Flush three (three ∷ [])) ∷ to_shared_acquired) three_flushed
 leads_to_three_flushed = record {
   before = shared_acquired;
   led = leads_to_shared_acquired;
@@ -186,7 +186,7 @@ leads_to_three_flushed = record {
   after = refl;
 }
 
-leads_to_two_flushed : Leads two_threads to_two_flushed two_flushed
+pub leads_to_two_flushed : Leads two_threads to_two_flushed two_flushed
 leads_to_two_flushed = record {
   before = three_flushed;
   led = leads_to_three_flushed;
@@ -243,7 +243,7 @@ leads_to_other_both_acquired = record {
   after = refl;
 }
 
-not_of_one : ◌≢◌ {A = ℕ} 0 1
+pub not_of_one : ◌≢◌ {A = ℕ} 0 1
 not_of_one same = omega (arith, same)
 
 -- then thread 1 may take 3, the second candidate, of which it inserted none, and skips 2 and 1
