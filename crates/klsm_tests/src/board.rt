@@ -20,6 +20,8 @@ mod script;
 #[cfg(test)]
 mod sixteen;
 #[cfg(test)]
+mod skips;
+#[cfg(test)]
 mod threads;
 #[cfg(test)]
 mod worked;

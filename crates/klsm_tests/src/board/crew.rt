@@ -27,7 +27,7 @@ pub(super) struct Crew<const LEVELS: usize> {
 }
 
 impl<const LEVELS: usize> Crew<LEVELS> {
-    /// A new board and all its members.
+    /// A new board without a refill, and all its members.
     pub(super) fn new(
         alloc: Global,
         threads: usize,
@@ -37,12 +37,32 @@ impl<const LEVELS: usize> Crew<LEVELS> {
         requires { IsLevelCount LEVELS }
     {
         let (board, members) = Board::new(alloc, threads, k, quota)?;
-        Ok(Crew {
+        Ok(Crew::of(alloc, board, members))
+    }
+
+    /// The same with a refill.
+    pub(super) fn with_refill(
+        alloc: Global,
+        threads: usize,
+        k: usize,
+        quota: u64,
+        refill: usize,
+    ) -> Result<Self, MakeError>
+        requires { IsLevelCount LEVELS }
+    {
+        let (board, members) = Board::with_refill(alloc, threads, k, quota, refill)?;
+        Ok(Crew::of(alloc, board, members))
+    }
+
+    fn of(alloc: Global, board: Board<64, LEVELS>, members: Vec<Member<64, LEVELS>>) -> Self
+        requires { All (λ member. IsOf member board) members.items }
+    {
+        Crew {
             board,
             members,
             held: None,
             away: Vec::new(alloc),
-        })
+        }
     }
 
     /// How a member's insertion ends that waits for nobody.

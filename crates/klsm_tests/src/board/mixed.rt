@@ -18,6 +18,15 @@ enum Picks {
     Random,
 }
 
+// What a board is made for, and after how many calls those that insert and those that delete become more.
+#[derive(Clone, Copy)]
+struct Kind {
+    threads: u32,
+    k: usize,
+    refill: usize,
+    turn: usize,
+}
+
 // A board, the plain one beside it, and what the steps are drawn by.
 #[derive(Drop)]
 struct Both {
@@ -27,10 +36,13 @@ struct Both {
     picks: Picks,
 }
 
-fn both_of(alloc: Global, threads: u32, k: usize, picks: Picks) -> Option<Both> {
+fn both_of(alloc: Global, kind: Kind, picks: Picks) -> Option<Both> {
+    let Kind {
+        threads, k, refill, ..
+    } = kind;
     Some(Both {
-        crew: Crew::new(alloc, threads as usize, k, 1000).ok()?,
-        plain: Plain::new(alloc, threads, k)?,
+        crew: Crew::with_refill(alloc, threads as usize, k, 1000, refill).ok()?,
+        plain: Plain::new(alloc, threads, k, refill)?,
         mix: Pcg32::seed_from_u64(12),
         picks,
     })
@@ -129,10 +141,10 @@ impl Both {
         }
     }
 
-    // Whether each of 600 calls does: now more insertions, now more deletions.
-    fn steps(&mut self) -> Option<bool> {
+    // Whether each of 600 calls does: for a while more insertions, and for as long more deletions.
+    fn steps(&mut self, turn: usize) -> Option<bool> {
         for round in 0..600 {
-            let bound = if round % 100 < 50 { 11 } else { 4 };
+            let bound = if round / turn.max(1) % 2 == 0 { 11 } else { 4 };
             if !self.step(bound)? {
                 return Some(false);
             }
@@ -151,22 +163,46 @@ impl Both {
 }
 
 // Whether all goes alike. Where there are others and own parts, some deletions have to go by the
-// front while the shared part is held, and some have to spy.
-fn goes_alike(alloc: Global, threads: u32, k: usize, picks: Picks) -> Option<bool> {
-    let mut both = both_of(alloc, threads, k, picks)?;
-    let steps = both.steps()?;
-    let others = threads > 1 && k > 0;
+// front while the shared part is held, and some have to spy. With a refill some have to move items.
+fn goes_alike(alloc: Global, kind: Kind, picks: Picks) -> Option<bool> {
+    let mut both = both_of(alloc, kind, picks)?;
+    let steps = both.steps(kind.turn)?;
+    let others = kind.threads > 1 && kind.k > 0;
     let ways = (both.plain.early > 4) == others && (both.plain.spied > 4) == others;
-    Some(steps && ways && both.ends_alike(alloc)?)
+    let moves = (both.plain.refilled > 0) == (kind.refill > 0);
+    Some(steps && ways && moves && both.ends_alike(alloc)?)
+}
+
+// Whether they do for one to four members and each way to pick.
+fn all_go_alike(alloc: Global, k: usize, refill: usize, turn: usize) -> Option<bool> {
+    for threads in 1..=4 {
+        let kind = Kind {
+            threads,
+            k,
+            refill,
+            turn,
+        };
+        for picks in [Picks::First, Picks::Last, Picks::Random] {
+            if !goes_alike(alloc, kind, picks)? {
+                return Some(false);
+            }
+        }
+    }
+    Some(true)
 }
 
 #[test]
 fn mixed_calls_end_as_those_of_a_plain_board(rt: HostRuntime) {
-    for threads in 1..=4 {
-        for k in 0..=4 {
-            for picks in [Picks::First, Picks::Last, Picks::Random] {
-                assert!(rt; goes_alike(rt.alloc(), threads, k, picks) == Some(true));
-            }
+    for k in 0..=4 {
+        for refill in 0..=k {
+            assert!(rt; all_go_alike(rt.alloc(), k, refill, 50) == Some(true));
         }
+    }
+}
+
+#[test]
+fn so_do_those_that_move_many_items(rt: HostRuntime) {
+    for refill in [1, 8, 16, 20] {
+        assert!(rt; all_go_alike(rt.alloc(), 20, refill, 300) == Some(true));
     }
 }

@@ -18,6 +18,7 @@ struct Own {
 pub(super) struct Plain {
     alloc: Global,
     k: usize,
+    refill: usize,
     owns: Vec<Own>,
     /// Ascending.
     shared: Vec<Item>,
@@ -28,11 +29,13 @@ pub(super) struct Plain {
     pub early: u64,
     /// How often items moved from another member's part.
     pub spied: u64,
+    /// How often they moved from the shared part.
+    pub refilled: u64,
 }
 
 impl Plain {
     /// A board with no item.
-    pub(super) fn new(alloc: Global, threads: u32, k: usize) -> Option<Self> {
+    pub(super) fn new(alloc: Global, threads: u32, k: usize, refill: usize) -> Option<Self> {
         let mut owns = Vec::new(alloc);
         for _ in 0..threads {
             let blocks = Vec::new(alloc);
@@ -45,12 +48,14 @@ impl Plain {
         Some(Plain {
             alloc,
             k,
+            refill,
             owns,
             shared: Vec::new(alloc),
             held: None,
             deleted: 0,
             early: 0,
             spied: 0,
+            refilled: 0,
         })
     }
 
@@ -118,12 +123,32 @@ impl Plain {
         Some(Ok(self.take(member, pick)?))
     }
 
-    // Takes what a deletion takes with both parts in hand.
+    // Takes what a deletion takes with both parts in hand, and moves more where that was shared.
     fn take(&mut self, member: u32, pick: Pick) -> Option<Option<Item>> {
         let least = self.own_items(member)?.first().copied();
         let count = self.k.saturating_add(1).min(self.shared.len());
         let item = chosen(least, &self.shared[..count], member, pick);
-        self.take_out(member, item)
+        let before = self.shared.len();
+        let taken = self.take_out(member, item)?;
+        if self.shared.len() < before {
+            self.refill_part(member)?;
+        }
+        Some(taken)
+    }
+
+    // Moves the least shared items to a member's part: as many as the board says, and as half the room
+    // there is for.
+    fn refill_part(&mut self, member: u32) -> Option<()> {
+        let room = self.k.saturating_sub(self.own_items(member)?.len());
+        let half = room.saturating_sub(room / 2);
+        let count = self.refill.min(half).min(self.shared.len());
+        if count == 0 {
+            return Some(());
+        }
+        let moved = self.shared[..count].to_vec(self.alloc).ok()?;
+        self.shared.retain(|item| !moved.contains(item));
+        self.refilled = self.refilled.saturating_add(1);
+        add(&mut self.owns.get_mut(member as usize)?.blocks, moved).ok()
     }
 
     // Takes an item out of the member's own part and the shared one, if there is one.

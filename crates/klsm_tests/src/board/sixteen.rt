@@ -7,22 +7,25 @@ use klsm_parts::Last;
 use klsm_run::Item;
 use std::alloc::Global;
 
-// Members, k and quota of a board, and why there is none.
-const CAUSES: &[(usize, usize, u64, Option<MakeError>)] = &[
-    (0, 0, 1, Some(MakeError::BadThreads)),
-    (0, 65, 281_474_976_710_657, Some(MakeError::BadThreads)),
-    (17, 65, 1, Some(MakeError::BadThreads)),
-    (17, 64, 281_474_976_710_657, Some(MakeError::BadThreads)),
-    (16, 65, 1, Some(MakeError::BadK)),
-    (2, 65, 281_474_976_710_657, Some(MakeError::BadK)),
-    (16, 64, 281_474_976_710_657, Some(MakeError::BadQuota)),
-    (16, 64, 281_474_976_710_656, None),
-    (2, 64, 281_474_976_710_656, None),
-    (1, 0, 0, None),
+// Members, k, quota and refill of a board, and why there is none.
+const CAUSES: &[(usize, usize, u64, usize, Option<MakeError>)] = &[
+    (0, 0, 1, 1, Some(MakeError::BadThreads)),
+    (0, 65, 281_474_976_710_657, 0, Some(MakeError::BadThreads)),
+    (17, 65, 1, 66, Some(MakeError::BadThreads)),
+    (17, 64, 281_474_976_710_657, 0, Some(MakeError::BadThreads)),
+    (16, 65, 1, 66, Some(MakeError::BadK)),
+    (2, 65, 281_474_976_710_657, 0, Some(MakeError::BadK)),
+    (16, 64, 281_474_976_710_657, 65, Some(MakeError::BadQuota)),
+    (16, 64, 281_474_976_710_656, 65, Some(MakeError::BadRefill)),
+    (1, 0, 0, 1, Some(MakeError::BadRefill)),
+    (16, 64, 281_474_976_710_656, 64, None),
+    (2, 64, 281_474_976_710_656, 16, None),
+    (2, 64, 281_474_976_710_656, 0, None),
+    (1, 0, 0, 0, None),
 ];
 
 // Whether a board has these sizes, and its members are numbered in turn and have done nothing.
-fn is_new(crew: &Crew<21>, threads: usize, k: usize, quota: u64) -> bool {
+fn is_new(crew: &Crew<21>, threads: usize, k: usize, quota: u64, refill: usize) -> bool {
     for (number, member) in crew.members.iter().enumerate() {
         let counts = (member.inserted_count(), member.deleted_count());
         if member.number() as usize != number || counts != (0, 0) {
@@ -31,22 +34,37 @@ fn is_new(crew: &Crew<21>, threads: usize, k: usize, quota: u64) -> bool {
     }
     let board = &crew.board;
     (board.threads(), board.k(), board.quota()) == (threads, k, quota)
+        && board.refill() == refill
         && crew.members.len() == threads
 }
 
 // Whether there is such a board, or none for this cause.
-fn is_made(alloc: Global, threads: usize, k: usize, quota: u64, cause: Option<MakeError>) -> bool {
-    match Crew::new(alloc, threads, k, quota) {
-        Ok(crew) => cause.is_none() && is_new(&crew, threads, k, quota),
+fn is_made(
+    made: Result<Crew<21>, MakeError>,
+    threads: usize,
+    k: usize,
+    quota: u64,
+    refill: usize,
+    cause: Option<MakeError>,
+) -> bool {
+    match made {
+        Ok(crew) => cause.is_none() && is_new(&crew, threads, k, quota, refill),
         Err(why) => cause == Some(why),
     }
 }
 
 #[test]
 fn causes_in_their_order(rt: HostRuntime) {
-    for (threads, k, quota, cause) in CAUSES {
-        assert!(rt; is_made(rt.alloc(), *threads, *k, *quota, *cause));
+    for (threads, k, quota, refill, cause) in CAUSES {
+        let made = Crew::with_refill(rt.alloc(), *threads, *k, *quota, *refill);
+        assert!(rt; is_made(made, *threads, *k, *quota, *refill, *cause));
     }
+}
+
+#[test]
+fn none_moves_where_none_was_asked_for(rt: HostRuntime) {
+    let made = Crew::new(rt.alloc(), 2, 64, 1);
+    assert!(rt; is_made(made, 2, 64, 1, 0, None));
 }
 
 // How many members there are, and how many items each of them inserts.

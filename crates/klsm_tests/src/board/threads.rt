@@ -44,9 +44,11 @@ enum Work {
 const SHARED_FROM: u64 = 1000;
 
 // The threads of a test.
+#[derive(Drop)]
 struct Team {
     threads: usize,
     k: usize,
+    refill: usize,
     calls: u32,
     work: Work,
 }
@@ -390,7 +392,7 @@ fn found_by(alloc: Global, crew: Crew<21>, workers: Vec<Worker>) -> Option<Found
 // The board of a team, whose last member may hold the shared part.
 fn crew_of(alloc: Global, team: &Team) -> Option<Crew<21>> {
     let quota = u64::from(team.calls).saturating_mul(2);
-    let mut crew = Crew::new(alloc, team.threads, team.k, quota).ok()?;
+    let mut crew = Crew::with_refill(alloc, team.threads, team.k, quota, team.refill).ok()?;
     if team.work == Work::BelowHeld {
         crew.try_hold(0)?.ok()?;
     }
@@ -418,45 +420,55 @@ fn each_once<R: Threads + Wait + Sync>(rt: &R, alloc: Global, team: &Team) -> Op
     Some(many && all && drained && found.has_account(alloc)?)
 }
 
-const TWO: Team = Team {
-    threads: 2,
-    k: 4,
-    calls: 100_000,
-    work: Work::Mixed,
-};
+// Threads that make this many calls each, of which more delete than insert, so that parts are often empty.
+fn mixed(threads: usize, refill: usize, calls: u32) -> Team {
+    Team {
+        threads,
+        k: 4,
+        refill,
+        calls,
+        work: Work::Mixed,
+    }
+}
 
 #[test]
 fn two_threads_find_each_item_once(rt: HostRuntime) {
-    assert!(rt; each_once(&rt, rt.alloc(), &TWO) == Some(true));
+    assert!(rt; each_once(&rt, rt.alloc(), &mixed(2, 0, 100_000)) == Some(true));
 }
-
-const FOUR: Team = Team {
-    threads: 4,
-    k: 4,
-    calls: 100_000,
-    work: Work::Mixed,
-};
 
 #[test]
 fn four_threads_find_each_item_once(rt: HostRuntime) {
-    assert!(rt; each_once(&rt, rt.alloc(), &FOUR) == Some(true));
+    assert!(rt; each_once(&rt, rt.alloc(), &mixed(4, 0, 100_000)) == Some(true));
 }
 
-const FOUR_HELD_UP: Team = Team {
-    threads: 5,
-    k: 4,
-    calls: 2000,
-    work: Work::HeldUp,
-};
+#[test]
+fn four_threads_that_move_items_find_each_once(rt: HostRuntime) {
+    for refill in [1, 4] {
+        assert!(rt; each_once(&rt, rt.alloc(), &mixed(4, refill, 40_000)) == Some(true));
+    }
+}
+
+// More items than own parts have room for.
+const HELD_UP: &[(usize, usize)] = &[(4, 0), (4, 1), (16, 8), (16, 16)];
 
 #[test]
 fn four_threads_wait_for_parts_that_a_fifth_holds(rt: HostRuntime) {
-    assert!(rt; each_once(&rt, rt.alloc(), &FOUR_HELD_UP) == Some(true));
+    for (k, refill) in HELD_UP {
+        let team = Team {
+            threads: 5,
+            k: *k,
+            refill: *refill,
+            calls: 2000,
+            work: Work::HeldUp,
+        };
+        assert!(rt; each_once(&rt, rt.alloc(), &team) == Some(true));
+    }
 }
 
 const FOUR_BELOW: Team = Team {
     threads: 4,
     k: 4,
+    refill: 0,
     calls: 20_000,
     work: Work::Below,
 };
@@ -471,6 +483,7 @@ fn four_threads_delete_what_is_below_the_front(rt: HostRuntime) {
 const FOUR_BESIDE_A_HOLDER: Team = Team {
     threads: 5,
     k: 4,
+    refill: 0,
     calls: 20_000,
     work: Work::BelowHeld,
 };

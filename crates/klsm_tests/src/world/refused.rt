@@ -20,6 +20,7 @@ const ALL_KINDS: &[Row] = &[
     Row::Flush(1, TWO, Moved::One(FIVE)),
     Row::Put(1, NINE),
     Row::Early(1, TWO, 5),
+    Row::Refill(1, Moved::One(FIVE)),
     Row::Take(1, FIVE),
     Row::Release(1, 2),
     Row::Release(1, 0),

@@ -18,7 +18,7 @@ pub(super) fn item(name: Name) -> Item {
     }
 }
 
-/// The items that move at a flush or a spy.
+/// The items that move at a flush, a spy or a refill.
 #[derive(Clone, Copy)]
 pub(super) enum Moved {
     None,
@@ -38,6 +38,7 @@ pub(super) enum Row {
     Early(u32, Name, u64),
     Nothing(u32),
     Spy(u32, u32, Moved),
+    Refill(u32, Moved),
 }
 
 /// The step of a row.
@@ -52,6 +53,7 @@ pub(super) fn step_of(alloc: Global, row: Row) -> Option<Step> {
         Row::Early(thread, name, front) => early(thread, item(name), front),
         Row::Nothing(thread) => commit(thread, Event::Nothing),
         Row::Spy(thread, victim, moved) => spy(thread, victim, moved_items(alloc, moved)?),
+        Row::Refill(thread, moved) => refill(thread, moved_items(alloc, moved)?),
     })
 }
 
@@ -73,6 +75,11 @@ pub(super) fn flush(thread: u32, item: Item, moved: Items) -> Step {
 /// A spy on the victim.
 pub(super) fn spy(thread: u32, victim: u32, moved: Items) -> Step {
     commit(thread, Event::Spy { victim, moved })
+}
+
+/// A refill.
+pub(super) fn refill(thread: u32, moved: Items) -> Step {
+    commit(thread, Event::Refill { moved })
 }
 
 fn moved_items(alloc: Global, moved: Moved) -> Option<Items> {

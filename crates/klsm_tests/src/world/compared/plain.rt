@@ -24,6 +24,8 @@ pub(super) struct Plain {
     pub deleted: Vec<Item>,
     // How many of them by the front.
     pub early: usize,
+    // How often items moved from the shared part to an own one.
+    pub refilled: usize,
     pub most: usize,
 }
 
@@ -39,6 +41,7 @@ impl Plain {
             inserted: Vec::new(alloc),
             deleted: Vec::new(alloc),
             early: 0,
+            refilled: 0,
             most: 0,
         })
     }
@@ -212,6 +215,7 @@ impl Plain {
                     && !moved.as_slice().is_empty()
                     && self.has_all(own(*victim), moved.as_slice())
             }
+            Event::Refill { moved } => self.may_refill(part, moved.as_slice()),
         }
     }
 
@@ -223,6 +227,13 @@ impl Plain {
             }
         }
         ascends(moved) && self.count(part) < self.k.saturating_add(moved.len())
+    }
+
+    // Whether shared items may move to the part, and leave at most k in it.
+    fn may_refill(&self, part: u32, moved: &[Item]) -> bool {
+        !moved.is_empty()
+            && self.has_all(0, moved)
+            && self.count(part).saturating_add(moved.len()) <= self.k
     }
 
     // Some candidate gives the item as the lesser of it and the least own item.
@@ -290,6 +301,10 @@ impl Plain {
             }
             Event::Nothing => {}
             Event::Spy { victim: _, moved } => self.move_all(own(thread), moved.as_slice()),
+            Event::Refill { moved } => {
+                self.refilled = self.refilled.saturating_add(1);
+                self.move_all(own(thread), moved.as_slice());
+            }
         }
         Some(())
     }
