@@ -9,7 +9,16 @@ use std::marker::Model;
 /// A box whose place no contract speaks of.
 #[derive(Drop)]
 pub struct Boxed<T> {
-    value: Box<T>,
+    spaced: Box<Spaced<T>>,
+}
+
+// A value, and behind it two lines of the cache that nobody touches, since processors fetch lines in pairs.
+// So what one member changes at each call lies off what another one does, wherever the allocator puts
+// the two.
+#[derive(Drop)]
+struct Spaced<T> {
+    value: T,
+    room: [u64; 16],
 }
 
 impl<T> Model for Boxed<T> {
@@ -17,7 +26,7 @@ impl<T> Model for Boxed<T> {
 
     ghost Value = { T };
 
-    ghost view = { λ boxed. boxed.value.value };
+    ghost view = { λ boxed. boxed.spaced.value.value };
 }
 
 impl<T: Drop> Boxed<T> {
@@ -26,7 +35,13 @@ impl<T: Drop> Boxed<T> {
         ensures { IfOk result (λ boxed. boxed ≡ value) }
     {
         Ok(Boxed {
-            value: Box::new(alloc, value)?,
+            spaced: Box::new(
+                alloc,
+                Spaced {
+                    value,
+                    room: [0; 16],
+                },
+            )?,
         })
     }
 }
@@ -37,7 +52,7 @@ impl<T> Boxed<T> {
     pub fn get(&self) -> &T
         ensures { result.now ≡ self.now }
     {
-        &self.value
+        &self.spaced.value
     }
 
     /// The value, to be changed in place.
@@ -46,6 +61,6 @@ impl<T> Boxed<T> {
         ensures* writes_back { sem 𝓛 (Lends (the_row T.row) T.row self.entry result (λ value. value)) }
         ensures value { result.now ≡ self.old }
     {
-        &mut self.value
+        &mut self.spaced.value
     }
 }

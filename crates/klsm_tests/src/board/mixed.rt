@@ -38,7 +38,10 @@ struct Both {
 
 fn both_of(alloc: Global, kind: Kind, picks: Picks) -> Option<Both> {
     let Kind {
-        threads, k, refill, ..
+        threads,
+        k,
+        refill,
+        ..
     } = kind;
     Some(Both {
         crew: Crew::with_refill(alloc, threads as usize, k, 1000, refill).ok()?,

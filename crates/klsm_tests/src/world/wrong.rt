@@ -80,10 +80,7 @@ const STEPS: &[(Row, Option<StepError>)] = &[
     (Row::Early(1, SEVEN, 8), Some(StepError::WrongEvent)),
     (Row::Early(1, TWO, 4), Some(StepError::WrongEvent)),
     (Row::Early(0, TWO, 2), Some(StepError::WrongEvent)),
-    (
-        Row::Refill(3, Moved::One(TWO)),
-        Some(StepError::NoSuchPart),
-    ),
+    (Row::Refill(3, Moved::One(TWO)), Some(StepError::NoSuchPart)),
     (Row::Refill(2, Moved::One(TWO)), Some(StepError::NotHeld)),
     (Row::Refill(1, Moved::One(TWO)), Some(StepError::NotHeld)),
     (Row::Refill(0, Moved::None), Some(StepError::WrongEvent)),

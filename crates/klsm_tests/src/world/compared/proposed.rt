@@ -102,7 +102,9 @@ fn proposed_spy(alloc: Global, mix: &mut Pcg32, plain: &Plain, thread: u32) -> O
 
 // A refill that moves some of the shared items, mostly no more than there is room for.
 fn proposed_refill(alloc: Global, mix: &mut Pcg32, plain: &Plain, thread: u32) -> Option<Step> {
-    let room = plain.k.saturating_sub(plain.count(thread.saturating_add(1)));
+    let room = plain
+        .k
+        .saturating_sub(plain.count(thread.saturating_add(1)));
     let mut moved = some_of(alloc, mix, plain, 0)?;
     if below(mix, 4) > 0 {
         moved.truncate(room);
