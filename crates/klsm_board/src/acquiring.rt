@@ -8,16 +8,22 @@ ghost use Rattle.klsm_board.specs.Seats.{Stands, Has, IsSeatOf};
 ghost use Rattle.klsm_board.specs.Entries.{missed};
 
 use crate::errors::Busy;
-use crate::rule::{Holding, Locks, MemberSeat};
+use crate::rule::{Holding, Locks, MemberSeat, STRIDE};
 use crate::steps::acquire_part;
 use crossbeam_utils::Backoff;
 use std::hint;
 use std::sync::Wait;
+use std::time::Duration;
 
 // How many `spin_loop` a member that missed a part makes before its next try, at first and at most.
 const SHORTEST_PAUSE: u32 = 400;
 
 const LONGEST_PAUSE: u32 = 3_200;
+
+// After how many misses it sleeps, and how many microseconds at a time.
+const MISSES_AWAKE: u32 = 40;
+
+const SLEEP: u64 = 50;
 
 /// Acquires a part, if it is free.
 #[inline]
@@ -106,10 +112,32 @@ fn acquire_missed<S: Holding>(
     for _ in rt.forever() {
         match try_acquire(table, seat, part, thread) {
             Ok(()) => return,
-            Err(_) => pause.wait(),
+            Err(busy) => look_away(rt, table, seat, &mut pause, busy),
         }
     }
     unreachable!()
+}
+
+// Waits between two tries. After many the member sleeps, so that the holder has a processor where
+// there are fewer of these than threads. It wakes by itself, since a release wakes nobody.
+fn look_away<S: Holding>(
+    rt: &impl Wait,
+    table: &Locks<S>,
+    seat: &MemberSeat<S>,
+    pause: &mut Pause,
+    busy: Busy,
+)
+    requires seat { (thread : ℕ) × IsSeatOf seat.now.table_id table.now.table_id table.now.key thread }
+    requires part { busy.lock ≤ table.now.key.threads }
+{
+    // For the proof: the contract alone names the seat, by which the table has a word for the lock.
+    let _ = seat;
+    if pause.misses < MISSES_AWAKE {
+        pause.wait();
+    } else {
+        let word = busy.by.wrapping_add(1);
+        table.park_timeout(rt, busy.lock * STRIDE, word, Duration::from_micros(SLEEP));
+    }
 }
 
 // What a member does between two tries of a part that it missed. Tries without a pause take the line of the lock word from the
@@ -119,6 +147,7 @@ fn acquire_missed<S: Holding>(
 struct Pause {
     backoff: Backoff,
     length: u32,
+    misses: u32,
 }
 
 impl Pause {
@@ -126,6 +155,7 @@ impl Pause {
         Pause {
             backoff: Backoff::new(),
             length: SHORTEST_PAUSE,
+            misses: 0,
         }
     }
 
@@ -136,5 +166,6 @@ impl Pause {
         }
         self.backoff.snooze();
         self.length = self.length.saturating_mul(2).min(LONGEST_PAUSE);
+        self.misses = self.misses.saturating_add(1);
     }
 }
