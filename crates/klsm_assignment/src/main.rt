@@ -29,7 +29,9 @@ fn least_cost<R: Threads + Wait + Sync>(
     alloc: Global,
     threads: usize,
 ) -> io::Result<Option<u64>> {
-    let Ok((board, members)) = Board::new(alloc, threads, 16, 1 << 40) else {
+    // Each member keeps at most 16 nodes for itself, and a deletion that needs the shared lock brings up to
+    // 8 more home.
+    let Ok((board, members)) = Board::with_refill(alloc, threads, 16, 1 << 40, 8) else {
         return Ok(None);
     };
     let search = Search::new();

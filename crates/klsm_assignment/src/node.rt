@@ -60,8 +60,19 @@ impl Node {
         self.people() >= COSTS.len()
     }
 
-    /// What no completion of the node costs less than: each person left takes the cheapest task of all. It is an item's key,
-    /// so the most promising node comes first.
+    /// The node's key: its bound, so that the most promising node comes first, and of nodes of one bound the one in which the
+    /// most people have a task. Nodes are many and bounds few, and an item goes without the shared lock only where its key
+    /// is less than that of each shared item.
+    pub(crate) fn key(&self) -> u64 {
+        self.bound() << 4 | 8u64.saturating_sub(self.people() as u64)
+    }
+
+    /// The bound that a key has.
+    pub(crate) fn bound_in(key: u64) -> u64 {
+        key >> 4
+    }
+
+    /// What no completion of the node costs less than: each person left takes the cheapest task of all.
     pub(crate) fn bound(&self) -> u64 {
         let mut bound = self.cost;
         for costs in COSTS.iter().skip(self.people()) {

@@ -70,7 +70,7 @@ impl<R: Wait> Worker<'_, R> {
             let Some(item) = self.member.delete_min(self.rt, self.board, &mut First) else {
                 continue;
             };
-            let is_promising = item.key < self.search.least.load(Ordering::SeqCst);
+            let is_promising = Node::bound_in(item.key) < self.search.least.load(Ordering::SeqCst);
             if is_promising && self.split(Node::of(item.load)).is_err() {
                 self.search.is_full.store(true, Ordering::SeqCst);
             }
@@ -96,7 +96,7 @@ impl<R: Wait> Worker<'_, R> {
         }
         self.search.open.fetch_add(1, Ordering::SeqCst);
         self.member
-            .insert(self.rt, self.board, node.bound(), node.load())?;
+            .insert(self.rt, self.board, node.key(), node.load())?;
         Ok(())
     }
 }
