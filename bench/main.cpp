@@ -45,9 +45,32 @@ void measure_throughput(const plan &given, const std::vector<subject> &all, repo
                 const chosen some = those(all, [&](const subject &one) { return one.runs_with(threads); });
                 to.compare(
                     some, {threads, name_of(what), items}, given.rounds, [&](const subject &one, std::size_t round) {
-                        const workload load{what, threads, items, given.pairs, round};
+                        const workload load{what, threads, items, given.pairs, round, 0};
                         return std::vector<figure>{{"throughput", "operations/s", one.throughput(load, where)}};
                     });
+            }
+}
+
+// A microsecond as the CSV names it: 0.3, 1, 3.
+std::string in_microseconds(double length) {
+    char text[32];
+    std::snprintf(text, sizeof text, "%g us", length);
+    return text;
+}
+
+void measure_work(const plan &given, const std::vector<subject> &all, double steps, report &to) {
+    const placing where(given.is_bound);
+    for (double length : given.work)
+        for (std::size_t items : given.work_items)
+            for (std::size_t threads : given.threads) {
+                const std::string name = "work " + in_microseconds(length);
+                say("throughput: %s, %zu items, %s", name.c_str(), items, in_words(threads).c_str());
+                const chosen some = those(all, [&](const subject &one) { return one.runs_with(threads); });
+                to.compare(some, {threads, name, items}, given.rounds, [&](const subject &one, std::size_t round) {
+                    const workload load{pattern::hold, threads, items, given.work_pairs, round,
+                                        std::uint64_t(steps * length)};
+                    return std::vector<figure>{{"throughput", "operations/s", one.throughput(load, where)}};
+                });
             }
 }
 
@@ -87,7 +110,7 @@ void measure_ranks(const plan &given, const std::vector<subject> &all, report &t
                 say("rank error: %s, %zu items, %s", name_of(what).c_str(), items, in_words(threads).c_str());
                 const chosen some = those(all, [&](const subject &one) { return one.runs_with(threads); });
                 const cell in{threads, name_of(what), items};
-                const workload load{what, threads, items, given.rank_pairs, 0};
+                const workload load{what, threads, items, given.rank_pairs, 0, 0};
                 for (const subject *one : some)
                     if (one->k != 0) to.add(*one, in, {"rank_bound", "items", double(threads * one->k)});
                 to.compare(some, in, 1, [&](const subject &one, std::size_t) { return ranks_by_turns(one, load); });
@@ -99,13 +122,11 @@ void measure_ranks(const plan &given, const std::vector<subject> &all, report &t
             }
 }
 
-void measure_search(const plan &given, const std::vector<subject> &all, report &to) {
+void measure_search(const plan &given, const std::vector<subject> &all, double steps, report &to) {
     const placing where(given.is_bound);
     const instance knapsack = drawn_instance(given.things, given.knapsack_seed);
     const std::uint64_t best = knapsack.by_table();
-    const double steps = steps_in_a_microsecond();
-    to.comment("search: a knapsack of " + std::to_string(given.things) + " things; a microsecond of work is " +
-               std::to_string(std::uint64_t(steps)) + " steps");
+    to.comment("search: a knapsack of " + std::to_string(given.things) + " things");
     for (std::size_t microseconds : given.microseconds)
         for (std::size_t threads : given.threads) {
             say("search: %zu microseconds a node, %s", microseconds, in_words(threads).c_str());
@@ -137,9 +158,12 @@ int main(int count, char **words) {
     }
     to.comment("rounds: " + std::to_string(given.rounds) + "; threads are " + (given.is_bound ? "" : "not ") +
                "bound to processors");
+    const double steps = steps_in_a_microsecond();
+    to.comment("a microsecond of work is " + std::to_string(std::uint64_t(steps)) + " steps");
     to.head();
     if (given.has("throughput")) measure_throughput(given, all, to);
+    if (given.has("work")) measure_work(given, all, steps, to);
     if (given.has("rank")) measure_ranks(given, all, to);
-    if (given.has("search")) measure_search(given, all, to);
+    if (given.has("search")) measure_search(given, all, steps, to);
     say("done");
 }

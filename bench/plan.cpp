@@ -13,6 +13,8 @@ void make_short(plan &one) {
     one.rounds = 3;
     one.items = {1000, 10000};
     one.pairs = 40000;
+    one.work_items = {10000};
+    one.work_pairs = 20000;
     one.rank_items = {10000};
     one.rank_pairs = 20000;
     one.things = 36; // 17,000 nodes
@@ -63,7 +65,8 @@ plan plan_of(int count, char **words) {
             stop(("unknown word " + word).c_str());
     }
     if (one.csv.empty()) stop("--csv FILE is missing");
-    if (!one.only.empty() && one.only != "throughput" && one.only != "rank" && one.only != "search")
-        stop("--only wants throughput, rank or search");
+    const std::vector<std::string> parts{"throughput", "work", "rank", "search"};
+    if (!one.only.empty() && std::find(parts.begin(), parts.end(), one.only) == parts.end())
+        stop("--only wants throughput, work, rank or search");
     return one;
 }

@@ -10,7 +10,7 @@
 struct plan {
     std::string csv;     // the file that is written
     std::string command; // for the comment in it
-    std::string only;    // "throughput", "rank" or "search"; all where it is empty
+    std::string only;    // "throughput", "work", "rank" or "search"; all where it is empty
     bool is_bound = true;
     std::size_t rounds = 5;
     std::vector<std::size_t> threads;
@@ -18,6 +18,10 @@ struct plan {
 
     std::vector<std::size_t> items{1000, 100000, 1000000};
     std::size_t pairs = 400000; // of all threads together
+
+    std::vector<std::size_t> work_items{1000, 100000};
+    std::vector<double> work{0.3, 1, 3}; // microseconds between the two calls of a pair
+    std::size_t work_pairs = 100000;
 
     std::vector<std::size_t> rank_items{100000};
     std::size_t rank_pairs = 60000;

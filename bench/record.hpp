@@ -75,7 +75,7 @@ template <class Queue> std::vector<call> record_by_turns(const workload &given, 
     fill(keys, handles, filling);
     std::vector<worker<typename Queue::handle, calls>> workers;
     for (std::size_t t = 0; t < given.threads; t++)
-        workers.emplace_back(given.what, keys, handles[t], calls(by_number{&number}));
+        workers.emplace_back(given, keys, handles[t], calls(by_number{&number}));
     for (std::size_t pair = 0; pair + given.threads <= given.pairs; pair += given.threads) {
         for (std::size_t t = 0; t < given.threads; t++)
             workers[t].first_half(pair + t);
@@ -102,7 +102,7 @@ std::vector<call> record_in_threads(const workload &given, const placing &where,
     time_of(
         given.threads, where,
         [&](std::size_t t) {
-            workers[t] = std::make_unique<one_worker>(given.what, keys, handles[t]);
+            workers[t] = std::make_unique<one_worker>(given, keys, handles[t]);
             workers[t]->calls().reserve(2 * given.pairs);
         },
         [&](std::size_t t) { pairs.run(*workers[t]); });

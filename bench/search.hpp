@@ -1,8 +1,11 @@
 // A branch-and-bound search by several threads that share the open nodes by one queue. A node's key is
-// how far its bound lies below the root's, so the most promising nodes come first.
+// how far its bound lies below the root's, so the most promising nodes come first; and of those with one
+// bound the deepest, which are the nearest to a solution. A child that takes a thing has the bound of its
+// parent, so without this thousands of nodes would share a key.
 #ifndef BENCH_SEARCH_HPP
 #define BENCH_SEARCH_HPP
 
+#include "klsm.h"
 #include "knapsack.hpp"
 #include "queues/item.hpp"
 #include "spin.hpp"
@@ -38,7 +41,7 @@ public:
         std::vector<std::uint64_t> nodes(task_.threads);
         for (std::size_t t = 0; t < task_.threads; t++)
             handles.push_back(queue_.handle_of(t));
-        handles[0].insert({0, node{0, 0}.load()});
+        handles[0].insert({klsm_key_of_bound(0, 0), node{0, 0}.load()});
         const double seconds = time_of(
             task_.threads, where, [](std::size_t) {}, [&](std::size_t t) { nodes[t] = work(handles[t]); });
         return {seconds, std::accumulate(nodes.begin(), nodes.end(), std::uint64_t(0)), best_};
@@ -53,11 +56,11 @@ private:
         while (open_.load(std::memory_order_acquire) > 0) {
             if (!by.delete_min(next))
                 pause();
-            else if (top_ - next.key <= best_.load(std::memory_order_relaxed))
+            else if (bound_of(next) <= best_.load(std::memory_order_relaxed))
                 open_.fetch_sub(1, std::memory_order_release);
             else {
                 examined++;
-                examine(by, node::of(next.load), top_ - next.key);
+                examine(by, node::of(next.load), bound_of(next));
             }
         }
         return examined;
@@ -89,8 +92,11 @@ private:
     }
 
     void add(node at, std::uint64_t bounded, item *children, int &count) const {
-        if (bounded > best_.load(std::memory_order_relaxed)) children[count++] = {top_ - bounded, at.load()};
+        if (bounded > best_.load(std::memory_order_relaxed))
+            children[count++] = {klsm_key_of_bound(top_ - bounded, std::uint32_t(at.level)), at.load()};
     }
+
+    std::uint64_t bound_of(const item &one) const { return top_ - klsm_bound_of_key(one.key); }
 
     void raise(std::uint64_t value) {
         std::uint64_t best = best_.load(std::memory_order_relaxed);

@@ -34,13 +34,21 @@ subject subject_of(std::string queue, std::string parameter, typename Queue::set
     return made;
 }
 
-subject board(std::size_t k, klsm_pick pick) {
-    const std::string picks = pick == KLSM_FIRST ? "first" : "random";
-    subject made = subject_of<klsm_board>("k-LSM " + picks, "k=" + std::to_string(k), {k, pick});
+subject board(std::string queue, std::string parameter, klsm_board::setting setting) {
+    subject made = subject_of<klsm_board>(std::move(queue), std::move(parameter), setting);
     made.is_relaxed = true;
-    made.is_searched = k == 64;
-    made.k = k;
+    made.is_searched = setting.k == 64 && (setting.refill == 0 || setting.refill == 16);
+    made.k = setting.k;
     return made;
+}
+
+subject board_of(std::size_t k, klsm_pick pick) {
+    return board(pick == KLSM_FIRST ? "k-LSM first" : "k-LSM random", "k=" + std::to_string(k), {k, pick, 0});
+}
+
+// With k = 64. A refill of 0 is the board with k = 64 above.
+subject refilling_board(std::size_t refill) {
+    return board("k-LSM refill", "refill=" + std::to_string(refill), {64, KLSM_FIRST, refill});
 }
 
 subject multi(std::size_t c, std::size_t stickiness) {
@@ -67,9 +75,11 @@ subject alone(subject made) {
 std::vector<subject> subjects() {
     std::vector<subject> all;
     for (std::size_t k : {4, 16, 64})
-        all.push_back(board(k, KLSM_FIRST));
+        all.push_back(board_of(k, KLSM_FIRST));
     for (std::size_t k : {4, 16, 64})
-        all.push_back(board(k, KLSM_RANDOM));
+        all.push_back(board_of(k, KLSM_RANDOM));
+    for (std::size_t refill : {1, 4, 16, 64})
+        all.push_back(refilling_board(refill));
     for (std::size_t stickiness : {1, 4, 16, 64})
         all.push_back(multi(2, stickiness));
     for (std::size_t stickiness : {1, 16})

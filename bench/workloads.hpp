@@ -2,12 +2,14 @@
 // - uniform: an insertion of a random key, and a deletion, in turns.
 // - hold: a deletion, and an insertion of its key plus a random step, in turns.
 // - ascending: as uniform, with keys that are greater than those before.
+// - work: hold, with work of a known length between the deletion and the insertion.
 // Before these the queue is filled by one thread, which inserts by the handles of all in turns.
 #ifndef BENCH_WORKLOADS_HPP
 #define BENCH_WORKLOADS_HPP
 
 #include "draws.hpp"
 #include "queues/item.hpp"
+#include "spin.hpp"
 #include "threads.hpp"
 
 #include <algorithm>
@@ -30,6 +32,7 @@ struct workload {
     std::size_t items; // live between two pairs
     std::size_t pairs; // an insertion and a deletion each, of all threads together
     std::uint64_t seed;
+    std::uint64_t steps = 0; // of spin(), between the two calls of a pair
 
     // All that may live at once.
     std::size_t room() const { return items + threads; }
@@ -60,8 +63,9 @@ struct plain_calls {
 // What one thread does. Both halves of a pair may be made apart, with others' calls between them.
 template <class Handle, class Calls> class worker {
 public:
-    worker(pattern what, const workload_keys &keys, Handle by, Calls calls = Calls())
-        : what_(what), keys_(keys.pairs), first_load_(keys.filling.size()), by_(by), calls_(calls) {}
+    worker(const workload &given, const workload_keys &keys, Handle by, Calls calls = Calls())
+        : what_(given.what), steps_(given.steps), keys_(keys.pairs), first_load_(keys.filling.size()), by_(by),
+          calls_(calls) {}
 
     void first_half(std::size_t pair) {
         if (what_ == pattern::hold)
@@ -80,6 +84,7 @@ public:
     void run(std::size_t from, std::size_t to) {
         for (std::size_t i = from; i < to; i++) {
             first_half(i);
+            spin(steps_);
             second_half(i);
         }
     }
@@ -97,6 +102,7 @@ private:
     }
 
     const pattern what_;
+    const std::uint64_t steps_;
     const std::vector<std::uint64_t> &keys_;
     const std::uint64_t first_load_;
     Handle by_;
@@ -155,7 +161,7 @@ double operations_per_second(const workload &given, const placing &where, typena
     const double seconds = time_of(
         given.threads, where,
         [&](std::size_t t) {
-            workers[t] = std::make_unique<one_worker>(given.what, keys, handles[t]);
+            workers[t] = std::make_unique<one_worker>(given, keys, handles[t]);
             first.run(*workers[t]);
         },
         [&](std::size_t t) { rest.run(*workers[t]); });

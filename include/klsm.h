@@ -41,8 +41,8 @@
  * - A queue is all bytes 0 (KLSM_QUEUE_CLOSED, static storage, or memset), or as the last call left
  *   it. It is aligned to 128 bytes: malloc does not give that, aligned_alloc(128, ..) does. While it
  *   is open it is not copied, moved, written to or freed.
- * - No pointer is null. `item`, `account`, `left` and `options` do not overlap each other or the queue. `left`
- *   points to `room` items, and to some item also where `room` is 0.
+ * - No pointer is null. `item`, `account`, `left` and `options` do not overlap each other or the queue.
+ *   `left` points to `room` items, and to some item also where `room` is 0.
  * - A member is one of a klsm_queue.
  * - No call comes from a signal handler, nor from a forked child about a queue that was open.
  * - malloc, realloc and free keep the C standard's promises, also if they are the program's own.
@@ -53,6 +53,7 @@
 #include <sched.h>
 #include <stddef.h>
 #include <stdint.h>
+#include <sys/select.h>
 
 #if !defined(__x86_64__) || !defined(__GNUC__)
 #error "klsm.h: the library is for x86-64, and the header for compilers like GCC and Clang"
@@ -178,10 +179,10 @@ enum klsm_pick {
 /* The binary interface of the library. Any thread, at any time. */
 uint32_t klsm_abi(void);
 
-/* Opens a closed queue for `threads` members, all empty, and with no refill (see klsm_open_with_refill). A larger k means fewer meetings of threads
- * and less exact answers; 64 is a good one for throughput. `seed` is used by KLSM_RANDOM alone.
- * Has the whole queue for itself. Takes some 17 KB of memory for each member, which klsm_close and
- * klsm_drop give back.
+/* Opens a closed queue for `threads` members, all empty, and with no refill: klsm_open_with_refill and
+ * klsm_open_with have one. A larger k means fewer meetings of threads and less exact answers; 64 is a
+ * good one for throughput. `seed` is used by KLSM_RANDOM alone. Has the whole queue for itself. Takes
+ * some 17 KB of memory for each member, which klsm_close and klsm_drop give back.
  * KLSM_OK, or the first of these that is true:
  *   KLSM_OPEN        it is open already
  *   KLSM_BAD_PICK    `pick` is none of the three
@@ -272,6 +273,24 @@ KLSM_INLINE int32_t klsm_open_with(klsm_queue *queue, const klsm_options *option
                                  klsm_or_default(options->refill, most));
 }
 
+/* Keys for a search by bounds, of which the least is the most promising. The key orders items by the
+ * bound, and those of one bound by the depth, the deepest first. Where thousands of items share a key,
+ * nearly each deletion takes the shared lock, since a member's own item goes without it only where its
+ * key is less than that of each shared item; so it pays to tell items of one bound apart, and the
+ * deepest ones are the nearest to a solution. A bound above KLSM_MAX_BOUND counts as that number, and a
+ * depth above KLSM_MAX_DEPTH as that one. */
+#define KLSM_MAX_BOUND ((UINT64_C(1) << 48) - 1)
+#define KLSM_MAX_DEPTH UINT32_C(65535)
+
+KLSM_INLINE uint64_t klsm_key_of_bound(uint64_t bound, uint32_t depth) {
+    uint64_t first = bound < KLSM_MAX_BOUND ? bound : KLSM_MAX_BOUND;
+    uint32_t then = KLSM_MAX_DEPTH - (depth < KLSM_MAX_DEPTH ? depth : KLSM_MAX_DEPTH);
+    return first << 16 | then;
+}
+
+/* The bound of such a key. */
+KLSM_INLINE uint64_t klsm_bound_of_key(uint64_t key) { return key >> 16; }
+
 /* How many items are in the queue: insertions less deletions, over all members. Has the whole queue
  * for itself, and is exact. 0 where the queue is closed. */
 KLSM_INLINE uint64_t klsm_left(klsm_queue *queue) {
@@ -301,12 +320,13 @@ KLSM_INLINE const char *klsm_text(int32_t code) {
     }
 }
 
-/* What a thread does after KLSM_BUSY: it looks away, longer each time, and then lets other threads
- * run. For a waiting loop of one's own over the calls klsm_try_..; klsm_insert and klsm_delete_min
- * show how. The lengths are those of the library's own waiting calls. */
+/* What a thread does after KLSM_BUSY: it looks away, longer each time, then lets other threads run, and
+ * after many misses sleeps, so that the thread that has the lock finds a processor also where there are
+ * fewer of these than threads. For a waiting loop of one's own over the calls klsm_try_..; klsm_insert
+ * and klsm_delete_min show how. The lengths are those of the library's own waiting calls in Rattle. */
 typedef struct klsm_pause {
     uint32_t length; /* of the next pause */
-    uint32_t step;   /* how many came before, at most 11 */
+    uint32_t misses; /* how many pauses came before, at most 40 */
 } klsm_pause;
 
 KLSM_INLINE klsm_pause klsm_first_pause(void) {
@@ -315,13 +335,17 @@ KLSM_INLINE klsm_pause klsm_first_pause(void) {
 }
 
 KLSM_INLINE void klsm_wait(klsm_pause *pause) {
-    uint32_t count = pause->length + (pause->step <= 6 ? UINT32_C(1) << pause->step : 0);
+    if (pause->misses >= 40) {
+        struct timeval sleep = {0, 50}; /* microseconds; select is declared under each standard */
+        select(0, NULL, NULL, NULL, &sleep);
+        return;
+    }
+    uint32_t count = pause->length + (pause->misses <= 6 ? UINT32_C(1) << pause->misses : 0);
     for (uint32_t i = 0; i < count; i++)
         __builtin_ia32_pause();
-    if (pause->step > 6)
+    if (pause->misses > 6)
         sched_yield();
-    if (pause->step <= 10)
-        pause->step++;
+    pause->misses++;
     pause->length = pause->length < 1600 ? 2 * pause->length : 3200;
 }
 

@@ -65,6 +65,12 @@ enum class pick : std::uint32_t { first = KLSM_FIRST, last = KLSM_LAST, random =
 
 using item = klsm_item;
 
+// Keys for a search by bounds, and the bound of one: klsm.h says what they are good for.
+[[nodiscard]] inline std::uint64_t key_of_bound(std::uint64_t bound, std::uint32_t depth) noexcept {
+    return klsm_key_of_bound(bound, depth);
+}
+[[nodiscard]] inline std::uint64_t bound_of_key(std::uint64_t key) noexcept { return klsm_bound_of_key(key); }
+
 // How a queue is opened: klsm::options{4}, or in C++20 klsm::options{.threads = 4, .refill = 8}. A number
 // here is itself, also 0. klsm.h says at klsm_open_with_refill what a refill does.
 struct options {

@@ -6,16 +6,19 @@
 #include "klsm.h"
 
 #include <cstddef>
+#include <cstdint>
 
 class klsm_board {
 public:
     struct setting {
         std::size_t k;
         klsm_pick pick;
+        std::size_t refill;
     };
 
     klsm_board(std::size_t threads, std::size_t, setting given) {
-        if (klsm_open(&queue_, threads, given.k, given.pick, 1) != KLSM_OK) stop("klsm_open was refused");
+        const std::int32_t code = klsm_open_with_refill(&queue_, threads, given.k, given.pick, 1, given.refill);
+        if (code != KLSM_OK) stop("klsm_open_with_refill was refused");
     }
     ~klsm_board() { klsm_drop(&queue_); }
     klsm_board(const klsm_board &) = delete;

@@ -1,6 +1,7 @@
 // A 0-1 knapsack by best-first branch and bound: all threads share the open nodes by one queue, in
-// which a node's key is how far its bound lies below the root's. So the most promising nodes come
-// first. The answer is compared with that of dynamic programming.
+// which a node's key is how far its bound lies below the root's, and of nodes of one bound the deepest
+// comes first. So the most promising nodes come first. The answer is compared with that of dynamic
+// programming.
 //
 //     c++ -std=c++17 branch_and_bound.cpp -Iinclude libklsm.a -pthread
 #include "klsm.hpp"
@@ -37,7 +38,7 @@ public:
 
     // The greatest value of all selections.
     std::uint64_t solve(std::size_t threads) {
-        klsm::queue queue(threads);
+        klsm::queue queue(klsm::options{threads}); // with the default refill
         top_ = bound(node{0, 0});
         {
             klsm::member member = queue.member(0).value();
@@ -57,7 +58,7 @@ private:
     void work(klsm::member &member) {
         while (open_ > 0) {
             if (std::optional<klsm::item> item = member.delete_min()) {
-                branch(member, node::of(item->load), top_ - item->key);
+                branch(member, node::of(item->load), top_ - klsm::bound_of_key(item->key));
                 open_--;
             } else {
                 std::this_thread::yield();
@@ -80,7 +81,8 @@ private:
     void open(klsm::member &member, node at, std::uint64_t bounded) {
         if (bounded <= best_) return;
         open_++; // before another thread can take it
-        if (member.insert(top_ - bounded, at.load()) != klsm::code::ok) {
+        std::uint64_t key = klsm::key_of_bound(top_ - bounded, std::uint32_t(at.level));
+        if (member.insert(key, at.load()) != klsm::code::ok) {
             branch(member, at, bounded);
             open_--;
         }

@@ -141,6 +141,7 @@
 
 mod builder;
 mod errors;
+mod keys;
 mod member;
 mod pause;
 mod queue;
@@ -148,6 +149,7 @@ mod sys;
 
 pub use builder::Builder;
 pub use errors::{Busy, FinishError, InsertError, OpenError, TryInsertError};
+pub use keys::{bound_of_key, key_of_bound};
 pub use member::{Member, Members};
 pub use queue::{Account, Pick, Queue};
 pub use sys::Item;

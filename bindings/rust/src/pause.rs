@@ -2,48 +2,52 @@
 //!
 //! The library's functions wait for nobody, so the waiting is here. The numbers are those of the
 //! queue's own waiting calls: pauses of 400 instructions, then 800, 1600 and 3200, each followed by
-//! a backoff that after some misses lets other threads run.
+//! a backoff that after some misses lets other threads run, and after many sleeps.
 
 use crate::sys::code::BUSY;
 use std::hint::spin_loop;
-use std::thread::yield_now;
+use std::thread::{sleep, yield_now};
+use std::time::Duration;
 
 const SHORTEST_PAUSE: u32 = 400;
 const LONGEST_PAUSE: u32 = 3_200;
 
-/// As long as the step is at most this, the backoff spins, and else it yields.
+/// Up to so many misses the backoff spins, and then it yields.
 const SPIN_LIMIT: u32 = 6;
-/// The step grows until it is above this.
-const YIELD_LIMIT: u32 = 10;
+/// After so many the thread sleeps, so that the one that has the lock finds a processor.
+const MISSES_AWAKE: u32 = 40;
+const SLEEP: Duration = Duration::from_micros(50);
 
 struct Pause {
     length: u32,
-    step: u32,
+    misses: u32,
 }
 
 impl Pause {
     fn new() -> Pause {
         Pause {
             length: SHORTEST_PAUSE,
-            step: 0,
+            misses: 0,
         }
     }
 
     /// Looks away, and lets other threads run after some misses. The next time it takes longer.
     fn wait(&mut self) {
+        if self.misses >= MISSES_AWAKE {
+            sleep(SLEEP);
+            return;
+        }
         for _ in 0..self.length {
             spin_loop();
         }
-        if self.step <= SPIN_LIMIT {
-            for _ in 0..1u32 << self.step {
+        if self.misses <= SPIN_LIMIT {
+            for _ in 0..1u32 << self.misses {
                 spin_loop();
             }
         } else {
             yield_now();
         }
-        if self.step <= YIELD_LIMIT {
-            self.step += 1;
-        }
+        self.misses += 1;
         self.length = (2 * self.length).min(LONGEST_PAUSE);
     }
 }
@@ -78,15 +82,16 @@ mod tests {
     fn pauses_grow_as_those_of_the_queue() {
         let mut pause = Pause::new();
         let mut seen = Vec::new();
-        for _ in 0..13 {
-            seen.push((pause.length, pause.step));
+        for _ in 0..MISSES_AWAKE + 2 {
+            seen.push((pause.length, pause.misses));
             pause.wait();
         }
         let lengths: Vec<u32> = seen.iter().map(|s| s.0).collect();
-        let steps: Vec<u32> = seen.iter().map(|s| s.1).collect();
+        let misses: Vec<u32> = seen.iter().map(|s| s.1).collect();
         assert_eq!(lengths[..5], [400, 800, 1600, 3200, 3200]);
         assert!(lengths[5..].iter().all(|&length| length == 3200));
-        assert_eq!(steps, [0, 1, 2, 3, 4, 5, 6, 7, 8, 9, 10, 11, 11]);
+        assert!(misses[..40].iter().copied().eq(0..40));
+        assert_eq!(misses[40..], [40, 40]);
     }
 
     #[test]

@@ -2,9 +2,9 @@
 //!
 //! A queue is memory of the caller's: sixteen slots of two cache lines each. A slot that is open has one
 //! member of a board, behind a pointer; a slot of zeros is closed. `klsm_open` makes a board and puts its
-//! members into the first slots; so does `klsm_open_with_refill`. From then on each thread uses one slot (`klsm_try_insert`,
-//! `klsm_try_delete_min`), and once they are done, `klsm_close` ends the board with the account of all
-//! members and what is left. `klsm_drop` lets a queue go without an account.
+//! members into the first slots; so does `klsm_open_with_refill`. From then on each thread uses one slot
+//! (`klsm_try_insert`, `klsm_try_delete_min`), and once they are done, `klsm_close` ends the board with the
+//! account of all members and what is left. `klsm_drop` lets a queue go without an account.
 //!
 //! What C gets is what `klsm_board` promises:
 //!
