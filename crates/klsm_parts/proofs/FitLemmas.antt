@@ -87,7 +87,7 @@ local_fits n capacity = part_fits _ (lsm_is_small _ (run_is_small n capacity)) w
   part_fits s small = omega (arith, small)
 
 -- the LSM of a shared part of any number of levels
-pub shared_lsm_fits : (n : ℕ) → IsLevelCount n → lsm n 48 < 9223372036854775808
+pub shared_lsm_fits : (n : ℕ) → IsLevelCount n → lsm n 56 < 9223372036854775808
 shared_lsm_fits n levels = omega (arith, levels.at_most)
 
 -- of a row of bytes
@@ -99,9 +99,9 @@ abbrev least_items : ℕ
 least_items = up 8 (up 8 (0 + option 32) + up 8 (up 8 (0 + row) + row))
 
 -- the shared part
-pub shared_fits : (n : ℕ) → IsLevelCount n → up 8 (up 1 (up 8 (up 8 (up 8 (0 + lsm n 48) + 8) + array_vec n 8) + least_items) + 0) < 9223372036854775808
+pub shared_fits : (n : ℕ) → IsLevelCount n → up 8 (up 1 (up 8 (up 8 (up 8 (0 + lsm n 56) + 8) + array_vec n 8) + least_items) + 0) < 9223372036854775808
 shared_fits n levels = whole _ _ (blocks n levels) (pivots n levels) where
-  blocks : (n : ℕ) → IsLevelCount n → lsm n 48 < 131072
+  blocks : (n : ℕ) → IsLevelCount n → lsm n 56 < 131072
   blocks n levels = omega (arith, levels.at_most)
 
   pivots : (n : ℕ) → IsLevelCount n → array_vec n 8 < 131072

@@ -1,7 +1,7 @@
 -- Runs in their stores.
 use Rattle.std.proofs.Common.{◌≡◌, ◌⊎◌, ℕ, ◌+◌, ◌-◌, ◌<◌, ◌≤◌, ◌^◌, List, [], ◌∷◌, ◌++◌, length, take, drop, get_or, Some, refl, sym, ap, ◌∙◌, subst, arith, inl, inr, zero, suc}
 use Rattle.std.specs.List.{refill, slice_get}
-use Rattle.std.proofs.lemmas.List.{take_all, take_at, take-append-le, length-take, length-drop}
+use Rattle.std.proofs.lemmas.List.{take_all, take-append-drop, take-append-le, drop-drop, drop-take, length-take, length-drop}
 use Rattle.std.proofs.lemmas.Bool.{cases_lt}
 use Rattle.std.proofs.Math.Pow.{pow_mono}
 use Rattle.klsm_run.specs.declared.item.Item.{Item}
@@ -38,15 +38,41 @@ pub heap_whole : (count : ℕ) (old new : List Item) → length old ≡ count �
 heap_whole count old new all same = take-append-le count new (drop (length new) old) (omega (arith, all, same)) ∙ take_all count new (omega (arith, all, same))
 
 -- a store of the heap that was lent, with another run in it
-pub heap_lent : (count : ℕ) (span : Span) (old new : List Item) → length old ≡ count → length new ≡ length old → IsSpan span (length new) → IsAscending (spanned span new)
-    → length old ≤ heap_room → (length old ≡ heap_room) ⊎ ((l : ℕ) × (length old ≡ 2 ^ l)) → IsHeapRun span (take count (new ++ drop (length new) old))
-heap_lent count span old new all same within up room power =
-    subst (IsHeapRun span) (sym (heap_whole count old new all same)) (record {
+pub heap_lent : (count places room : ℕ) (span : Span) (old new : List Item) → length old ≡ count → length new ≡ length old → IsSpan span (length new) → IsAscending (spanned span new)
+    → length old ≤ places → places ≤ room → places ≤ heap_room → (places ≡ heap_room) ⊎ ((l : ℕ) × (places ≡ 2 ^ l)) → IsHeapRun span places room (take count (new ++ drop (length new) old))
+heap_lent count places room span old new all same within up filled reserved few power =
+    subst (IsHeapRun span places room) (sym (heap_whole count old new all same)) (record {
       ascending = up;
       span_in = within;
-      at_most = omega (arith, same, room);
-      whole_or_power = subst (λ n. (n ≡ heap_room) ⊎ ((l : ℕ) × (n ≡ 2 ^ l))) (sym same) power;
+      filled = omega (arith, same, filled);
+      reserved = reserved;
+      at_most = few;
+      whole_or_power = power;
     })
+
+-- what lies behind a run is not of it
+take_of_front : (n : ℕ) (front behind : List Item) → n ≤ length front → take n (front ++ behind) ≡ take n front
+take_of_front zero front behind h = refl
+take_of_front (suc n) [] behind h = absurd (omega (arith, h))
+take_of_front (suc n) (x ∷ front) behind h = ap (λ xs. x ∷ xs) (take_of_front n front behind (omega (arith, h)))
+
+spanned_front : (start count : ℕ) (front behind : List Item) → start + count ≤ length front → take count (drop start (front ++ behind)) ≡ take count (drop start front)
+spanned_front zero count front behind h = take_of_front count front behind (omega (arith, h))
+spanned_front (suc start) count [] behind h = absurd (omega (arith, h))
+spanned_front (suc start) count (x ∷ front) behind h = spanned_front start count front behind (omega (arith, h))
+
+-- a run stays where its store is filled further
+pub spanned_kept : (span : Span) (old new : List Item) → IsSpan span (length old) → take (length old) new ≡ old → spanned span new ≡ spanned span old
+spanned_kept span old new within kept =
+    let parts : old ++ drop (length old) new ≡ new = subst (λ xs. xs ++ drop (length old) new ≡ new) kept (take-append-drop (length old) new) in
+    subst (λ xs. spanned span xs ≡ spanned span old) parts (spanned_front span.start (span.end - span.start) old (drop (length old) new) (omega (arith, within.order, within.within)))
+
+-- the last items of a span
+pub last_kept : (count : ℕ) (span : Span) (stored : List Item) → count ≤ span.end - span.start → take (span.end - (span.start + count)) (drop (span.start + count) stored) ≡ drop count (spanned span stored)
+last_kept count span stored fewer =
+    let left = span.end - (span.start + count) in
+    let places : count + left ≡ span.end - span.start = omega arith in
+    ap (take left) (sym (drop-drop count span.start stored)) ∙ (sym (drop-take count left (drop span.start stored)) ∙ ap (λ n. drop count (take n (drop span.start stored))) places)
 
 -- a fixed store that was lent, with another run in it
 pub fixed_lent : (capacity : ℕ) (span : Span) (old new : List Item) → length new ≡ length old → IsSpan span (length new) → IsAscending (spanned span new)
@@ -114,11 +140,6 @@ first_in_room capacity count items few = omega (arith, few, length-take count it
 
 pub others_in_room : (capacity count : ℕ) (items : List Item) → length items ≤ capacity → length (drop count items) ≤ capacity
 others_in_room capacity count items few = omega (arith, few, length-drop count items)
-
--- what a store begins with, where it was made to hold these items and then filled up
-pub first_stored : (places : ℕ) (items begun extended filled more : List Item) → length items ≤ places → begun ≡ [] → extended ≡ begun ++ items → filled ≡ take places extended ++ more
-    → take (length items) filled ≡ items
-first_stored places items begun extended filled more few none all is = rw (is, all, none, take_all places items few) (take_at items more (length items) refl)
 
 -- the place of an item is within the store
 pub place_in_store : (span : Span) (stored : List Item) {items : List Item} {index : ℕ} → IsSpan span (length stored) → spanned span stored ≡ items → index < length items → span.start + index < length stored

@@ -21,14 +21,16 @@ pub record IsFixedRun (capacity : ℕ) (span : Span) (stored : List Item) : Type
   pub full : length stored ≡ capacity
   pub capacity_in_range : IsCapacity capacity
 
--- a run in a store of the heap
-pub record IsHeapRun (span : Span) (stored : List Item) : Type 0 where
+-- a run in a store of the heap, which has room for so many items at least and of which `places` are reserved for the run
+pub record IsHeapRun (span : Span) (places room : ℕ) (stored : List Item) : Type 0 where
   pub ascending : IsAscending (spanned span stored)
   pub span_in : IsSpan span (length stored)
-  pub at_most : length stored ≤ heap_room
-  pub whole_or_power : (length stored ≡ heap_room) ⊎ ((l : ℕ) × (length stored ≡ 2 ^ l))
+  pub filled : length stored ≤ places
+  pub reserved : places ≤ room
+  pub at_most : places ≤ heap_room
+  pub whole_or_power : (places ≡ heap_room) ⊎ ((l : ℕ) × (places ≡ 2 ^ l))
 
--- a run on the heap as contracts see it: its items, and how many its store has places for
+-- a run on the heap as contracts see it: its items, and for how many its store has places
 pub record HeapState : Type 0 where
   pub items : List Item
   pub capacity : ℕ

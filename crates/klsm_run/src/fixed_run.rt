@@ -151,6 +151,11 @@ impl<const CAP: usize> Run for FixedRun<CAP> {
         self.span.remove_at(self.items.as_mut_slice(), index)
     }
 
+    #[inline]
+    fn remove_first(&mut self, count: usize) {
+        self.span.start += count;
+    }
+
     fn unite(&mut self, other: &Self) {
         self.span.unite(self.items.as_mut_slice(), other.as_slice());
     }

@@ -1,5 +1,5 @@
 //! A run in a store of the heap, of the least power of two that holds its items when it is made.
-ghost use Rattle.std.specs.Prelude.{◌≡◌, ◌≤◌, List, length, take, false, IfOk};
+ghost use Rattle.std.specs.Prelude.{◌≡◌, ◌+◌, ◌≤◌, List, length, take, max, false, IfOk, vec_capacity};
 ghost use Rattle.klsm_run.specs.declared.item.Item.{Item};
 ghost use Rattle.klsm_run.specs.Content.{IsAscending};
 ghost use Rattle.klsm_run.specs.Capacity.{heap_room, IsPowerFor};
@@ -18,8 +18,10 @@ const HEAP_ROOM: usize = 1 << 20;
 /// A run of at most 1,048,576 items, which lie in one block of memory.
 #[derive(Drop)]
 pub struct HeapRun<A: Allocator + Copy = Global> {
-    // The store is always full, so that its length is the capacity of the run.
+    // The store has what was written once, and is filled further only where a union needs it.
     items: Vec<Item, A>,
+    // For how many items room was reserved.
+    places: usize,
     span: Span,
 }
 
@@ -27,9 +29,10 @@ impl<A: Allocator + Copy> Model for HeapRun<A> {
     ghost Value = { HeapState };
 
     ghost view = { λ run.
-        record { items = spanned run.span run.items.items; capacity = length run.items.items } };
+        record { items = spanned run.span run.items.items; capacity = run.places } };
 
-    ghost invariant = { λ run. IsHeapRun run.span run.items.items };
+    ghost invariant = { λ run.
+        IsHeapRun run.span run.places (vec_capacity run.items) run.items.items };
 }
 
 impl<A: Allocator + Copy> HeapRun<A> {
@@ -80,17 +83,18 @@ fn stored_for<A: Allocator + Copy>(
     ensures items { IfOk result (λ run. run.items ≡ items.now) }
     ensures reserved { IfOk result (λ run. IsPowerFor count run.capacity) }
 {
+    let places = power_for(count);
     Ok(HeapRun {
-        items: stored(alloc, items, power_for(count))?,
+        items: stored(alloc, items, places)?,
+        places,
         span: Span::first(items.len()),
     })
 }
 
-// A store of so many places with these items first.
+// A store of these items, with so many places reserved.
 fn stored<A: Allocator>(alloc: A, items: &[Item], places: usize) -> Result<Vec<Item, A>, RunError>
-    requires { length items.now ≤ places }
-    ensures len { IfOk result (λ store. length store.items ≡ places) }
-    ensures items { IfOk result (λ store. take (length items.now) store.items ≡ items.now) }
+    ensures items { IfOk result (λ store. store.items ≡ items.now) }
+    ensures reserved { IfOk result (λ store. places ≤ vec_capacity store) }
 {
     let Ok(mut store) = Vec::with_capacity(alloc, places) else {
         return Err(RunError::NoMemory);
@@ -98,10 +102,24 @@ fn stored<A: Allocator>(alloc: A, items: &[Item], places: usize) -> Result<Vec<I
     let Ok(()) = store.extend_from_slice(items) else {
         return Err(RunError::NoMemory);
     };
-    let Ok(()) = store.resize(places, Item::default()) else {
-        return Err(RunError::NoMemory);
-    };
     Ok(store)
+}
+
+// Fills a store up to `end` with the first of some items, as far as it is not filled yet. These are
+// the items that a union will put there or near: what it reads anyway.
+fn fill_up<A: Allocator>(store: &mut Vec<Item, A>, end: usize, items: &[Item])
+    requires reserved { end ≤ vec_capacity store.old }
+    requires enough { end ≤ length store.old.items + length items.now }
+    ensures kept { take (length store.old.items) store.new.items ≡ store.old.items }
+    ensures filled { length store.new.items ≡ max (length store.old.items) end }
+    ensures reserved { vec_capacity store.old ≤ vec_capacity store.new }
+{
+    if end <= store.len() {
+        return;
+    }
+    let Ok(()) = store.extend_from_slice(&items[..end - store.len()]) else {
+        unreachable!();
+    };
 }
 
 /// It prints as the list of its items.
@@ -131,7 +149,7 @@ impl<A: Allocator + Copy> Run for HeapRun<A> {
 
     #[inline]
     fn capacity(&self) -> usize {
-        self.items.len()
+        self.places
     }
 
     #[inline]
@@ -154,8 +172,16 @@ impl<A: Allocator + Copy> Run for HeapRun<A> {
         self.span.remove_at(self.items.as_mut_slice(), index)
     }
 
+    #[inline]
+    fn remove_first(&mut self, count: usize) {
+        self.span.start += count;
+    }
+
     fn unite(&mut self, other: &Self) {
-        self.span.unite(self.items.as_mut_slice(), other.as_slice());
+        let joining = other.as_slice();
+        let end = (self.span.end + joining.len()).min(self.places);
+        fill_up(&mut self.items, end, joining);
+        self.span.unite(self.items.as_mut_slice(), joining);
     }
 
     // The stores change places.

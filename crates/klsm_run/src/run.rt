@@ -1,5 +1,5 @@
 //! What every run offers, whatever its store.
-ghost use Rattle.std.specs.Prelude.{◌≡◌, ℕ, ◌+◌, ◌<◌, ◌≤◌, ◌↔◌, ◌^◌, ◌++◌, Bool, List, [], length, remove, slice_get, Some, IsTrue, IsOk, IfOk};
+ghost use Rattle.std.specs.Prelude.{◌≡◌, ℕ, ◌+◌, ◌<◌, ◌≤◌, ◌↔◌, ◌^◌, ◌++◌, Bool, List, [], length, drop, remove, slice_get, Some, IsTrue, IsOk, IfOk};
 ghost use Rattle.klsm_run.specs.declared.item.Item.{Item};
 ghost use Rattle.klsm_run.specs.Content.{sorted, IsAscending, ShareNone};
 ghost use Rattle.klsm_run.specs.Block.{IsBlock, HasLevel};
@@ -81,6 +81,12 @@ pub trait Run: Drop {
         requires { index < length (items self.old) }
         ensures item { slice_get (items self.old) index ≡ Some result }
         ensures rest { items self.new ≡ remove (items self.old) index }
+        ensures capacity { capacity self.new ≡ capacity self.old };
+
+    /// Takes the least items out, so many of them. No item moves.
+    fn remove_first(&mut self, count: usize)
+        requires { count ≤ length (items self.old) }
+        ensures rest { items self.new ≡ drop count (items self.old) }
         ensures capacity { capacity self.new ≡ capacity self.old };
 
     /// Puts the items of another run in, in place. It takes no memory, and stops at the least item
