@@ -40,13 +40,13 @@ joined_all_apart (h ∷ k ∷ ks) lower w lsm above =
     ∙ rw (ne_eqb (level h) (level k) (λ same. omega (arith, lsm.1.0, same))) refl
 
 -- a last block is of a lesser level than those before it, and shares no item with them
-record IsLast (hs : List (List Item)) (b : List Item) : Type 0 where
-  before : IsLsm hs
-  above : AllFrom (suc (level b)) hs
-  apart : ShareNone (content hs) b
-  block : IsBlock (level b) b
+pub record IsLast (hs : List (List Item)) (b : List Item) : Type 0 where
+  pub before : IsLsm hs
+  pub above : AllFrom (suc (level b)) hs
+  pub apart : ShareNone (content hs) b
+  pub block : IsBlock (level b) b
 
-is_last : (hs : List (List Item)) (b : List Item) → IsLsm (hs ++ b ∷ []) → IsLast hs b
+pub is_last : (hs : List (List Item)) (b : List Item) → IsLsm (hs ++ b ∷ []) → IsLast hs b
 is_last [] b lsm = record { before = tt; above = tt; apart = λ x in_none in_b. absurd (omega (arith, in_none.1)); block = lsm.0 }
 is_last (h ∷ hs) b lsm =
     let rest : IsLast hs b = is_last hs b lsm.3 in
@@ -129,7 +129,7 @@ lsm_front (h ∷ hs) ls lsm = (
 )
 
 -- the blocks up to one, with that one last
-up_to_last : (bs : List (List Item)) (start : ℕ) → 0 < start → start ≤ length bs → take start bs ≡ take (start - 1) bs ++ get_or bs (start - 1) [] ∷ []
+pub up_to_last : (bs : List (List Item)) (start : ℕ) → 0 < start → start ≤ length bs → take start bs ≡ take (start - 1) bs ++ get_or bs (start - 1) [] ∷ []
 up_to_last bs start some within =
     let next : start - 1 + 1 ≡ start = omega arith in
     ap (λ n. take n bs) (sym next) ∙ take_more bs (start - 1) [] (omega arith)

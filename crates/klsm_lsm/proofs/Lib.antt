@@ -18,6 +18,7 @@ pub mod PartnerLemmas
 pub mod PlaceLemmas
 pub mod PuttingLemmas
 pub mod RemovingLemmas
+pub mod SettleLemmas
 pub mod SlotLemmas
 pub mod SpyLemmas
 pub mod StoredLemmas

@@ -132,7 +132,7 @@ impl<const CAP: usize, const LEVELS: usize> Lsm<FixedRun<CAP>, LEVELS> {
 }
 
 // Puts items into the slot behind the blocks.
-fn put_last<const CAP: usize, const LEVELS: usize>(
+pub(crate) fn put_last<const CAP: usize, const LEVELS: usize>(
     slots: &mut ArrayVec<Option<FixedRun<CAP>>, LEVELS>,
     count: usize,
     items: &[Item],
@@ -226,7 +226,7 @@ fn carry<const CAP: usize>(slots: &mut [Option<FixedRun<CAP>>], last: usize) -> 
 
 // The level of the run in a slot.
 #[inline]
-fn level_in<const CAP: usize>(slots: &[Option<FixedRun<CAP>>], at: usize) -> usize
+pub(crate) fn level_in<const CAP: usize>(slots: &[Option<FixedRun<CAP>>], at: usize) -> usize
     requires within { at < length slots.now }
     requires some { 0 < length (slice_index_or (blocks_in (λ run. run) slots.now) at []) }
     ensures { result ≡ level (slice_index_or (blocks_in (λ run. run) slots.now) at []) }
@@ -238,7 +238,7 @@ fn level_in<const CAP: usize>(slots: &[Option<FixedRun<CAP>>], at: usize) -> usi
 }
 
 // Unites the run of a slot with that of the next one, in place. The next slot keeps what it has.
-fn unite_next<const CAP: usize>(slots: &mut [Option<FixedRun<CAP>>], at: usize)
+pub(crate) fn unite_next<const CAP: usize>(slots: &mut [Option<FixedRun<CAP>>], at: usize)
     requires within { at + 1 < length slots.old }
     requires some { 0 < length (slice_index_or (blocks_in (λ run. run) slots.old) at []) }
     requires some_next { 0

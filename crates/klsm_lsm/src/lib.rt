@@ -11,7 +11,8 @@
 //! - **Adding and removing.** `Lsm::absorb` and `Lsm::insert` leave `add` of the old blocks, and
 //!   `Lsm::remove` leaves `cut`. The functions of `laws` say what these two are for: both keep an
 //!   LSM lawful, and its content is the old one with the run's items, or without the item.
-//!   `Lsm::cascade` and `Lsm::partner` tell before which blocks become one.
+//!   `Lsm::cascade` and `Lsm::partner` tell before which blocks become one. Where it does not matter
+//!   which do, `Lsm::absorb_items` puts items in without a store of their own.
 //! - **A store stays in its slot.** Blocks unite in place, and what leaves is read as a slice. An
 //!   LSM over fixed runs never takes memory, and one over other runs only where a run is put in, in
 //!   one growth, before anything changes.
@@ -26,6 +27,7 @@ pub mod laws;
 mod lsm;
 mod places;
 mod removing;
+mod settling;
 mod slots;
 
 pub use errors::{LsmError, Refused};

@@ -1,12 +1,13 @@
 -- An own part after an item was put in or taken out.
-use Rattle.std.proofs.Common.{◌≡◌, ℕ, ◌+◌, ◌<◌, ◌≤◌, List, [], ◌∷◌, length, get_or, drop, Option, Some, None, sym, ap, ◌∙◌, arith}
+use Rattle.std.proofs.Common.{◌≡◌, ℕ, ◌+◌, ◌<◌, ◌≤◌, List, [], ◌∷◌, ◌++◌, length, get_or, drop, Option, Some, None, sym, ap, ◌∙◌, arith}
 use Rattle.std.specs.List.{Contains, slice_get}
 use Rattle.std.proofs.lemmas.List.{length-append}
 use Rattle.std.proofs.lemmas.List.Elements.{Contains-append_right}
 use Rattle.std.proofs.lemmas.Option.{none-some}
 use Rattle.klsm_run.specs.declared.item.Item.{Item}
 use Rattle.klsm_run.specs.Content.{placed, sorted}
-use Rattle.klsm_run.proofs.ContentLemmas.{sorted_swap, sorted_itself}
+use Rattle.klsm_run.proofs.ContentLemmas.{sorted_swap, sorted_itself, sorted_same_behind}
+use Rattle.klsm_run.proofs.SortedLemmas.{length_sorted}
 use Rattle.klsm_lsm.specs.Level.{level}
 use Rattle.klsm_lsm.specs.Lsm.{content, IsLsm}
 use Rattle.klsm_lsm.specs.Limit.{limit_of}
@@ -40,13 +41,17 @@ own_added capacity k old bs x found own room = record {
   found_is = none_found (add bs (x ∷ []));
 }
 
-pub own_absorbed : (capacity k : ℕ) (bs : List (List Item)) (run : List Item) (found : Option ℕ) → IsOwn capacity (record { k = k; blocks = bs }) found → length (content bs) + length run ≤ k → IsOwn capacity (record { k = k; blocks = add bs run }) None
-own_absorbed capacity k bs run found own room = record {
-  few = omega (arith, length_add bs run, room);
+pub own_absorbed : (capacity k : ℕ) (bs after : List (List Item)) (items : List Item) (found : Option ℕ) → IsOwn capacity (record { k = k; blocks = bs }) found → sorted (content after) ≡ sorted (content bs ++ items) → length (content bs) + length items ≤ k → IsOwn capacity (record { k = k; blocks = after }) None
+own_absorbed capacity k bs after items found own is room = record {
+  few = omega (arith, length_sorted (content after), ap length is, length_sorted (content bs ++ items), length-append (content bs) items, room);
   k_in_range = own.k_in_range;
   capacity_in_range = own.capacity_in_range;
-  found_is = none_found (add bs run);
+  found_is = none_found after;
 }
+
+-- the items then
+pub absorbed_is : (bs after : List (List Item)) (items : List Item) → sorted (content after) ≡ sorted (content bs ++ items) → sorted (content after) ≡ sorted (items ++ sorted (content bs))
+absorbed_is bs after items is = is ∙ (sorted_swap (content bs) items ∙ sorted_same_behind items (content bs) (sorted (content bs)) (sym (sorted_itself (content bs))))
 
 pub own_cut : (capacity k : ℕ) (bs : List (List Item)) (at index : ℕ) (x : Item) (found : Option ℕ) → IsOwn capacity (record { k = k; blocks = bs }) found → slice_get (get_or bs at []) index ≡ Some x → IsOwn capacity (record { k = k; blocks = cut bs at index }) None
 own_cut capacity k bs at index x found own here = record {

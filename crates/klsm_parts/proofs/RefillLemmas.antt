@@ -16,10 +16,8 @@ use Rattle.klsm_run.proofs.HalfLemmas.{ascending_take, ascending_drop}
 use Rattle.klsm_run.proofs.LeastLemmas.{without_first}
 use Rattle.klsm_run.proofs.OrderLemmas.{not_smaller_than_itself}
 use Rattle.klsm_run.proofs.SortedLemmas.{length_sorted, sorted_ascending}
-use Rattle.klsm_lsm.specs.Lsm.{content}
-use Rattle.klsm_lsm.specs.Adding.{add}
-use Rattle.klsm_parts.specs.Events.{MayRefill, own_after_refill, shared_after_refill}
-use Rattle.klsm_parts.proofs.EventLemmas.{minus_moved, shared_flushed}
+use Rattle.klsm_parts.specs.Events.{MayRefill, plus, own_after_refill, shared_after_refill}
+use Rattle.klsm_parts.proofs.EventLemmas.{minus_moved}
 
 -- the n least items of an ascending content are moved to a run
 pub record AreMoved (n : ℕ) (shared run left : List Item) : Type 0 where
@@ -103,11 +101,11 @@ may_refill k n own c some few room up =
     }
 
 -- and what they leave is the rest
-pub refill_leaves : (n : ℕ) (own after : List (List Item)) (c r s : List Item) → IsAscending (sorted c) → AreMoved n (sorted c) r s → after ≡ add own r
-    → (sorted (content after) ≡ own_after_refill (sorted (content own)) (take n (sorted c))) × (s ≡ shared_after_refill (sorted c) (take n (sorted c)))
-refill_leaves n own after c r s up moved added =
+pub refill_leaves : (n : ℕ) (own after c r s : List Item) → IsAscending (sorted c) → AreMoved n (sorted c) r s → after ≡ plus own r
+    → (after ≡ own_after_refill own (take n (sorted c))) × (s ≡ shared_after_refill (sorted c) (take n (sorted c)))
+refill_leaves n own after c r s up moved joined =
     let all = sorted c in
     let same : sorted c ≡ sorted (take n all ++ drop n all) = sym (ap sorted (take-append-drop n all) ∙ sorted_itself c) in (
-      ap (λ bs. sorted (content bs)) added ∙ (ap (λ xs. sorted (content (add own xs))) moved.run_is ∙ shared_flushed own (take n all)),
+      joined ∙ ap (plus own) moved.run_is,
       moved.left_is ∙ sym (minus_moved (take n all) (drop n all) c same ∙ sorted_ascending (drop n all) (ascending_drop n all up)),
     )

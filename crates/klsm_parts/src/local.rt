@@ -3,14 +3,14 @@ ghost use Rattle.std.specs.Prelude.{ℕ, ◌≡◌, ◌<◌, ◌≤◌, ◌↔�
 ghost use Rattle.std.specs.List.{Contains};
 ghost use Rattle.std.specs.Option.{option_to_list};
 ghost use Rattle.klsm_run.specs.Capacity.{IsCapacity};
-ghost use Rattle.klsm_run.specs.Content.{sorted, without, ShareNone};
+ghost use Rattle.klsm_run.specs.Content.{sorted, without, IsAscending, ShareNone};
 ghost use Rattle.klsm_lsm.specs.Lsm.{content, IsLsm};
 ghost use Rattle.klsm_lsm.specs.Adding.{add};
 ghost use Rattle.klsm_lsm.specs.Spying.{spied, left_by_spy};
 ghost use Rattle.klsm_parts.specs.Least.{IsLeast};
 ghost use Rattle.klsm_parts.specs.LeastPlaces.{IsLeastPlace};
 ghost use Rattle.klsm_parts.specs.Parts.{PartState, IsOwn, items_in, least_in};
-ghost use Rattle.klsm_parts.specs.Events.{MayPut, MayTake, MayTakeEarly, own_after_put, own_after_take, own_after_early};
+ghost use Rattle.klsm_parts.specs.Events.{MayPut, MayTake, MayTakeEarly, plus, own_after_put, own_after_take, own_after_early};
 ghost use Rattle.klsm_parts.specs.Flushing.{kept};
 ghost use Rattle.klsm_parts.specs.Taking.{IsCutFrom};
 
@@ -160,16 +160,18 @@ impl<const CAP: usize> Local<CAP> {
         self.lsm.remove(block, index)
     }
 
-    // Puts the items of a run in, for which there is room.
-    pub(crate) fn absorb(&mut self, run: FixedRun<CAP>)
+    // Puts items in, for which there is room.
+    pub(crate) fn absorb(&mut self, items: &[Item])
         requires capacity { IsCapacity CAP }
-        requires some { 0 < length run }
-        requires apart { ShareNone (content self.old.blocks) run }
-        requires room { length (content self.old.blocks) + length run ≤ self.old.k }
-        ensures { self.new ≡ record { k = self.old.k; blocks = add self.old.blocks run.entry } }
+        requires some { 0 < length items.now }
+        requires ascending { IsAscending items.now }
+        requires apart { ShareNone (content self.old.blocks) items.now }
+        requires room { length (content self.old.blocks) + length items.now ≤ self.old.k }
+        ensures k { self.new.k ≡ self.old.k }
+        ensures items { items_in self.new ≡ plus (items_in self.old) items.now }
     {
         self.found = None;
-        let Ok(()) = self.lsm.absorb(run) else {
+        let Ok(()) = self.lsm.absorb_items(items) else {
             unreachable!();
         };
     }

@@ -10,7 +10,7 @@ ghost use Rattle.klsm_parts.specs.Events.{MayRefill, own_after_refill, shared_af
 ghost use Rattle.klsm_parts.specs.Refilling.{refill_count, refill_of};
 
 use crate::{Local, Shared};
-use klsm_run::FixedRun;
+use klsm_run::{FixedRun, Run};
 use std::alloc::Allocator;
 
 /// Moves the least items of the shared part to the own one: at most `most`, as many as there are, and
@@ -48,7 +48,7 @@ pub fn refill<const CAP: usize, const LEVELS: usize, A: Allocator + Copy>(
     for _ in 0..count {
         move_least(&mut moved, shared);
     }
-    own.absorb(moved);
+    own.absorb(moved.as_slice());
     count
 }
 

@@ -3,7 +3,7 @@ use Rattle.klsm_run.proofs.SortedLemmas.{length_sorted}
 use Rattle.klsm_lsm.specs.Lsm.{content}
 use Rattle.klsm_lsm.proofs.ContentLemmas.{ascending_content}
 use Rattle.klsm_parts.specs.Parts.{PartState, items_in}
-use Rattle.klsm_parts.specs.Events.{MayRefill, own_after_refill, shared_after_refill}
+use Rattle.klsm_parts.specs.Events.{MayRefill, plus, own_after_refill, shared_after_refill}
 use Rattle.klsm_parts.specs.Refilling.{refill_count}
 use Rattle.klsm_parts.proofs.RefillLemmas.{AreMoved, none_moved_yet, one_more_moved, moved_share_none, run_shares_none, count_moved, may_refill, refill_leaves}
 use Rattle.klsm_parts.proofs.FitLemmas.{fixed_run_fits}
@@ -49,11 +49,12 @@ absorb-requires g c =
     let done : c.loop.counter ≡ c.min-count.result = omega (arith, c.loop-test.false, c.loop.auto.counter-end) in
     let count = count_moved c.loop.counter shared c.loop.moved (content left) c.loop.invariant.moved
     (omega (arith, done, c.min-count.ensures, c.len-2.ensures.len, length_sorted (content c.args.shared.now.blocks))) in
-    let some : 0 < length c.loop.moved = omega (arith, count.0, done, c.if-count-eq0.false) in
+    let is = c.as_slice.ensures.items in
+    let some : 0 < length c.as_slice.result.now = omega (arith, ap length is, count.0, done, c.if-count-eq0.false) in
     let apart = run_shares_none c.loop.counter (content c.args.own.now.blocks) (content c.args.shared.now.blocks) c.loop.moved (items_in c.loop.shared) c.requires.apart c.loop.invariant.moved in
-    let room : length (content c.args.own.now.blocks) + length c.loop.moved ≤ c.args.own.now.k =
-    omega (arith, count.0, done, c.min-count.ensures, c.min.ensures, c.k.ensures.k, c.len.ensures.len, c.len.ensures.few) in
-    (search, (fixed_run_fits g.row.CAP c.requires.capacity, (c.requires.capacity, (some, (apart, room)))))
+    let room : length (content c.args.own.now.blocks) + length c.as_slice.result.now ≤ c.args.own.now.k =
+    omega (arith, ap length is, count.0, done, c.min-count.ensures, c.min.ensures, c.k.ensures.k, c.len.ensures.len, c.len.ensures.few) in
+    (search, (c.requires.capacity, (some, (rw is c.as_slice.ensures.ascending, (rw is apart, room)))))
 
 pub returns-clause-count : goal.returns-clause-count
 returns-clause-count g c =
@@ -70,6 +71,6 @@ returns-clause-event g c some =
     let moved : AreMoved c.min-count.result shared c.loop.moved (items_in c.loop.shared) = subst (λ n. AreMoved n shared c.loop.moved (items_in c.loop.shared)) done c.loop.invariant.moved in
     let may = may_refill k c.min-count.result own (content bs) some (omega (arith, c.min-count.ensures, c.len-2.ensures.len))
     (omega (arith, c.min-count.ensures, c.min.ensures, c.k.ensures.k, c.len.ensures.len, c.len.ensures.few, length_sorted (content c.args.own.now.blocks))) up in
-    let leaves = refill_leaves c.min-count.result c.args.own.now.blocks c.absorb.new.self.blocks (content bs) c.loop.moved (items_in c.loop.shared) up moved (ap (λ (p : PartState). p.blocks) c.absorb.ensures) in
+    let leaves = refill_leaves c.min-count.result own (items_in c.absorb.new.self) (content bs) c.loop.moved (items_in c.loop.shared) up moved (c.absorb.ensures.items ∙ ap (plus own) c.as_slice.ensures.items) in
     subst (λ n. MayRefill k own shared (take n shared) × (items_in c.absorb.new.self ≡ own_after_refill own (take n shared)) × (items_in c.loop.shared ≡ shared_after_refill shared (take n shared))) count
     (may, leaves.0, leaves.1)

@@ -1,17 +1,24 @@
-use Rattle.std.proofs.Common.{◌+◌, ◌≤◌, length, sym, subst}
-use Rattle.klsm_run.specs.Content.{ShareNone}
+use Rattle.std.proofs.Common.{◌+◌, ◌≤◌, ◌++◌, ◌≡◌, ◌∙◌, length, sym, ap, subst, refl, arith}
+use Rattle.klsm_run.specs.Content.{sorted, ShareNone}
 use Rattle.klsm_lsm.specs.Lsm.{content}
 use Rattle.klsm_parts.specs.Parts.{PartState}
-use Rattle.klsm_parts.proofs.OwnLemmas.{own_absorbed}
-use Rattle.klsm_parts.proofs.FitLemmas.{first_fits}
+use Rattle.klsm_parts.proofs.OwnLemmas.{own_absorbed, absorbed_is}
+use Rattle.klsm_parts.proofs.FitLemmas.{first_fits, run_fits}
 use Rattle.klsm_parts.proofs.local.Local.absorb.Goals as goal
 
-pub absorb-requires : goal.absorb-requires
-absorb-requires g c =
-    let apart = subst (λ (p : PartState). ShareNone (content p.blocks) c.args.run) (sym c.self.view_is) c.requires.apart in
-    (search first_fits, (c.requires.some, apart))
+pub absorb_items-requires : goal.absorb_items-requires
+absorb_items-requires g c =
+    let apart = subst (λ (p : PartState). ShareNone (content p.blocks) c.args.items.now) (sym c.self.view_is) c.requires.apart in
+    (search first_fits, (search (run_fits, first_fits), (c.requires.capacity, (c.requires.some, (c.requires.ascending, apart)))))
 
 pub invariant_of-self : goal.invariant_of-self
 invariant_of-self g c =
-    let room = subst (λ (p : PartState). length (content p.blocks) + length c.args.run ≤ p.k) (sym c.self.view_is) c.requires.room in
-    rw c.in-Ok.ensures.added (own_absorbed g.row.CAP c.self.inside.k c.self.inside.lsm c.args.run c.self.inside.found c.self.invariant room)
+    let room = subst (λ (p : PartState). length (content p.blocks) + length c.args.items.now ≤ p.k) (sym c.self.view_is) c.requires.room in
+    own_absorbed g.row.CAP c.self.inside.k c.self.inside.lsm c.absorb_items.new.self c.args.items.now c.self.inside.found c.self.invariant c.in-Ok.ensures.content room
+
+pub returns-clause-k : goal.returns-clause-k
+returns-clause-k g c = ap (λ (p : PartState). p.k) c.self.view_is
+
+pub returns-clause-items : goal.returns-clause-items
+returns-clause-items g c =
+    absorbed_is c.self.inside.lsm c.absorb_items.new.self c.args.items.now c.in-Ok.ensures.content ∙ ap (λ (p : PartState). sorted (c.args.items.now ++ sorted (content p.blocks))) c.self.view_is
