@@ -11,6 +11,7 @@ use std::thread::Threads;
 const ONE_THREAD: Settings = Settings {
     threads: 1,
     k: 64,
+    refill: 0,
     pick: Pick::First,
     seed: 1,
 };

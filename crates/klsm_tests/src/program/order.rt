@@ -80,6 +80,7 @@ fn words_are_judged_before_any_input_is_read(rt: HostRuntime) {
 const OF_TWO: Settings = Settings {
     threads: 2,
     k: 64,
+    refill: 0,
     pick: Pick::First,
     seed: 1,
 };
@@ -87,6 +88,7 @@ const OF_TWO: Settings = Settings {
 const OF_THREE: Settings = Settings {
     threads: 3,
     k: 64,
+    refill: 0,
     pick: Pick::First,
     seed: 1,
 };

@@ -205,6 +205,7 @@ fn run_of(
     let settings = Settings {
         threads: threads as usize,
         k,
+        refill: 0,
         pick,
         seed,
     };

@@ -23,6 +23,7 @@ const LAST_OF_TWO: Scripts = Scripts {
     settings: Settings {
         threads: 2,
         k: 1,
+        refill: 0,
         pick: Pick::Last,
         seed: 1,
     },
@@ -60,6 +61,7 @@ const LAST_OF_ONE: Scripts = Scripts {
     settings: Settings {
         threads: 1,
         k: 1,
+        refill: 0,
         pick: Pick::Last,
         seed: 1,
     },
@@ -84,6 +86,7 @@ const NONE_KEPT: Scripts = Scripts {
     settings: Settings {
         threads: 4,
         k: 0,
+        refill: 0,
         pick: Pick::Last,
         seed: 1,
     },
@@ -112,6 +115,7 @@ const FIRST_OF_TWO: Scripts = Scripts {
     settings: Settings {
         threads: 2,
         k: 4,
+        refill: 0,
         pick: Pick::First,
         seed: 1,
     },
@@ -171,6 +175,7 @@ const OF_SIXTEEN: Scripts = Scripts {
     settings: Settings {
         threads: 16,
         k: 64,
+        refill: 0,
         pick: Pick::Random,
         seed: 18_446_744_073_709_551_615,
     },
@@ -236,6 +241,7 @@ fn scripts_of_several_threads(rt: HostRuntime) {
 const ONE_THREAD: Settings = Settings {
     threads: 1,
     k: 64,
+    refill: 0,
     pick: Pick::First,
     seed: 1,
 };

@@ -13,6 +13,8 @@ const NOT_TEXT: &[u8] = b"error: a word is not UTF-8\n\nFor more information, tr
 
 const NO_PICK: &[u8] = b"refused: pick\n";
 
+const ABOVE_K: &[u8] = b"refused: refill\n";
+
 /// Words that are no command, and the status of the program. The parser's texts for them are not
 /// fixed.
 const OTHERS: &[(&[&[u8]], u8)] = &[
@@ -28,6 +30,9 @@ const OTHERS: &[(&[&[u8]], u8)] = &[
     (&[b"klsm", b"replay", b"--k", b"65"], 2),
     (&[b"klsm", b"replay", b"--k=-1"], 2),
     (&[b"klsm", b"replay", b"--seed", b"18446744073709551616"], 2),
+    (&[b"klsm", b"replay", b"--refill", b"65"], 2),
+    (&[b"klsm", b"replay", b"--refill=-1"], 2),
+    (&[b"klsm", b"live", b"--refill", b"x"], 2),
     (&[b"klsm", b"replay", b"--pick"], 2),
     (&[b"klsm", b"replay", b"--idle", b"1"], 2),
     (&[b"klsm", b"replay", b"--pick", b"least", b"--k", b"65"], 2),
@@ -40,6 +45,7 @@ const OTHERS: &[(&[&[u8]], u8)] = &[
     (&[b"klsm", b"knapsack", b"--threads", b"0"], 2),
     (&[b"klsm", b"knapsack", b"--idle", b"1000001"], 2),
     (&[b"klsm", b"knapsack", b"--pick", b"first"], 2),
+    (&[b"klsm", b"knapsack", b"--refill", b"1"], 2),
     (&[b"klsm", b"knapsack", b"-k", b"65"], 2),
     (&[b"klsm", b"help", b"lives"], 2),
     (&[b"klsm", b"--help"], 0),
@@ -98,6 +104,30 @@ const TOLD: &[Told] = &[
         NO_PICK,
     ),
     (&[b"klsm", b"replay", b"--pick", b""], SCRIPT, 2, NO_PICK),
+    (
+        &[b"klsm", b"replay", b"--k", b"8", b"--refill", b"9"],
+        SCRIPT,
+        2,
+        ABOVE_K,
+    ),
+    (
+        &[b"klsm", b"live", b"--refill=1", b"-k", b"0"],
+        SCRIPT,
+        2,
+        ABOVE_K,
+    ),
+    (
+        &[b"klsm", b"live", b"--refill=9", b"--k=8", b"--pick=least"],
+        SCRIPT,
+        2,
+        NO_PICK,
+    ),
+    (
+        &[b"klsm", b"replay", b"--refill", b"64"],
+        SCRIPT,
+        0,
+        b"0 d none\nmax skip 0 bound 64\n",
+    ),
     (
         &[
             b"klsm",
