@@ -9,7 +9,6 @@ use Rattle.klsm_board.specs.declared.board.Board.{Board}
 use Rattle.klsm_board.specs.declared.board.Member.{Member}
 use Rattle.klsm_board.specs.declared.sizes.Sizes.{Sizes}
 use Rattle.klsm_board.specs.Boards.{IsCrew, IsOf, own_steps}
-use Rattle.klsm_board.specs.Finishing.{AreListsAtEnd}
 use Rattle.klsm_board.specs.Rule.{IsReached}
 use Rattle.klsm_board.proofs.lemmas.ending.EndLemmas.{each_of}
 use Rattle.klsm_text.specs.declared.stop.Stop.{Stop}

@@ -21,7 +21,12 @@ pub(crate) fn board_for(
     ensures count { IfOk result (λ made. length made.1.items ≡ settings.now.threads) }
     ensures crew { IfOk result (λ made. IsCrew made.1.items) }
 {
-    let Settings { threads, k, refill, .. } = *settings;
+    let Settings {
+        threads,
+        k,
+        refill,
+        ..
+    } = *settings;
     match Board::with_refill(alloc, threads, k, MOST_INSERTIONS, refill) {
         Ok(made) => Ok(made),
         // The settings are in range, so it is memory that is wanted.
