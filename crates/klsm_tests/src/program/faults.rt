@@ -102,6 +102,7 @@ fn a_failed_write_leaves_the_first_bytes(rt: HostRuntime) {
 const USUAL: Settings = Settings {
     threads: 1,
     k: 64,
+    refill: 0,
     pick: Pick::First,
     seed: 1,
 };

@@ -57,6 +57,7 @@ fn two_threads_run_side_by_side(rt: HostRuntime) {
     let settings = Settings {
         threads: 2,
         k: 64,
+        refill: 0,
         pick: Pick::First,
         seed: 1,
     };
@@ -78,6 +79,7 @@ fn each_thread_passes_the_gate_once(rt: HostRuntime) {
     let settings = Settings {
         threads: 3,
         k: 64,
+        refill: 0,
         pick: Pick::First,
         seed: 1,
     };

@@ -10,6 +10,7 @@ use std::sync::Wait;
 const TWO_THREADS: Settings = Settings {
     threads: 2,
     k: 1,
+    refill: 0,
     pick: Pick::First,
     seed: 1,
 };

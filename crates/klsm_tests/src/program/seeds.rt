@@ -26,6 +26,7 @@ fn text_of(rt: &(impl AllocGlobal + Wait), thread: u64, seed: u64) -> Option<Vec
     let settings = Settings {
         threads: 3,
         k: 8,
+        refill: 0,
         pick: Pick::Random,
         seed,
     };
