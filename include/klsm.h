@@ -330,7 +330,7 @@ typedef struct klsm_pause {
 } klsm_pause;
 
 KLSM_INLINE klsm_pause klsm_first_pause(void) {
-    klsm_pause first = {400, 0};
+    klsm_pause first = {25, 0};
     return first;
 }
 
@@ -346,7 +346,7 @@ KLSM_INLINE void klsm_wait(klsm_pause *pause) {
     if (pause->misses > 6)
         sched_yield();
     pause->misses++;
-    pause->length = pause->length < 1600 ? 2 * pause->length : 3200;
+    pause->length = pause->length < 400 ? 2 * pause->length : 800;
 }
 
 /* The calls that come after a first one was KLSM_BUSY. */

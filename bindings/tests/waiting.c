@@ -62,7 +62,7 @@ int main(void) {
     check("each try has the arguments", told);
     check("other threads run from the eighth pause on, and the caller sleeps from the 41st on", waited);
 
-    const uint32_t lengths[] = {400, 800, 1600, 3200, 3200, 3200};
+    const uint32_t lengths[] = {25, 50, 100, 200, 400, 800};
     klsm_pause pause = klsm_first_pause();
     int as_told = 1;
     for (uint32_t i = 0; i < 20; i++) {

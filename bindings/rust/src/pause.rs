@@ -1,7 +1,7 @@
 //! What a call that may wait does between two tries.
 //!
 //! The library's functions wait for nobody, so the waiting is here. The numbers are those of the
-//! queue's own waiting calls: pauses of 400 instructions, then 800, 1600 and 3200, each followed by
+//! queue's own waiting calls: pauses of 25 instructions, then twice as many up to 800, each followed by
 //! a backoff that after some misses lets other threads run, and after many sleeps.
 
 use crate::sys::code::BUSY;
@@ -9,8 +9,8 @@ use std::hint::spin_loop;
 use std::thread::{sleep, yield_now};
 use std::time::Duration;
 
-const SHORTEST_PAUSE: u32 = 400;
-const LONGEST_PAUSE: u32 = 3_200;
+const SHORTEST_PAUSE: u32 = 25;
+const LONGEST_PAUSE: u32 = 800;
 
 /// Up to so many misses the backoff spins, and then it yields.
 const SPIN_LIMIT: u32 = 6;
@@ -88,8 +88,8 @@ mod tests {
         }
         let lengths: Vec<u32> = seen.iter().map(|s| s.0).collect();
         let misses: Vec<u32> = seen.iter().map(|s| s.1).collect();
-        assert_eq!(lengths[..5], [400, 800, 1600, 3200, 3200]);
-        assert!(lengths[5..].iter().all(|&length| length == 3200));
+        assert_eq!(lengths[..6], [25, 50, 100, 200, 400, 800]);
+        assert!(lengths[6..].iter().all(|&length| length == 800));
         assert!(misses[..40].iter().copied().eq(0..40));
         assert_eq!(misses[40..], [40, 40]);
     }

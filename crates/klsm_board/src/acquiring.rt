@@ -16,9 +16,9 @@ use std::sync::Wait;
 use std::time::Duration;
 
 // How many `spin_loop` a member that missed a part makes before its next try, at first and at most.
-const SHORTEST_PAUSE: u32 = 400;
+const SHORTEST_PAUSE: u32 = 25;
 
-const LONGEST_PAUSE: u32 = 3_200;
+const LONGEST_PAUSE: u32 = 800;
 
 // After how many misses it sleeps, and how many microseconds at a time.
 const MISSES_AWAKE: u32 = 40;
