@@ -54,10 +54,9 @@ impl Hold {
     fn turn(&mut self, member: usize) -> Option<()> {
         let item = self.crew.deleted(member, &mut First)?;
         let rank = self.rank(item);
-        if self.live.get(rank) != Some(&item) {
+        if rank >= self.live.len() || self.live.remove(rank) != item {
             return None;
         }
-        self.live.remove(rank);
         self.most = self.most.max(rank);
         let step = self.mix.next_u64() % 100_000;
         self.insert(member, item.key.saturating_add(step))
