@@ -196,7 +196,8 @@ int32_t klsm_open(klsm_queue *queue, size_t threads, size_t k, uint32_t pick, ui
  * the shared part then moves the least shared items to its member's own part, at most `refill` of them
  * and at most half as many as there is room for, rounded up, while it holds the shared lock; so the
  * member's next deletions need its own lock alone. In the mean more smaller items are passed over,
- * since up to `refill` of the least items wait in the own part of each member; the bound stays T*k.
+ * since what moved, as a rule up to `refill` items for each member, waits in own parts; the bound
+ * stays T*k.
  * KLSM_OK, or the first of these that is true:
  *   KLSM_OPEN        it is open already
  *   KLSM_BAD_PICK    `pick` is none of the three

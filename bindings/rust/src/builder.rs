@@ -11,7 +11,8 @@ const DEFAULT_REFILL: usize = 16;
 /// A deletion that took its item from the shared part moves the least shared items to its member's own
 /// part, at most `refill` of them and at most half as many as there is room for, rounded up, so that the
 /// member's next deletions need its own lock alone. In the mean more smaller items are passed over,
-/// since up to `refill` of the least items wait in the own part of each member; the bound stays T·k.
+/// since what moved, as a rule up to `refill` items for each member, waits in own parts; the bound
+/// stays T·k.
 #[derive(Clone, Debug)]
 pub struct Builder {
     threads: usize,
