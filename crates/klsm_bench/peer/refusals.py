@@ -26,6 +26,7 @@ RUNS = [
     (["live"], "first.csv"),
     (["live", "--threads", "2", "--k", "1"], "live_two_threads.csv"),
     (["live", "--threads", "4", "--k", "4"], "four_threads_random.csv"),
+    (["replay", "--threads", "2", "--k", "4", "--refill", "2"], "refilled_items.csv"),
     (["knapsack"], "knapsack.csv"),
     (["knapsack", "--threads", "2", "--k", "1"], "knapsack.csv"),
     (["knapsack", "--threads", "4", "--k", "0"], "knapsack.csv"),

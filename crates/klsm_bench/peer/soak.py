@@ -1,4 +1,5 @@
-"""Runs a million rows by sixteen threads with `klsm live`, for k of 0, 1 and 64, and checks the totals.
+"""Runs a million rows by sixteen threads with `klsm live`, for k of 0, 1 and 64 and refills from 0 to k, and
+checks the totals.
 
     python3 soak.py ../../klsm/out/klsm
 
@@ -14,6 +15,9 @@ import sys
 
 ROWS = 1_000_000
 THREADS = 16
+
+# k and refill.
+SIZES = [(0, 0), (1, 0), (1, 1), (64, 0), (64, 1), (64, 8), (64, 16), (64, 64)]
 
 
 def script(seed):
@@ -32,15 +36,15 @@ def script(seed):
 
 
 def main(klsm):
-    for seed, k in enumerate((0, 1, 64)):
+    for seed, (k, refill) in enumerate(SIZES):
         rows, insertions = script(seed)
-        command = [klsm, "live", "--threads", str(THREADS), "--k", str(k), "--pick", "random"]
+        command = [klsm, "live", "--threads", str(THREADS), "--k", str(k), "--refill", str(refill), "--pick", "random"]
         line = subprocess.run(command, input=rows, capture_output=True, check=True).stdout.decode()
         inserted, deleted, left = map(int, re.fullmatch(r"inserted (\d+) deleted (\d+) left (\d+)\n", line).groups())
         assert inserted == insertions, line
         assert inserted == deleted + left, line
         assert deleted <= ROWS - insertions, line
-        print(f"k {k}: {line}", end="")
+        print(f"k {k} refill {refill}: {line}", end="")
 
 
 main(*sys.argv[1:])
