@@ -15,6 +15,7 @@ GREY = "#555555"
 STYLES = {
     "k-LSM first": ("#0b5394", "o", "-"),
     "k-LSM random": ("#3d85c6", "s", (0, (5, 2))),
+    "k-LSM refill": ("#1c4587", "*", "-"),
     "MultiQueue c=2": ("#b45f06", "^", (0, (6, 2, 1, 2))),
     "MultiQueue c=4": ("#cc7a1f", "v", (0, (3, 2))),
     "heap and mutex": ("#222222", "X", (0, (1, 1.5))),
