@@ -35,7 +35,8 @@ pub(super) fn run_over(
     settings: &Settings,
     empty: Vec<u8>,
 ) -> Option<Run> {
-    if settings.threads < 1 || settings.threads > 16 || settings.k > 64 {
+    let has_board = settings.threads >= 1 && settings.threads <= 16 && settings.k <= 64;
+    if !has_board || settings.refill > settings.k {
         return None;
     }
     let mut text = empty;
@@ -51,7 +52,13 @@ pub(super) fn run_on(
     settings: &Settings,
     empty: Vec<u8>,
 ) -> Option<(Run, Vec<Counts>)> {
-    let Ok((board, mut members)) = Board::new(rt.alloc(), settings.threads, settings.k, MANY) else {
+    let Settings {
+        threads,
+        k,
+        refill,
+        ..
+    } = *settings;
+    let Ok((board, mut members)) = Board::with_refill(rt.alloc(), threads, k, MANY, refill) else {
         return None;
     };
     let mut text = empty;
