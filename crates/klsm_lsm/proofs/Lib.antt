@@ -14,6 +14,7 @@ pub mod LeastBlockLemmas
 pub mod LeastLemmas
 pub mod LevelLemmas
 pub mod LimitLemmas
+pub mod LosingLemmas
 pub mod PartnerLemmas
 pub mod PlaceLemmas
 pub mod PuttingLemmas

@@ -34,14 +34,14 @@ some_item (b ∷ bs) zero index within = omega (arith, within, length-append b (
 some_item (b ∷ bs) (suc at) index within = omega (arith, some_item bs at index within, length-append b (content bs))
 
 -- blocks of which one was written to, and then the next one taken out
-set_then_remove : (bs : Blocks) (at : ℕ) (w : List Item) → suc at < length bs → remove (set bs at w) (suc at) ≡ take at bs ++ w ∷ drop (suc (suc at)) bs
+pub set_then_remove : (bs : Blocks) (at : ℕ) (w : List Item) → suc at < length bs → remove (set bs at w) (suc at) ≡ take at bs ++ w ∷ drop (suc (suc at)) bs
 set_then_remove [] at w within = absurd (omega (arith, within))
 set_then_remove (b ∷ []) zero w within = absurd (omega (arith, within))
 set_then_remove (b ∷ c ∷ bs) zero w within = refl
 set_then_remove (b ∷ bs) (suc at) w within = ap (λ (l : Blocks). b ∷ l) (set_then_remove bs at w (omega (arith, within)))
 
 -- or the same one
-remove_set : (bs : Blocks) (at : ℕ) (w : List Item) → remove (set bs at w) at ≡ remove bs at
+pub remove_set : (bs : Blocks) (at : ℕ) (w : List Item) → remove (set bs at w) at ≡ remove bs at
 remove_set [] zero w = refl
 remove_set [] (suc at) w = refl
 remove_set (b ∷ bs) zero w = refl
@@ -53,7 +53,7 @@ pub record CanFall (room : ℕ) (b c : List Item) : Type 0 where
   pub apart : ShareNone b c
   pub fits : (l : ℕ) → HasLevel l (length b) → length b - 1 + length c ≤ min room (2 ^ l)
 
-level_if_has : (l n : ℕ) → HasLevel l n → least_level n ≤ l
+pub level_if_has : (l n : ℕ) → HasLevel l n → least_level n ≤ l
 level_if_has zero n h = let fits : n ≤ 2 ^ 0 = omega (arith, h) in level_least n 0 fits
 level_if_has (suc l) n h = level_least n (suc l) h.1
 

@@ -11,6 +11,7 @@
 //! - **Adding and removing.** `Lsm::absorb` and `Lsm::insert` leave `add` of the old blocks, and
 //!   `Lsm::remove` leaves `cut`. The functions of `laws` say what these two are for: both keep an
 //!   LSM lawful, and its content is the old one with the run's items, or without the item.
+//!   `Lsm::remove_first` takes several out at once, and leaves `cut_first`.
 //!   `Lsm::cascade` and `Lsm::partner` tell before which blocks become one. Where it does not matter
 //!   which do, `Lsm::absorb_items` puts items in without a store of their own.
 //! - **A store stays in its slot.** Blocks unite in place, and what leaves is read as a slice. An
@@ -24,6 +25,7 @@ mod absorbing;
 mod errors;
 mod fixed;
 pub mod laws;
+mod losing;
 mod lsm;
 mod places;
 mod removing;

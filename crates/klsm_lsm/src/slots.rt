@@ -105,6 +105,62 @@ fn remove_and_unite<R: Run>(run: &mut R, index: usize, next: &R) -> Item
     item
 }
 
+// Takes the first items out of the run in a slot.
+#[inline]
+pub(crate) fn lose<R: Run>(slots: &mut [Option<R>], at: usize, count: usize)
+    requires at { at < length slots.old }
+    requires some { 0 < length (slice_index_or (blocks_in R.items slots.old) at []) }
+    requires count { count ≤ length (slice_index_or (blocks_in R.items slots.old) at []) }
+    ensures { blocks_in R.items slots.new ≡ slice_set (blocks_in R.items slots.old) at
+        (drop count (slice_index_or (blocks_in R.items slots.old) at [])) }
+{
+    let Some(run) = &mut slots[at] else {
+        unreachable!();
+    };
+    run.remove_first(count);
+}
+
+// Takes the first items out of the run in a slot, and unites it with that of the next slot, in place.
+pub(crate) fn lose_and_unite<R: Run>(slots: &mut [Option<R>], at: usize, count: usize)
+    requires at { at + 1 < length slots.old }
+    requires count { count < length (slice_index_or (blocks_in R.items slots.old) at []) }
+    requires some { 0 < length (slice_index_or (blocks_in R.items slots.old) (at + 1) []) }
+    requires apart { ShareNone (slice_index_or (blocks_in R.items slots.old) at [])
+        (slice_index_or (blocks_in R.items slots.old) (at + 1) []) }
+    requires room { (l : ℕ)
+        → HasLevel l (length (slice_index_or (blocks_in R.items slots.old) at []))
+        → length (slice_index_or (blocks_in R.items slots.old) at []) - count
+        + length (slice_index_or (blocks_in R.items slots.old) (at + 1) []) ≤ min R.ROOM (2 ^ l) }
+    ensures { blocks_in R.items slots.new ≡ slice_set (blocks_in R.items slots.old) at
+        (sorted (drop count (slice_index_or (blocks_in R.items slots.old) at [])
+        ++ slice_index_or (blocks_in R.items slots.old) (at + 1) [])) }
+{
+    let (front, back) = slots.split_at_mut(at + 1);
+    let Some(run) = &mut front[at] else {
+        unreachable!();
+    };
+    let Some(next) = &back[0] else {
+        unreachable!();
+    };
+    lose_and_take_in(run, count, next);
+}
+
+// Takes the first items out of a run, and unites it with the next block, which is of no lesser level
+// than what is left.
+fn lose_and_take_in<R: Run>(run: &mut R, count: usize, next: &R)
+    requires count { count < length (R.items run.old) }
+    requires apart { ShareNone (R.items run.old) (R.items next.now) }
+    requires room { (l : ℕ) → HasLevel l (length (R.items run.old))
+        → length (R.items run.old) - count + length (R.items next.now) ≤ min R.ROOM (2 ^ l) }
+    ensures { R.items run.new ≡ sorted (drop count (R.items run.old) ++ R.items next.now) }
+{
+    // For the proof: the store has room for a whole block of the level before, so for both.
+    let _known = run.level();
+    let _known = run.capacity();
+    run.remove_first(count);
+    run.unite(next);
+}
+
 // Closes the gap of a block that is gone: each block behind it moves to the slot before.
 pub(crate) fn close_gap<R: Run>(slots: &mut [Option<R>], at: usize, count: usize)
     requires at { at < count }

@@ -25,7 +25,7 @@ use Rattle.klsm_parts.proofs.MarkedLemmas.{pivot_in_block}
 use Rattle.klsm_parts.proofs.MendLemmas.{AreSplit, AreApart, split_unmarked, split_less, split_remove, split_united, sum_united, count_marked, pivots_if_split, split_if_pivots, SkipsFew, SkipsMany, skips_apart}
 
 -- the pivots count the marked items
-sum_of_pivots : (n : ℕ) (bs : List (List Item)) (ps : List ℕ) → ArePivots n bs ps → sum ps ≡ min n (length (content bs))
+pub sum_of_pivots : (n : ℕ) (bs : List (List Item)) (ps : List ℕ) → ArePivots n bs ps → sum ps ≡ min n (length (content bs))
 sum_of_pivots n bs ps pivots = sym (count_marked bs ps pivots.within) ∙ length_marked n bs ps pivots
 
 -- an item that is one of the least is before its block's pivot
@@ -55,7 +55,7 @@ pub k_marked : (k : ℕ) (bs : List (List Item)) (ps : List ℕ) → k < length 
 k_marked k bs ps more pivots = let count : min (k + 1) (length (content bs) + 1) - 1 ≡ k = omega (arith, more) in subst (λ n. ArePivots n bs ps) count pivots
 
 -- a block and the next, as one
-set_together : (bs : List (List Item)) (at : ℕ) (x : List Item) → at + 1 < length bs → united (set bs at x) at 2 [] ≡ take at bs ++ sorted (x ++ get_or bs (at + 1) []) ∷ drop (at + 2) bs
+pub set_together : (bs : List (List Item)) (at : ℕ) (x : List Item) → at + 1 < length bs → united (set bs at x) at 2 [] ≡ take at bs ++ sorted (x ++ get_or bs (at + 1) []) ∷ drop (at + 2) bs
 set_together bs at x within =
     let y = get_or bs (at + 1) [] in
     let two : take 2 (drop at (set bs at x)) ≡ x ∷ y ∷ [] = ap (take 2) (drop-set bs at x (omega (arith, within)) ∙ ap (λ cs. x ∷ cs) (drop_more bs (at + 1) [] within)) in

@@ -5,6 +5,7 @@ pub mod EventLemmas
 pub mod FitLemmas
 pub mod FlushLemmas
 pub mod FoundLemmas
+pub mod LeavingLemmas
 pub mod ListingLemmas
 pub mod MarkedLemmas
 pub mod MendLemmas

@@ -21,7 +21,7 @@ use Rattle.klsm_parts.specs.Least.{least}
 use Rattle.klsm_parts.specs.Pivots.{marked, unmarked, AreWithin, ArePivots, count_in_least}
 
 -- two lists before a third may change places
-sorted_swap_before : (xs ys zs : List Item) → sorted (xs ++ (ys ++ zs)) ≡ sorted (ys ++ (xs ++ zs))
+pub sorted_swap_before : (xs ys zs : List Item) → sorted (xs ++ (ys ++ zs)) ≡ sorted (ys ++ (xs ++ zs))
 sorted_swap_before xs ys zs =
     sorted_swap xs (ys ++ zs) ∙ (ap sorted (append_assoc ys zs xs) ∙ sorted_same_behind ys (zs ++ xs) (xs ++ zs) (sorted_swap zs xs))
 

@@ -79,14 +79,14 @@ ranking_remove bs (x ∷ xs) (b ∷ order) zero ranking ranked = ranking.1
 ranking_remove bs (x ∷ xs) (b ∷ order) (suc r) ranking ranked = (ranking.0, ranking_remove bs xs order r ranking.1 (omega (arith, ranked)))
 
 -- a ranking where the blocks of the items have other places
-ranking_map : (bs cs : List (List Item)) (P : Item → Type 0) (f : ℕ → ℕ) (xs : List Item) (order : List ℕ) → ((y : Item) (b : ℕ) → P y → Contains (get_or bs b []) y → Contains (get_or cs (f b) []) y)
+pub ranking_map : (bs cs : List (List Item)) (P : Item → Type 0) (f : ℕ → ℕ) (xs : List Item) (order : List ℕ) → ((y : Item) (b : ℕ) → P y → Contains (get_or bs b []) y → Contains (get_or cs (f b) []) y)
     → AllByRecursion P xs → AreInBlocks bs xs order → AreInBlocks cs xs (map f order)
 ranking_map bs cs P f xs [] moved all ranking = tt
 ranking_map bs cs P f [] (b ∷ order) moved all ranking = absurd ranking
 ranking_map bs cs P f (x ∷ xs) (b ∷ order) moved all ranking = (moved x b all.0 ranking.0, ranking_map bs cs P f xs order moved all.1 ranking.1)
 
 -- where a block goes, the items of the others are in theirs
-in_others : (bs : List (List Item)) (at b : ℕ) (y : Item) → at < length bs → (b ≡ at → ⊥) → Contains (get_or bs b []) y → Contains (get_or (remove bs at) (place_after_cut true at b) []) y
+pub in_others : (bs : List (List Item)) (at b : ℕ) (y : Item) → at < length bs → (b ≡ at → ⊥) → Contains (get_or bs b []) y → Contains (get_or (remove bs at) (place_after_cut true at b) []) y
 in_others bs at b y here differ within = elim (cases_lt at b) [
   | inl above ↦
       let next : b - 1 + 1 ≡ b = omega (arith, above) in
@@ -105,7 +105,7 @@ in_less bs at index b x y here found other within = elim (cases_eq b at) [
 ]
 
 -- where a block and the next became one
-in_one : (bs : List (List Item)) (at b : ℕ) (one : List Item) (y : Item) → at + 1 < length bs → (b ≡ at → Contains one y) → (b ≡ at + 1 → Contains one y) → Contains (get_or bs b []) y
+pub in_one : (bs : List (List Item)) (at b : ℕ) (one : List Item) (y : Item) → at + 1 < length bs → (b ≡ at → Contains one y) → (b ≡ at + 1 → Contains one y) → Contains (get_or bs b []) y
     → Contains (get_or (take at bs ++ one ∷ drop (at + 2) bs) (place_after_cut true at b) []) y
 in_one bs at b one y here first second within =
     let back = one ∷ drop (at + 2) bs in

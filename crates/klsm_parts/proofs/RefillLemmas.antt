@@ -1,19 +1,19 @@
 -- The least items of a shared part on their way to an own one.
-use Rattle.std.proofs.Common.{◌≡◌, ◌≢◌, ℕ, ◌+◌, ◌<◌, ◌≤◌, cond, zero, suc, List, [], ◌∷◌, ◌++◌, length, take, drop, Some, refl, sym, ap, ◌∙◌, subst, arith, add-one}
-use Rattle.std.specs.List.{AllByRecursion, Contains, slice_get, count_by}
-use Rattle.std.proofs.lemmas.List.{length-drop, length-take, take-append-drop}
+use Rattle.std.proofs.Common.{◌≡◌, ◌≢◌, ℕ, ◌+◌, ◌<◌, ◌≤◌, cond, zero, suc, List, [], ◌∷◌, ◌++◌, length, take, drop, refl, sym, ap, ◌∙◌, subst, arith}
+use Rattle.std.specs.List.{AllByRecursion, Contains, count_by}
+use Rattle.std.proofs.lemmas.List.{drop-drop, drop-take, length-drop, length-take, take-append-drop}
+use Rattle.std.proofs.lemmas.Slice.{take-put_mid}
+use borrow.Rule.Slice.PartMut.{put_mid, same_len_mid}
 use Rattle.std.proofs.lemmas.List.Elements.{Contains-append_left}
 use Rattle.std.proofs.lemmas.List.Sums.{sum_by-append}
-use Rattle.std.proofs.lemmas.Option.{none-some, same_Some}
 use Rattle.klsm_run.specs.declared.item.Item.{Item}
 use Rattle.klsm_run.specs.ItemOrder.{IsSmaller, is_same}
-use Rattle.klsm_run.specs.Content.{sorted, without, IsAscending, ShareNone}
+use Rattle.klsm_run.specs.Content.{sorted, IsAscending, ShareNone}
 use Rattle.klsm_run.proofs.AllLemmas.{all_weaker}
 use Rattle.klsm_run.proofs.ApartLemmas.{AreApart}
 use Rattle.klsm_run.proofs.ContainsLemmas.{contains_sorted, contains_unsorted}
 use Rattle.klsm_run.proofs.ContentLemmas.{sorted_itself, sharing_none_if_apart}
 use Rattle.klsm_run.proofs.HalfLemmas.{ascending_take, ascending_drop}
-use Rattle.klsm_run.proofs.LeastLemmas.{without_first}
 use Rattle.klsm_run.proofs.OrderLemmas.{not_smaller_than_itself}
 use Rattle.klsm_run.proofs.SortedLemmas.{length_sorted, sorted_ascending}
 use Rattle.klsm_parts.specs.Events.{MayRefill, plus, own_after_refill, shared_after_refill}
@@ -24,33 +24,35 @@ pub record AreMoved (n : ℕ) (shared run left : List Item) : Type 0 where
   pub run_is : run ≡ take n shared
   pub left_is : left ≡ drop n shared
 
--- the first of what is left comes next
-left_next : (n : ℕ) (s : List Item) (x : Item) → slice_get (drop n s) 0 ≡ Some x → drop n s ≡ x ∷ drop (suc n) s
-left_next zero [] x first = absurd (none-some x first)
-left_next zero (y ∷ s) x first = ap (λ z. z ∷ s) (same_Some y x first)
-left_next (suc n) [] x first = absurd (none-some x first)
-left_next (suc n) (y ∷ s) x first = left_next n s x first
+-- the first ones, told in two parts
+take_parts : (n m : ℕ) (xs : List Item) → take (n + m) xs ≡ take n xs ++ take m (drop n xs)
+take_parts n m xs = sym (take-append-drop n (take (n + m) xs)) ∙ (ap (λ ys. ys ++ drop n (take (n + m) xs)) (shorter n (n + m) xs (omega arith)) ∙ ap (λ ys. take n xs ++ ys) (drop-take n m xs))
+  where
+    shorter : (i k : ℕ) (ys : List Item) → i ≤ k → take i (take k ys) ≡ take i ys
+    shorter zero k ys h = refl
+    shorter (suc i) zero ys h = absurd (omega (arith, h))
+    shorter (suc i) (suc k) [] h = refl
+    shorter (suc i) (suc k) (y ∷ ys) h = ap (λ (zs : List Item). y ∷ zs) (shorter i k ys (omega (arith, h)))
 
-moved_next : (n : ℕ) (s : List Item) (x : Item) → slice_get (drop n s) 0 ≡ Some x → take (suc n) s ≡ take n s ++ x ∷ []
-moved_next zero [] x first = absurd (none-some x first)
-moved_next zero (y ∷ s) x first = ap (λ z. z ∷ []) (same_Some y x first)
-moved_next (suc n) [] x first = absurd (none-some x first)
-moved_next (suc n) (y ∷ s) x first = ap (λ zs. y ∷ zs) (moved_next n s x first)
+-- m items more are moved to the places from n on, of which k are lent
+pub record AreMovedOn (n m : ℕ) (all old places left : List Item) : Type 0 where
+  pub few : n + m ≤ length places
+  pub len : length places ≡ length old
+  pub moved : take (n + m) places ≡ take (n + m) all
+  pub left_is : left ≡ drop (n + m) all
 
--- at first none is moved
-pub none_moved_yet : (shared : List Item) → AreMoved 0 shared [] shared
-none_moved_yet shared = record { run_is = refl; left_is = refl }
-
--- and then one more
-pub one_more_moved : (n : ℕ) (shared r s r' s' : List Item) (x : Item) → IsAscending shared → AreMoved n shared r s → slice_get s 0 ≡ Some x → r' ≡ sorted (r ++ x ∷ []) → s' ≡ without x s → AreMoved (n + 1) shared r' s'
-one_more_moved n shared r s r' s' x up moved first run_is left_is =
-    let here : slice_get (drop n shared) 0 ≡ Some x = ap (λ xs. slice_get xs 0) (sym moved.left_is) ∙ first in
-    let left : drop n shared ≡ x ∷ drop (suc n) shared = left_next n shared x here in
-    let joined : r ++ x ∷ [] ≡ take (suc n) shared = ap (λ xs. xs ++ x ∷ []) moved.run_is ∙ sym (moved_next n shared x here) in
-    subst (λ j. AreMoved j shared r' s') (sym (add-one n)) (record {
-      run_is = run_is ∙ (ap sorted joined ∙ sorted_ascending (take (suc n) shared) (ascending_take (suc n) shared up));
-      left_is = left_is ∙ (ap (without x) (moved.left_is ∙ left) ∙ without_first x (drop (suc n) shared));
-    })
+pub moved_on : (n m k : ℕ) (all places new before left : List Item) → k ≡ m → n + m ≤ length places → take n places ≡ take n all → before ≡ drop n all → n + m ≤ length all → new ≡ take k before → left ≡ drop k before → AreMovedOn n m all places (put_mid n k places new) left
+moved_on n m k all places new before left is few so_far before_is enough new_is left_is =
+    let size : length new ≡ m = omega (arith, ap length new_is, length-take k before, is, ap length before_is, length-drop n all, enough) in
+    let lent : length new ≡ length (take k (drop n places)) = omega (arith, size, length-take k (drop n places), length-drop n places, few, is) in
+    let same : length (put_mid n k places new) ≡ length places = same_len_mid n k places new lent in
+    record {
+      few = omega (arith, same, few);
+      len = same;
+      moved = take-put_mid n k places new (n + m) (omega (arith, size)) (omega (arith, few))
+          ∙ (ap (λ xs. xs ++ new) so_far ∙ (ap (λ xs. take n all ++ xs) (new_is ∙ (ap (λ i. take i before) is ∙ ap (take m) before_is)) ∙ sym (take_parts n m all)));
+      left_is = left_is ∙ (ap (λ i. drop i before) is ∙ (ap (drop m) before_is ∙ drop-drop m n all));
+    }
 
 all_drop : (P : Item → Type 0) (n : ℕ) (xs : List Item) → AllByRecursion P xs → AllByRecursion P (drop n xs)
 all_drop P zero xs all = all

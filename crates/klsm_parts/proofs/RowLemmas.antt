@@ -1,7 +1,7 @@
 -- The bytes of a row in its store.
-use Rattle.std.proofs.Common.{◌≡◌, ℕ, zero, suc, ◌+◌, ◌-◌, ◌<◌, List, [], ◌∷◌, length, take, drop, map, remove, refl, sym, ap, ◌∙◌, arith}
+use Rattle.std.proofs.Common.{◌≡◌, ℕ, zero, suc, ◌+◌, ◌-◌, ◌<◌, ◌≤◌, List, [], ◌∷◌, length, take, drop, map, remove, refl, sym, ap, ◌∙◌, arith}
 use Rattle.std.specs.List.{copy_within}
-use Rattle.std.proofs.lemmas.List.{length-take, length-drop, drop-map, take-map}
+use Rattle.std.proofs.lemmas.List.{length-take, length-drop, drop-drop, drop-map, drop-take, take-map}
 use Rattle.klsm_run.proofs.ShiftLemmas.{shift_down}
 use Rattle.klsm_parts.specs.Rows.{IsRow, between}
 
@@ -32,6 +32,13 @@ first_leaves start end at places items row whole view less first =
     ∙ (rest_of start (end - (start + 1)) places
     ∙ (ap (λ n. remove (take n (drop start places)) 0) some
     ∙ (ap (λ xs. remove xs 0) view ∙ ap (remove items) (sym first))))
+
+-- so do the first ones
+pub firsts_leave : (start end count : ℕ) (places items : List ℕ) → IsRow start end → length places ≡ 192 → between start end places ≡ items → count ≤ length items → between (start + count) end places ≡ drop count items
+firsts_leave start end count places items row whole view few =
+    let left = end - (start + count) in
+    let all : count + left ≡ end - start = omega (arith, few, ap length view, length_between start end places row whole) in
+    ap (take left) (sym (drop-drop count start places)) ∙ (sym (drop-take count left (drop start places)) ∙ (ap (λ n. drop count (take n (drop start places))) all ∙ ap (drop count) view))
 
 -- one leaves, and those behind it move down
 pub row_shift_down : (start end at : ℕ) (places new items : List ℕ) → IsRow start end → length places ≡ 192 → between start end places ≡ items → at < length items

@@ -63,6 +63,7 @@
 mod appending;
 mod flushing;
 pub mod laws;
+mod leaving;
 mod local;
 mod mending;
 mod merging;

@@ -98,7 +98,7 @@ impl<const LEVELS: usize> Merging<LEVELS> {
 
 // The item of a rank with its block, if the ranking knows it. The pivots are those of the items before it.
 #[inline]
-fn next_item<R: Run, const LEVELS: usize>(
+pub(crate) fn next_item<R: Run, const LEVELS: usize>(
     ranking: &Ranking,
     lsm: &Lsm<R, LEVELS>,
     pivots: &[usize],

@@ -1,5 +1,5 @@
 //! The candidates of the shared part in their order: the block of each, and a byte of its owner.
-ghost use Rattle.std.specs.Prelude.{◌≡◌, ◌+◌, ◌%◌, ◌<◌, ◌≤◌, ◌↔◌, ◌++◌, ◌∷◌, ℕ, [], true, length, map, remove, slice_get, slice_index_or, count_by, nat_eq, option_map, Some, IfSome, IsTrue};
+ghost use Rattle.std.specs.Prelude.{◌≡◌, ◌+◌, ◌%◌, ◌<◌, ◌≤◌, ◌↔◌, ◌++◌, ◌∷◌, ℕ, [], true, length, map, drop, remove, slice_get, slice_index_or, count_by, nat_eq, option_map, Some, IfSome, IsTrue};
 ghost use Rattle.std.specs.Option.{option_to_list};
 ghost use Rattle.klsm_run.specs.Content.{sorted};
 ghost use Rattle.klsm_lsm.specs.Lsm.{content, IsLsm};
@@ -167,6 +167,29 @@ impl Ranking {
         if let Some(next) = next {
             self.push(next);
         }
+    }
+
+    /// The first candidates leave, so many of them.
+    #[inline]
+    pub(crate) fn remove_first(&mut self, count: usize)
+        requires count { count ≤ length self.old.blocks.items }
+        requires owners { count ≤ length self.old.owners.items }
+        ensures blocks { self.new.blocks.items ≡ drop count self.old.blocks.items }
+        ensures owners { self.new.owners.items ≡ drop count self.old.owners.items }
+    {
+        self.blocks.remove_first(count);
+        self.owners.remove_first(count);
+    }
+
+    /// The block behind another has the place of that.
+    #[inline]
+    pub(crate) fn close_up(&mut self, block: usize)
+        requires { block < 256 }
+        ensures blocks { self.new.blocks.items
+            ≡ map (place_after_cut true block) self.old.blocks.items }
+        ensures owners { self.new.owners ≡ self.old.owners }
+    {
+        self.blocks.close_up(block as u8);
     }
 
     // The candidate of a rank leaves. `closes_up` says whether the block behind its own then has the place of that.

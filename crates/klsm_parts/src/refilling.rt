@@ -1,23 +1,22 @@
 //! What a member that has both parts in hand moves to its own one, so that its next deletions do not need
 //! the shared one.
-ghost use Rattle.std.specs.Prelude.{◌≡◌, ◌<◌, ◌∷◌, ◌++◌, [], length, Some};
-ghost use Rattle.klsm_run.specs.declared.item.Item.{Item};
+ghost use Rattle.std.specs.Prelude.{◌≡◌, ◌<◌, ◌≤◌, length, take, drop};
 ghost use Rattle.klsm_run.specs.Capacity.{IsCapacity};
-ghost use Rattle.klsm_run.specs.Content.{sorted, without, ShareNone};
+ghost use Rattle.klsm_run.specs.Content.{ShareNone};
 ghost use Rattle.klsm_lsm.specs.Lsm.{content};
-ghost use Rattle.klsm_parts.specs.Parts.{items_in, least_in};
+ghost use Rattle.klsm_parts.specs.Parts.{items_in};
 ghost use Rattle.klsm_parts.specs.Events.{MayRefill, own_after_refill, shared_after_refill};
 ghost use Rattle.klsm_parts.specs.Refilling.{refill_count, refill_of};
 
 use crate::{Local, Shared};
-use klsm_run::{FixedRun, Run};
+use klsm_run::Item;
 use std::alloc::Allocator;
 
 /// Moves the least items of the shared part to the own one: at most `most`, as many as there are, and
 /// as half the room of the own part, rounded up, is for. The answer is how many moved.
 ///
-/// It takes no memory. It costs what a deletion of the least shared item costs for each item, and one
-/// merge of what moves with the own part.
+/// It takes no memory. Items leave the shared part at once, at one comparison a block of it for each, and
+/// join the own one by one merge.
 pub fn refill<const CAP: usize, const LEVELS: usize, A: Allocator + Copy>(
     own: &mut Local<CAP>,
     shared: &mut Shared<LEVELS, A>,
@@ -44,29 +43,28 @@ pub fn refill<const CAP: usize, const LEVELS: usize, A: Allocator + Copy>(
     if count == 0 {
         return 0;
     }
-    let mut moved = FixedRun::<CAP>::empty();
-    for _ in 0..count {
-        move_least(&mut moved, shared);
-    }
-    own.absorb(moved.as_slice());
+    let mut places = [Item::default(); CAP];
+    let moved = &mut places[..count];
+    move_least(shared, moved);
+    own.absorb(moved);
     count
 }
 
-// Moves the least shared item to a run.
-fn move_least<const CAP: usize, const LEVELS: usize, A: Allocator + Copy>(
-    run: &mut FixedRun<CAP>,
+// Moves the least shared items to places, in their order: as many at a time as are candidates, so that one turn does where the two
+// parts have one k.
+fn move_least<const LEVELS: usize, A: Allocator + Copy>(
     shared: &mut Shared<LEVELS, A>,
+    places: &mut [Item],
 )
-    requires capacity { IsCapacity CAP }
-    requires apart { ShareNone run.old (content shared.old.blocks) }
-    requires room { length run.old < CAP }
-    requires some { 0 < length (content shared.old.blocks) }
+    requires { length places.old ≤ length (items_in shared.old) }
     ensures shared_k { shared.new.k ≡ shared.old.k }
-    ensures moved { (x : Item) × (least_in shared.old ≡ Some x)
-        × (run.new ≡ sorted (run.old ++ x ∷ []))
-        × (items_in shared.new ≡ without x (items_in shared.old)) }
+    ensures moved { places.new ≡ take (length places.old) (items_in shared.old) }
+    ensures left { items_in shared.new ≡ drop (length places.old) (items_in shared.old) }
 {
-    let least = shared.place_of_candidate(0);
-    shared.remove(least.block, least.index, 0);
-    run.insert(least.item);
+    let mut done = 0;
+    while done < places.len() {
+        let count = (places.len() - done).min(shared.candidates());
+        shared.take_least(&mut places[done..done + count]);
+        done += count;
+    }
 }

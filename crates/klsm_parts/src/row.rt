@@ -82,6 +82,15 @@ impl Row {
         self.end -= 1;
     }
 
+    /// Takes the first bytes out, so many of them. None moves.
+    #[inline]
+    pub(crate) fn remove_first(&mut self, count: usize)
+        requires { count ≤ length self.old.items }
+        ensures { self.new.items ≡ drop count self.old.items }
+    {
+        self.start += count;
+    }
+
     /// Each byte above another becomes one less.
     pub(crate) fn close_up(&mut self, below: u8)
         ensures { self.new.items ≡ map (place_after_cut true below) self.old.items }

@@ -1,5 +1,5 @@
 //! The part that all members share.
-ghost use Rattle.std.specs.Prelude.{◌≡◌, ◌≢◌, ◌+◌, ◌<◌, ◌≤◌, ◌↔◌, [], length, min, slice_get, slice_index_or, Some, IsTrue, IsOk, IfOk, IfErr, OnOk, OnErr, IsErrAnd, ◌++◌, vec_len, vec_capacity};
+ghost use Rattle.std.specs.Prelude.{◌≡◌, ◌≢◌, ◌+◌, ◌<◌, ◌≤◌, ◌↔◌, [], length, min, slice_get, slice_index_or, Some, IsTrue, IsOk, IfOk, IfErr, OnOk, OnErr, IsErrAnd, ◌++◌, take, drop, vec_len, vec_capacity};
 ghost use Rattle.klsm_run.specs.Capacity.{IsCapacity, heap_room};
 ghost use Rattle.klsm_run.specs.Content.{sorted, ShareNone};
 ghost use Rattle.klsm_lsm.specs.Lsm.{content, IsLsm};
@@ -11,6 +11,7 @@ ghost use Rattle.klsm_parts.specs.Taking.{own_first};
 ghost use Rattle.klsm_parts.specs.Parts.{PartState, IsShared, items_in, least_in, candidates_of};
 
 use crate::appending::append_blocks;
+use crate::leaving::{copy_least, cut_blocks, rank_up_to};
 use crate::mending::{mend_cut, unite_pivots};
 use crate::merging::{Merging, merged};
 use crate::ranking::{LeastItems, Ranking};
@@ -218,6 +219,22 @@ impl<const LEVELS: usize, A: Allocator + Copy> Shared<LEVELS, A> {
             }
             Err(why) => Err(why),
         }
+    }
+
+    // Takes the least items out, as many as there are places, and puts them there in their order.
+    pub(crate) fn take_least(&mut self, places: &mut [Item])
+        requires { length places.old ≤ length (candidates_of self.old) }
+        ensures k { self.new.k ≡ self.old.k }
+        ensures taken { places.new ≡ take (length places.old) (items_in self.old) }
+        ensures left { items_in self.new ≡ drop (length places.old) (items_in self.old) }
+    {
+        let counts = copy_least(&self.least.ranking, &self.lsm, places);
+        let ranking = &mut self.least.ranking;
+        ranking.remove_first(places.len());
+        cut_blocks(&mut self.lsm, &mut self.pivots, ranking, counts.as_slice());
+        let most = self.lsm.len().min(self.k + 1);
+        rank_up_to(&self.lsm, &mut self.pivots, ranking, most);
+        self.least.first = self.least.ranking.least(&self.lsm);
     }
 
     // Takes the candidate of a rank out, which is item `index` of block `block`.

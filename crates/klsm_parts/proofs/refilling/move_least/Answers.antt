@@ -1,41 +1,59 @@
-use Rattle.std.proofs.Common.{◌+◌, ◌∙◌, [], get_or, sym, ap, arith}
-use Rattle.std.proofs.lemmas.List.{length-take}
-use Rattle.std.proofs.lemmas.Option.{slice_get_within}
-use Rattle.klsm_run.specs.Content.{sorted}
-use Rattle.klsm_run.proofs.SortedLemmas.{length_sorted}
-use Rattle.klsm_run.proofs.IndexLemmas.{taken_at}
-use Rattle.klsm_run.proofs.ContainsLemmas.{contains_unsorted}
-use Rattle.klsm_run.proofs.IndexLemmas.{contains_at}
-use Rattle.klsm_lsm.specs.Lsm.{content}
-use Rattle.klsm_parts.specs.Parts.{PartState}
-use Rattle.klsm_parts.proofs.EventLemmas.{cut_is_taken}
+use Rattle.std.proofs.Common.{◌≡◌, ◌+◌, ◌-◌, ◌<◌, ◌≤◌, length, take, drop, refl, sym, ap, ◌∙◌, arith}
+use Rattle.std.proofs.lemmas.List.{length-take, length-drop, take_all}
+use borrow.Rule.Slice.PartMut.{same_len_mid}
+use Rattle.klsm_parts.specs.Parts.{items_in}
+use Rattle.klsm_parts.proofs.RefillLemmas.{moved_on}
 use Rattle.klsm_parts.proofs.refilling.move_least.Goals as goal
 
-pub place_of_candidate-least-requires : goal.place_of_candidate-least-requires
-place_of_candidate-least-requires g c =
-    let bs = c.args.shared.now.blocks in
-    (search, omega (arith, c.requires.some, length_sorted (content bs), length-take (c.args.shared.now.k + 1) (sorted (content bs))))
+pub loop-done-init : goal.loop-done-init
+loop-done-init g c = record { few = omega arith; len = refl; moved = refl; left = refl; shared_k = refl }
 
-pub remove-requires : goal.remove-requires
-remove-requires g c =
-    let place = c.place_of_candidate-least.result in
-    let found = c.place_of_candidate-least.ensures in
-    (search, (found.block, (slice_get_within (get_or c.args.shared.now.blocks place.block []) place.index place.item found.index, found.index ∙ sym found.candidate)))
+pub candidates-requires : goal.candidates-requires
+candidates-requires g c = search
 
-pub insert-requires : goal.insert-requires
-insert-requires g c =
-    let bs = c.args.shared.now.blocks in
-    let place = c.place_of_candidate-least.result in
-    let first = taken_at (c.args.shared.now.k + 1) (sorted (content bs)) 0 place.item c.place_of_candidate-least.ensures.candidate in
-    let within = contains_unsorted place.item (content bs) (contains_at (sorted (content bs)) 0 place.item first.1) in
-    (search, (c.requires.room, λ in_run. c.requires.apart place.item in_run within))
+pub take_least-requires : goal.take_least-requires
+take_least-requires g c =
+    let k = c.loop-done.done + c.min-count.result - c.loop-done.done in
+    (search, omega (arith, length-take k (drop c.loop-done.done c.loop-done.places), c.min-count.ensures, c.candidates.ensures))
 
-pub returns-clause-shared_k : goal.returns-clause-shared_k
-returns-clause-shared_k g c = ap (λ (p : PartState). p.k) c.remove.ensures
+pub loop-done-preserved : goal.loop-done-preserved
+loop-done-preserved g c =
+    let now = c.loop-done.invariant in let all = items_in c.args.shared.now in
+    let n = c.loop-done.done in let m = c.min-count.result in let k = n + m - n in
+    let is : k ≡ m = omega arith in
+    let few : n + m ≤ length c.loop-done.places = omega (arith, c.min-count.ensures, c.loop-done-test.true) in
+    let lent : length (take k (drop n c.loop-done.places)) ≡ k = omega (arith, length-take k (drop n c.loop-done.places), length-drop n c.loop-done.places, few, is) in
+    let on = moved_on n m k all c.loop-done.places c.take_least.new.places (items_in c.loop-done.shared) (items_in c.take_least.new.self) is few now.moved now.left (omega (arith, few, now.len, c.requires))
+    (c.take_least.ensures.taken ∙ ap (λ i. take i (items_in c.loop-done.shared)) lent) (c.take_least.ensures.left ∙ ap (λ i. drop i (items_in c.loop-done.shared)) lent) in
+    record {
+      few = on.few;
+      len = on.len ∙ now.len;
+      moved = on.moved;
+      left = on.left_is;
+      shared_k = c.take_least.ensures.k ∙ now.shared_k;
+    }
+
+pub loop-done-smaller : goal.loop-done-smaller
+loop-done-smaller g c =
+    let now = c.loop-done.invariant in
+    let n = c.loop-done.done in let m = c.min-count.result in let k = n + m - n in
+    let is : k ≡ m = omega arith in
+    let few : n + m ≤ length c.loop-done.places = omega (arith, c.min-count.ensures, c.loop-done-test.true) in
+    let left : length (items_in c.loop-done.shared) ≡ length (items_in c.args.shared.now) - n = ap length now.left ∙ length-drop n (items_in c.args.shared.now) in
+    let some : 0 < m = omega (arith, c.min-count.ensures, c.candidates.ensures, c.loop-done-test.true, now.len, c.requires, left, length-take (c.loop-done.shared.k + 1) (items_in c.loop-done.shared)) in
+    let lent : length c.take_least.new.places ≡ length (take k (drop n c.loop-done.places)) = c.take_least.auto.places in
+    let size = same_len_mid n k c.loop-done.places c.take_least.new.places lent in
+    omega (arith, some, few, size)
 
 pub returns-clause-moved : goal.returns-clause-moved
 returns-clause-moved g c =
-    let bs = c.args.shared.now.blocks in
-    let place = c.place_of_candidate-least.result in
-    let first = taken_at (c.args.shared.now.k + 1) (sorted (content bs)) 0 place.item c.place_of_candidate-least.ensures.candidate in
-    (place.item, first.1, c.insert.ensures, cut_is_taken bs c.remove.new.self.blocks place.item (place.block, place.index, c.place_of_candidate-least.ensures.index, ap (λ (p : PartState). p.blocks) c.remove.ensures))
+    let now = c.loop-done.invariant in
+    let done : c.loop-done.done ≡ length c.args.places.now = omega (arith, now.few, now.len, c.loop-done-test.false) in
+    let all : length c.loop-done.places ≤ c.loop-done.done = omega (arith, done, now.len) in
+    (sym (take_all c.loop-done.done c.loop-done.places all)) ∙ (now.moved ∙ ap (λ i. take i (items_in c.args.shared.now)) done)
+
+pub returns-clause-left : goal.returns-clause-left
+returns-clause-left g c =
+    let now = c.loop-done.invariant in
+    let done : c.loop-done.done ≡ length c.args.places.now = omega (arith, now.few, now.len, c.loop-done-test.false) in
+    now.left ∙ ap (λ i. drop i (items_in c.args.shared.now)) done

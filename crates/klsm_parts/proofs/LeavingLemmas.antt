@@ -1,0 +1,456 @@
+-- Blocks of a shared part that lose their first items, one block after another, the last first.
+use Rattle.std.proofs.Common.{◌≡◌, ◌≢◌, ℕ, ◌+◌, ◌-◌, ◌<◌, ◌≤◌, ◌==◌, ◌↔◌, ◌||◌, ◌⊎◌, ◌%◌, Bool, true, false, List, [], ◌∷◌, ◌++◌, length, map, get_or, set, remove, take, drop, min, sum, refl, sym, ap, ◌∙◌, subst, arith, zero, suc, inl, inr, IsTrue, Some}
+use Rattle.std.specs.List.{AllByRecursion, Contains, slice_get}
+use Rattle.std.proofs.Math.Seq.{drop-cons}
+use Rattle.std.proofs.lemmas.Bool.{false≢true, cases_eq, cases_lt, eq-eqb, ne_eqb}
+use Rattle.std.proofs.lemmas.List.{append_assoc, length-append, length-drop, length-map, length-set, length-take-le, take_all, take-append-le, take-set-le, drop-drop, drop-take, drop_all, get_or-take, get_or-set_same, get_or-set_other, take-append-drop, take_min, take_more, take_more_set}
+use Rattle.std.proofs.lemmas.List.Edits.{length-remove}
+use Rattle.std.proofs.lemmas.List.Elements.{Contains-append_left, Contains-append_right}
+use Rattle.std.proofs.lemmas.List.Sums.{sum_by-cons, sum_by-set, sum_by-remove}
+use Rattle.klsm_run.specs.declared.item.Item.{Item}
+use Rattle.klsm_run.specs.Content.{sorted}
+use Rattle.klsm_run.proofs.AllLemmas.{all_weaker}
+use Rattle.klsm_run.proofs.ContentLemmas.{sorted_same_behind, sorted_sorted}
+use Rattle.klsm_run.proofs.ContainsLemmas.{contains_if_has, has_if_contains, contains_sorted}
+use Rattle.klsm_run.proofs.HalfLemmas.{ascending_drop}
+use Rattle.klsm_run.proofs.LeastLemmas.{Has}
+use Rattle.klsm_run.proofs.RankLemmas.{rest_skip_many}
+use Rattle.klsm_run.proofs.IndexLemmas.{at_each, at_index, slice_get-take, slice_get-drop}
+use Rattle.klsm_run.proofs.SortedLemmas.{length_sorted, sorted_ascending}
+use Rattle.klsm_run.proofs.WithoutLemmas.{sorted_cancel}
+use Rattle.klsm_lsm.specs.Lsm.{content, IsLsm}
+use Rattle.klsm_lsm.specs.Losing.{JoinsNext, cut_first}
+use Rattle.klsm_lsm.proofs.ContentLemmas.{ascending_content}
+use Rattle.klsm_lsm.proofs.LosingLemmas.{IsJoining, first_cut}
+use Rattle.klsm_parts.specs.Leaving.{fewer_marked, pivots_without, closed_up, IsBlockCut}
+use Rattle.klsm_parts.specs.Mending.{united_pivots}
+use Rattle.klsm_parts.specs.Pivots.{marked, AreWithin, ArePivots}
+use Rattle.klsm_parts.specs.Ranking.{AreInBlocks, AreOwners, AreRanked, IsOfBlock, IsRanking, place_after_cut}
+use Rattle.klsm_parts.proofs.CutPivotLemmas.{set_together, sum_of_pivots}
+use Rattle.klsm_parts.proofs.FoundLemmas.{one_each, pivot_within}
+use Rattle.klsm_parts.proofs.MarkedLemmas.{pivot_in_block}
+use Rattle.klsm_parts.proofs.MendLemmas.{AreSplit, AreApart, IsOneOf, SkipsFew, SkipsMany, skips_apart, split_within, split_remove, split_united, sum_united, split_if_pivots, pivots_if_split}
+use Rattle.klsm_parts.proofs.OwnerLemmas.{owners_more}
+use Rattle.klsm_parts.proofs.PivotLemmas.{sorted_swap_before, pivot_more, first_unmarked, length_marked}
+use Rattle.klsm_parts.proofs.RankingCutLemmas.{ranking_map, in_others, in_one}
+use Rattle.klsm_parts.proofs.RankingLemmas.{ranking_more}
+use Rattle.std.proofs.lemmas.Option.{slice_get_within, get_or_from_slice_get}
+
+abbrev Blocks : Type 0
+Blocks = List (List Item)
+
+-- pivots of the least n items are those of as many as they count
+pub pivots_summed : (n : ℕ) (bs : Blocks) (ps : List ℕ) → ArePivots n bs ps → ArePivots (sum ps) bs ps
+pivots_summed n bs ps pivots =
+    let count : sum ps ≡ min n (length (content bs)) = sum_of_pivots n bs ps pivots in
+    record {
+      within = pivots.within;
+      exact = pivots.exact ∙ (sym (take_min n (sorted (content bs))) ∙ ap (λ m. take m (sorted (content bs))) (ap (min n) (length_sorted (content bs)) ∙ sym count));
+    }
+
+-- a pivot is at most that of more items
+pub pivots_up_to : (c : List Item) (n m : ℕ) (bs : Blocks) (cs ps : List ℕ) (j : ℕ) → n ≤ m → AreSplit (SkipsFew c n) (SkipsMany c n) bs cs → AreSplit (SkipsFew c m) (SkipsMany c m) bs ps → get_or cs j 0 ≤ get_or ps j 0
+pivots_up_to c n m [] [] ps j less few more = omega arith
+pivots_up_to c n m [] (q ∷ cs) ps j less few more = absurd few
+pivots_up_to c n m (b ∷ bs) [] ps j less few more = absurd few
+pivots_up_to c n m (b ∷ bs) (q ∷ cs) [] j less few more = absurd more
+pivots_up_to c n m (b ∷ bs) (q ∷ cs) (p ∷ ps) (suc j) less few more = pivots_up_to c n m bs cs ps j less few.3 more.3
+pivots_up_to c n m (b ∷ bs) (q ∷ cs) (p ∷ ps) zero less few more = elim (cases_lt p q) [
+  | inr order ↦ order
+  | inl bad ↦
+      let x = at_index b p (omega (arith, bad, few.0)) in
+      let first : SkipsFew c n x.0 = at_each (SkipsFew c n) (take q b) p x.0 few.1 (slice_get-take q b p bad ∙ x.1) in
+      let nil : p + 0 ≡ p = omega arith in
+      let second : SkipsMany c m x.0 = at_each (SkipsMany c m) (drop p b) 0 x.0 more.2 (slice_get-drop p b 0 ∙ (ap (slice_get b) nil ∙ x.1)) in
+      absurd (omega (arith, first, second, less))
+]
+
+-- the items before a block's pivot are of the first kind
+marked_at : (P Q : Item → Type 0) (bs : Blocks) (ps : List ℕ) (j : ℕ) → AreSplit P Q bs ps → AllByRecursion P (take (get_or ps j 0) (get_or bs j []))
+marked_at P Q [] [] j split = tt
+marked_at P Q [] (p ∷ ps) j split = absurd split
+marked_at P Q (b ∷ bs) [] j split = absurd split
+marked_at P Q (b ∷ bs) (p ∷ ps) zero split = split.1
+marked_at P Q (b ∷ bs) (p ∷ ps) (suc j) split = marked_at P Q bs ps j split.3
+
+all_behind : (P : Item → Type 0) (n : ℕ) (xs : List Item) → AllByRecursion P xs → AllByRecursion P (drop n xs)
+all_behind P zero xs all = all
+all_behind P (suc n) [] all = tt
+all_behind P (suc n) (x ∷ xs) all = all_behind P n xs all.1
+
+-- a block with some marked items less
+fewer_in_block : (P Q : Item → Type 0) (b : List Item) (p c : ℕ) → c ≤ p → p ≤ length b → AllByRecursion P (take p b) → AllByRecursion Q (drop p b) → IsOneOf P Q (drop c b) (p - c)
+fewer_in_block P Q b p c fewer within some rest =
+    let whole : c + (p - c) ≡ p = omega (arith, fewer) in
+    let front : drop c (take p b) ≡ take (p - c) (drop c b) = ap (λ n. drop c (take n b)) (sym whole) ∙ drop-take c (p - c) b in
+    let back : drop p b ≡ drop (p - c) (drop c b) = sym (drop-drop (p - c) c b ∙ ap (λ n. drop n b) whole) in
+    record {
+      within = omega (arith, length-drop c b, within);
+      some = subst (AllByRecursion P) front (all_behind P c (take p b) some);
+      rest = subst (AllByRecursion Q) back rest;
+    }
+
+split_fewer : (P Q : Item → Type 0) (bs : Blocks) (ps : List ℕ) (at c : ℕ) → at < length bs → c ≤ get_or ps at 0 → AreSplit P Q bs ps → AreSplit P Q (set bs at (drop c (get_or bs at []))) (fewer_marked ps at c)
+split_fewer P Q [] ps at c within fewer split = absurd (omega (arith, within))
+split_fewer P Q (b ∷ bs) [] at c within fewer split = absurd split
+split_fewer P Q (b ∷ bs) (p ∷ ps) zero c within fewer split = let one = fewer_in_block P Q b p c fewer split.0 split.1 split.2 in (one.within, one.some, one.rest, split.3)
+split_fewer P Q (b ∷ bs) (p ∷ ps) (suc at) c within fewer split = (split.0, split.1, split.2, split_fewer P Q bs ps at c (omega (arith, within)) fewer split.3)
+
+-- they count so many less
+sum_fewer : (ps : List ℕ) (at c : ℕ) → at < length ps → c ≤ get_or ps at 0 → sum (fewer_marked ps at c) + c ≡ sum ps
+sum_fewer ps at c within fewer = omega (arith, sum_by-set (λ (y : ℕ). y) ps at (get_or ps at 0 - c) 0 within, fewer)
+
+-- an item that is none of the first ones is among the others
+stays_behind : (c : ℕ) (b : List Item) (y : Item) → AllByRecursion (λ x. x ≢ y) (take c b) → Has y b → Has y (drop c b)
+stays_behind zero b y none has = has
+stays_behind (suc c) [] y none has = has
+stays_behind (suc c) (x ∷ b) y none (inl same) = absurd (none.0 same)
+stays_behind (suc c) (x ∷ b) y none (inr there) = stays_behind c b y none.1 there
+
+stays_in_block : (content : List Item) (n c : ℕ) (b : List Item) (y : Item) → AllByRecursion (SkipsFew content n) (take c b) → SkipsMany content n y → Contains b y → Contains (drop c b) y
+stays_in_block content n c b y few many within =
+    contains_if_has y (drop c b) (stays_behind c b y (all_weaker (SkipsFew content n) (λ x. x ≢ y) (λ x less same. let less_y : SkipsFew content n y = subst (SkipsFew content n) same less in omega (arith, less_y, many)) (take c b) few) (has_if_contains y b within))
+
+-- a ranking of the same items, where each is in a block of the same place
+ranking_kept : (bs cs : Blocks) (P : Item → Type 0) (xs : List Item) (order : List ℕ) → ((y : Item) (b : ℕ) → P y → Contains (get_or bs b []) y → Contains (get_or cs b []) y) → AllByRecursion P xs → AreInBlocks bs xs order → AreInBlocks cs xs order
+ranking_kept bs cs P xs [] moved all ranking = tt
+ranking_kept bs cs P [] (b ∷ order) moved all ranking = absurd ranking
+ranking_kept bs cs P (x ∷ xs) (b ∷ order) moved all ranking = (moved x b all.0 ranking.0, ranking_kept bs cs P xs order moved all.1 ranking.1)
+
+in_fewer : (bs : Blocks) (at c b : ℕ) (y : Item) → at < length bs → (b ≡ at → Contains (drop c (get_or bs at [])) y) → Contains (get_or bs b []) y → Contains (get_or (set bs at (drop c (get_or bs at []))) b []) y
+in_fewer bs at c b y here first within = elim (cases_eq b at) [
+  | inl same ↦ rw same (subst (λ xs. Contains xs y) (sym (get_or-set_same bs at (drop c (get_or bs at [])) [] here)) (first same))
+  | inr differ ↦ subst (λ xs. Contains xs y) (sym (get_or-set_other bs at b (drop c (get_or bs at [])) [] differ)) within
+]
+
+-- the first ones of a list that was changed behind them
+front_of : {X : Type 0} (at : ℕ) (xs ys : List X) → at ≤ length xs → take at (take at xs ++ ys) ≡ take at xs
+front_of at xs ys within = let size = length-take-le at xs within in take-append-le at (take at xs) ys (omega (arith, size)) ∙ take_all at (take at xs) (omega (arith, size))
+
+shorter : {X : Type 0} (n k : ℕ) (xs : List X) → n ≤ k → take n (take k xs) ≡ take n xs
+shorter zero k xs h = refl
+shorter (suc n) zero xs h = absurd (omega (arith, h))
+shorter (suc n) (suc k) [] h = refl
+shorter (suc n) (suc k) (x ∷ xs) h = ap (λ ys. x ∷ ys) (shorter n k xs (omega (arith, h)))
+
+-- blocks, of which those before `at` are as they were, and the others without their first items
+pub record IsLeaving (bs : Blocks) (counts ps order : List ℕ) (at : ℕ) (now : Blocks) (pivots left : List ℕ) : Type 0 where
+  pub at_in : at ≤ length bs
+  pub lawful : IsLsm now
+  pub within : at ≤ length now
+  pub front : take at now ≡ take at bs
+  pub pivots_front : take at pivots ≡ take at ps
+  pub split : AreSplit (SkipsFew (content bs) (sum ps)) (SkipsMany (content bs) (sum ps)) now pivots
+  pub total : sum pivots + sum (drop at counts) ≡ sum ps
+  pub holds : sorted (marked (drop at bs) (drop at counts) ++ content now) ≡ sorted (content bs)
+  pub ranking : AreInBlocks now (drop (sum counts) (sorted (content bs))) left
+  pub as_many : length left ≡ length order
+
+pub leaving_first : (bs : Blocks) (counts ps order : List ℕ) → IsLsm bs → AreWithin bs counts → ArePivots (sum ps) bs ps → AreInBlocks bs (drop (sum counts) (sorted (content bs))) order → IsLeaving bs counts ps order (length counts) bs ps order
+leaving_first bs counts ps order lsm within pivots ranking =
+    let each : length counts ≡ length bs = one_each bs counts within in
+    let none : drop (length counts) counts ≡ [] = drop_all (length counts) counts (omega arith) in
+    let no_block : drop (length counts) bs ≡ [] = drop_all (length counts) bs (omega (arith, each)) in
+    record {
+      at_in = omega (arith, each);
+      lawful = lsm;
+      within = omega (arith, each);
+      front = refl;
+      pivots_front = refl;
+      split = split_if_pivots (sum ps) bs ps (ascending_content bs lsm) pivots;
+      total = rw none (omega arith);
+      holds = rw (none, no_block) refl;
+      ranking = ranking;
+      as_many = refl;
+    }
+
+-- what is known of the next block
+pub record IsNextToLeave (bs : Blocks) (counts : List ℕ) (at : ℕ) (now : Blocks) (pivots : List ℕ) : Type 0 where
+  pub here : at < length now
+  pub block_is : get_or now at [] ≡ get_or bs at []
+  pub fewer : get_or counts at 0 ≤ get_or pivots at 0
+  pub few : get_or counts at 0 ≤ length (get_or now at [])
+  pub firsts : AllByRecursion (SkipsFew (content bs) (sum counts)) (take (get_or counts at 0) (get_or now at []))
+  pub marks : marked (drop at bs) (drop at counts) ≡ take (get_or counts at 0) (get_or now at []) ++ marked (drop (suc at) bs) (drop (suc at) counts)
+  pub counted : sum (drop at counts) ≡ get_or counts at 0 + sum (drop (suc at) counts)
+
+-- what the counts are
+pub record CanLeave (bs : Blocks) (counts ps : List ℕ) : Type 0 where
+  pub lawful : IsLsm bs
+  pub counts_are : ArePivots (sum counts) bs counts
+  pub pivots_are : ArePivots (sum ps) bs ps
+  pub fewer : sum counts ≤ sum ps
+
+same_at : {X : Type 0} (at : ℕ) (xs ys : List X) (d : X) → take (suc at) xs ≡ take (suc at) ys → get_or xs at d ≡ get_or ys at d
+same_at at xs ys d same = sym (get_or-take (suc at) xs at d (omega arith)) ∙ (ap (λ zs. get_or zs at d) same ∙ get_or-take (suc at) ys at d (omega arith))
+
+pub next_to_leave : (bs : Blocks) (counts ps order : List ℕ) (at : ℕ) (now : Blocks) (pivots left : List ℕ) → CanLeave bs counts ps → IsLeaving bs counts ps order (suc at) now pivots left → IsNextToLeave bs counts at now pivots
+next_to_leave bs counts ps order at now pivots left can l =
+    let c = content bs in let up = ascending_content bs can.lawful in
+    let csplit = split_if_pivots (sum counts) bs counts up can.counts_are in
+    let psplit = split_if_pivots (sum ps) bs ps up can.pivots_are in
+    let each : length counts ≡ length bs = one_each bs counts can.counts_are.within in
+    let block : get_or now at [] ≡ get_or bs at [] = same_at at now bs [] l.front in
+    let pivot : get_or pivots at 0 ≡ get_or ps at 0 = same_at at pivots ps 0 l.pivots_front in
+    let fewer : get_or counts at 0 ≤ get_or pivots at 0 = omega (arith, pivot, pivots_up_to c (sum counts) (sum ps) bs counts ps at can.fewer csplit psplit) in
+    let more : drop at counts ≡ get_or counts at 0 ∷ drop (suc at) counts = drop-cons counts at 0 (omega (arith, each, l.at_in)) in
+    record {
+      here = omega (arith, l.within);
+      block_is = block;
+      fewer = fewer;
+      few = omega (arith, fewer, pivot_in_block now pivots at (split_within _ _ now pivots l.split));
+      firsts = rw block (marked_at (SkipsFew c (sum counts)) (SkipsMany c (sum counts)) bs counts at csplit);
+      marks = rw block (ap (λ cs. marked cs (drop at counts)) (drop-cons bs at [] (omega (arith, l.at_in))) ∙ ap (marked (get_or bs at [] ∷ drop (suc at) bs)) more);
+      counted = ap sum more ∙ sum_by-cons (λ x. x) (get_or counts at 0) (drop (suc at) counts);
+    }
+
+-- a block that loses nothing
+pub leaving_none : (bs : Blocks) (counts ps order : List ℕ) (at : ℕ) (now : Blocks) (pivots left : List ℕ) → CanLeave bs counts ps → IsLeaving bs counts ps order (suc at) now pivots left → get_or counts at 0 ≡ 0 → IsLeaving bs counts ps order at now pivots left
+leaving_none bs counts ps order at now pivots left can l none =
+    let n = next_to_leave bs counts ps order at now pivots left can l in
+    let marks : marked (drop at bs) (drop at counts) ≡ marked (drop (suc at) bs) (drop (suc at) counts) = n.marks ∙ ap (λ m. take m (get_or now at []) ++ marked (drop (suc at) bs) (drop (suc at) counts)) none in
+    record {
+      at_in = omega (arith, l.at_in);
+      lawful = l.lawful;
+      within = omega (arith, l.within);
+      front = sym (shorter at (suc at) now (omega arith)) ∙ (ap (take at) l.front ∙ shorter at (suc at) bs (omega arith));
+      pivots_front = sym (shorter at (suc at) pivots (omega arith)) ∙ (ap (take at) l.pivots_front ∙ shorter at (suc at) ps (omega arith));
+      split = l.split;
+      total = omega (arith, l.total, n.counted, none);
+      holds = ap (λ xs. sorted (xs ++ content now)) marks ∙ l.holds;
+      ranking = l.ranking;
+      as_many = l.as_many;
+    }
+
+is_joining : (joins : Bool) (bs : Blocks) (at count : ℕ) → (IsTrue joins ↔ JoinsNext bs at count) → IsJoining joins bs at count
+is_joining true bs at count told = told.0 refl
+is_joining false bs at count told = λ joins. false≢true (told.1 joins)
+
+-- what a block that lost its first items leaves, but for the content
+record IsMendedAt (P Q : Item → Type 0) (xs : List Item) (at count : ℕ) (now after : Blocks) (pivots mended left closed : List ℕ) : Type 0 where
+  within : at ≤ length after
+  front : take at after ≡ take at now
+  pivots_front : take at mended ≡ take at pivots
+  split : AreSplit P Q after mended
+  total : sum mended + count ≡ sum pivots
+  ranking : AreInBlocks after xs closed
+  as_many : length closed ≡ length left
+
+-- where it stays
+mended_staying : (P Q R : Item → Type 0) (xs : List Item) (at c : ℕ) (now : Blocks) (pivots left : List ℕ) → at < length now → c ≤ get_or pivots at 0 → AreSplit P Q now pivots → AreInBlocks now xs left → AllByRecursion R xs
+    → ((y : Item) → R y → Contains (get_or now at []) y → Contains (drop c (get_or now at [])) y) → IsMendedAt P Q xs at c now (set now at (drop c (get_or now at []))) pivots (fewer_marked pivots at c) left left
+mended_staying P Q R xs at c now pivots left here fewer split ranking all stays =
+    let each = one_each now pivots (split_within P Q now pivots split) in
+    let x = drop c (get_or now at []) in
+    record {
+      within = omega (arith, length-set now at x, here);
+      front = take-set-le at now at x (omega arith);
+      pivots_front = take-set-le at pivots at (get_or pivots at 0 - c) (omega arith);
+      split = split_fewer P Q now pivots at c here fewer split;
+      total = sum_fewer pivots at c (omega (arith, each, here)) fewer;
+      ranking = ranking_kept now (set now at x) R xs left (λ y b r within. in_fewer now at c b y here (λ same. stays y r (subst (λ n. Contains (get_or now n []) y) same within)) within) all ranking;
+      as_many = refl;
+    }
+
+-- where it is no more
+mended_gone : (P Q R : Item → Type 0) (xs : List Item) (at c : ℕ) (now : Blocks) (pivots left : List ℕ) → at < length now → c ≤ get_or pivots at 0 → length (get_or now at []) ≡ c → AreSplit P Q now pivots → AreInBlocks now xs left → AllByRecursion R xs
+    → ((y : Item) → R y → Contains (get_or now at []) y → Contains (drop c (get_or now at [])) y) → IsMendedAt P Q xs at c now (remove now at) pivots (remove pivots at) left (map (place_after_cut true at) left)
+mended_gone P Q R xs at c now pivots left here fewer size split ranking all stays =
+    let each = one_each now pivots (split_within P Q now pivots split) in
+    let most = pivot_in_block now pivots at (split_within P Q now pivots split) in
+    let nothing : drop c (get_or now at []) ≡ [] = drop_all c (get_or now at []) (omega (arith, size)) in
+    record {
+      within = omega (arith, length-remove now at here, here);
+      front = front_of at now (drop (suc at) now) (omega (arith, here));
+      pivots_front = front_of at pivots (drop (suc at) pivots) (omega (arith, each, here));
+      split = split_remove P Q now pivots at split;
+      total = omega (arith, sum_by-remove (λ (x : ℕ). x) pivots at 0 (omega (arith, each, here)), most, size, fewer);
+      ranking = ranking_map now (remove now at) R (place_after_cut true at) xs left (λ y b r within. in_others now at b y here (λ same. let left_in : Contains [] y = subst (λ zs. Contains zs y) nothing (stays y r (subst (λ n. Contains (get_or now n []) y) same within)) in omega (arith, left_in.1)) within) all ranking;
+      as_many = length-map left (place_after_cut true at);
+    }
+
+-- where it joined the next
+mended_joined : (P Q R : Item → Type 0) (xs : List Item) (at c : ℕ) (now : Blocks) (pivots left : List ℕ) → (AreApart P Q) → at + 1 < length now → c ≤ get_or pivots at 0 → AreSplit P Q now pivots → AreInBlocks now xs left → AllByRecursion R xs
+    → ((y : Item) → R y → Contains (get_or now at []) y → Contains (drop c (get_or now at [])) y) → IsMendedAt P Q xs at c now (cut_first now at c true) pivots (united_pivots (fewer_marked pivots at c) at 2 0) left (map (place_after_cut true at) left)
+mended_joined P Q R xs at c now pivots left apart here fewer split ranking all stays =
+    let each = one_each now pivots (split_within P Q now pivots split) in
+    let x = drop c (get_or now at []) in let next = get_or now (at + 1) [] in
+    let w = sorted (x ++ next) in let ps = fewer_marked pivots at c in
+    let size : length ps ≡ length pivots = length-set pivots at (get_or pivots at 0 - c) in
+    let fewer_split = split_fewer P Q now pivots at c (omega (arith, here)) fewer split in
+    let joined = split_united P Q (set now at x) ps at 2 0 [] apart (omega arith, tt, tt, fewer_split) in
+    record {
+      within = omega (arith, length-append (take at now) (w ∷ drop (at + 2) now), length-take-le at now (omega (arith, here)));
+      front = front_of at now (w ∷ drop (at + 2) now) (omega (arith, here));
+      pivots_front = front_of at ps _ (omega (arith, size, each, here)) ∙ take-set-le at pivots at (get_or pivots at 0 - c) (omega arith);
+      split = subst (λ cs. AreSplit P Q cs (united_pivots ps at 2 0)) (set_together now at x here) joined;
+      total = omega (arith, sum_united ps at 2 0, sum_fewer pivots at c (omega (arith, each, here)) fewer);
+      ranking = ranking_map now (cut_first now at c true) R (place_after_cut true at) xs left (λ y b r within. in_one now at b w y here
+          (λ same. contains_sorted y (x ++ next) (Contains-append_left x next y (stays y r (subst (λ n. Contains (get_or now n []) y) same within))))
+          (λ same. contains_sorted y (x ++ next) (Contains-append_right x next y (subst (λ n. Contains (get_or now n []) y) same within))) within) all ranking;
+      as_many = length-map left (place_after_cut true at);
+    }
+
+mended_by : (joins : Bool) (P Q R : Item → Type 0) (xs : List Item) (at c : ℕ) (now : Blocks) (pivots left : List ℕ) → AreApart P Q → IsJoining joins now at c → at < length now → c ≤ get_or pivots at 0 → AreSplit P Q now pivots → AreInBlocks now xs left → AllByRecursion R xs
+    → ((y : Item) → R y → Contains (get_or now at []) y → Contains (drop c (get_or now at [])) y)
+    → IsMendedAt P Q xs at c now (cut_first now at c joins) pivots (pivots_without pivots at c (length (get_or now at []) == c) joins) left (closed_up left at (joins || (length (get_or now at []) == c)))
+mended_by true P Q R xs at c now pivots left apart joins here fewer split ranking all stays = mended_joined P Q R xs at c now pivots left apart joins.within fewer split ranking all stays
+mended_by false P Q R xs at c now pivots left apart alone here fewer split ranking all stays = elim (cases_eq (length (get_or now at [])) c) [
+  | inl size ↦ rw (eq-eqb (length (get_or now at [])) c size) (mended_gone P Q R xs at c now pivots left here fewer size split ranking all stays)
+  | inr differ ↦ rw (ne_eqb (length (get_or now at [])) c differ) (mended_staying P Q R xs at c now pivots left here fewer split ranking all stays)
+]
+
+-- one block more lost its first items
+pub leaving_more : (bs : Blocks) (counts ps order : List ℕ) (at count : ℕ) (now after : Blocks) (pivots left mended closed : List ℕ) → CanLeave bs counts ps → IsLeaving bs counts ps order (suc at) now pivots left → count ≡ get_or counts at 0 → IsBlockCut now pivots left at count after mended closed
+    → IsLeaving bs counts ps order at after mended closed
+leaving_more bs counts ps order at count now after pivots left mended closed can l is cut =
+    let n = next_to_leave bs counts ps order at now pivots left can l in
+    let all = content bs in let up = ascending_content bs can.lawful in
+    let c = get_or counts at 0 in let b = get_or now at [] in
+    let joining : IsJoining cut.joins now at c = subst (λ m. IsJoining cut.joins now at m) is (is_joining cut.joins now at count cut.joining) in
+    let step = mended_by cut.joins (SkipsFew all (sum ps)) (SkipsMany all (sum ps)) (SkipsMany all (sum counts)) (drop (sum counts) (sorted all)) at c now pivots left (skips_apart all (sum ps)) joining n.here n.fewer l.split l.ranking (rest_skip_many (sum counts) all up)
+    (λ y many within. stays_in_block all (sum counts) c b y n.firsts many within) in
+    let first = first_cut now at c cut.joins l.lawful n.here n.few joining in
+    let m = marked (drop (suc at) bs) (drop (suc at) counts) in
+    let gone = cut_first now at c cut.joins in
+    let blocks : after ≡ gone = cut.blocks_are ∙ ap (λ k. cut_first now at k cut.joins) is in
+    let pivots_are : mended ≡ pivots_without pivots at c (length b == c) cut.joins = cut.pivots_are ∙ ap (λ k. pivots_without pivots at k (length b == k) cut.joins) is in
+    let order_is : closed ≡ closed_up left at (cut.joins || (length b == c)) = cut.order_is ∙ ap (λ k. closed_up left at (cut.joins || (length b == k))) is in
+    rw (blocks, pivots_are, order_is) (record {
+      at_in = omega (arith, l.at_in);
+      lawful = first.lawful;
+      within = step.within;
+      front = step.front ∙ (sym (shorter at (suc at) now (omega arith)) ∙ (ap (take at) l.front ∙ shorter at (suc at) bs (omega arith)));
+      pivots_front = step.pivots_front ∙ (sym (shorter at (suc at) pivots (omega arith)) ∙ (ap (take at) l.pivots_front ∙ shorter at (suc at) ps (omega arith)));
+      split = step.split;
+      total = omega (arith, step.total, l.total, n.counted);
+      holds = ap (λ xs. sorted (xs ++ content gone)) n.marks ∙ (ap sorted (append_assoc (take c b) m (content gone)) ∙ (sorted_swap_before (take c b) m (content gone) ∙ (sorted_same_behind m (take c b ++ content gone) (content now) first.holds ∙ l.holds)));
+      ranking = step.ranking;
+      as_many = step.as_many ∙ l.as_many;
+    })
+
+-- what is left in the end
+pub record AreGone (bs : Blocks) (n m : ℕ) (order : List ℕ) (now : Blocks) (pivots left : List ℕ) : Type 0 where
+  pub lawful : IsLsm now
+  pub holds : sorted (content now) ≡ drop n (sorted (content bs))
+  pub pivots_are : ArePivots (m - n) now pivots
+  pub ranking : IsRanking now left
+  pub as_many : length left ≡ length order
+
+pub leaving_all : (bs : Blocks) (counts ps order : List ℕ) (at : ℕ) (now : Blocks) (pivots left : List ℕ) → CanLeave bs counts ps → at ≤ 0 → IsLeaving bs counts ps order at now pivots left → AreGone bs (sum counts) (sum ps) order now pivots left
+leaving_all bs counts ps order (suc at) now pivots left can none l = absurd (omega (arith, none))
+leaving_all bs counts ps order zero now pivots left can none l =
+    let n = sum counts in let all = sorted (content bs) in let up = ascending_content bs can.lawful in
+    let first : sorted (take n all ++ content now) ≡ all = ap (λ xs. sorted (xs ++ content now)) (sym can.counts_are.exact) ∙ (sorted_sorted (marked bs counts) (content now) ∙ l.holds) in
+    let whole : sorted (take n all ++ content now) ≡ sorted (take n all ++ drop n all) = first ∙ sym (ap sorted (take-append-drop n all) ∙ sorted_ascending all up) in
+    let rest : sorted (content now) ≡ drop n all = sorted_cancel (take n all) (content now) (drop n all) whole ∙ sorted_ascending (drop n all) (ascending_drop n all up) in
+    record {
+      lawful = l.lawful;
+      holds = rest;
+      pivots_are = pivots_if_split _ _ (sum ps - n) now pivots (skips_apart (content bs) (sum ps)) l.split (omega (arith, l.total));
+      ranking = subst (λ xs. AreInBlocks now xs left) (sym rest) l.ranking;
+      as_many = l.as_many;
+    }
+
+-- a ranking without its first items
+pub ranking_behind : (bs : Blocks) (xs : List Item) (order : List ℕ) (n : ℕ) → AreInBlocks bs xs order → AreInBlocks bs (drop n xs) (drop n order)
+ranking_behind bs xs order zero ranking = ranking
+ranking_behind bs xs [] (suc n) ranking = tt
+ranking_behind bs [] (b ∷ order) (suc n) ranking = absurd ranking
+ranking_behind bs (x ∷ xs) (b ∷ order) (suc n) ranking = ranking_behind bs xs order n ranking.1
+
+pub owners_behind : (xs : List Item) (owners : List ℕ) (n : ℕ) → AreOwners xs owners → AreOwners (drop n xs) (drop n owners)
+owners_behind xs owners zero owned = owned
+owners_behind xs [] (suc n) owned = tt
+owners_behind [] (o ∷ owners) (suc n) owned = absurd owned
+owners_behind (x ∷ xs) (o ∷ owners) (suc n) owned = owners_behind xs owners n owned.1
+
+-- whether the ranking closes up
+pub closes : (joins is_all : Bool) (order closed : List ℕ) (at : ℕ) → (joins ≡ true) ⊎ (is_all ≡ true) → closed ≡ map (place_after_cut true at) order → closed ≡ closed_up order at (joins || is_all)
+closes true is_all order closed at either is = is
+closes false true order closed at either is = is
+closes false false order closed at (inl bad) is = absurd (false≢true bad)
+closes false false order closed at (inr bad) is = absurd (false≢true bad)
+
+pub stays_open : (joins is_all : Bool) (order : List ℕ) (at : ℕ) → joins ≡ false → is_all ≡ false → order ≡ closed_up order at (joins || is_all)
+stays_open true is_all order at alone some = absurd (false≢true (sym alone))
+stays_open false true order at alone some = absurd (false≢true (sym some))
+stays_open false false order at alone some = refl
+
+-- one item more is ranked
+pub ranked_more : (bs : Blocks) (order owners : List ℕ) (b owner n : ℕ) → AreRanked bs order owners → length order ≡ n → IsOfBlock bs n b owner → AreRanked bs (order ++ b ∷ []) (owners ++ (owner % 256) ∷ [])
+ranked_more bs order owners b owner n ranked size next =
+    let all = sorted (content bs) in let x = next.0 in
+    let there : slice_get all (length order) ≡ Some x = ap (slice_get all) size ∙ next.1 in
+    let owned_there : slice_get all (length owners) ≡ Some x = ap (slice_get all) ranked.as_many ∙ there in
+    record {
+      in_blocks = ranking_more bs all order b x ranked.in_blocks there next.2;
+      owned = owners_more all owners (owner % 256) x ranked.owned owned_there (ap (λ o. o % 256) (sym next.3));
+      as_many = omega (arith, length-append order (b ∷ []), length-append owners ((owner % 256) ∷ []), ranked.as_many);
+    }
+
+-- one item more is copied
+pub copied_more : (n : ℕ) (places all : List Item) (x : Item) → n < length places → take n places ≡ take n all → slice_get all n ≡ Some x → take (n + 1) (set places n x) ≡ take (n + 1) all
+copied_more n places all x here same found =
+    take_more_set places n x here ∙ (ap (λ xs. xs ++ x ∷ []) same ∙ sym (take_more all n x (slice_get_within all n x found) ∙ ap (λ y. take n all ++ y ∷ []) (get_or_from_slice_get all n x x found)))
+
+-- and counted
+pub counted_more : (n : ℕ) (bs : Blocks) (ps : List ℕ) (j : ℕ) (x : Item) → IsLsm bs → ArePivots n bs ps → slice_get (get_or bs j []) (get_or ps j 0) ≡ Some x → slice_get (sorted (content bs)) n ≡ Some x → ArePivots (n + 1) bs (set ps j (get_or ps j 0 + 1))
+counted_more n bs ps j x lsm pivots here there =
+    pivot_more n bs ps j lsm pivots (omega (arith, slice_get_within (sorted (content bs)) n x there, length_sorted (content bs))) (here ∙ sym (first_unmarked n bs ps lsm pivots ∙ there))
+
+-- of which there are so many
+pub count_small : (n : ℕ) (bs : Blocks) (ps : List ℕ) (j : ℕ) (x : Item) → ArePivots n bs ps → slice_get (sorted (content bs)) n ≡ Some x → get_or ps j 0 < length (content bs)
+count_small n bs ps j x pivots there =
+    omega (arith, pivot_within bs ps j pivots.within, length_marked n bs ps pivots, slice_get_within (sorted (content bs)) n x there, length_sorted (content bs))
+
+-- what is known before the least items leave, of which there are so many as counted
+pub record CanTake (n : ℕ) (bs : Blocks) (counts ps order : List ℕ) : Type 0 where
+  pub counted : sum counts ≡ n
+  pub counts_are : ArePivots (sum counts) bs counts
+  pub total : sum ps ≡ length order
+  pub pivots_are : ArePivots (sum ps) bs ps
+  pub fewer : sum counts ≤ sum ps
+  pub few : sum ps ≤ 129
+  pub ranking : AreInBlocks bs (drop (sum counts) (sorted (content bs))) (drop n order)
+
+pub can_take : (k n : ℕ) (bs : Blocks) (counts ps order : List ℕ) → k ≤ 128 → n ≤ length order → ArePivots n bs counts → ArePivots (k + 1) bs ps → IsRanking bs order → length order ≡ min (k + 1) (length (content bs)) → CanTake n bs counts ps order
+can_take k n bs counts ps order range few counts_are pivots_are ranking whole =
+    let total : sum ps ≡ length order = sum_of_pivots (k + 1) bs ps pivots_are ∙ sym whole in
+    let counted : sum counts ≡ n = omega (arith, sum_of_pivots n bs counts counts_are, few, whole) in
+    record {
+      counted = counted;
+      counts_are = pivots_summed n bs counts counts_are;
+      total = total;
+      pivots_are = pivots_summed (k + 1) bs ps pivots_are;
+      fewer = omega (arith, counted, total, few);
+      few = omega (arith, total, whole, range);
+      ranking = rw counted (ranking_behind bs (sorted (content bs)) order n ranking);
+    }
+
+-- and after that, before others are ranked in their places
+pub record CanRankOn (now : Blocks) (pivots order owners : List ℕ) (most : ℕ) : Type 0 where
+  pub pivots_are : ArePivots (length order) now pivots
+  pub ranked : AreRanked now order owners
+  pub fewer : length order ≤ most
+  pub there : most ≤ length (content now)
+  pub room : most ≤ 129
+
+pub can_rank_on : (k n most : ℕ) (bs now : Blocks) (counts ps pivots order left owners kept : List ℕ) → CanTake n bs counts ps order → AreRanked bs order owners → k ≤ 128 → n ≤ length order → length order ≡ min (k + 1) (length (content bs))
+    → sorted (content now) ≡ drop (sum counts) (sorted (content bs)) → ArePivots (sum ps - sum counts) now pivots → IsRanking now left → length left ≡ length (drop n order) → kept ≡ drop n owners → most ≡ min (length (content now)) (k + 1)
+    → CanRankOn now pivots left kept most
+can_rank_on k n most bs now counts ps pivots order left owners kept can ranked range few whole holds marks ranking as_many owners_are most_is =
+    let rest : length (content now) ≡ length (content bs) - n = omega (arith, length_sorted (content now), ap length holds, length-drop (sum counts) (sorted (content bs)), length_sorted (content bs), can.counted) in
+    let size : length left ≡ length order - n = as_many ∙ length-drop n order in
+    let marked : sum ps - sum counts ≡ length left = omega (arith, can.total, can.counted, size) in
+    record {
+      pivots_are = subst (λ m. ArePivots m now pivots) marked marks;
+      ranked = record {
+        in_blocks = ranking;
+        owned = rw (holds, can.counted, owners_are) (owners_behind (sorted (content bs)) owners n ranked.owned);
+        as_many = omega (arith, ap length owners_are, length-drop n owners, ranked.as_many, size);
+      };
+      fewer = omega (arith, size, most_is, rest, whole);
+      there = omega (arith, most_is);
+      room = omega (arith, most_is, range);
+    }
