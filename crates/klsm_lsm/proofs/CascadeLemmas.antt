@@ -119,7 +119,7 @@ carried_last room hs b w lower result lsm carried differ =
     let above : AllFrom (suc (level w)) (hs ++ b ∷ []) = all_append (λ c. suc (level w) ≤ level c) hs (b ∷ []) (all_weaker (λ c. suc (level b) ≤ level c) (λ c. suc (level w) ≤ level c) (λ c h. omega (arith, h, less)) hs last.above) (less, tt) in
     sym (joined_all_apart (hs ++ b ∷ []) lower w lsm above) ∙ carried.leads
 
-lsm_front : (hs ls : List (List Item)) → IsLsm (hs ++ ls) → IsLsm hs
+pub lsm_front : (hs ls : List (List Item)) → IsLsm (hs ++ ls) → IsLsm hs
 lsm_front [] ls lsm = tt
 lsm_front (h ∷ hs) ls lsm = (
   lsm.0,

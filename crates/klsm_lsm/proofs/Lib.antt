@@ -15,11 +15,11 @@ pub mod LeastLemmas
 pub mod LevelLemmas
 pub mod LimitLemmas
 pub mod LosingLemmas
+pub mod MovingLemmas
 pub mod PartnerLemmas
 pub mod PlaceLemmas
 pub mod PuttingLemmas
 pub mod RemovingLemmas
-pub mod SettleLemmas
 pub mod SlotLemmas
 pub mod SpyLemmas
 pub mod StoredLemmas

@@ -1,13 +1,13 @@
 -- Blocks of which one loses its first items.
-use Rattle.std.proofs.Common.{◌≡◌, ℕ, ◌+◌, ◌-◌, ◌<◌, ◌≤◌, ◌^◌, ◌%◌, ◌*◌, ◌==◌, leb, Bool, true, false, List, [], ◌∷◌, ◌++◌, length, get_or, set, remove, take, drop, min, refl, sym, ap, ◌∙◌, subst, arith, pow-suc, add-one, if◌then◌else◌, zero, suc, inl, inr}
-use Rattle.std.specs.List.{AllByRecursion, Contains}
+use Rattle.std.proofs.Common.{◌≡◌, ℕ, ◌+◌, ◌-◌, ◌<◌, ◌≤◌, ◌^◌, ◌%◌, ◌*◌, ◌==◌, leb, Bool, true, false, List, [], ◌∷◌, ◌++◌, length, get_or, set, remove, take, drop, min, refl, sym, ap, ◌∙◌, subst, arith, pow-suc, if◌then◌else◌, zero, suc, inl, inr}
+use Rattle.std.specs.List.{Contains}
 use Rattle.std.proofs.Math.Pow.{pow_mono}
 use Rattle.std.proofs.lemmas.Bool.{cases_lt, cases_eq, eq-eqb, ne_eqb, leb-true, le-leb}
 use Rattle.std.proofs.lemmas.List.{append_assoc, length-append, length-drop, length-take-le, take_all, take-append-drop}
 use Rattle.std.proofs.lemmas.List.Elements.{Contains-append_left, Contains-append_right}
 use Rattle.klsm_run.specs.declared.item.Item.{Item}
-use Rattle.klsm_run.specs.Block.{IsBlock, HasLevel}
-use Rattle.klsm_run.specs.Content.{sorted, IsAscending, ShareNone}
+use Rattle.klsm_run.specs.Block.{HasLevel}
+use Rattle.klsm_run.specs.Content.{sorted, ShareNone}
 use Rattle.klsm_run.proofs.AllLemmas.{all_weaker, all_append}
 use Rattle.klsm_run.proofs.SortedLemmas.{IsNew, length_sorted}
 use Rattle.klsm_run.proofs.ApartLemmas.{apart_if_sharing_none, ascending_sorted}
@@ -20,7 +20,7 @@ use Rattle.klsm_lsm.specs.Losing.{JoinsNext, cut_first}
 use Rattle.klsm_lsm.specs.Slots.{IsStored, IsSlotted}
 use Rattle.klsm_lsm.proofs.AddLemmas.{above_all}
 use Rattle.klsm_lsm.proofs.FallLemmas.{shifted_one}
-use Rattle.klsm_lsm.proofs.JoinLemmas.{AllBelow, is_block, some_in_block, sharing_none_flipped}
+use Rattle.klsm_lsm.proofs.JoinLemmas.{AllBelow, is_block, sharing_none_flipped}
 use Rattle.klsm_lsm.proofs.LevelLemmas.{level_enough, level_least, level_mono}
 use Rattle.klsm_lsm.proofs.PlaceLemmas.{next_shares_none, level_next, two_within}
 use Rattle.klsm_lsm.proofs.RemovingLemmas.{level_if_has, set_then_remove, remove_set}
@@ -71,7 +71,7 @@ none_of_rest n xs zs none x within = none x (subst (λ ys. Contains ys x) (take-
 none_of_sorted : (xs zs : List Item) → ShareNone xs zs → ShareNone (sorted xs) zs
 none_of_sorted xs zs none x within = none x (contains_unsorted x xs within)
 
-none_of_first : (xs ys zs : List Item) → ShareNone (xs ++ ys) zs → ShareNone xs zs
+pub none_of_first : (xs ys zs : List Item) → ShareNone (xs ++ ys) zs → ShareNone xs zs
 none_of_first xs ys zs none x within = none x (Contains-append_left xs ys x within)
 
 none_of_second : (xs ys zs : List Item) → ShareNone (xs ++ ys) zs → ShareNone ys zs

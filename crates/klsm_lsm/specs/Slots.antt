@@ -2,9 +2,8 @@
 use Rattle.std.specs.Prelude.{ℕ, ◌≡◌, ◌+◌, ◌-◌, ◌<◌, ◌≤◌, List, [], ◌∷◌, ◌++◌, length, map, take, drop, slice_index_or, Option}
 use Rattle.std.specs.Option.{option_map_or}
 use Rattle.klsm_run.specs.declared.item.Item.{Item}
-use Rattle.klsm_run.specs.Content.{sorted, IsAscending, ShareNone}
 use Rattle.klsm_lsm.specs.Level.{least_level, level}
-use Rattle.klsm_lsm.specs.Lsm.{content, IsLsm}
+use Rattle.klsm_lsm.specs.Lsm.{content}
 use Rattle.klsm_lsm.specs.Limit.{IsLsmWithin}
 
 -- the items in a slot; a slot with no run has none
@@ -33,18 +32,3 @@ pub record IsStored (levels room len : ℕ) (blocks : List (List Item)) : Type 0
 pub record IsSlotted (levels room len count : ℕ) (slots : List (List Item)) : Type 0 where
   pub stored : IsStored levels room len (take count slots)
   pub within : count ≤ length slots
-
--- the slots before `at` hold a lawful LSM, and the one at `at` has items that are to become a block of it; together they are `whole`
-pub record IsSettling (room : ℕ) (slots : List (List Item)) (at : ℕ) (whole : List Item) : Type 0 where
-  pub within : at < length slots
-  pub lawful : IsLsm (take at slots)
-  pub some : 0 < length (slice_index_or slots at [])
-  pub ascending : IsAscending (slice_index_or slots at [])
-  pub apart : ShareNone (content (take at slots)) (slice_index_or slots at [])
-  pub fits : length (content (take at slots)) + length (slice_index_or slots at []) ≤ room
-  pub holds : sorted (content (take at slots) ++ slice_index_or slots at []) ≡ whole
-
--- a lawful LSM of this content
-pub record IsSettled (blocks : List (List Item)) (whole : List Item) : Type 0 where
-  pub lawful : IsLsm blocks
-  pub holds : sorted (content blocks) ≡ whole

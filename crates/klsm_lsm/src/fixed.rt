@@ -132,7 +132,7 @@ impl<const CAP: usize, const LEVELS: usize> Lsm<FixedRun<CAP>, LEVELS> {
 }
 
 // Puts items into the slot behind the blocks.
-pub(crate) fn put_last<const CAP: usize, const LEVELS: usize>(
+fn put_last<const CAP: usize, const LEVELS: usize>(
     slots: &mut ArrayVec<Option<FixedRun<CAP>>, LEVELS>,
     count: usize,
     items: &[Item],
@@ -152,7 +152,7 @@ pub(crate) fn put_last<const CAP: usize, const LEVELS: usize>(
 
 // Sees to a slot behind the blocks.
 #[inline]
-fn open_slot<const CAP: usize, const LEVELS: usize>(
+pub(crate) fn open_slot<const CAP: usize, const LEVELS: usize>(
     slots: &mut ArrayVec<Option<FixedRun<CAP>>, LEVELS>,
     count: usize,
 )
@@ -167,7 +167,7 @@ fn open_slot<const CAP: usize, const LEVELS: usize>(
 }
 
 // Puts items into a slot.
-fn set_slot<const CAP: usize>(slot: &mut Option<FixedRun<CAP>>, items: &[Item])
+pub(crate) fn set_slot<const CAP: usize>(slot: &mut Option<FixedRun<CAP>>, items: &[Item])
     requires capacity { IsCapacity CAP }
     requires ascending { IsAscending items.now }
     requires room { length items.now ≤ CAP }
@@ -196,7 +196,7 @@ fn truncate_slot<const CAP: usize>(slot: &mut Option<FixedRun<CAP>>, kept: usize
 
 // Carries the run in slot `last` up: while it is of the level of the one before, that one takes it
 // in. It answers where the run has come to.
-fn carry<const CAP: usize>(slots: &mut [Option<FixedRun<CAP>>], last: usize) -> usize
+pub(crate) fn carry<const CAP: usize>(slots: &mut [Option<FixedRun<CAP>>], last: usize) -> usize
     requires within { last < length slots.old }
     requires lawful { IsLsm (take last (blocks_in (λ run. run) slots.old)) }
     requires some { 0 < length (slice_index_or (blocks_in (λ run. run) slots.old) last []) }
@@ -212,6 +212,8 @@ fn carry<const CAP: usize>(slots: &mut [Option<FixedRun<CAP>>], last: usize) -> 
     ensures added { take (result + 1) (blocks_in (λ run. run) slots.new)
         ≡ add (take last (blocks_in (λ run. run) slots.old))
         (slice_index_or (blocks_in (λ run. run) slots.old) last []) }
+    ensures rest { drop (last + 1) (blocks_in (λ run. run) slots.new)
+        ≡ drop (last + 1) (blocks_in (λ run. run) slots.old) }
 {
     let mut at = last;
     while at > 0 {
@@ -226,7 +228,7 @@ fn carry<const CAP: usize>(slots: &mut [Option<FixedRun<CAP>>], last: usize) -> 
 
 // The level of the run in a slot.
 #[inline]
-pub(crate) fn level_in<const CAP: usize>(slots: &[Option<FixedRun<CAP>>], at: usize) -> usize
+fn level_in<const CAP: usize>(slots: &[Option<FixedRun<CAP>>], at: usize) -> usize
     requires within { at < length slots.now }
     requires some { 0 < length (slice_index_or (blocks_in (λ run. run) slots.now) at []) }
     ensures { result ≡ level (slice_index_or (blocks_in (λ run. run) slots.now) at []) }
@@ -238,7 +240,7 @@ pub(crate) fn level_in<const CAP: usize>(slots: &[Option<FixedRun<CAP>>], at: us
 }
 
 // Unites the run of a slot with that of the next one, in place. The next slot keeps what it has.
-pub(crate) fn unite_next<const CAP: usize>(slots: &mut [Option<FixedRun<CAP>>], at: usize)
+fn unite_next<const CAP: usize>(slots: &mut [Option<FixedRun<CAP>>], at: usize)
     requires within { at + 1 < length slots.old }
     requires some { 0 < length (slice_index_or (blocks_in (λ run. run) slots.old) at []) }
     requires some_next { 0

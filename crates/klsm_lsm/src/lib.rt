@@ -12,8 +12,8 @@
 //!   `Lsm::remove` leaves `cut`. The functions of `laws` say what these two are for: both keep an
 //!   LSM lawful, and its content is the old one with the run's items, or without the item.
 //!   `Lsm::remove_first` takes several out at once, and leaves `cut_first`.
-//!   `Lsm::cascade` and `Lsm::partner` tell before which blocks become one. Where it does not matter
-//!   which do, `Lsm::absorb_items` puts items in without a store of their own.
+//!   `Lsm::cascade` and `Lsm::partner` tell before which blocks become one. `Lsm::absorb_items` does what
+//!   `Lsm::absorb` does, with items that have no store of their own.
 //! - **A store stays in its slot.** Blocks unite in place, and what leaves is read as a slice. An
 //!   LSM over fixed runs never takes memory, and one over other runs only where a run is put in, in
 //!   one growth, before anything changes.

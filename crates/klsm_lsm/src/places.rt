@@ -83,7 +83,7 @@ impl<R: Run, const LEVELS: usize> Lsm<R, LEVELS> {
     }
 
     // The number of blocks of a level and above.
-    fn place_of_level(&self, least: usize) -> usize
+    pub(crate) fn place_of_level(&self, least: usize) -> usize
         ensures within { result ≤ length self.now }
         ensures above { AllByRecursion (λ b. least ≤ level b) (take result self.now) }
         ensures below { AllByRecursion (λ b. level b < least) (drop result self.now) }

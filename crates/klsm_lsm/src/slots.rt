@@ -188,6 +188,31 @@ fn move_back<R: Run>(slots: &mut [Option<R>], at: usize)
     take_run(&mut front[at], &mut back[0]);
 }
 
+// Moves the run of a slot to the next one.
+pub(crate) fn move_on<R: Run>(slots: &mut [Option<R>], at: usize)
+    requires { at + 1 < length slots.old }
+    ensures moved { blocks_in R.items slots.new
+        ≡ slice_set (slice_set (blocks_in R.items slots.old) at []) (at + 1)
+        (slice_index_or (blocks_in R.items slots.old) at []) }
+    ensures len { length slots.new ≡ length slots.old }
+{
+    let (front, back) = slots.split_at_mut(at + 1);
+    take_run(&mut back[0], &mut front[at]);
+}
+
+// Moves the run of a slot to one before it.
+pub(crate) fn move_to<R: Run>(slots: &mut [Option<R>], from: usize, to: usize)
+    requires order { to < from }
+    requires within { from < length slots.old }
+    ensures moved { blocks_in R.items slots.new
+        ≡ slice_set (slice_set (blocks_in R.items slots.old) to
+        (slice_index_or (blocks_in R.items slots.old) from [])) from [] }
+    ensures len { length slots.new ≡ length slots.old }
+{
+    let (front, back) = slots.split_at_mut(from);
+    take_run(&mut front[to], &mut back[0]);
+}
+
 // Takes the run of another slot. Where both have stores, these stay.
 fn take_run<R: Run>(slot: &mut Option<R>, other: &mut Option<R>)
     ensures taken { block_in R.items slot.new ≡ block_in R.items other.old }

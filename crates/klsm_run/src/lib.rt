@@ -41,4 +41,4 @@ mod uniting;
 pub use fixed_run::FixedRun;
 pub use heap_run::HeapRun;
 pub use item::{Item, Stamp};
-pub use run::{Run, RunError};
+pub use run::{Run, RunError, level_of};

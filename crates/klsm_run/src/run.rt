@@ -136,7 +136,7 @@ pub trait Run: Drop {
 }
 
 /// The level of a block of `len` items.
-pub(crate) fn level_of(len: usize) -> usize
+pub fn level_of(len: usize) -> usize
     requires { 0 < len }
     ensures enough { len ≤ 2 ^ result }
     ensures least { (l : ℕ) → len ≤ 2 ^ l → result ≤ l }

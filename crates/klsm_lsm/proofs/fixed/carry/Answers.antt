@@ -1,5 +1,5 @@
-use Rattle.std.proofs.Common.{◌≡◌, ◌+◌, ◌-◌, ◌<◌, ◌≤◌, [], length, get_or, refl, sym, ◌∙◌, arith}
-use Rattle.std.proofs.lemmas.List.{length-map, length-take-le}
+use Rattle.std.proofs.Common.{◌≡◌, ◌+◌, ◌-◌, ◌<◌, ◌≤◌, [], length, drop, get_or, refl, sym, ap, ◌∙◌, arith}
+use Rattle.std.proofs.lemmas.List.{length-map, length-take-le, drop-set-lt}
 use Rattle.klsm_lsm.specs.Level.{level}
 use Rattle.klsm_lsm.specs.Slots.{blocks_in}
 use Rattle.klsm_lsm.proofs.CarryLemmas.{carrying_first, some_before, carrying_can, carrying_more, carrying_last, carrying_all}
@@ -11,6 +11,7 @@ loop-at-init g c =
     record {
       order = omega arith;
       len = refl;
+      rest = refl;
       carrying = carrying_first _ _ _ _ (length-take-le _ _ (omega (arith, within))) within refl c.requires.lawful c.requires.some c.requires.apart c.requires.room c.requires.above;
     }
 
@@ -34,6 +35,7 @@ loop-at-preserved g c =
     record {
       order = omega (arith, now.order);
       len = c.unite_next.ensures.len ∙ now.len;
+      rest = ap (drop (c.args.last + 1)) c.unite_next.ensures.united ∙ (drop-set-lt (c.args.last + 1) (blocks_in (λ run. run) c.loop-at.slots) (c.loop-at.at - 1) _ (omega (arith, now.order)) ∙ now.rest);
       carrying = carrying_more _ _ _ _ _ _ c.loop-at-test.true now.carrying same (rw back at c.unite_next.ensures.united);
     }
 

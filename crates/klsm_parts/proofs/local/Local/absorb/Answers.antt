@@ -1,6 +1,7 @@
 use Rattle.std.proofs.Common.{◌+◌, ◌≤◌, ◌++◌, ◌∙◌, length, sym, ap, subst}
 use Rattle.klsm_run.specs.Content.{sorted, ShareNone}
 use Rattle.klsm_lsm.specs.Lsm.{content}
+use Rattle.klsm_lsm.proofs.AddLemmas.{sorted_add}
 use Rattle.klsm_parts.specs.Parts.{PartState}
 use Rattle.klsm_parts.proofs.OwnLemmas.{own_absorbed, absorbed_is}
 use Rattle.klsm_parts.proofs.FitLemmas.{first_fits, run_fits}
@@ -14,11 +15,11 @@ absorb_items-requires g c =
 pub invariant_of-self : goal.invariant_of-self
 invariant_of-self g c =
     let room = subst (λ (p : PartState). length (content p.blocks) + length c.args.items.now ≤ p.k) (sym c.self.view_is) c.requires.room in
-    own_absorbed g.row.CAP c.self.inside.k c.self.inside.lsm c.absorb_items.new.self c.args.items.now c.self.inside.found c.self.invariant c.in-Ok.ensures.content room
+    own_absorbed g.row.CAP c.self.inside.k c.self.inside.lsm c.absorb_items.new.self c.args.items.now c.self.inside.found c.self.invariant (ap (λ bs. sorted (content bs)) c.in-Ok.ensures.added ∙ sorted_add c.self.inside.lsm c.args.items.now) room
 
 pub returns-clause-k : goal.returns-clause-k
 returns-clause-k g c = ap (λ (p : PartState). p.k) c.self.view_is
 
 pub returns-clause-items : goal.returns-clause-items
 returns-clause-items g c =
-    absorbed_is c.self.inside.lsm c.absorb_items.new.self c.args.items.now c.in-Ok.ensures.content ∙ ap (λ (p : PartState). sorted (c.args.items.now ++ sorted (content p.blocks))) c.self.view_is
+    absorbed_is c.self.inside.lsm c.absorb_items.new.self c.args.items.now (ap (λ bs. sorted (content bs)) c.in-Ok.ensures.added ∙ sorted_add c.self.inside.lsm c.args.items.now) ∙ ap (λ (p : PartState). sorted (c.args.items.now ++ sorted (content p.blocks))) c.self.view_is
