@@ -15,8 +15,9 @@ use arrayvec::ArrayVec;
 use klsm_run::{FixedRun, Item, Run, level_of};
 
 impl<const CAP: usize, const LEVELS: usize> Lsm<FixedRun<CAP>, LEVELS> {
-    /// Puts the items of a list in, of which the LSM holds none, as `absorb` does with a run. It costs one copy of each item, of
-    /// each block of a lesser level, and of each block that they become one with.
+    /// Puts the items of a list in, of which the LSM holds none, as `absorb` does with a run. It costs
+    /// one copy of each item, of each block of a lesser level, and of each block that they become one
+    /// with.
     pub fn absorb_items(&mut self, items: &[Item]) -> Result<(), LsmError>
         requires capacity { IsCapacity CAP }
         requires some { 0 < length items.now }

@@ -1,4 +1,5 @@
-//! How the least items of a shared part leave it at once: which they are, and what becomes of the pivots and the ranking.
+//! How the least items of a shared part leave it at once: which they are, and what becomes of the pivots
+//! and the ranking.
 ghost use Rattle.std.specs.Prelude.{◌≡◌, ◌+◌, ◌-◌, ◌<◌, ◌≤◌, length, take, drop, sum, slice_index_or, IsTrue};
 ghost use Rattle.arrayvec.specs.ArrayVec.{array_vec_len};
 ghost use Rattle.klsm_run.specs.Content.{sorted};
@@ -16,7 +17,8 @@ use arrayvec::ArrayVec;
 use klsm_lsm::Lsm;
 use klsm_run::{Item, Run};
 
-/// Copies the least items of an LSM, as many as there are places, and answers how many of each block's first items they are.
+/// Copies the least items of an LSM, as many as there are places, and answers how many of each block's
+/// first items they are.
 pub(crate) fn copy_least<R: Run, const LEVELS: usize>(
     ranking: &Ranking,
     lsm: &Lsm<R, LEVELS>,
@@ -42,7 +44,8 @@ pub(crate) fn copy_least<R: Run, const LEVELS: usize>(
     counts
 }
 
-/// Takes the first items of each block out, so many of each: together they are the least, which are marked and no longer ranked.
+/// Takes the first items of each block out, so many of each: together they are the least, which are
+/// marked and no longer ranked.
 pub(crate) fn cut_blocks<R: Run, const LEVELS: usize>(
     lsm: &mut Lsm<R, LEVELS>,
     pivots: &mut ArrayVec<usize, LEVELS>,
@@ -101,7 +104,8 @@ fn cut_block<R: Run, const LEVELS: usize>(
     }
 }
 
-// The pivots after a block lost marked items: whether these were all, and whether what is left joined the next block.
+// The pivots after a block lost marked items: whether these were all, and whether what is left joined the
+// next block.
 #[inline]
 fn cut_pivot<const LEVELS: usize>(
     pivots: &mut ArrayVec<usize, LEVELS>,

@@ -50,8 +50,8 @@ pub fn refill<const CAP: usize, const LEVELS: usize, A: Allocator + Copy>(
     count
 }
 
-// Moves the least shared items to places, in their order: as many at a time as are candidates, so that one turn does where the two
-// parts have one k.
+// Moves the least shared items to places, in their order: as many at a time as are candidates, so that
+// one turn does where the two parts have one k.
 fn move_least<const LEVELS: usize, A: Allocator + Copy>(
     shared: &mut Shared<LEVELS, A>,
     places: &mut [Item],

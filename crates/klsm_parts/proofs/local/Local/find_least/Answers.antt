@@ -1,4 +1,4 @@
-use Rattle.std.proofs.Common.{◌≡◌, [], get_or, ap, sym, subst, ◌∙◌}
+use Rattle.std.proofs.Common.{◌≡◌, [], get_or, ap, sym, subst, ◌∙◌, rules}
 use Rattle.std.specs.List.{slice_get}
 use Rattle.std.proofs.lemmas.Option.{same_Some}
 use Rattle.klsm_run.specs.Content.{sorted}
@@ -19,3 +19,6 @@ invariant_of-self g c =
       capacity_in_range = c.self.invariant.capacity_in_range;
       found_is = λ at is. subst (HasLeastFirst c.self.inside.lsm) (same_Some place.block at is) (subst (λ (p : PartState). HasLeastFirst p.blocks place.block) (sym c.self.view_is) least);
     }
+
+pub returns-clause-least : goal.returns-clause-least
+returns-clause-least g c = search rules
