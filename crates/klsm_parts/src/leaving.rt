@@ -132,11 +132,7 @@ fn cut_pivot<const LEVELS: usize>(
 
 // So many marked items less in a block.
 #[inline]
-fn mark_fewer<const LEVELS: usize>(
-    pivots: &mut ArrayVec<usize, LEVELS>,
-    block: usize,
-    count: usize,
-)
+fn mark_fewer<const LEVELS: usize>(pivots: &mut ArrayVec<usize, LEVELS>, block: usize, count: usize)
     requires block { block < array_vec_len pivots.old }
     requires marked { count ≤ slice_index_or pivots.old.items block 0 }
     ensures fewer { pivots.new.items ≡ fewer_marked pivots.old.items block count }

@@ -20,8 +20,7 @@ returns-then-left-gt0 g c =
     let count = c.len.ensures.len ∙ ap length (sym (get_or_from_slice_get c.args.self.now c.args.block _ [] c.block.ensures.block)) in
     let is = level_is _ c.level.result c.level.ensures.enough c.level.ensures.least ∙ ap level (sym (get_or_from_slice_get c.args.self.now (c.args.block + 1) _ [] c.block-then-left-gt0.ensures.block)) in
     let within : c.args.block + 1 < length c.args.self.now = omega (arith, c.requires.block, c.if-blocks-block-eq1.false, c.blocks-2.ensures.blocks) in
-    let small = (next_level c.args.self.now c.args.block c.len.result c.level.result c.len-known.ensures.lawful within c.len.type_inv count is).small in
-    (
+    let small = (next_level c.args.self.now c.args.block c.len.result c.level.result c.len-known.ensures.lawful within c.len.type_inv count is).small in (
       λ few. record {
         within = within;
         some_left = omega (arith, c.if-left-gt0.true, count);

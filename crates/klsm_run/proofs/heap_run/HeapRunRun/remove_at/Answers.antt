@@ -1,4 +1,4 @@
-use Rattle.std.proofs.Common.{◌∙◌, ap, sym, length, subst, ◌≤◌, arith}
+use Rattle.std.proofs.Common.{◌∙◌, ap, sym, length}
 use Rattle.klsm_run.proofs.RemoveLemmas.{ascending_remove}
 use Rattle.klsm_run.proofs.StoreLemmas.{heap_lent}
 use Rattle.klsm_run.proofs.heap_run.HeapRunRun.remove_at.Goals as goal

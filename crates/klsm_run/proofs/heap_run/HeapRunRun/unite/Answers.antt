@@ -1,4 +1,4 @@
-use Rattle.std.proofs.Common.{◌≡◌, ◌∙◌, ◌≤◌, ap, sym, refl, length, arith}
+use Rattle.std.proofs.Common.{◌∙◌, ap, sym, refl, length, arith}
 use Rattle.klsm_run.specs.Content.{ShareNone}
 use Rattle.klsm_run.specs.Stores.{spanned, HeapState}
 use Rattle.klsm_run.proofs.ApartLemmas.{apart_if_sharing_none, ascending_sorted}
