@@ -54,3 +54,6 @@ returns-clause-done g c shared has =
     let inv = c.loop-step.invariant in let so_far = inv.still shared has in
     let ends : c.loop-step.step ≡ c.args.threads = search rules in
     (so_far.0, (so_far.1.0, subst (λ k. Passes c.args.threads c.args.thread (k - 1) so_far.1.0) ends so_far.1.1, so_far.1.2))
+
+pub loop-step-init : goal.loop-step-init
+loop-step-init g c = search rules

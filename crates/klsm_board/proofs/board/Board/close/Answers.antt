@@ -76,3 +76,9 @@ list_parts-requires-room-S-Destruct g c κs = shared_fits _ c.args.self.levels
 
 pub close_with-closed-requires-room-P-TableRule-2 : goal.close_with-closed-requires-room-P-TableRule-2
 close_with-closed-requires-room-P-TableRule-2 g c κs = shared_fits _ c.args.self.levels
+
+pub returns-clause-deleted : goal.returns-clause-deleted
+returns-clause-deleted g c = search rules
+
+pub returns-clause-inserted : goal.returns-clause-inserted
+returns-clause-inserted g c = search rules

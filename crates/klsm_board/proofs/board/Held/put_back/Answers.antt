@@ -1,4 +1,4 @@
-use Rattle.std.proofs.Common.{List, ◌∷◌, ◌∙◌, [], length, sym, ap, refl, subst}
+use Rattle.std.proofs.Common.{rules, List, ◌∷◌, ◌∙◌, [], length, sym, ap, refl, subst}
 use Rattle.klsm_run.specs.declared.item.Item.{Item}
 use Rattle.klsm_world.specs.declared.step.Entry.TheVariants.{Released}
 use Rattle.klsm_world.specs.OwnSteps.{content_in, hand_of}
@@ -54,3 +54,6 @@ release_part-requires-room-S-Holding g c κs = local_fits _ c.args.self.capacity
 
 pub release_part-requires-room-S-Holding-2 : goal.release_part-requires-room-S-Holding-2
 release_part-requires-room-S-Holding-2 g c κs = shared_fits _ c.args.self.levels
+
+pub returns-clause-steps : goal.returns-clause-steps
+returns-clause-steps g c = search rules
