@@ -1,6 +1,5 @@
-/* The workloads of crates/klsm_bench with the word `threads`, through klsm.h: the same keys, the same
- * numbers of items and threads, and the same text, so that the two may be run side by side. The
- * column `heap` is a binary heap in C behind a mutex of pthreads. */
+/* What threads take that insert and delete in turn, with keys at random and at a hold: a queue with k = 64 and
+ * no refill through klsm.h, and a binary heap in C behind a mutex of pthreads. */
 #define _POSIX_C_SOURCE 200809L
 #include "klsm.h"
 #include <pthread.h>

@@ -22,7 +22,8 @@ exit 3
 """
 
 BUILDS = f"""#!/bin/sh
-echo built >> "$ROOM/builds"
+echo "$1 ${{PWD##*/}}" >> "$ROOM/builds"
+[ "$1" = run ] || exit 0
 mkdir -p out
 cat > out/klsm << 'END'
 {PROGRAM}END
@@ -72,12 +73,16 @@ class Checkout:
         )
         return ran.returncode, ran.stdout, ran.stderr
 
+    def asked(self):
+        """What `rt` was asked for, and in which folder."""
+        if not os.path.exists(f"{self.room}/builds"):
+            return []
+        with open(f"{self.room}/builds") as lines:
+            return lines.read().splitlines()
+
     def builds(self):
         """How often the program was built."""
-        if not os.path.exists(f"{self.room}/builds"):
-            return 0
-        with open(f"{self.room}/builds") as lines:
-            return len(lines.readlines())
+        return self.asked().count("run klsm")
 
 
 def check_passing_on(checkout):
@@ -85,6 +90,17 @@ def check_passing_on(checkout):
     for _ in range(2):
         assert checkout.run("replay", "--k", "1 2") == (3, "replay\n--k\n1 2\nrows\n", "")
     assert checkout.builds() == 1
+
+
+def check_libraries_beside(checkout):
+    checkout.use(BUILDS)
+    for library in ("klsm_text", "klsm_words"):
+        os.makedirs(f"{checkout.root}/crates/{library}/src")
+    assert checkout.run()[0] == 3
+    deadline = time.time() + 5
+    while len(checkout.asked()) < 3 and time.time() < deadline:
+        time.sleep(0.05)
+    assert sorted(checkout.asked()) == ["lib klsm_text", "lib klsm_words", "run klsm"]
 
 
 def check_newer_source(checkout):
@@ -99,7 +115,7 @@ def check_newer_source(checkout):
 def check_failed_build(checkout):
     checkout.use(FAILS)
     status, output, errors = checkout.run()
-    assert (status, output) == (70, "") and errors == "no proof\nklsm: the program could not be built\n"
+    assert (status, output) == (70, "") and errors.startswith("no proof\nklsm: the program could not be built;")
 
 
 def check_no_rt(checkout):
@@ -131,6 +147,7 @@ def check_stopped_build(checkout):
 def main(script):
     checks = (
         check_passing_on,
+        check_libraries_beside,
         check_newer_source,
         check_failed_build,
         check_no_rt,

@@ -1,39 +1,24 @@
 //! The run whose output does not depend on time.
 
 use crate::contenders::{Contender, Heap};
-use crate::crew::{OnBoard, board_of_one};
-use crate::kinds::{KINDS, Kind};
+use crate::on_board::{OnBoard, board_of_one};
 use crate::pair::Pair;
-use crate::searches::search_all;
 use crate::workloads::{WORKLOADS, Workload, fill};
-use klsm_instance::solve_in_turn;
 use klsm_parts::{First, Picker, random_of};
 use rand_core::SeedableRng;
 use rand_pcg::Pcg32;
 use std::alloc::{AllocError, Global};
 use std::io;
 use std::sync::Wait;
-use std::thread::Threads;
-use std::time::Clock;
 
-// How many things the instances have on which searches are compared.
-const THINGS: usize = 14;
-
-/// Prints, for each workload and several k, whether the queue gives what the heap gives. Then it prints whether a board of one
-/// member gives that too, with each of two pickers, and whether all searches of an instance find what a search without a queue
-/// finds.
-pub(crate) fn print<R: Print + Clock + AllocGlobal + Threads + Wait + Sync>(
-    rt: &R,
-) -> io::Result<()> {
+/// Prints, for each workload and several k, whether the queue gives what the heap gives, and whether a board
+/// of one member gives that too, with each of two pickers.
+pub(crate) fn print<R: Print + AllocGlobal + Wait>(rt: &R) -> io::Result<()> {
     for workload in WORKLOADS {
         print_queues(rt, *workload)?;
     }
     for workload in WORKLOADS {
         print_boards(rt, *workload)?;
-    }
-    for kind in KINDS {
-        let agreement = searches_agree(rt, *kind)?;
-        print_searches(rt, *kind, agreement)?;
     }
     Ok(())
 }
@@ -78,33 +63,6 @@ fn print_row<R: Print>(
         Some(agrees) => println!(rt; "{name} gives the heap's keys: {agrees}"),
         None => println!(rt; "no memory"),
     }
-}
-
-fn print_searches<R: Print>(rt: &R, kind: Kind, agreement: Option<bool>) -> io::Result<()> {
-    print!(rt; "{} {THINGS} things: ", kind.name())?;
-    match agreement {
-        Some(all_best) => println!(rt; "all searches find a best selection: {all_best}"),
-        None => println!(rt; "no memory"),
-    }
-}
-
-// Whether the searches of an instance, by one thread and by two, find the value that a search depth first finds.
-fn searches_agree<R: Clock + AllocGlobal + Threads + Wait + Sync>(
-    rt: &R,
-    kind: Kind,
-) -> io::Result<Option<bool>> {
-    let Some(instance) = kind.instance(rt.alloc(), THINGS, 7) else {
-        return Ok(None);
-    };
-    let best = solve_in_turn(&instance).value;
-    let mut all_best = true;
-    for threads in [1, 2] {
-        let Some(searches) = search_all(rt, &instance, threads)? else {
-            return Ok(None);
-        };
-        all_best = all_best && searches.all_find(best);
-    }
-    Ok(Some(all_best))
 }
 
 // The keys that are inserted at first, and those of the workload.

@@ -2,7 +2,7 @@
 ghost use Rattle.std.specs.Prelude.{◌<◌, ◌≤◌};
 
 use crate::contenders::Contender;
-use crate::crew::{OnBoard, board_of_one};
+use crate::on_board::{OnBoard, board_of_one};
 use crate::rounds::{Calls, ROUNDS, per_operation, time_of};
 use crate::workloads::Workload;
 use klsm_parts::{First, Queue};

@@ -1,6 +1,7 @@
 //! The run that measures.
 ghost use Rattle.std.specs.Prelude.{◌≤◌, ◌<◌};
 
+use crate::own;
 use crate::pair::Pair;
 use crate::rounds::{Calls, ROUNDS, Rounds};
 use crate::workloads::{WORKLOADS, Workload};
@@ -8,6 +9,7 @@ use rand_core::SeedableRng;
 use rand_pcg::Pcg32;
 use std::alloc::Global;
 use std::io;
+use std::sync::Wait;
 use std::time::Clock;
 
 // Insertions and deletions in turn, in one round.
@@ -16,9 +18,9 @@ const PAIRS: usize = 20_000;
 // How often an own part is filled and emptied in one round.
 const FILLINGS: usize = 500;
 
-/// Prints a line for each workload, number of items and k; for insertions alone; and for own parts that are filled and
-/// emptied.
-pub(crate) fn print<R: Print + Clock + AllocGlobal>(rt: &R) -> io::Result<()> {
+/// Prints a line for each workload, number of items and k; for insertions alone; and for own parts that are
+/// filled and emptied, of a queue for one thread and then of a board of one member too.
+pub(crate) fn print<R: Print + Clock + AllocGlobal + Wait>(rt: &R) -> io::Result<()> {
     println!(rt; "medians of five, in tenths of nanoseconds an operation:")?;
     println!(rt; "workload items k heap queue")?;
     for items in [1_000, 100_000, 1_000_000] {
@@ -30,7 +32,8 @@ pub(crate) fn print<R: Print + Clock + AllocGlobal>(rt: &R) -> io::Result<()> {
     for k in [8, 64, 128] {
         print_own(rt, k)?;
     }
-    Ok(())
+    println!(rt; "calls k queue board")?;
+    own::print(rt, 64)
 }
 
 fn print_workloads<R: Print + Clock + AllocGlobal>(rt: &R, items: usize) -> io::Result<()> {
