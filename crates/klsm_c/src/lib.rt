@@ -39,6 +39,3 @@ pub use item::PlainItem;
 pub use opening::{klsm_open, klsm_open_with_refill};
 pub use queue::Queue;
 pub use slot::Slot;
-
-#[cfg(test)]
-mod tests;

@@ -1,28 +1,22 @@
-//! The tests of the layers that use only what these show to their callers.
+//! The tests of the queue's layers, which use only what these show to their callers.
 //!
 //! A crate with tests is proved twice, with them and without, so they stand here, above all that
 //! they test. Each folder has the tests of one subject:
 //!
 //! - `board`: a board and its members, in one thread and in several;
-//! - `knapsack`: the knapsack client, beside a plain loop over all selections;
 //! - `runs`: copies, merges, removals and unions of runs;
 //! - `lsm`: LSMs over runs on the heap and fixed ones, with the blocks that each call leaves;
 //! - `parts`: a queue for one thread and its parts, beside a plain program written from the rules;
 //! - `printed`: what runs, LSMs, parts and worlds print, and the texts of refusals;
-//! - `program`: the program's texts and statuses, and faults in mid-stream;
+//! - `rationed`: the allocator by which tests refuse each growth in turn;
 //! - `world`: the pure world of threads and locked steps, beside a plain program written from its
 //!   definitions.
 #![tactic(auto)]
 
+#[cfg(test)]
 mod board;
 #[cfg(test)]
-mod knapsack;
-#[cfg(test)]
 mod lsm;
-#[cfg(test)]
-mod meeting;
-#[cfg(test)]
-mod numbered;
 #[cfg(test)]
 mod owned;
 #[cfg(test)]
@@ -30,7 +24,6 @@ mod parts;
 #[cfg(test)]
 mod printed;
 #[cfg(test)]
-mod program;
 mod rationed;
 #[cfg(test)]
 mod rules;

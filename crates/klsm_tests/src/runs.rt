@@ -4,7 +4,7 @@ ghost use Rattle.std.specs.Prelude.{◌≡◌, ◌+◌, ◌<◌, ◌≤◌, leng
 ghost use Rattle.std.specs.List.{AllByRecursion};
 
 use super::owned::{has_keys, heap_run_of, run_of};
-use crate::rationed::Rationed;
+use klsm_test_support::Rationed;
 use klsm_run::{HeapRun, Run};
 use std::alloc::{Allocator, Global};
 

@@ -1,6 +1,6 @@
 //! Members that are dropped, one of them with a part in its hand.
 
-use super::crew::{Crew, refused};
+use klsm_test_support::{Crew, refused};
 use super::script::{Step, all_go};
 use klsm_board::{Busy, FinishError, HoldError, TryInsertError};
 use std::alloc::Global;

@@ -1,7 +1,7 @@
 //! Boards that are finished, with all their members or without some.
 ghost use Rattle.klsm_parts.specs.Limit.{IsLevelCount};
 
-use super::crew::{Crew, refused};
+use klsm_test_support::{Crew, refused};
 use super::script::{Name, Step, all_go, item};
 use klsm_board::{Account, FinishError, TryInsertError};
 use std::alloc::Global;

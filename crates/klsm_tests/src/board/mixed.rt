@@ -1,7 +1,7 @@
 //! Mixed calls of the members of a board, made in one thread, while now and then one of them holds a
 //! part: each answer is that of a plain board, and so is the account in the end.
 
-use super::crew::Crew;
+use klsm_test_support::Crew;
 use super::plain::Plain;
 use crate::rules::Pick;
 use klsm_board::TryInsertError;

@@ -1,7 +1,7 @@
 //! Calls that are refused a growth, made again: nothing has changed, and they go through. With ample
 //! memory none is refused; a run that fails one allocation after another refuses each growth here.
 
-use super::crew::Crew;
+use klsm_test_support::Crew;
 use klsm_board::{MakeError, TryInsertError};
 use klsm_parts::First;
 use klsm_run::{Item, Stamp};

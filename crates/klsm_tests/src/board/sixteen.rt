@@ -1,6 +1,6 @@
 //! As many members as a board can have, and what no board is made for.
 
-use super::crew::Crew;
+use klsm_test_support::Crew;
 use super::script::item;
 use klsm_board::{Board, MakeError};
 use klsm_parts::Last;

@@ -1,7 +1,7 @@
 //! How many smaller items deletions pass over where the members take turns, in one thread: each deletes
 //! an item and inserts one of a greater key.
 
-use super::crew::Crew;
+use klsm_test_support::Crew;
 use klsm_parts::First;
 use klsm_run::Item;
 use rand_core::{Rng, SeedableRng};

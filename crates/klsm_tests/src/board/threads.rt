@@ -3,7 +3,7 @@
 ghost use Rattle.std.specs.Prelude.{◌≡◌, All, IfSome};
 ghost use Rattle.klsm_board.specs.Boards.{IsOf};
 
-use super::crew::Crew;
+use klsm_test_support::Crew;
 use klsm_board::{Account, Board, Member};
 use klsm_parts::Last;
 use klsm_run::{Item, Stamp};

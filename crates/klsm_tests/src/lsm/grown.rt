@@ -6,7 +6,7 @@ ghost use Rattle.klsm_lsm.specs.Lsm.{content};
 ghost use Rattle.klsm_lsm.specs.Limit.{IsLevelCount};
 
 use super::super::owned::{are_keys, has_keys, heap_run_of, run_of};
-use crate::rationed::Rationed;
+use klsm_test_support::Rationed;
 use klsm_lsm::{Lsm, LsmError, Refused};
 use klsm_run::{FixedRun, HeapRun, Item, Run};
 use std::alloc::Global;

@@ -2,7 +2,7 @@
 //! back.
 use super::super::owned::has_blocks;
 use super::grown::{Grown, How, RationedGrown};
-use crate::rationed::Rationed;
+use klsm_test_support::Rationed;
 use klsm_lsm::LsmError;
 use std::alloc::Global;
 

@@ -2,7 +2,7 @@
 //! fixed runs too. Own parts have those of insertions into fixed runs and of spies.
 use super::super::owned::{has_blocks, has_keys};
 use super::grown::{FixedGrown, Grown, How, RationedGrown};
-use crate::rationed::Rationed;
+use klsm_test_support::Rationed;
 use klsm_lsm::{Cascade, Lsm};
 use klsm_run::{FixedRun, HeapRun, Run};
 use std::alloc::Global;

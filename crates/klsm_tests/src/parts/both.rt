@@ -2,7 +2,7 @@
 ghost use Rattle.std.specs.Prelude.{◌≤◌};
 
 use super::plain::{Plain, marked};
-use crate::rationed::Rationed;
+use klsm_test_support::Rationed;
 use klsm_lsm::Lsm;
 use klsm_parts::{Local, Queue, Shared};
 use klsm_run::{Item, Run, Stamp};

@@ -6,7 +6,7 @@ ghost use Rattle.std.specs.Prelude.{◌≤◌};
 use super::both::{Both, both_at, delete, insert};
 use super::taken::{Parts, parts_at};
 use crate::owned::item;
-use crate::rationed::Rationed;
+use klsm_test_support::Rationed;
 use crate::rules::Pick;
 use klsm_parts::Random;
 use rand_core::{Rng, SeedableRng};

@@ -4,7 +4,7 @@ ghost use Rattle.std.specs.Prelude.{◌≤◌};
 use super::both::{Both, both_at, insert_all, item};
 use super::spied::own_part;
 use super::taken::{Parts, parts_at};
-use crate::rationed::Rationed;
+use klsm_test_support::Rationed;
 use crate::rules::Pick;
 use klsm_lsm::LsmError;
 use klsm_parts::{Last, Local, Part, Queue, Shared, flush};

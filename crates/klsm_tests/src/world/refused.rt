@@ -1,7 +1,7 @@
 //! Each growth refused in turn: nothing changes, and the same call goes through later.
 
 use super::steps::{Moved, Name, Row, steps_of, world_after};
-use crate::rationed::Rationed;
+use klsm_test_support::Rationed;
 use klsm_world::{Items, Step, StepError, World, WorldError, run};
 use std::alloc::Global;
 

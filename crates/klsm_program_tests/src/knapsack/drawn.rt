@@ -1,0 +1,82 @@
+//! Drawn instances, whose best selection is found by a plain loop over all.
+
+use klsm_test_support::add_words;
+use klsm_board::Open;
+use klsm_knapsack::{Instance, solve, solve_in_turn};
+use rand_core::{Rng, SeedableRng};
+use rand_pcg::Pcg32;
+use std::alloc::Global;
+use std::sync::Wait;
+use std::thread::Threads;
+
+// The rows of up to 12 things.
+fn drawn(alloc: Global, seed: u64) -> Option<Vec<u8>> {
+    let mut mix = Pcg32::seed_from_u64(seed);
+    let mut text = Vec::new(alloc);
+    add_words(&mut text, &[("capacity,", mix.next_u64() % 60)], "\n")?;
+    for _ in 0..mix.next_u64() % 13 {
+        let value = 1 + mix.next_u64() % 100;
+        let weight = 1 + mix.next_u64() % 20;
+        add_words(&mut text, &[("", value), (",", weight)], "\n")?;
+    }
+    Some(text)
+}
+
+// The value of a selection, or none where it does not fit.
+fn value_of(instance: &Instance, picks: u64) -> Option<u64> {
+    let mut value: u64 = 0;
+    let mut weight: u64 = 0;
+    for i in 0..instance.len() {
+        if (picks >> i) % 2 == 1 {
+            value = value.saturating_add(instance.value(i));
+            weight = weight.saturating_add(instance.weight(i));
+        }
+    }
+    if weight <= instance.capacity() {
+        Some(value)
+    } else {
+        None
+    }
+}
+
+fn best_value(instance: &Instance) -> u64 {
+    let mut best = 0;
+    for picks in 0..1u64 << instance.len() {
+        if let Some(value) = value_of(instance, picks) {
+            best = best.max(value);
+        }
+    }
+    best
+}
+
+// Whether a selection has the best value, and it is told.
+fn is_best(instance: &Instance, best: u64, value: u64, picks: u64) -> bool {
+    value == best && value_of(instance, picks) == Some(best)
+}
+
+// Whether all searches of an instance give a selection of the best value.
+fn agree(rt: &(impl Threads + Wait + Sync), alloc: Global, instance: &Instance) -> Option<bool> {
+    let best = best_value(instance);
+    let in_turn = solve_in_turn(instance);
+    let mut all = is_best(instance, best, in_turn.value, in_turn.picks);
+    for threads in [1, 2, 4] {
+        for k in [0, 1, 16] {
+            let found = solve::<21>(rt, alloc, instance, threads, k, 4, &Open).ok()?;
+            all &= is_best(instance, best, found.value, found.picks);
+        }
+    }
+    Some(all)
+}
+
+// The same of a drawn one.
+fn agree_on_drawn(rt: &(impl Threads + Wait + Sync), alloc: Global, seed: u64) -> Option<bool> {
+    let text = drawn(alloc, seed)?;
+    agree(rt, alloc, &Instance::read(alloc, text.as_slice()).ok()?)
+}
+
+#[test]
+fn searches_agree_with_a_plain_loop(rt: HostRuntime) {
+    for seed in 0..200 {
+        assert!(rt; agree_on_drawn(&rt, rt.alloc(), seed) == Some(true));
+    }
+}

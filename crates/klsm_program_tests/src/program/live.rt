@@ -1,0 +1,92 @@
+//! Scripts whose rows are run by threads: the line of each run, what becomes of a script that is not
+//! run, that threads run side by side, and that each passes the gate once.
+
+use super::worked::SCRIPT;
+use super::{Told, all_go};
+use klsm_test_support::{Counting, Meeting};
+use klsm_tool::{End, Pick, Report, Settings, live_over};
+
+/// The words of a process that lets threads run a script.
+pub(super) const LIVE: &[&[u8]] = &[b"klsm", b"live"];
+
+const LIVE_OF_TWO: &[&[u8]] = &[b"klsm", b"live", b"--threads", b"2"];
+
+/// The line of the script of one thread.
+pub(super) const TOTALS: &[u8] = b"inserted 3 deleted 3 left 0\n";
+
+// What each thread does does not depend on the others here: one thread, insertions alone, or a script
+// that is not run.
+const WORKED: &[Told] = &[
+    (LIVE, SCRIPT, 0, TOTALS),
+    (LIVE, b"", 0, b"inserted 0 deleted 0 left 0\n"),
+    (
+        LIVE,
+        b"0,d,,\n0,i,1,0\n0,i,2,0",
+        0,
+        b"inserted 2 deleted 0 left 2\n",
+    ),
+    (
+        LIVE_OF_TWO,
+        b"0,i,1,0\n1,i,2,0\n",
+        0,
+        b"inserted 2 deleted 0 left 2\n",
+    ),
+    (
+        LIVE_OF_TWO,
+        b"1,i,1,0\n1,d,,\n1,d,,\n",
+        0,
+        b"inserted 1 deleted 1 left 0\n",
+    ),
+    (LIVE, b"0,x,1,2", 1, b"refused row 1: operation\n"),
+    (
+        LIVE,
+        b"0,i,5,0\n0,q,,\n0,d\n",
+        1,
+        b"refused row 2: operation\n",
+    ),
+    (LIVE, b"0,i,5,0\n1,i,5,0\n", 1, b"refused row 2: thread\n"),
+];
+
+#[test]
+fn scripts_are_run_by_threads(rt: HostRuntime) {
+    assert!(rt; all_go(&rt, rt.alloc(), WORKED));
+}
+
+#[test]
+fn two_threads_run_side_by_side(rt: HostRuntime) {
+    let settings = Settings {
+        threads: 2,
+        k: 64,
+        refill: 0,
+        pick: Pick::First,
+        seed: 1,
+    };
+    let meeting = Meeting::new();
+    let mut text = Vec::new(rt.alloc());
+    let script: &[u8] = b"0,i,1,0\n1,i,2,0\n";
+    let report = live_over(&rt, script, &mut text, &settings, &meeting);
+    let want = Report {
+        end: End::Done,
+        written: text.len() as u64,
+    };
+    assert!(rt; text.as_slice() == b"inserted 2 deleted 0 left 2\n".as_slice() && report == want);
+    assert!(rt; meeting.took_place());
+}
+
+// Three threads, of which the last has no row.
+#[test]
+fn each_thread_passes_the_gate_once(rt: HostRuntime) {
+    let settings = Settings {
+        threads: 3,
+        k: 64,
+        refill: 0,
+        pick: Pick::First,
+        seed: 1,
+    };
+    let gate = Counting::new();
+    let mut text = Vec::new(rt.alloc());
+    let script: &[u8] = b"0,i,1,0\n1,i,2,0\n0,i,3,0\n";
+    let report = live_over(&rt, script, &mut text, &settings, &gate);
+    assert!(rt; text.as_slice() == b"inserted 3 deleted 0 left 3\n".as_slice());
+    assert!(rt; report.end == End::Done && gate.passed() == [1, 1, 1]);
+}
