@@ -9,7 +9,7 @@
 //! - `lsm`: LSMs over runs on the heap and fixed ones, with the blocks that each call leaves;
 //! - `parts`: a queue for one thread and its parts, beside a plain program written from the rules;
 //! - `printed`: what runs, LSMs, parts and worlds print, and the texts of refusals;
-//! - `program`: the program's texts and statuses, and faults in mid-stream;
+//! - `program`: faults in mid-stream of a run of the program, what waits, and what threads do;
 //! - `world`: the pure world of threads and locked steps, beside a plain program written from its
 //!   definitions.
 #![tactic(auto)]
