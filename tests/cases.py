@@ -16,8 +16,9 @@ def read(file, other=b""):
 
 
 def lines_of(text):
-    """Lines, each with an end of its own."""
-    return text.split(b"\n")[:-1]
+    """The lines, of which the last may lack its end."""
+    *lines, rest = text.split(b"\n")
+    return [*lines, rest] if rest else lines
 
 
 def shown(lines, number):
