@@ -1,23 +1,19 @@
-//! What no contract says: texts and statuses of the whole program, and faults in mid-stream.
+//! What no contract says of a run of the program, and no call of it from outside can bring about
+//! or see: faults in mid-stream, what waits for what, and what threads do.
+//!
+//! Its answers to whole inputs are cases of data, in `tests/` at the root of the repository.
 
 mod faults;
-mod help;
 mod knapsack;
-mod limits;
 mod live;
-mod options;
 mod order;
 mod process;
 mod progress;
 mod refused;
+mod repeated;
 mod replayed;
-mod scripts;
-mod seeds;
-mod skips;
 mod threads;
-mod version;
 mod waiting;
-mod words;
 mod worked;
 
 use klsm_tool::{Silent, run_program};

@@ -1,8 +1,8 @@
 //! What comes before what: words are judged before any input is read, no thread runs where a row or an
 //! instance is refused, and each worker passes its gate before its first row.
 
-use super::limits::repeated;
 use super::process::{Input, Output};
+use super::repeated::repeated;
 use super::run;
 use klsm_test_support::{Counting, Meeting};
 use klsm_board::Gate;

@@ -2,8 +2,8 @@
 //! where standard error is a terminal and the run has lasted for more than a second, and goes away at
 //! the end.
 
-use super::limits::repeated;
 use super::process::{Input, Output, Process};
+use super::repeated::repeated;
 use klsm_tool::{Counted, Progress, TerminalLine, Terminals, run_program};
 use std::alloc::Global;
 use std::fmt::Display;

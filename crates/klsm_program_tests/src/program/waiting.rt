@@ -2,8 +2,8 @@
 //! where many rows are there.
 
 use super::REPLAY;
-use super::limits::repeated;
 use super::process::Process;
+use super::repeated::repeated;
 use klsm_tool::{Silent, run_program};
 use std::alloc::Global;
 use std::cell::Cell;
