@@ -1,7 +1,7 @@
 //! The plain board: the rules over lists of items, in one thread, as slow as they read. It calls
 //! nothing of the code under test.
 
-use crate::rules::{Blocks, Pick, add, chosen, remove, settle, sorted, spied};
+use crate::rules::{Blocks, Pick, add, chosen, remove, sorted, spied};
 use klsm_board::{Account, Busy, HoldError};
 use klsm_run::{Item, Stamp};
 use std::alloc::Global;
@@ -148,7 +148,7 @@ impl Plain {
         let moved = self.shared[..count].to_vec(self.alloc).ok()?;
         self.shared.retain(|item| !moved.contains(item));
         self.refilled = self.refilled.saturating_add(1);
-        settle(&mut self.owns.get_mut(member as usize)?.blocks, moved).ok()
+        add(&mut self.owns.get_mut(member as usize)?.blocks, moved).ok()
     }
 
     // Takes an item out of the member's own part and the shared one, if there is one.
