@@ -28,12 +28,7 @@ pub struct Crew<const LEVELS: usize> {
 
 impl<const LEVELS: usize> Crew<LEVELS> {
     /// A new board without a refill, and all its members.
-    pub fn new(
-        alloc: Global,
-        threads: usize,
-        k: usize,
-        quota: u64,
-    ) -> Result<Self, MakeError>
+    pub fn new(alloc: Global, threads: usize, k: usize, quota: u64) -> Result<Self, MakeError>
         requires { IsLevelCount LEVELS }
     {
         let (board, members) = Board::new(alloc, threads, k, quota)?;

@@ -7,6 +7,9 @@ use Rattle.klsm_instance.proofs.instance.Instance.bound_with.Goals as goal
 exact : (c : goal.After-struct_known-2-1) → IsBound c.args.self.now c.args.level c.args.picks (c.args.taken.value + c.gain.result)
 exact c = (c.gain.result, rw (c.requires.weight, ap (λ p. p.capacity) c.self.view_is) at c.gain.ensures.gain, ap (λ n. n + c.gain.result) c.requires.value)
 
+pub returns-clause-exact : goal.returns-clause-exact
+returns-clause-exact c = exact c
+
 pub returns-clause-sound : goal.returns-clause-sound
 returns-clause-sound c =
     bound_sound c.args.self.now c.args.level c.args.picks (c.args.taken.value + c.gain.result) c.gain.ensures.range (exact c)

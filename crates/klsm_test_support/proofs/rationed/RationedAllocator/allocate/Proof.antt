@@ -86,7 +86,7 @@ allocate_spec 𝓤 𝓛 𝓜 𝓡 wired Y L g d d' met _ =
     sets ! (addr ! (through ! refl (fld ! refl (stop !)))) refl (tt, tt) $
     feq_i ! (List Val) (vptr ration_at.0 ration_at.1 ∷ []) _ refl $ fjoin ! $ nothing ! $ move ! (1 ∷ []) $ fjoin ! $ nothing ! $ move ! (2 ∷ []) $ join ! $ join ! $ nothing ! $ move ! (1 ∷ []) $
     use2 𝓛 (raw (G.pre z)) (id⊢ 𝓤 _) $
-    calls_at ! (framed 𝓤 𝓛.H 𝓜 𝓣) G (granting.met 𝓤 𝓛 𝓜 𝓡 (code.calls-klsm_tests::rationed::grant 𝓡.env wired)) z (and_then ! (get ! refl) (no_more !)) (λ v.
+    calls_at ! (framed 𝓤 𝓛.H 𝓜 𝓣) G (granting.met 𝓤 𝓛 𝓜 𝓡 (code.calls-klsm_test_support::rationed::grant 𝓡.env wired)) z (and_then ! (get ! refl) (no_more !)) (λ v.
     use1 𝓛 (later (some (λ (granted : Bool). ((‵ (flft κ q) ⊛ ‵ ftrue) ⊛ ‵ (bool.own_val granted (v ∷ []))) ⊛ some (λ (ws : Unit {0} × Unit {0}). ‵ (fsep ftrue ftrue) ⊛ ‵ ftrue)))) (id⊢ 𝓤 _) $
     await ! tt $ pick ! (λ granted. split ! $ split ! $ split ! $ move ! (2 ∷ []) $ feq_l ! (λ is_granted. move ! (1 ∷ []) $ drop ! $ move ! (1 ∷ []) $ drop ! $
     lands_as ! (ap only is_granted) refl (tt, tt) $
