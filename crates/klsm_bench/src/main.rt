@@ -35,10 +35,7 @@ fn main(rt: HostRuntime) -> io::Result<ExitCode> {
 }
 
 // Prints what the words ask for. `None` where they ask for nothing.
-fn print<R: Print + Clock + AllocGlobal + Wait>(
-    rt: &R,
-    mut words: Args,
-) -> io::Result<Option<()>> {
+fn print<R: Print + Clock + AllocGlobal + Wait>(rt: &R, mut words: Args) -> io::Result<Option<()>> {
     let Some(word) = words.next() else {
         return agreement::print(rt).map(Some);
     };

@@ -4,8 +4,8 @@ ghost use Rattle.std.specs.Prelude.{◌≡◌, ◌+◌, ◌<◌, ◌≤◌, leng
 ghost use Rattle.std.specs.List.{AllByRecursion};
 
 use super::owned::{has_keys, heap_run_of, run_of};
-use klsm_test_support::Rationed;
 use klsm_run::{HeapRun, Run};
+use klsm_test_support::Rationed;
 use std::alloc::{Allocator, Global};
 
 // The capacity and the level of a run. `None` where it has other keys than these, or none.

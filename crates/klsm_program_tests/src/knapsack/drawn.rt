@@ -1,8 +1,8 @@
 //! Drawn instances, whose best selection is found by a plain loop over all.
 
-use klsm_test_support::add_words;
 use klsm_board::Open;
 use klsm_knapsack::{Instance, solve, solve_in_turn};
+use klsm_test_support::add_words;
 use rand_core::{Rng, SeedableRng};
 use rand_pcg::Pcg32;
 use std::alloc::Global;

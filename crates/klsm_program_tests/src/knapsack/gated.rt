@@ -2,9 +2,9 @@
 //! others have passed.
 
 use super::worked::{BEST, worked};
-use klsm_test_support::{LOOKS, Meeting};
 use klsm_board::Gate;
 use klsm_knapsack::solve;
+use klsm_test_support::{LOOKS, Meeting};
 use std::sync::atomic::{AtomicU64, Ordering};
 
 #[test]

@@ -1,7 +1,7 @@
 //! Instances with the steepest things first, and answers given back in the order of the rows.
 
-use klsm_test_support::add_words;
 use klsm_knapsack::{Best, Instance, Reordered, solve_in_turn};
+use klsm_test_support::add_words;
 use rand_core::{Rng, SeedableRng};
 use rand_pcg::Pcg32;
 use std::alloc::Global;

@@ -4,8 +4,8 @@
 use super::process::{Input, Output};
 use super::repeated::repeated;
 use super::run;
-use klsm_test_support::{Counting, Meeting};
 use klsm_board::Gate;
+use klsm_test_support::{Counting, Meeting};
 use klsm_tool::{Counted, End, Pick, Progress, Settings, knapsack_over, live_over, live_told};
 use std::alloc::Global;
 use std::cell::Cell;

@@ -1,8 +1,8 @@
 //! Members that are dropped, one of them with a part in its hand.
 
-use klsm_test_support::{Crew, refused};
 use super::script::{Step, all_go};
 use klsm_board::{Busy, FinishError, HoldError, TryInsertError};
+use klsm_test_support::{Crew, refused};
 use std::alloc::Global;
 use std::sync::Wait;
 

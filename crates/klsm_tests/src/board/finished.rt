@@ -1,9 +1,9 @@
 //! Boards that are finished, with all their members or without some.
 ghost use Rattle.klsm_parts.specs.Limit.{IsLevelCount};
 
-use klsm_test_support::{Crew, refused};
 use super::script::{Name, Step, all_go, item};
 use klsm_board::{Account, FinishError, TryInsertError};
+use klsm_test_support::{Crew, refused};
 use std::alloc::Global;
 use std::sync::Wait;
 

@@ -1,11 +1,11 @@
 //! Mixed calls of the members of a board, made in one thread, while now and then one of them holds a
 //! part: each answer is that of a plain board, and so is the account in the end.
 
-use klsm_test_support::Crew;
 use super::plain::Plain;
 use crate::rules::Pick;
 use klsm_board::TryInsertError;
 use klsm_parts::{First, Last, Random};
+use klsm_test_support::Crew;
 use rand_core::{Rng, SeedableRng};
 use rand_pcg::Pcg32;
 use std::alloc::Global;

@@ -1,10 +1,10 @@
 //! Calls that are refused a growth, made again: nothing has changed, and they go through. With ample
 //! memory none is refused; a run that fails one allocation after another refuses each growth here.
 
-use klsm_test_support::Crew;
 use klsm_board::{MakeError, TryInsertError};
 use klsm_parts::First;
 use klsm_run::{Item, Stamp};
+use klsm_test_support::Crew;
 use std::alloc::Global;
 
 // What can be seen of a part: how many items it has, and the least.

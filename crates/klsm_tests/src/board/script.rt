@@ -1,10 +1,10 @@
 //! Scripts of steps on a board, with what each has to answer.
 ghost use Rattle.klsm_parts.specs.Limit.{IsLevelCount};
 
-use klsm_test_support::Crew;
 use klsm_board::{Busy, HoldError, InsertError, TryInsertError};
 use klsm_parts::First;
 use klsm_run::{Item, Stamp};
+use klsm_test_support::Crew;
 use std::alloc::Global;
 use std::sync::Wait;
 

@@ -1,10 +1,10 @@
 //! As many members as a board can have, and what no board is made for.
 
-use klsm_test_support::Crew;
 use super::script::item;
 use klsm_board::{Board, MakeError};
 use klsm_parts::Last;
 use klsm_run::Item;
+use klsm_test_support::Crew;
 use std::alloc::Global;
 
 // Members, k, quota and refill of a board, and why there is none.

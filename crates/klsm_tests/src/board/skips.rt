@@ -1,9 +1,9 @@
 //! How many smaller items deletions pass over where the members take turns, in one thread: each deletes
 //! an item and inserts one of a greater key.
 
-use klsm_test_support::Crew;
 use klsm_parts::First;
 use klsm_run::Item;
+use klsm_test_support::Crew;
 use rand_core::{Rng, SeedableRng};
 use rand_pcg::Pcg32;
 use std::alloc::Global;

@@ -3,10 +3,10 @@
 ghost use Rattle.std.specs.Prelude.{◌≡◌, All, IfSome};
 ghost use Rattle.klsm_board.specs.Boards.{IsOf};
 
-use klsm_test_support::Crew;
 use klsm_board::{Account, Board, Member};
 use klsm_parts::Last;
 use klsm_run::{Item, Stamp};
+use klsm_test_support::Crew;
 use rand_core::{Rng, SeedableRng};
 use rand_pcg::Pcg32;
 use std::alloc::Global;

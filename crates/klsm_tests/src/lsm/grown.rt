@@ -6,9 +6,9 @@ ghost use Rattle.klsm_lsm.specs.Lsm.{content};
 ghost use Rattle.klsm_lsm.specs.Limit.{IsLevelCount};
 
 use super::super::owned::{are_keys, has_keys, heap_run_of, run_of};
-use klsm_test_support::Rationed;
 use klsm_lsm::{Lsm, LsmError, Refused};
 use klsm_run::{FixedRun, HeapRun, Item, Run};
+use klsm_test_support::Rationed;
 use std::alloc::Global;
 
 /// An LSM, and how many owners have put items in. Their numbers are below that, so the items of the

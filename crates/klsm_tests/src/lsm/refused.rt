@@ -2,8 +2,8 @@
 //! back.
 use super::super::owned::has_blocks;
 use super::grown::{Grown, How, RationedGrown};
-use klsm_test_support::Rationed;
 use klsm_lsm::LsmError;
+use klsm_test_support::Rationed;
 use std::alloc::Global;
 
 // The keys of the runs of an LSM, and of one that is added with so many growths granted; what comes

@@ -2,9 +2,9 @@
 //! fixed runs too. Own parts have those of insertions into fixed runs and of spies.
 use super::super::owned::{has_blocks, has_keys};
 use super::grown::{FixedGrown, Grown, How, RationedGrown};
-use klsm_test_support::Rationed;
 use klsm_lsm::{Cascade, Lsm};
 use klsm_run::{FixedRun, HeapRun, Run};
+use klsm_test_support::Rationed;
 use std::alloc::Global;
 
 // Runs, and the blocks of the LSM that takes them in turn: a run goes between others, or becomes

@@ -2,10 +2,10 @@
 ghost use Rattle.std.specs.Prelude.{◌≤◌};
 
 use super::plain::{Plain, marked};
-use klsm_test_support::Rationed;
 use klsm_lsm::Lsm;
 use klsm_parts::{Local, Queue, Shared};
 use klsm_run::{Item, Run, Stamp};
+use klsm_test_support::Rationed;
 use std::alloc::Global;
 
 /// A queue of own parts of at most 64 items, whose growths are rationed.

@@ -1,8 +1,8 @@
 //! The one growth of a flush refused: nothing changes, and the same call goes through later.
 
 use super::both::{Both, are_same, both_at, insert_all};
-use klsm_test_support::Rationed;
 use klsm_lsm::LsmError;
+use klsm_test_support::Rationed;
 
 // The last insertion flushes at k = 2: a block of 2 items becomes one with one of 2 and one of 4.
 fn flush_needs_one(both: &mut Both) -> Option<bool> {

@@ -7,10 +7,10 @@ ghost use Rattle.klsm_lsm.specs.Lsm.{content};
 
 use super::both::{RationedShared, show_same};
 use super::plain::Plain;
-use klsm_test_support::Rationed;
 use crate::rules::Pick;
 use klsm_parts::{Local, Picker, Shared, flush, put, take, take_least};
 use klsm_run::Item;
+use klsm_test_support::Rationed;
 use std::alloc::Global;
 
 /// The two parts, and the plain program.

@@ -4,11 +4,11 @@ ghost use Rattle.std.specs.Prelude.{◌≤◌};
 use super::both::{Both, both_at, insert_all, item};
 use super::spied::own_part;
 use super::taken::{Parts, parts_at};
-use klsm_test_support::Rationed;
 use crate::rules::Pick;
 use klsm_lsm::LsmError;
 use klsm_parts::{Last, Local, Part, Queue, Shared, flush};
 use klsm_run::Item;
+use klsm_test_support::Rationed;
 use std::alloc::Global;
 
 // Inserts the items of these keys in turn, numbered from 0, into parts at this k with no item.

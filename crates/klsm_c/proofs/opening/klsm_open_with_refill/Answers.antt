@@ -23,3 +23,9 @@ returns-in-Ok-clause-ok c = λ ok.
           ∙ ap (λ n. map alone (owned_in c.fill_front.new.slots) ++ replicate n none) count;
       new = subst (AreNew c.args.threads c.args.k (pick_by c.args.pick) c.args.seed c.args.refill) (sym (filled_own c.fill_front.new.slots old values (length boxes) closed c.fill_front.ensures)) new;
     }
+
+pub returns-in-Err-BadRefill-clause-bad_k : goal.returns-in-Err-BadRefill-clause-bad_k
+returns-in-Err-BadRefill-clause-bad_k c = search rules
+
+pub returns-in-Err-BadRefill-clause-bad_refill : goal.returns-in-Err-BadRefill-clause-bad_refill
+returns-in-Err-BadRefill-clause-bad_refill c = search rules
