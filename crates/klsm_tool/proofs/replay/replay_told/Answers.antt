@@ -39,3 +39,6 @@ returns g c =
     let goes = c.write_last-in-Err.ensures.goes in
     alone (board_sizes c.args.settings.now) _ _ _ c.write_last-in-Err.result c.in-Ok.board c.replay_script-report.new.members c.replay_script-report.ensures.members c.in-Ok.ensures.sizes
     (inr (_, c.replay_script-report.result, c.replay_script-report.ensures.replays _ c.new-script.ensures, done, goes)) (λ ended. absurd (not_done _ _ _ _ _ _ goes ended))
+
+pub replay_script-report-requires-clause-sizes : goal.replay_script-report-requires-clause-sizes
+replay_script-report-requires-clause-sizes g c = c.in-Ok.ensures.sizes
