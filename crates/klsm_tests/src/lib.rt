@@ -15,6 +15,7 @@
 
 #[cfg(test)]
 mod board;
+pub mod letting_go;
 #[cfg(test)]
 mod lsm;
 #[cfg(test)]
