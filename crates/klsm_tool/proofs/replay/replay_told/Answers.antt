@@ -41,4 +41,4 @@ returns g c =
     (inr (_, c.replay_script-report.result, c.replay_script-report.ensures.replays _ c.new-script.ensures, done, goes)) (λ ended. absurd (not_done _ _ _ _ _ _ goes ended))
 
 pub replay_script-report-requires-clause-sizes : goal.replay_script-report-requires-clause-sizes
-replay_script-report-requires-clause-sizes g c = λ _. c.in-Ok.ensures.sizes
+replay_script-report-requires-clause-sizes g c = λ _ _. c.in-Ok.ensures.sizes
