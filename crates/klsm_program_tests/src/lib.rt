@@ -8,5 +8,6 @@
 
 #[cfg(test)]
 mod knapsack;
+pub mod letting_go;
 #[cfg(test)]
 mod program;
