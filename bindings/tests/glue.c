@@ -91,6 +91,8 @@ static void waiting_calls(void) {
 static void calls_that_do_not_wait(void) {
     for (int i = 0; i < CODES; i++) {
         int32_t code = codes[i].code;
+        if (code == KLSM_BUSY)
+            continue;
         check_code("try_insert has this code", after(try_insert, 0, code), code);
         check("by one try", inserts(1));
         check_code("try_delete_min has this code", after(try_delete_min, 0, code), code);

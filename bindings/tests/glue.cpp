@@ -155,6 +155,7 @@ static void waiting_calls() {
 static void calls_that_do_not_wait() {
     for (auto [code, number] : codes) {
         for (unsigned held : {0u, 1u}) {
+            if (number == KLSM_BUSY) continue;
             klsm::code expected = held == 0 ? code : klsm::code::busy;
             begin(STUB_TRY_INSERT, held, number);
             check("try_insert has this code, or meets a held lock", opened().member.try_insert(5, 6) == expected);

@@ -2,7 +2,7 @@
 #include "stub.h"
 #include <string.h>
 
-enum { PLACES = 6 };
+enum { PLACES = 6, PATIENCE = 1000 };
 
 typedef struct arguments {
     uint64_t of[PLACES];
@@ -46,12 +46,15 @@ uint64_t stub_queues(void) { return queues; }
 
 static uint64_t address(const void *at) { return (uint64_t)(uintptr_t)at; }
 
-/* Keeps the arguments of a call, and gives its answer. */
+/* Keeps the arguments of a call, and gives its answer. One that is asked too often is that of a loop without
+ * end, which KLSM_NOT_OPEN ends. */
 static uint64_t answer(enum stub_call call, arguments with) {
     record *of = &records[call];
     if (of->asked++ > 0 && memcmp(&of->last, &with, sizeof with) != 0)
         of->repeats = 0;
     of->last = with;
+    if (of->asked > PATIENCE)
+        return KLSM_NOT_OPEN;
     if (of->held == 0)
         return of->answer;
     of->held--;

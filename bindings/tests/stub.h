@@ -30,7 +30,8 @@ void stub_begin(void);
  * KLSM_OK an opening opens members, and a deletion writes the item {101, 102, 103, 104}. */
 void stub_answer(uint32_t call, uint64_t answer);
 
-/* A lock is held for so many calls: they are KLSM_BUSY, and the next one has the answer above. */
+/* A lock is held for so many calls: they are KLSM_BUSY, and the next one has the answer above. From the 1001st
+ * on all are KLSM_NOT_OPEN, so that a call that waits without end fails a test. */
 void stub_hold(uint32_t call, uint64_t times);
 
 /* What a closing that is KLSM_OK writes: this account, and as items {i, 10 + i, 20 + i, 1}. */
