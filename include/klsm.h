@@ -50,14 +50,14 @@
 #ifndef KLSM_H
 #define KLSM_H
 
+#if !defined(__linux__) || !defined(__x86_64__) || !defined(__GNUC__)
+#error "klsm.h: the library is for Linux on x86-64, and the header for compilers like GCC and Clang"
+#endif
+
 #include <sched.h>
 #include <stddef.h>
 #include <stdint.h>
 #include <sys/select.h>
-
-#if !defined(__x86_64__) || !defined(__GNUC__)
-#error "klsm.h: the library is for x86-64, and the header for compilers like GCC and Clang"
-#endif
 
 /* The version of this header, that of `klsm --version`. */
 #define KLSM_VERSION "1.0.0"

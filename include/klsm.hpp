@@ -24,6 +24,10 @@
 #ifndef KLSM_HPP
 #define KLSM_HPP
 
+#if __cplusplus < 201703L
+#error "klsm.hpp: it is for C++17 and later"
+#endif
+
 #include "klsm.h"
 
 #include <algorithm>
