@@ -5,7 +5,12 @@
 #include "stub.h"
 #include <cstring>
 #include <optional>
+#include <type_traits>
 #include <utility>
+
+static_assert(std::is_same_v<klsm::queue, klsm::v1::queue> && std::is_same_v<klsm::member, klsm::v1::member>);
+static_assert(std::is_same_v<klsm::code, klsm::v1::code> && std::is_same_v<klsm::error, klsm::v1::error>);
+static_assert(std::is_same_v<klsm::options, klsm::v1::options>);
 
 static const struct {
     klsm::code code;
@@ -158,7 +163,8 @@ static void calls_that_do_not_wait() {
             if (number == KLSM_BUSY) continue;
             klsm::code expected = held == 0 ? code : klsm::code::busy;
             begin(STUB_TRY_INSERT, held, number);
-            check("try_insert has this code, or meets a held lock", opened().member.try_insert(5, 6) == expected);
+            check("try_insert has this code, or meets a held lock",
+                  opened().member.try_insert(5, 6) == expected);
             check("by one try", opened::inserts(1));
             begin(STUB_TRY_DELETE_MIN, held, number);
             klsm::item item{};
