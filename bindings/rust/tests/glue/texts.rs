@@ -1,4 +1,4 @@
-//! The texts of errors, and the greatest bound and depth of a key.
+//! The texts of errors, the greatest bound and depth of a key, and the version of the crate.
 
 use klsm::{Busy, FinishError, InsertError, OpenError, TryInsertError};
 use std::error::Error;
@@ -72,6 +72,12 @@ fn an_error_of_an_insertion_stays_what_it_is() {
         TryInsertError::from(InsertError::NoMemory),
         TryInsertError::NoMemory
     );
+}
+
+#[test]
+fn the_version_is_that_of_klsm_h() {
+    let line = concat!("#define KLSM_VERSION \"", env!("CARGO_PKG_VERSION"), "\"\n");
+    assert!(HEADER.contains(line));
 }
 
 #[test]
