@@ -50,14 +50,14 @@
 #ifndef KLSM_H
 #define KLSM_H
 
+#if !defined(__linux__) || !defined(__x86_64__) || !defined(__GNUC__)
+#error "klsm.h: the library is for Linux on x86-64, and the header for compilers like GCC and Clang"
+#endif
+
 #include <sched.h>
 #include <stddef.h>
 #include <stdint.h>
 #include <sys/select.h>
-
-#if !defined(__x86_64__) || !defined(__GNUC__)
-#error "klsm.h: the library is for x86-64, and the header for compilers like GCC and Clang"
-#endif
 
 /* The version of this header, that of `klsm --version`. */
 #define KLSM_VERSION "1.0.0"
@@ -80,6 +80,9 @@
 
 /* In klsm_options: the number 0, where 0 itself stands for the default. */
 #define KLSM_ZERO SIZE_MAX
+
+/* A compiler warns where the code of such a call is dropped. */
+#define KLSM_MUST_USE __attribute__((warn_unused_result))
 
 #ifdef __cplusplus
 #define KLSM_ASSERT(what) static_assert(what, #what)
@@ -190,7 +193,7 @@ uint32_t klsm_abi(void);
  *   KLSM_BAD_K       `k` is above 64
  *   KLSM_NO_MEMORY   malloc gave none
  * After these the queue is as it was, byte by byte, and no memory is kept. */
-int32_t klsm_open(klsm_queue *queue, size_t threads, size_t k, uint32_t pick, uint64_t seed);
+KLSM_MUST_USE int32_t klsm_open(klsm_queue *queue, size_t threads, size_t k, uint32_t pick, uint64_t seed);
 
 /* Opens a closed queue as klsm_open does, with a refill, 0 to k. A deletion that took its item from
  * the shared part then moves the least shared items to its member's own part, at most `refill` of them
@@ -206,8 +209,8 @@ int32_t klsm_open(klsm_queue *queue, size_t threads, size_t k, uint32_t pick, ui
  *   KLSM_BAD_REFILL  `refill` is above `k`
  *   KLSM_NO_MEMORY   malloc gave none
  * After these the queue is as it was, byte by byte, and no memory is kept. */
-int32_t klsm_open_with_refill(klsm_queue *queue, size_t threads, size_t k, uint32_t pick, uint64_t seed,
-                              size_t refill);
+KLSM_MUST_USE int32_t klsm_open_with_refill(klsm_queue *queue, size_t threads, size_t k, uint32_t pick,
+                                            uint64_t seed, size_t refill);
 
 /* Inserts an item. Waits for nobody. The member's thread, one call at a time.
  * Costs no lock but the member's own, which is free unless another member looks for items there
@@ -221,7 +224,7 @@ int32_t klsm_open_with_refill(klsm_queue *queue, size_t threads, size_t k, uint3
  *   KLSM_NO_MEMORY   it has room, but malloc gave no memory for it
  * After these nothing is inserted and no part has changed: the same call may be made again, after
  * KLSM_FULL once items have been deleted. */
-int32_t klsm_try_insert(klsm_member *member, uint64_t key, uint64_t load);
+KLSM_MUST_USE int32_t klsm_try_insert(klsm_member *member, uint64_t key, uint64_t load);
 
 /* Deletes a small item. Waits for nobody and takes no memory. The member's thread, one call at a
  * time. Costs no lock but the member's own where its least own key is below all shared ones;
@@ -252,7 +255,7 @@ uint64_t klsm_deleted(klsm_member *member);
  * KLSM_SHARED        comes after no sequence of these calls, but no proof says so: all members are
  *                    closed, the account and the array are as they were
  * After KLSM_NOT_OPEN and KLSM_NO_MEMORY nothing has changed. */
-int32_t klsm_close(klsm_queue *queue, klsm_account *account, klsm_item *left, size_t room);
+KLSM_MUST_USE int32_t klsm_close(klsm_queue *queue, klsm_account *account, klsm_item *left, size_t room);
 
 /* Closes a queue, with all that is left in it, and gives all memory back. Takes no memory, waits for
  * nobody, and cannot fail; a closed queue stays closed. Has the whole queue for itself. */
@@ -267,7 +270,7 @@ KLSM_INLINE size_t klsm_or_default(size_t number, size_t standard) {
 /* Opens a closed queue by klsm_open_with_refill, whose codes it has in their order: so `threads` of 0
  * is KLSM_BAD_COUNT, and a refill that is named and above k is KLSM_BAD_REFILL. In C, for the defaults:
  * klsm_open_with(&queue, &(klsm_options){.threads = 4}). */
-KLSM_INLINE int32_t klsm_open_with(klsm_queue *queue, const klsm_options *options) {
+KLSM_MUST_USE KLSM_INLINE int32_t klsm_open_with(klsm_queue *queue, const klsm_options *options) {
     size_t k = klsm_or_default(options->k, KLSM_DEFAULT_K);
     size_t most = k < KLSM_DEFAULT_REFILL ? k : KLSM_DEFAULT_REFILL;
     return klsm_open_with_refill(queue, options->threads, k, options->pick, options->seed,
@@ -372,7 +375,7 @@ KLSM_COLD int32_t klsm_delete_min_after_pauses(klsm_member *member, klsm_item *i
 }
 
 /* klsm_try_insert, again and again while it is KLSM_BUSY. How long it may wait is not promised. */
-KLSM_INLINE int32_t klsm_insert(klsm_member *member, uint64_t key, uint64_t load) {
+KLSM_MUST_USE KLSM_INLINE int32_t klsm_insert(klsm_member *member, uint64_t key, uint64_t load) {
     int32_t code = klsm_try_insert(member, key, load);
     return __builtin_expect(code == KLSM_BUSY, 0) ? klsm_insert_after_pauses(member, key, load) : code;
 }

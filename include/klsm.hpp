@@ -24,6 +24,10 @@
 #ifndef KLSM_HPP
 #define KLSM_HPP
 
+#if __cplusplus < 201703L
+#error "klsm.hpp: it is for C++17 and later"
+#endif
+
 #include "klsm.h"
 
 #include <algorithm>
@@ -37,7 +41,10 @@
 #include <utility>
 #include <vector>
 
+// A linker sees the inline namespace, so parts of a program that were compiled with headers of two versions are
+// not linked where one passes a queue to the other. No program has to name it.
 namespace klsm {
+inline namespace v1 {
 
 // The codes of klsm.h.
 enum class code : std::int32_t {
@@ -252,6 +259,7 @@ private:
     std::shared_ptr<detail::block> block_; // aligned as klsm_queue is: C++17 sees to that
 };
 
+} // namespace v1
 } // namespace klsm
 
 #endif

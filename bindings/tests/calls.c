@@ -21,7 +21,7 @@ static void fields(void) {
     klsm_item item = {0, 0, 0, 0};
     check_code("open", klsm_open(&queue, 4, 64, KLSM_FIRST, 0), KLSM_OK);
     for (uint64_t i = 0; i < 5; i++)
-        klsm_insert(&queue.members[2], 100 + i, 1000 + i);
+        check_or_stop("insert", klsm_insert(&queue.members[2], 100 + i, 1000 + i) == KLSM_OK);
     const uint64_t key = UINT64_C(0x0123456789abcdef), load = UINT64_C(0xfedcba9876543210);
     check_code("insert", klsm_try_insert(&queue.members[2], key, load), KLSM_OK);
     for (uint64_t i = 0; i < 5; i++) {
@@ -36,8 +36,8 @@ static void fields(void) {
     check("the owner", item.owner == 2);
     check_code("nothing is left", klsm_try_delete_min(&queue.members[2], &item), KLSM_NOTHING);
     check("the item is as it was", item.key == key && item.load == load && item.number == 5 && item.owner == 2);
-    klsm_insert(&queue.members[3], UINT64_MAX, UINT64_MAX);
-    klsm_insert(&queue.members[3], 0, 0);
+    check_or_stop("insert", klsm_insert(&queue.members[3], UINT64_MAX, UINT64_MAX) == KLSM_OK);
+    check_or_stop("insert", klsm_insert(&queue.members[3], 0, 0) == KLSM_OK);
     check_code("the least key", klsm_delete_min(&queue.members[3], &item), KLSM_OK);
     check("it is 0", item.key == 0 && item.load == 0 && item.number == 1 && item.owner == 3);
     check_code("the greatest key", klsm_delete_min(&queue.members[3], &item), KLSM_OK);
@@ -51,7 +51,7 @@ static void counts(void) {
     check_code("open", klsm_open(&queue, 16, 8, KLSM_RANDOM, 3), KLSM_OK);
     for (uint64_t t = 0; t < 16; t++)
         for (uint64_t i = 0; i < 10 * (t + 1); i++)
-            klsm_insert(&queue.members[t], i, t);
+            check_or_stop("insert", klsm_insert(&queue.members[t], i, t) == KLSM_OK);
     for (uint64_t t = 0; t < 16; t++)
         for (uint64_t i = 0; i < t; i++)
             klsm_delete_min(&queue.members[t], &item);
@@ -73,7 +73,7 @@ static void counts_below(void) {
     klsm_item item;
     check_code("open", klsm_open(&queue, 2, 0, KLSM_FIRST, 0), KLSM_OK);
     for (uint64_t i = 0; i < 5; i++)
-        klsm_insert(&queue.members[0], i, i);
+        check_or_stop("insert", klsm_insert(&queue.members[0], i, i) == KLSM_OK);
     for (uint64_t i = 0; i < 3; i++)
         klsm_delete_min(&queue.members[1], &item);
     check("deletions of what others inserted", klsm_deleted(&queue.members[1]) == 3);

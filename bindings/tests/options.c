@@ -1,29 +1,20 @@
-/* What klsm_open_with makes of its options: this program has its own klsm_open_with_refill, and takes none
- * of the library. */
+/* What klsm_open_with makes of its options, over the library of stub.c. */
 #include "check.h"
+#include "stub.h"
 
 static klsm_queue queue = KLSM_QUEUE_CLOSED;
-static klsm_queue *opened;
-static klsm_options asked;
-static int32_t answer;
 
-int32_t klsm_open_with_refill(klsm_queue *at, size_t threads, size_t k, uint32_t pick, uint64_t seed,
-                              size_t refill) {
-    opened = at;
-    asked = (klsm_options){threads, k, pick, seed, refill};
-    return answer;
-}
+static uint64_t asked(uint32_t place) { return stub_argument(STUB_OPEN_WITH_REFILL, place); }
 
 /* What these options ask for. */
 static void asks(const char *name, klsm_options options, klsm_options expected) {
-    opened = NULL;
-    answer = KLSM_OK;
+    stub_begin();
     check_code(name, klsm_open_with(&queue, &options), KLSM_OK);
-    check("of this queue", opened == &queue);
-    check("its threads", asked.threads == expected.threads);
-    check("its k", asked.k == expected.k);
-    check("its pick and seed", asked.pick == expected.pick && asked.seed == expected.seed);
-    check("its refill", asked.refill == expected.refill);
+    check("of this queue", asked(0) == (uintptr_t)&queue);
+    check("its threads", asked(1) == expected.threads);
+    check("its k", asked(2) == expected.k);
+    check("its pick and seed", asked(3) == expected.pick && asked(4) == expected.seed);
+    check("its refill", asked(5) == expected.refill);
 }
 
 static void defaults(void) {
@@ -50,7 +41,8 @@ static void out_of_range(void) {
     asks("a refill above k", (klsm_options){2, 8, 3, 0, 9}, (klsm_options){2, 8, 3, 0, 9});
     asks("no count is 0 by that name", (klsm_options){.threads = KLSM_ZERO},
          (klsm_options){SIZE_MAX, 64, KLSM_FIRST, 0, 16});
-    answer = KLSM_BAD_REFILL;
+    stub_begin();
+    stub_answer(STUB_OPEN_WITH_REFILL, KLSM_BAD_REFILL);
     klsm_options options = {2, 8, 0, 0, 9};
     check_code("the code is handed on", klsm_open_with(&queue, &options), KLSM_BAD_REFILL);
 }

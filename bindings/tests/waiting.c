@@ -1,26 +1,10 @@
-/* The waiting calls of klsm.h over calls that are busy for so many tries: this program has its own
- * klsm_try_insert, klsm_try_delete_min, sched_yield and select, and takes none of the library. */
+/* The waiting calls of klsm.h over calls that are busy for so many tries: those of stub.c. This program has
+ * its own sched_yield and select. */
 #include "check.h"
+#include "stub.h"
 
 static klsm_queue queue = KLSM_QUEUE_CLOSED;
-static int busy, tries, yields, sleeps, is_as_told;
-
-static int32_t answer(klsm_member *member, int32_t last) {
-    is_as_told = is_as_told && member == &queue.members[3];
-    return tries++ < busy ? KLSM_BUSY : last;
-}
-
-int32_t klsm_try_insert(klsm_member *member, uint64_t key, uint64_t load) {
-    is_as_told = is_as_told && key == 5 && load == 6;
-    return answer(member, KLSM_FULL);
-}
-
-int32_t klsm_try_delete_min(klsm_member *member, klsm_item *item) {
-    int32_t code = answer(member, KLSM_OK);
-    if (code == KLSM_OK)
-        item->key = 7;
-    return code;
-}
+static int yields, sleeps;
 
 int sched_yield(void) {
     yields++;
@@ -32,10 +16,17 @@ int select(int count, fd_set *reads, fd_set *writes, fd_set *excepts, struct tim
     return 0;
 }
 
-static void begin(int count) {
-    busy = count;
-    tries = yields = sleeps = 0;
-    is_as_told = 1;
+static void begin(uint32_t call, int count, int32_t last) {
+    stub_begin();
+    stub_hold(call, (uint64_t)count);
+    stub_answer(call, (uint64_t)last);
+    yields = sleeps = 0;
+}
+
+/* Whether the call was made once more than it was busy, each time by member 3. */
+static int has_tried(uint32_t call, int count) {
+    return stub_asked(call) == (uint64_t)count + 1 && stub_repeats(call) &&
+           stub_argument(call, 0) == (uintptr_t)&queue.members[3];
 }
 
 /* Of so many pauses, those from the eighth on let other threads run, and those from the 41st on sleep. */
@@ -48,15 +39,15 @@ int main(void) {
     klsm_item item = {0, 0, 0, 0};
     int once = 1, waited = 1, told = 1;
     for (int count = 0; count < 60; count++) {
-        begin(count);
-        once = once && klsm_insert(&queue.members[3], 5, 6) == KLSM_FULL && tries == count + 1;
+        begin(STUB_TRY_INSERT, count, KLSM_FULL);
+        once = once && klsm_insert(&queue.members[3], 5, 6) == KLSM_FULL && has_tried(STUB_TRY_INSERT, count);
         waited = waited && has_waited(count);
-        told = told && is_as_told;
-        begin(count);
+        told = told && stub_argument(STUB_TRY_INSERT, 1) == 5 && stub_argument(STUB_TRY_INSERT, 2) == 6;
+        begin(STUB_TRY_DELETE_MIN, count, KLSM_OK);
         item.key = 0;
-        once = once && klsm_delete_min(&queue.members[3], &item) == KLSM_OK && tries == count + 1 && item.key == 7;
+        once = once && klsm_delete_min(&queue.members[3], &item) == KLSM_OK &&
+               has_tried(STUB_TRY_DELETE_MIN, count) && item.key == 101;
         waited = waited && has_waited(count);
-        told = told && is_as_told;
     }
     check("a try after each pause, until one is not busy", once);
     check("each try has the arguments", told);

@@ -1,0 +1,131 @@
+//! The calls of a member: what waits and what does not, each code, and the counts.
+
+use crate::stub::{self, Call};
+use klsm::{Item, Queue};
+use std::fmt::Debug;
+
+const SLOT: u64 = 128;
+
+const WRITTEN: Item = Item {
+    key: 101,
+    load: 102,
+    number: 103,
+    owner: 104,
+};
+
+/// What a call by member 2 says.
+fn said<T: Debug>(call: impl FnOnce(&mut klsm::Member<'_>) -> T) -> String {
+    let mut queue = Queue::new(3, 4).unwrap();
+    let mut member = queue.members().nth(2).unwrap();
+    stub::said(|| call(&mut member))
+}
+
+/// A call was made so often, each time with the slot of member 2 and the same arguments.
+fn assert_asked(call: Call, times: u64) {
+    assert_eq!(stub::asked(call), times);
+    assert!(stub::repeats(call));
+    let queue = stub::argument(Call::OpenWithRefill, 0);
+    assert_eq!(stub::argument(call, 0), queue + 2 * SLOT);
+}
+
+fn assert_inserts(times: u64) {
+    assert_asked(Call::TryInsert, times);
+    let arguments = [1, 2].map(|place| stub::argument(Call::TryInsert, place));
+    assert_eq!(arguments, [5, 6]);
+}
+
+fn of_insertion(name: &str, code: i32) -> String {
+    match name {
+        "OK" => "Ok(())".to_string(),
+        "SPENT" => "Err(Spent)".to_string(),
+        "FULL" => "Err(Full)".to_string(),
+        "NO_MEMORY" => "Err(NoMemory)".to_string(),
+        _ => stub::never("klsm_try_insert", code),
+    }
+}
+
+fn of_deletion(name: &str, code: i32) -> Result<Option<Item>, String> {
+    match name {
+        "OK" => Ok(Some(WRITTEN)),
+        "NOTHING" => Ok(None),
+        _ => Err(stub::never("klsm_try_delete_min", code)),
+    }
+}
+
+#[test]
+fn what_waits_waits() {
+    for (name, code) in stub::codes()
+        .into_iter()
+        .filter(|(name, _)| *name != "BUSY")
+    {
+        for held in [0, 1, 2, 45] {
+            stub::answer_code(Call::TryInsert, held, code);
+            assert_eq!(said(|member| member.insert(5, 6)), of_insertion(name, code));
+            assert_inserts(held + 1);
+            stub::answer_code(Call::TryDeleteMin, held, code);
+            let expected = match of_deletion(name, code) {
+                Ok(answer) => format!("{answer:?}"),
+                Err(panics) => panics,
+            };
+            assert_eq!(said(|member| member.delete_min()), expected);
+            assert_asked(Call::TryDeleteMin, held + 1);
+        }
+    }
+}
+
+#[test]
+fn what_does_not_wait_asks_once() {
+    for (name, code) in stub::codes()
+        .into_iter()
+        .filter(|(name, _)| *name != "BUSY")
+    {
+        stub::answer_code(Call::TryInsert, 0, code);
+        assert_eq!(
+            said(|member| member.try_insert(5, 6)),
+            of_insertion(name, code)
+        );
+        assert_inserts(1);
+        stub::answer_code(Call::TryDeleteMin, 0, code);
+        let expected = match of_deletion(name, code) {
+            Ok(answer) => format!("Ok({answer:?})"),
+            Err(panics) => panics,
+        };
+        assert_eq!(said(|member| member.try_delete_min()), expected);
+        assert_asked(Call::TryDeleteMin, 1);
+    }
+}
+
+#[test]
+fn a_held_lock_is_busy() {
+    stub::answer_code(Call::TryInsert, 1, stub::code("OK"));
+    assert_eq!(said(|member| member.try_insert(5, 6)), "Err(Busy)");
+    assert_inserts(1);
+    stub::answer_code(Call::TryDeleteMin, 1, stub::code("OK"));
+    assert_eq!(said(|member| member.try_delete_min()), "Err(Busy)");
+    assert_asked(Call::TryDeleteMin, 1);
+}
+
+#[test]
+fn each_member_has_its_own_slot() {
+    stub::begin();
+    let mut queue = Queue::new(16, 4).unwrap();
+    let first = stub::argument(Call::OpenWithRefill, 0);
+    assert_eq!(queue.members().len(), 16);
+    for (number, mut member) in (0..).zip(queue.members()) {
+        assert_eq!(u64::from(member.number()), number);
+        member.insert(1, 2).unwrap();
+        assert_eq!(stub::argument(Call::TryInsert, 0), first + number * SLOT);
+    }
+}
+
+#[test]
+fn counts_are_those_of_the_library() {
+    stub::begin();
+    stub::answer(Call::Inserted, 9);
+    stub::answer(Call::Deleted, 4);
+    assert_eq!(said(|member| member.inserted_count()), "9");
+    assert_asked(Call::Inserted, 1);
+    assert_eq!(said(|member| member.deleted_count()), "4");
+    assert_asked(Call::Deleted, 1);
+    assert_eq!(Queue::new(16, 4).unwrap().left(), 16 * 5);
+}

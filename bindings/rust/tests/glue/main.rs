@@ -1,0 +1,9 @@
+//! The crate over the library of bindings/tests/stub.c, which has no queue and answers what it is told: what
+//! it hands on, and what it answers. `bindings/check` builds the stub, and names this test; without the stub
+//! it cannot be linked.
+
+mod calls;
+mod closing;
+mod openings;
+mod stub;
+mod texts;

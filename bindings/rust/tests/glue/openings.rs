@@ -1,0 +1,125 @@
+//! Openings: what arrives, each code, the version, and the drop.
+
+use crate::stub::{self, Call};
+use klsm::{OpenError, Pick, Queue};
+
+/// The numbers of the last opening behind the queue: threads, k, pick, seed and refill.
+fn opened() -> [u64; 5] {
+    assert_eq!(stub::asked(Call::OpenWithRefill), 1);
+    assert_eq!(stub::asked(Call::Open), 0);
+    assert_ne!(stub::argument(Call::OpenWithRefill, 0), 0);
+    [1, 2, 3, 4, 5].map(|place| stub::argument(Call::OpenWithRefill, place))
+}
+
+/// What an opening asks for; its queue is dropped, once.
+fn asked_by(open: impl FnOnce() -> Result<Queue, OpenError>) -> [u64; 5] {
+    stub::begin();
+    let queue = open().unwrap();
+    let numbers = opened();
+    assert_eq!(queue.threads() as u64, numbers[0]);
+    assert_eq!((stub::queues(), stub::asked(Call::Drop)), (1, 0));
+    drop(queue);
+    assert_eq!((stub::queues(), stub::asked(Call::Drop)), (0, 1));
+    assert_eq!(
+        stub::argument(Call::Drop, 0),
+        stub::argument(Call::OpenWithRefill, 0)
+    );
+    numbers
+}
+
+const SEED: u64 = 7 << 40;
+
+#[test]
+fn all_numbers_arrive() {
+    let (first, last, random) = (
+        stub::pick("First"),
+        stub::pick("Last"),
+        stub::pick("Random"),
+    );
+    assert_eq!(asked_by(|| Queue::new(3, 40)), [3, 40, first, 0, 0]);
+    assert_eq!(
+        asked_by(|| Queue::with_pick(3, 40, Pick::Random, SEED)),
+        [3, 40, random, SEED, 0]
+    );
+    assert_eq!(
+        asked_by(|| Queue::with_pick(5, 0, Pick::Last, 9)),
+        [5, 0, last, 9, 0]
+    );
+    assert_eq!(
+        asked_by(|| {
+            let mut builder = Queue::builder(3);
+            builder
+                .k(40)
+                .pick(Pick::Random)
+                .seed(SEED)
+                .refill(30)
+                .open()
+        }),
+        [3, 40, random, SEED, 30]
+    );
+    assert_eq!(
+        asked_by(|| Queue::builder(16).pick(Pick::Last).open()),
+        [16, 64, last, 0, 16]
+    );
+}
+
+#[test]
+fn what_is_not_named_is_the_default() {
+    let first = stub::pick("First");
+    assert_eq!(Pick::default(), Pick::First);
+    assert_eq!(asked_by(|| Queue::builder(4).open()), [4, 64, first, 0, 16]);
+    for k in [0, 1, 15, 16, 17] {
+        let expected = [4, k, first, 0, k.min(16)];
+        assert_eq!(
+            asked_by(|| Queue::builder(4).k(k as usize).open()),
+            expected
+        );
+    }
+    assert_eq!(
+        asked_by(|| Queue::builder(4).refill(0).open()),
+        [4, 64, first, 0, 0]
+    );
+}
+
+#[test]
+fn each_code_is_its_own_error() {
+    for (name, code) in stub::codes() {
+        let expected = match name {
+            "OK" => continue,
+            "BAD_COUNT" => "BadThreads".to_string(),
+            "BAD_K" => "BadK".to_string(),
+            "BAD_REFILL" => "BadRefill".to_string(),
+            "NO_MEMORY" => "NoMemory".to_string(),
+            _ => stub::never("klsm_open_with_refill", code),
+        };
+        stub::answer_code(Call::OpenWithRefill, 0, code);
+        assert_eq!(stub::said(|| Queue::new(2, 4).unwrap_err()), expected);
+        assert_eq!((stub::queues(), stub::asked(Call::Drop)), (0, 0));
+        stub::answer_code(Call::OpenWithRefill, 0, code);
+        assert_eq!(
+            stub::said(|| Queue::builder(2).open().unwrap_err()),
+            expected
+        );
+        assert_eq!((stub::queues(), stub::asked(Call::Drop)), (0, 0));
+    }
+}
+
+#[test]
+fn another_version_is_refused() {
+    for version in [0, 2, u32::MAX] {
+        stub::begin();
+        stub::answer(Call::Abi, version.into());
+        let refused = Some(OpenError::Version(version, stub::abi()));
+        assert_eq!(Queue::new(2, 4).err(), refused);
+        assert_eq!(Queue::with_pick(2, 4, Pick::Last, 1).err(), refused);
+        assert_eq!(Queue::builder(2).open().err(), refused);
+        assert_eq!(stub::asked(Call::Abi), 3);
+        assert_eq!(
+            stub::asked(Call::OpenWithRefill) + stub::asked(Call::Drop),
+            0
+        );
+    }
+    stub::begin();
+    stub::answer(Call::Abi, stub::abi().into());
+    assert!(Queue::new(2, 4).is_ok());
+}

@@ -1,0 +1,162 @@
+/* The inline functions of klsm.h over the library of stub.c: what they hand on, and what they answer.
+ * options.c and waiting.c have more of klsm_open_with and of the calls that wait. */
+#include "check.h"
+#include "stub.h"
+#include <string.h>
+
+static klsm_queue queue;
+static klsm_item item;
+
+static const struct {
+    int32_t code;
+    const char *text;
+} codes[] = {
+    {KLSM_OK, "done"},
+    {KLSM_NOTHING, "no item was found"},
+    {KLSM_BUSY, "another member holds a lock"},
+    {KLSM_FULL, "the shared part has no room"},
+    {KLSM_NO_MEMORY, "out of memory"},
+    {KLSM_SPENT, "the member has made all its insertions"},
+    {KLSM_NOT_OPEN, "not open"},
+    {KLSM_OPEN, "open already"},
+    {KLSM_BAD_COUNT, "not 1 to 16 threads"},
+    {KLSM_BAD_K, "k is above 64"},
+    {KLSM_BAD_PICK, "no such pick"},
+    {KLSM_SHARED, "the queue has another owner"},
+    {KLSM_BAD_REFILL, "the refill is above k"},
+    {KLSM_BAD_REFILL + 1, "unknown code"},
+    {-1, "unknown code"},
+};
+
+enum { CODES = sizeof codes / sizeof codes[0], MEMBER = 3 };
+
+static klsm_member *member(void) { return &queue.members[MEMBER]; }
+static uint64_t address(const void *at) { return (uint64_t)(uintptr_t)at; }
+
+static void texts(void) {
+    for (int i = 0; i < CODES; i++)
+        check(codes[i].text, strcmp(klsm_text(codes[i].code), codes[i].text) == 0);
+}
+
+/* Whether a call was made so often, each time with these arguments. */
+static int was_asked(enum stub_call call, uint64_t times, uint64_t first, uint64_t second, uint64_t third) {
+    return stub_asked(call) == times && stub_repeats(call) && stub_argument(call, 0) == first &&
+           stub_argument(call, 1) == second && stub_argument(call, 2) == third;
+}
+
+/* The calls of a member, of which each that waits is made again until a lock is free. */
+static int32_t insert(void) { return klsm_insert(member(), 5, 6); }
+static int32_t try_insert(void) { return klsm_try_insert(member(), 5, 6); }
+static int32_t delete_min(void) { return klsm_delete_min(member(), &item); }
+static int32_t try_delete_min(void) { return klsm_try_delete_min(member(), &item); }
+
+/* The answer of such a call where a lock is held for so many tries. */
+static int32_t after(int32_t (*call)(void), uint64_t held, int32_t code) {
+    stub_begin();
+    stub_hold(STUB_TRY_INSERT, held);
+    stub_hold(STUB_TRY_DELETE_MIN, held);
+    stub_answer(STUB_TRY_INSERT, (uint64_t)code);
+    stub_answer(STUB_TRY_DELETE_MIN, (uint64_t)code);
+    memset(&item, 0, sizeof item);
+    return call();
+}
+
+static int inserts(uint64_t times) {
+    return was_asked(STUB_TRY_INSERT, times, address(member()), 5, 6) && stub_asked(STUB_TRY_DELETE_MIN) == 0;
+}
+
+static int deletes(uint64_t times) {
+    return was_asked(STUB_TRY_DELETE_MIN, times, address(member()), address(&item), 0) &&
+           stub_asked(STUB_TRY_INSERT) == 0;
+}
+
+static int has_item(int32_t code) {
+    int is_written = item.key == 101 && item.load == 102 && item.number == 103 && item.owner == 104;
+    return is_written == (code == KLSM_OK);
+}
+
+static void waiting_calls(void) {
+    const uint64_t held[] = {0, 1, 2, 45};
+    for (int i = 0; i < CODES; i++) {
+        int32_t code = codes[i].code;
+        for (int j = 0; j < 4 && code != KLSM_BUSY; j++) {
+            check_code("insert waits for this code", after(insert, held[j], code), code);
+            check("by as many tries as it takes", inserts(held[j] + 1));
+            check_code("delete_min waits for this code", after(delete_min, held[j], code), code);
+            check("by as many tries as it takes", deletes(held[j] + 1) && has_item(code));
+        }
+    }
+}
+
+static void calls_that_do_not_wait(void) {
+    for (int i = 0; i < CODES; i++) {
+        int32_t code = codes[i].code;
+        if (code == KLSM_BUSY)
+            continue;
+        check_code("try_insert has this code", after(try_insert, 0, code), code);
+        check("by one try", inserts(1));
+        check_code("try_delete_min has this code", after(try_delete_min, 0, code), code);
+        check("by one try", deletes(1) && has_item(code));
+    }
+    check_code("try_insert meets a held lock", after(try_insert, 1, KLSM_OK), KLSM_BUSY);
+    check("once", inserts(1));
+    check_code("try_delete_min meets a held lock", after(try_delete_min, 1, KLSM_OK), KLSM_BUSY);
+    check("once, and writes nothing", deletes(1) && has_item(KLSM_BUSY));
+}
+
+/* Whether the last opening that was made has these numbers behind the queue. */
+static int has_opened(enum stub_call call, klsm_options numbers) {
+    return was_asked(call, 1, address(&queue), numbers.threads, numbers.k) &&
+           stub_argument(call, 3) == numbers.pick && stub_argument(call, 4) == numbers.seed &&
+           stub_argument(call, 5) == numbers.refill;
+}
+
+static void openings(void) {
+    klsm_options numbers = {3, 40, KLSM_RANDOM, UINT64_C(7) << 40, 30}, none = {.threads = 4};
+    stub_begin();
+    check_code("open_with", klsm_open_with(&queue, &numbers), KLSM_OK);
+    check("all numbers arrive", has_opened(STUB_OPEN_WITH_REFILL, numbers) && stub_asked(STUB_OPEN) == 0);
+    klsm_drop(&queue);
+    check("one drop for one opening", stub_asked(STUB_DROP) == 1 && stub_queues() == 0);
+    stub_begin();
+    check_code("open_with, with the defaults", klsm_open_with(&queue, &none), KLSM_OK);
+    klsm_options defaults = {4, KLSM_DEFAULT_K, KLSM_FIRST, 0, KLSM_DEFAULT_REFILL};
+    check("the defaults arrive", has_opened(STUB_OPEN_WITH_REFILL, defaults));
+    klsm_drop(&queue);
+    for (int i = 1; i < CODES; i++) {
+        stub_begin();
+        stub_answer(STUB_OPEN_WITH_REFILL, (uint64_t)codes[i].code);
+        check_code("open_with has this code", klsm_open_with(&queue, &numbers), codes[i].code);
+        check("and opens and drops nothing", stub_asked(STUB_OPEN_WITH_REFILL) == 1 && stub_queues() == 0 &&
+                                                 stub_asked(STUB_DROP) == 0);
+    }
+}
+
+/* Each member of an open queue has made 9 insertions and 4 deletions. */
+static void counts(void) {
+    stub_begin();
+    stub_answer(STUB_INSERTED, 9);
+    stub_answer(STUB_DELETED, 4);
+    check("nothing is left in a closed queue", klsm_left(&queue) == 0);
+    check_code("open", klsm_open(&queue, KLSM_MAX_THREADS, 40, KLSM_LAST, 7), KLSM_OK);
+    klsm_options numbers = {KLSM_MAX_THREADS, 40, KLSM_LAST, 7, 0};
+    check("its numbers arrive", has_opened(STUB_OPEN, numbers));
+    check("what is left is that of each member", klsm_left(&queue) == KLSM_MAX_THREADS * 5);
+    check("each is asked", stub_asked(STUB_INSERTED) == 2 * KLSM_MAX_THREADS &&
+                               stub_asked(STUB_DELETED) == 2 * KLSM_MAX_THREADS);
+    klsm_account account = {0, 0, 0};
+    check_code("close", klsm_close(&queue, &account, &item, 0), KLSM_OK);
+    klsm_drop(&queue);
+    check("a closed queue is not dropped a second time", stub_queues() == 0);
+}
+
+int main(void) {
+    stub_begin();
+    check("the version is the library's", klsm_abi() == KLSM_ABI);
+    texts();
+    waiting_calls();
+    calls_that_do_not_wait();
+    openings();
+    counts();
+    return check_status();
+}

@@ -1,0 +1,253 @@
+// The classes of klsm.hpp over the library of stub.c: what they hand on, and what they answer.
+#include "klsm.hpp"
+
+#include "check.h"
+#include "stub.h"
+#include <cstring>
+#include <optional>
+#include <type_traits>
+#include <utility>
+
+static_assert(std::is_same_v<klsm::queue, klsm::v1::queue> && std::is_same_v<klsm::member, klsm::v1::member>);
+static_assert(std::is_same_v<klsm::code, klsm::v1::code> && std::is_same_v<klsm::error, klsm::v1::error>);
+static_assert(std::is_same_v<klsm::options, klsm::v1::options>);
+
+static const struct {
+    klsm::code code;
+    std::int32_t number;
+} codes[] = {
+    {klsm::code::ok, KLSM_OK},
+    {klsm::code::nothing, KLSM_NOTHING},
+    {klsm::code::busy, KLSM_BUSY},
+    {klsm::code::full, KLSM_FULL},
+    {klsm::code::no_memory, KLSM_NO_MEMORY},
+    {klsm::code::spent, KLSM_SPENT},
+    {klsm::code::not_open, KLSM_NOT_OPEN},
+    {klsm::code::open, KLSM_OPEN},
+    {klsm::code::bad_count, KLSM_BAD_COUNT},
+    {klsm::code::bad_k, KLSM_BAD_K},
+    {klsm::code::bad_pick, KLSM_BAD_PICK},
+    {klsm::code::shared, KLSM_SHARED},
+    {klsm::code::bad_refill, KLSM_BAD_REFILL},
+    {klsm::code(KLSM_BAD_REFILL + 1), KLSM_BAD_REFILL + 1},
+};
+
+// What the stub answers where a lock is held for so many tries.
+static void begin(stub_call call, std::uint64_t held, std::int32_t number) {
+    stub_begin();
+    stub_hold(call, held);
+    stub_answer(call, static_cast<std::uint64_t>(number));
+}
+
+static bool is_named(klsm::code code, std::int32_t number) {
+    return std::strcmp(klsm::text(code), klsm_text(number)) == 0;
+}
+
+static void names() {
+    for (auto [code, number] : codes) {
+        check(klsm_text(number), static_cast<std::int32_t>(code) == number && is_named(code, number));
+        klsm::error error(code);
+        check("an error has it", error.code() == code && std::strcmp(error.what(), klsm_text(number)) == 0);
+    }
+    check("the picks are those of klsm.h", static_cast<std::uint32_t>(klsm::pick::first) == KLSM_FIRST &&
+                                               static_cast<std::uint32_t>(klsm::pick::last) == KLSM_LAST &&
+                                               static_cast<std::uint32_t>(klsm::pick::random) == KLSM_RANDOM);
+    check("a key of a bound", klsm::key_of_bound(7, 3) == klsm_key_of_bound(7, 3));
+    check("the bound of a key", klsm::bound_of_key(klsm_key_of_bound(7, 3)) == 7);
+}
+
+// Whether a queue was opened once, by the opening that names a refill, with these numbers.
+static bool has_opened(klsm_options numbers) {
+    const std::uint32_t call = STUB_OPEN_WITH_REFILL;
+    return stub_asked(call) == 1 && stub_asked(STUB_OPEN) == 0 && stub_argument(call, 0) != 0 &&
+           stub_argument(call, 1) == numbers.threads && stub_argument(call, 2) == numbers.k &&
+           stub_argument(call, 3) == numbers.pick && stub_argument(call, 4) == numbers.seed &&
+           stub_argument(call, 5) == numbers.refill;
+}
+
+// What a queue that is made of these asks for, and that it is dropped, once.
+template <class... Arguments>
+static void asks(const char *name, klsm_options expected, Arguments... arguments) {
+    stub_begin();
+    {
+        klsm::queue queue(arguments...);
+        check(name, has_opened(expected) && queue.threads() == expected.threads);
+        check("it is open", stub_queues() == 1 && stub_asked(STUB_DROP) == 0);
+    }
+    check("one drop for one opening", stub_queues() == 0 && stub_asked(STUB_DROP) == 1);
+    check("of the same queue", stub_argument(STUB_DROP, 0) == stub_argument(STUB_OPEN_WITH_REFILL, 0));
+}
+
+static void openings() {
+    const klsm::pick last = klsm::pick::last, random = klsm::pick::random;
+    const std::uint64_t seed = std::uint64_t(7) << 40;
+    asks("threads alone", {3, 64, KLSM_FIRST, 0, 0}, 3u);
+    asks("all numbers", {3, 40, KLSM_RANDOM, seed, 0}, 3u, 40u, random, seed);
+    asks("the last pick", {5, 0, KLSM_LAST, 9, 0}, 5u, 0u, last, 9u);
+    klsm::options options{};
+    options.threads = 4;
+    asks("default options", {4, 64, KLSM_FIRST, 0, 16}, options);
+    asks("all options", {3, 40, KLSM_RANDOM, seed, 30}, klsm::options{3, 40, random, seed, 30});
+    asks("no refill", {3, 40, KLSM_LAST, 9, 0}, klsm::options{3, 40, last, 9, 0});
+    asks("a refill of k = 15", {3, 15, KLSM_FIRST, 0, 15}, klsm::options{3, 15});
+    asks("a refill of k = 16", {3, 16, KLSM_FIRST, 0, 16}, klsm::options{3, 16});
+    asks("k = 0", {3, 0, KLSM_FIRST, 0, 0}, klsm::options{3, 0});
+}
+
+static void refused_openings() {
+    for (auto [code, number] : codes) {
+        if (number == KLSM_OK) continue;
+        begin(STUB_OPEN_WITH_REFILL, 0, number);
+        bool threw = false;
+        try {
+            klsm::queue queue(2);
+        } catch (const klsm::error &why) {
+            threw = why.code() == code;
+        }
+        check("an opening throws this code", threw);
+        check("and drops nothing", stub_asked(STUB_DROP) == 0 && stub_queues() == 0);
+    }
+}
+
+// Each opening has one drop, wherever the queue was moved.
+static void drops() {
+    stub_begin();
+    {
+        klsm::queue first(1), second(2);
+        klsm::queue third(std::move(first));
+        check("a move drops nothing", stub_asked(STUB_DROP) == 0);
+        third = std::move(second);
+        check("what is assigned over is dropped", stub_asked(STUB_DROP) == 1 && stub_queues() == 1);
+    }
+    check("two drops for two openings", stub_asked(STUB_DROP) == 2 && stub_queues() == 0);
+}
+
+// A member of number 2, and whether a call of it was made so often, each time with its own slot.
+struct opened {
+    klsm::queue queue = klsm::queue(3);
+    klsm::member member = queue.member(2).value();
+
+    static bool asked(stub_call call, std::uint64_t times) {
+        return stub_asked(call) == times && stub_repeats(call) &&
+               stub_argument(call, 0) == stub_argument(STUB_OPEN_WITH_REFILL, 0) + 2 * sizeof(klsm_member);
+    }
+    static bool inserts(std::uint64_t times) {
+        return asked(STUB_TRY_INSERT, times) && stub_argument(STUB_TRY_INSERT, 1) == 5 &&
+               stub_argument(STUB_TRY_INSERT, 2) == 6;
+    }
+};
+
+static bool is_written(const klsm::item &item) {
+    return item.key == 101 && item.load == 102 && item.number == 103 && item.owner == 104;
+}
+
+static void waiting_calls() {
+    for (auto [code, number] : codes) {
+        for (unsigned held : {0u, 1u, 2u, 45u}) {
+            if (number == KLSM_BUSY) continue;
+            begin(STUB_TRY_INSERT, held, number);
+            check("insert waits for this code", opened().member.insert(5, 6) == code);
+            check("by as many tries as it takes", opened::inserts(held + 1));
+            begin(STUB_TRY_DELETE_MIN, held, number);
+            std::optional<klsm::item> item = opened().member.delete_min();
+            check("delete_min waits, and has an item with ok alone",
+                  number == KLSM_OK ? item && is_written(*item) : !item);
+            check("by as many tries as it takes", opened::asked(STUB_TRY_DELETE_MIN, held + 1));
+        }
+    }
+}
+
+static void calls_that_do_not_wait() {
+    for (auto [code, number] : codes) {
+        for (unsigned held : {0u, 1u}) {
+            if (number == KLSM_BUSY) continue;
+            klsm::code expected = held == 0 ? code : klsm::code::busy;
+            begin(STUB_TRY_INSERT, held, number);
+            check("try_insert has this code, or meets a held lock",
+                  opened().member.try_insert(5, 6) == expected);
+            check("by one try", opened::inserts(1));
+            begin(STUB_TRY_DELETE_MIN, held, number);
+            klsm::item item{};
+            check("try_delete_min has this code, or meets a held lock",
+                  opened().member.try_delete_min(item) == expected);
+            check("by one try", opened::asked(STUB_TRY_DELETE_MIN, 1));
+            check("it writes with ok alone", is_written(item) == (expected == klsm::code::ok));
+        }
+    }
+}
+
+static void counts() {
+    stub_begin();
+    stub_answer(STUB_INSERTED, 9);
+    stub_answer(STUB_DELETED, 4);
+    opened with;
+    check("insertions", with.member.inserted() == 9 && opened::asked(STUB_INSERTED, 1));
+    check("deletions", with.member.deleted() == 4 && opened::asked(STUB_DELETED, 1));
+    check("what is left is that of each member", with.queue.left() == 15);
+}
+
+// Whether a closing was made once, of the queue that was opened, into an array of so many items.
+static bool has_closed(std::uint64_t room) {
+    return stub_asked(STUB_CLOSE) == 1 &&
+           stub_argument(STUB_CLOSE, 0) == stub_argument(STUB_OPEN_WITH_REFILL, 0) &&
+           stub_argument(STUB_CLOSE, 1) != 0 && stub_argument(STUB_CLOSE, 2) != 0 &&
+           stub_argument(STUB_CLOSE, 3) == room;
+}
+
+// Three members with so many items each: the array has room for one more, so that it is none of no items.
+static void closings(std::uint64_t each) {
+    stub_begin();
+    stub_answer(STUB_INSERTED, 4 + each);
+    stub_answer(STUB_DELETED, 4);
+    stub_leave(12 + 3 * each, 12, 3 * each);
+    {
+        klsm::queue queue(3);
+        klsm::account account = queue.close();
+        check("the array is one", has_closed(3 * each + 1));
+        check("the totals", account.inserted == 12 + 3 * each && account.deleted == 12);
+        bool same = account.left.size() == 3 * each;
+        for (std::uint64_t i = 0; i < 3 * each && same; i++)
+            same = account.left[i].key == i && account.left[i].load == 10 + i &&
+                   account.left[i].number == 20 + i && account.left[i].owner == 1;
+        check("what is left", same);
+        check("it is closed", stub_queues() == 0);
+    }
+    check("what is closed is not dropped a second time", stub_queues() == 0 && stub_asked(STUB_DROP) <= 1);
+}
+
+static klsm::code thrown_by_close() {
+    try {
+        (void)klsm::queue(3).close();
+    } catch (const klsm::error &why) {
+        return why.code();
+    }
+    return klsm::code::ok;
+}
+
+static void refused_closings() {
+    for (auto [code, number] : codes) {
+        if (number == KLSM_OK) continue;
+        begin(STUB_CLOSE, 0, number);
+        klsm::account account{7, 8, {klsm::item{1, 2, 3, 4}}};
+        check("close has this code", klsm::queue(3).close(account) == code && has_closed(1));
+        check("and writes nothing", account.inserted == 7 && account.deleted == 8 && account.left.size() == 1);
+        check("the queue is dropped at its end", stub_queues() == 0 && stub_asked(STUB_DROP) == 1);
+        begin(STUB_CLOSE, 0, number);
+        check("the other form throws it", thrown_by_close() == code && has_closed(1));
+        check("the queue is dropped at its end", stub_queues() == 0 && stub_asked(STUB_DROP) == 1);
+    }
+}
+
+int main() {
+    names();
+    openings();
+    refused_openings();
+    drops();
+    waiting_calls();
+    calls_that_do_not_wait();
+    counts();
+    closings(5);
+    closings(0);
+    refused_closings();
+    return check_status();
+}
