@@ -18,10 +18,11 @@ def picks(thread, seed):
 
 def follow(seed):
     above = (seed + 1) % 2**64
-    assert picks(1, seed) == picks(0, above), "thread 1 does not pick by the next seed"
-    assert picks(0, seed) == picks(0, seed), "two texts of one seed differ"
-    assert picks(1, seed) != picks(0, seed), "both threads pick by one seed"
-    assert picks(0, seed) != picks(0, above), "two seeds give one text"
+    first, second, first_above = picks(0, seed), picks(1, seed), picks(0, above)
+    assert second == first_above, "thread 1 does not pick by the next seed"
+    assert first == picks(0, seed), "two texts of one seed differ"
+    assert second != first, "both threads pick by one seed"
+    assert first != first_above, "two seeds give one text"
 
 
 def checks():
