@@ -1,8 +1,8 @@
 -- Blocks of which one loses its first items.
-use Rattle.std.proofs.Common.{◌≡◌, ℕ, ◌+◌, ◌-◌, ◌<◌, ◌≤◌, ◌^◌, ◌%◌, ◌*◌, ◌==◌, leb, Bool, true, false, List, [], ◌∷◌, ◌++◌, length, get_or, set, remove, take, drop, min, refl, sym, ap, ◌∙◌, subst, arith, pow-suc, if◌then◌else◌, zero, suc, inl, inr}
+use Rattle.std.proofs.Common.{◌≡◌, ℕ, ◌+◌, ◌-◌, ◌<◌, ◌≤◌, ◌^◌, ◌==◌, Bool, true, false, List, [], ◌∷◌, ◌++◌, length, get_or, set, remove, take, drop, min, refl, sym, ap, ◌∙◌, subst, arith, pow-suc, if◌then◌else◌, zero, suc, inl, inr}
 use Rattle.std.specs.List.{Contains}
 use Rattle.std.proofs.Math.Pow.{pow_mono}
-use Rattle.std.proofs.lemmas.Bool.{cases_lt, cases_eq, eq-eqb, ne_eqb, leb-true, le-leb}
+use Rattle.std.proofs.lemmas.Bool.{cases_lt, cases_eq, eq-eqb, ne_eqb}
 use Rattle.std.proofs.lemmas.List.{append_assoc, length-append, length-drop, length-take-le, take_all, take-append-drop}
 use Rattle.std.proofs.lemmas.List.Elements.{Contains-append_left, Contains-append_right}
 use Rattle.klsm_run.specs.declared.item.Item.{Item}
@@ -19,7 +19,6 @@ use Rattle.klsm_lsm.specs.Lsm.{content, IsLsm}
 use Rattle.klsm_lsm.specs.Losing.{JoinsNext, cut_first}
 use Rattle.klsm_lsm.specs.Slots.{IsStored, IsSlotted}
 use Rattle.klsm_lsm.proofs.AddLemmas.{above_all}
-use Rattle.klsm_lsm.proofs.FallLemmas.{shifted_one}
 use Rattle.klsm_lsm.proofs.JoinLemmas.{AllBelow, is_block, sharing_none_flipped}
 use Rattle.klsm_lsm.proofs.LevelLemmas.{level_enough, level_least, level_mono}
 use Rattle.klsm_lsm.proofs.PlaceLemmas.{next_shares_none, level_next, two_within}
@@ -250,12 +249,11 @@ first_cut_stored {levels} {room} {len} {count} {slots} now at n joins s view wit
       counted = omega (arith, all, gone, stored.counted);
     }
 
--- the test for it, of the items that are left and of the next block's level l
-pub joins_if_tested : (left l : ℕ) → l < 64 → leb left (1 * 2 ^ l % 2 ^ 64) ≡ true → least_level left ≤ l
-joins_if_tested left l small few = level_least left l (rw (shifted_one l small) at (leb-true left (1 * 2 ^ l % 2 ^ 64) few))
+-- the test for it: `left` items are no more than a whole block of level l has
+pub joins_if_few : (left l whole : ℕ) → whole ≡ 2 ^ l → left ≤ whole → least_level left ≤ l
+joins_if_few left l whole is few = level_least left l (omega (arith, is, few))
 
-pub tested_if_joins : (left l : ℕ) → l < 64 → least_level left ≤ l → leb left (1 * 2 ^ l % 2 ^ 64) ≡ true
-tested_if_joins left l small less =
+pub few_if_joins : (left l whole : ℕ) → whole ≡ 2 ^ l → least_level left ≤ l → left ≤ whole
+few_if_joins left l whole is less =
     let fits : 2 ^ least_level left ≤ 2 ^ l = pow_mono less in
-    let few : left ≤ 2 ^ l = omega (arith, fits, level_enough left) in
-    le-leb left (1 * 2 ^ l % 2 ^ 64) (rw (shifted_one l small) few)
+    omega (arith, is, fits, level_enough left)

@@ -1,6 +1,6 @@
 -- A slot, and two neighbours among the slots that were lent apart.
 use Rattle.std.proofs.Common.{◌≡◌, ℕ, ◌+◌, ◌-◌, ◌<◌, List, [], ◌++◌, length, get_or, set, Option, Some, sym, ap, ◌∙◌, arith}
-use Rattle.std.proofs.lemmas.List.{get_or_append_left, get_or-append_right, set-append_left, set-append_right, map-set, length-append, length-set}
+use Rattle.std.proofs.lemmas.List.{get_or_append_left, get_or-append_right, set-append_left, map-set, length-append}
 use Rattle.klsm_run.specs.declared.item.Item.{Item}
 use Rattle.klsm_lsm.specs.Slots.{block_in, blocks_in}
 use Rattle.klsm_lsm.proofs.SlotLemmas.{block_in_slot}
@@ -36,16 +36,3 @@ pub front_set : {R : Type 0} (items : R → List Item) (slots front back : List 
 front_set {R} items slots front back at one block whole count is =
     ap (blocks_in items) (sym (set-append_left front back at one (omega (arith, count))) ∙ ap (λ (l : List (Option R)). set l at one) (sym whole))
     ∙ (map-set (block_in items) slots at one ∙ ap (set (blocks_in items slots) at) is)
-
--- what was written to both
-pub both_set : {R : Type 0} (items : R → List Item) (slots front back : List (Option R)) (at : ℕ) (one two : Option R) (block : List Item) → slots ≡ front ++ back → length front ≡ at + 1
-    → block_in items one ≡ block → block_in items two ≡ [] → blocks_in items (set front at one ++ set back 0 two) ≡ set (set (blocks_in items slots) at block) (at + 1) []
-both_set {R} items slots front back at one two block whole count is empty =
-    let longer : length (set front at one) ≡ at + 1 = length-set front at one ∙ count in
-    let none : at + 1 - (at + 1) ≡ 0 = omega arith in
-    let second : set (set front at one ++ back) (at + 1) two ≡ set front at one ++ set back 0 two =
-    set-append_right (set front at one) back (at + 1) (at + 1) two longer (omega arith) ∙ ap (λ (n : ℕ). set front at one ++ set back n two) none in
-    ap (blocks_in items) (sym second)
-    ∙ (map-set (block_in items) (set front at one ++ back) (at + 1) two
-    ∙ (ap (λ (l : List (List Item)). set l (at + 1) (block_in items two)) (front_set items slots front back at one block whole count is)
-    ∙ ap (set (set (blocks_in items slots) at block) (at + 1)) empty))

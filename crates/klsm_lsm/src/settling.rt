@@ -9,7 +9,7 @@ ghost use Rattle.klsm_lsm.specs.Adding.{add};
 ghost use Rattle.klsm_lsm.specs.Slots.{blocks_in};
 
 use crate::fixed::{carry, open_slot, set_slot};
-use crate::slots::{move_on, move_to};
+use crate::slots::{close_up, move_on};
 use crate::{Lsm, LsmError};
 use arrayvec::ArrayVec;
 use klsm_run::{FixedRun, Item, Run, level_of};
@@ -82,22 +82,5 @@ fn open_up<R: Run>(slots: &mut [Option<R>], place: usize, count: usize)
     while gap > place {
         gap -= 1;
         move_on(slots, gap);
-    }
-}
-
-// Moves so many runs from a place on to the slots from another on, which is not behind it.
-fn close_up<R: Run>(slots: &mut [Option<R>], from: usize, to: usize, count: usize)
-    requires order { to ≤ from }
-    requires within { from + count ≤ length slots.old }
-    ensures moved { take (to + count) (blocks_in R.items slots.new)
-        ≡ take to (blocks_in R.items slots.old)
-        ++ take count (drop from (blocks_in R.items slots.old)) }
-    ensures len { length slots.new ≡ length slots.old }
-{
-    if to == from {
-        return;
-    }
-    for moved in 0..count {
-        move_to(slots, from + moved, to + moved);
     }
 }

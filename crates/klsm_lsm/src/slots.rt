@@ -169,23 +169,24 @@ pub(crate) fn close_gap<R: Run>(slots: &mut [Option<R>], at: usize, count: usize
         ≡ remove (take count (blocks_in R.items slots.old)) at }
     ensures len { length slots.new ≡ length slots.old }
 {
-    let mut gap = at;
-    while gap + 1 < count {
-        move_back(slots, gap);
-        gap += 1;
-    }
+    close_up(slots, at + 1, at, count - 1 - at);
 }
 
-// Moves the run of the next slot to this one.
-fn move_back<R: Run>(slots: &mut [Option<R>], at: usize)
-    requires { at + 1 < length slots.old }
-    ensures moved { blocks_in R.items slots.new
-        ≡ slice_set (slice_set (blocks_in R.items slots.old) at
-        (slice_index_or (blocks_in R.items slots.old) (at + 1) [])) (at + 1) [] }
+// Moves so many runs from a place on to the slots from another on, which is not behind it.
+pub(crate) fn close_up<R: Run>(slots: &mut [Option<R>], from: usize, to: usize, count: usize)
+    requires order { to ≤ from }
+    requires within { from + count ≤ length slots.old }
+    ensures moved { take (to + count) (blocks_in R.items slots.new)
+        ≡ take to (blocks_in R.items slots.old)
+        ++ take count (drop from (blocks_in R.items slots.old)) }
     ensures len { length slots.new ≡ length slots.old }
 {
-    let (front, back) = slots.split_at_mut(at + 1);
-    take_run(&mut front[at], &mut back[0]);
+    if to == from {
+        return;
+    }
+    for moved in 0..count {
+        move_to(slots, from + moved, to + moved);
+    }
 }
 
 // Moves the run of a slot to the next one.
@@ -201,7 +202,7 @@ pub(crate) fn move_on<R: Run>(slots: &mut [Option<R>], at: usize)
 }
 
 // Moves the run of a slot to one before it.
-pub(crate) fn move_to<R: Run>(slots: &mut [Option<R>], from: usize, to: usize)
+fn move_to<R: Run>(slots: &mut [Option<R>], from: usize, to: usize)
     requires order { to < from }
     requires within { from < length slots.old }
     ensures moved { blocks_in R.items slots.new

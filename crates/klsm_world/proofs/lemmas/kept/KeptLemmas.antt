@@ -1,14 +1,15 @@
 -- What a running world keeps, after each kind of step but a commit.
-use Rattle.std.proofs.Common.{◌≡◌, ◌≢◌, ℕ, ◌+◌, ◌-◌, ◌<◌, ◌≤◌, List, [], ◌∷◌, ◌++◌, length, get_or, set, Option, Some, None, refl, sym, ap, ◌∙◌, subst, arith, unwrap_or}
+use Rattle.std.proofs.Common.{◌≡◌, ◌≢◌, ℕ, ◌+◌, ◌-◌, ◌<◌, ◌≤◌, List, [], ◌∷◌, ◌++◌, length, get_or, slice_get, set, Option, Some, None, refl, sym, ap, ◌∙◌, subst, arith, unwrap_or}
+use Rattle.std.proofs.lemmas.List.{get_or_read}
 use Rattle.klsm_run.specs.declared.item.Item.{Item}
 use Rattle.klsm_run.specs.Content.{sorted}
-use Rattle.klsm_parts.specs.Events.{front_of}
+use Rattle.klsm_parts.specs.Events.{front_of, key_or_greatest}
 use Rattle.klsm_world.specs.declared.step.Step.{Step}
 use Rattle.klsm_world.specs.declared.step.Step.TheVariants.{Acquire, Release, Miss}
 use Rattle.klsm_world.specs.declared.step.Entry.{Entry}
 use Rattle.klsm_world.specs.declared.step.Entry.TheVariants.{Acquired, Released, Missed}
 use Rattle.klsm_world.specs.Kept.{IsKept, homes_of, world_of}
-use Rattle.klsm_world.specs.OwnSteps.{Holds, content_in}
+use Rattle.klsm_world.specs.OwnSteps.{Holds, content_in, shared_part}
 use Rattle.klsm_world.specs.Worlds.{Limits, World, word_of, home_of, hand_in, content_of}
 use Rattle.klsm_world.specs.LawfulWorlds.{IsLawful}
 use Rattle.klsm_world.specs.Schedules.{MayStep, next}
@@ -35,6 +36,18 @@ kept_after limits words words' contents contents' lists lists' step kept may is 
   current = λ p within. ap (λ w. content_of w p) is ∙ current p within;
   ascending = ascending;
 }
+
+-- the front is the key of the first item that is kept of the shared part
+pub front_by_first : {limits : Limits} {words : List ℕ} {contents : List (List Item)} {lists : List (List Entry)} (w : World) (items : List Item) (first : Option Item)
+    → IsKept limits words contents lists → world_of words contents lists ≡ w → items ≡ get_or contents 0 items → slice_get items 0 ≡ first → key_or_greatest first ≡ w.front
+front_by_first {limits} {words} {contents} {lists} w items first kept is shared is_first =
+    let content : items ≡ get_or contents 0 [] = get_or_read contents 0 items (omega (arith, kept.contents_are)) shared [] in
+    let ascending : sorted (get_or contents 0 []) ≡ items = kept.ascending 0 (omega arith) ∙ sym content in
+    ap key_or_greatest (sym is_first ∙ ap (λ c. slice_get c 0) (sym ascending)) ∙ ap (λ v. v.front) is
+
+pub front_is_content : {limits : Limits} {words : List ℕ} {contents : List (List Item)} {lists : List (List Entry)} (w : World)
+    → IsKept limits words contents lists → world_of words contents lists ≡ w → w.front ≡ front_of (content_of w shared_part)
+front_is_content {limits} w kept is = subst (λ v. v.front ≡ front_of (content_of v shared_part)) is kept.lawful.front_is
 
 -- a part in a thread's hand has there what it has at hand
 pub hand_has : (limits : Limits) (words : List ℕ) (contents : List (List Item)) (lists : List (List Entry)) (t p : ℕ)

@@ -2,7 +2,7 @@ use Rattle.std.proofs.Common.{◌≡◌, ◌+◌, ◌++◌, take, drop, subst, a
 use Rattle.std.proofs.lemmas.List.{length-map}
 use Rattle.klsm_lsm.specs.Slots.{blocks_in}
 use Rattle.klsm_lsm.proofs.MovingLemmas.{moving_first, moving_more, none_moved}
-use Rattle.klsm_lsm.proofs.settling.close_up.Goals as goal
+use Rattle.klsm_lsm.proofs.slots.close_up.Goals as goal
 
 pub loop-moved-init : goal.loop-moved-init
 loop-moved-init g c = moving_first _ _ _
