@@ -26,23 +26,23 @@
  *   own or in the shared part.
  * - KLSM_NOTHING is answered only where at most (T-1)*k items live. So with one thread, or k = 0, it
  *   means that the queue is empty; otherwise it does not, and a program that ends by it has to count
- *   what is open for itself, as bindings/examples does.
+ *   what is open: klsm_work does.
  * - Nothing is lost and nothing comes twice: each item whose insertion answered KLSM_OK is given by
  *   one deletion, or is left when the queue is closed. A call with any other code has changed
  *   nothing but what its own lines say.
  * - What a thread wrote before an insertion is seen by the thread whose deletion gives the item, so
- *   a load may be a pointer.
+ *   a load may be a pointer. (This is tested; the rest of this list is proved.)
  *
  * Nothing checks the following, and what happens otherwise is undefined:
  * - One call at a time for each member. Different members may be used at the same time. The openings,
  *   klsm_close, klsm_drop and klsm_left have the whole queue for themselves. One call comes before
- *   another where a thread's start or join, a lock, or a release and an acquire order them; so a
- *   member may change threads.
+ *   another where a thread's start or join, a lock, or a sequentially consistent atomic orders them;
+ *   so a member may change threads.
  * - A queue is all bytes 0 (KLSM_QUEUE_CLOSED, static storage, or memset), or as the last call left
  *   it. It is aligned to 128 bytes: malloc does not give that, aligned_alloc(128, ..) does. While it
  *   is open it is not copied, moved, written to or freed.
- * - No pointer is null. `item`, `account`, `left` and `options` do not overlap each other or the queue.
- *   `left` points to `room` items, and to some item also where `room` is 0.
+ * - No pointer is null, but `left` may be one where `room` is 0. `item`, `account`, `left` and
+ *   `options` do not overlap each other or the queue. `left` points to `room` items.
  * - A member is one of a klsm_queue.
  * - No call comes from a signal handler, nor from a forked child about a queue that was open.
  * - malloc, realloc and free keep the C standard's promises, also if they are the program's own.
@@ -57,6 +57,8 @@
 #include <sched.h>
 #include <stddef.h>
 #include <stdint.h>
+#include <stdlib.h>
+#include <string.h>
 #include <sys/select.h>
 
 /* The version of this header, that of `klsm --version`. */
@@ -64,6 +66,7 @@
 #define KLSM_VERSION_MAJOR 1
 #define KLSM_VERSION_MINOR 0
 #define KLSM_VERSION_PATCH 0
+#define KLSM_VERSION_NUMBER (10000 * KLSM_VERSION_MAJOR + 100 * KLSM_VERSION_MINOR + KLSM_VERSION_PATCH)
 
 /* The binary interface that this header describes. The library's is klsm_abi(); a program that may
  * meet another library than it was compiled for compares the two before any other call. */
@@ -81,14 +84,15 @@
 /* In klsm_options: the number 0, where 0 itself stands for the default. */
 #define KLSM_ZERO SIZE_MAX
 
-/* A compiler warns where the code of such a call is dropped. */
+/* A compiler warns where the code of such a call is dropped, and where a pointer is plainly null. */
 #define KLSM_MUST_USE __attribute__((warn_unused_result))
+#define KLSM_NOT_NULL(...) __attribute__((nonnull(__VA_ARGS__)))
 
 #ifdef __cplusplus
 #define KLSM_ASSERT(what) static_assert(what, #what)
 #define KLSM_ALIGNED alignas(128)
-#define KLSM_INLINE inline
-#define KLSM_COLD __attribute__((noinline, cold)) inline
+#define KLSM_INLINE __attribute__((visibility("hidden"))) inline
+#define KLSM_COLD __attribute__((visibility("hidden"), noinline, cold)) inline
 #define KLSM_QUEUE_CLOSED {}
 extern "C" {
 #else
@@ -182,6 +186,9 @@ enum klsm_pick {
 /* The binary interface of the library. Any thread, at any time. */
 uint32_t klsm_abi(void);
 
+/* The version of the library, as KLSM_VERSION_NUMBER has that of this header. Any thread, at any time. */
+uint32_t klsm_version(void);
+
 /* Opens a closed queue for `threads` members, all empty, and with no refill: klsm_open_with_refill and
  * klsm_open_with have one. A larger k means fewer meetings of threads and less exact answers; 64 is a
  * good one for throughput. `seed` is used by KLSM_RANDOM alone. Has the whole queue for itself. Takes
@@ -193,7 +200,8 @@ uint32_t klsm_abi(void);
  *   KLSM_BAD_K       `k` is above 64
  *   KLSM_NO_MEMORY   malloc gave none
  * After these the queue is as it was, byte by byte, and no memory is kept. */
-KLSM_MUST_USE int32_t klsm_open(klsm_queue *queue, size_t threads, size_t k, uint32_t pick, uint64_t seed);
+KLSM_MUST_USE KLSM_NOT_NULL(1)
+int32_t klsm_open(klsm_queue *queue, size_t threads, size_t k, uint32_t pick, uint64_t seed);
 
 /* Opens a closed queue as klsm_open does, with a refill, 0 to k. A deletion that took its item from
  * the shared part then moves the least shared items to its member's own part, at most `refill` of them
@@ -209,8 +217,9 @@ KLSM_MUST_USE int32_t klsm_open(klsm_queue *queue, size_t threads, size_t k, uin
  *   KLSM_BAD_REFILL  `refill` is above `k`
  *   KLSM_NO_MEMORY   malloc gave none
  * After these the queue is as it was, byte by byte, and no memory is kept. */
-KLSM_MUST_USE int32_t klsm_open_with_refill(klsm_queue *queue, size_t threads, size_t k, uint32_t pick,
-                                            uint64_t seed, size_t refill);
+KLSM_MUST_USE KLSM_NOT_NULL(1)
+int32_t klsm_open_with_refill(klsm_queue *queue, size_t threads, size_t k, uint32_t pick, uint64_t seed,
+                              size_t refill);
 
 /* Inserts an item. Waits for nobody. The member's thread, one call at a time.
  * Costs no lock but the member's own, which is free unless another member looks for items there
@@ -220,11 +229,13 @@ KLSM_MUST_USE int32_t klsm_open_with_refill(klsm_queue *queue, size_t threads, s
  *   KLSM_NOT_OPEN    the member is not open
  *   KLSM_SPENT       the member has made 2^48 insertions
  *   KLSM_BUSY        the own lock, or the shared one if it is needed, is held by another member
- *   KLSM_FULL        the own part has k items, and the shared part no room for what would move
+ *   KLSM_FULL        the own part has k items, and the shared part no room for what would move, which is
+ *                    at most k (proved is that it comes only where there is no room for k more)
  *   KLSM_NO_MEMORY   it has room, but malloc gave no memory for it
  * After these nothing is inserted and no part has changed: the same call may be made again, after
  * KLSM_FULL once items have been deleted. */
-KLSM_MUST_USE int32_t klsm_try_insert(klsm_member *member, uint64_t key, uint64_t load);
+KLSM_MUST_USE KLSM_NOT_NULL(1)
+int32_t klsm_try_insert(klsm_member *member, uint64_t key, uint64_t load);
 
 /* Deletes a small item. Waits for nobody and takes no memory. The member's thread, one call at a
  * time. Costs no lock but the member's own where its least own key is below all shared ones;
@@ -235,31 +246,41 @@ KLSM_MUST_USE int32_t klsm_try_insert(klsm_member *member, uint64_t key, uint64_
  * KLSM_BUSY          the own lock, or the shared one if it is needed, is held by another member
  * KLSM_NOT_OPEN      the member is not open
  * After all but KLSM_OK no part has changed, and *item is as it was. */
+KLSM_NOT_NULL(1, 2)
 int32_t klsm_try_delete_min(klsm_member *member, klsm_item *item);
+
+/* The front: the key of the least shared item, and UINT64_MAX where no item is shared, or the member is not
+ * open. No shared item has a lesser key at the moment at which it is looked at; items in members' own parts
+ * may have, of which others have at most (T-1)*k. So a search may end where all that is left cannot be
+ * better, once its threads have no own items. The member's thread, one call at a time. Takes no lock and
+ * waits for nobody. */
+KLSM_NOT_NULL(1) uint64_t klsm_front(klsm_member *member);
 
 /* How many insertions and deletions of the member answered KLSM_OK since the queue was opened; 0
  * where it is not open. The member's thread, one call at a time: this call, too, writes to the member.
  * Costs no lock. */
-uint64_t klsm_inserted(klsm_member *member);
-uint64_t klsm_deleted(klsm_member *member);
+KLSM_NOT_NULL(1) uint64_t klsm_inserted(klsm_member *member);
+KLSM_NOT_NULL(1) uint64_t klsm_deleted(klsm_member *member);
 
-/* Closes a queue: writes the account, copies the least `room` of the items that are left to `left`,
- * ascending, and gives all memory back. The rest of that array is as it was. The items that have no
- * room there are gone, so size it by klsm_left first where they matter. Has the whole queue for
- * itself, so no thread is left that uses a member. Waits for nobody. Costs a sort of the items that
- * are left, and 32 bytes of memory for each while it runs.
- * KLSM_OK            done: all members are closed, and the queue may be opened again
- * KLSM_NOT_OPEN      it is not open
- * KLSM_NO_MEMORY     malloc gave none. The queue is open as before, so items can be deleted, and
- *                    the call be made again; klsm_drop needs no memory
- * KLSM_SHARED        comes after no sequence of these calls, but no proof says so: all members are
- *                    closed, the account and the array are as they were
- * After KLSM_NOT_OPEN and KLSM_NO_MEMORY nothing has changed. */
-KLSM_MUST_USE int32_t klsm_close(klsm_queue *queue, klsm_account *account, klsm_item *left, size_t room);
+/* Closes a queue as klsm_close does, which is below and says more. `left` points to some item also where
+ * `room` is 0. */
+KLSM_MUST_USE KLSM_NOT_NULL(1, 2, 3)
+int32_t klsm_close_into(klsm_queue *queue, klsm_account *account, klsm_item *left, size_t room);
 
 /* Closes a queue, with all that is left in it, and gives all memory back. Takes no memory, waits for
  * nobody, and cannot fail; a closed queue stays closed. Has the whole queue for itself. */
-void klsm_drop(klsm_queue *queue);
+KLSM_NOT_NULL(1) void klsm_drop(klsm_queue *queue);
+
+#if defined(__has_feature)
+#if __has_feature(thread_sanitizer)
+#define KLSM_UNDER_TSAN
+#endif
+#elif defined(__SANITIZE_THREAD__)
+#define KLSM_UNDER_TSAN
+#endif
+#ifdef KLSM_UNDER_TSAN
+#include "klsm_tsan.h"
+#endif
 
 /* ---- Inline functions over these ---- */
 
@@ -270,7 +291,8 @@ KLSM_INLINE size_t klsm_or_default(size_t number, size_t standard) {
 /* Opens a closed queue by klsm_open_with_refill, whose codes it has in their order: so `threads` of 0
  * is KLSM_BAD_COUNT, and a refill that is named and above k is KLSM_BAD_REFILL. In C, for the defaults:
  * klsm_open_with(&queue, &(klsm_options){.threads = 4}). */
-KLSM_MUST_USE KLSM_INLINE int32_t klsm_open_with(klsm_queue *queue, const klsm_options *options) {
+KLSM_MUST_USE KLSM_NOT_NULL(1, 2)
+KLSM_INLINE int32_t klsm_open_with(klsm_queue *queue, const klsm_options *options) {
     size_t k = klsm_or_default(options->k, KLSM_DEFAULT_K);
     size_t most = k < KLSM_DEFAULT_REFILL ? k : KLSM_DEFAULT_REFILL;
     return klsm_open_with_refill(queue, options->threads, k, options->pick, options->seed,
@@ -295,6 +317,35 @@ KLSM_INLINE uint64_t klsm_key_of_bound(uint64_t bound, uint32_t depth) {
 /* The bound of such a key. */
 KLSM_INLINE uint64_t klsm_bound_of_key(uint64_t key) { return key >> 16; }
 
+/* Keys of other numbers, in the order of these. The greatest comes first by ~klsm_key_of_double(number), and so
+ * on. Both zeros have one key, and all that is not a number has one, behind that of infinity. */
+KLSM_INLINE uint64_t klsm_key_of_double(double number) {
+    const uint64_t sign = UINT64_C(1) << 63, infinity = UINT64_C(0x7ff) << 52;
+    uint64_t bits;
+    memcpy(&bits, &number, sizeof bits);
+    if ((bits & ~sign) > infinity)
+        return sign | infinity | UINT64_C(1) << 51;
+    if ((bits & ~sign) == 0)
+        return sign;
+    return bits & sign ? ~bits : bits | sign;
+}
+
+KLSM_INLINE double klsm_double_of_key(uint64_t key) {
+    const uint64_t sign = UINT64_C(1) << 63, bits = key & sign ? key & ~sign : ~key;
+    double number;
+    memcpy(&number, &bits, sizeof number);
+    return number;
+}
+
+KLSM_INLINE uint64_t klsm_key_of_int64(int64_t number) { return (uint64_t)number ^ UINT64_C(1) << 63; }
+
+KLSM_INLINE int64_t klsm_int64_of_key(uint64_t key) {
+    int64_t number;
+    key ^= UINT64_C(1) << 63;
+    memcpy(&number, &key, sizeof number);
+    return number;
+}
+
 /* How many items are in the queue: insertions less deletions, over all members. Has the whole queue
  * for itself, and is exact. 0 where the queue is closed. */
 KLSM_INLINE uint64_t klsm_left(klsm_queue *queue) {
@@ -302,6 +353,52 @@ KLSM_INLINE uint64_t klsm_left(klsm_queue *queue) {
     for (size_t t = 0; t < KLSM_MAX_THREADS; t++)
         left += klsm_inserted(&queue->members[t]) - klsm_deleted(&queue->members[t]);
     return left;
+}
+
+/* Closes a queue: writes the account, copies the least `room` of the items that are left to `left`,
+ * ascending, and gives all memory back. The rest of that array is as it was. The items that have no
+ * room there are gone, so size it by klsm_left first where they matter. Has the whole queue for
+ * itself, so no thread is left that uses a member. Waits for nobody. Costs a sort of the items that
+ * are left, and 32 bytes of memory for each while it runs.
+ * KLSM_OK            done: all members are closed, and the queue may be opened again
+ * KLSM_NOT_OPEN      it is not open
+ * KLSM_NO_MEMORY     malloc gave none. The queue is open as before, so items can be deleted, and
+ *                    the call be made again; klsm_drop needs no memory
+ * KLSM_SHARED        comes after no sequence of these calls, but no proof says so: all members are
+ *                    closed, the account and the array are as they were
+ * After KLSM_NOT_OPEN and KLSM_NO_MEMORY nothing has changed. */
+KLSM_MUST_USE KLSM_NOT_NULL(1, 2)
+KLSM_INLINE int32_t klsm_close(klsm_queue *queue, klsm_account *account, klsm_item *left, size_t room) {
+    klsm_item none;
+    return klsm_close_into(queue, account, room == 0 ? &none : left, room);
+}
+
+/* Closes a queue as klsm_close does, and hands each item that is left to `each`, ascending, with `context`. The
+ * queue is closed by then, and `account` is written. Takes 32 bytes of memory more for each item. */
+KLSM_MUST_USE KLSM_NOT_NULL(1, 2, 3)
+KLSM_INLINE int32_t klsm_close_each(klsm_queue *queue, klsm_account *account,
+                                    void (*each)(void *context, const klsm_item *item), void *context) {
+    size_t room = (size_t)klsm_left(queue);
+    klsm_item *left = (klsm_item *)calloc(room + 1, sizeof *left);
+    if (left == NULL)
+        return KLSM_NO_MEMORY;
+    int32_t code = klsm_close_into(queue, account, left, room);
+    for (size_t i = 0; code == KLSM_OK && i < room; i++)
+        each(context, &left[i]);
+    free(left);
+    return code;
+}
+
+/* Closes a queue as klsm_drop does, and hands each item that is left to `each`, in no order, with `context`, while
+ * the queue is still open: `each` makes no call about it. Takes no memory, and cannot fail. */
+KLSM_NOT_NULL(1, 2)
+KLSM_INLINE void klsm_drop_each(klsm_queue *queue, void (*each)(void *context, const klsm_item *item),
+                                void *context) {
+    klsm_item item;
+    /* No lock is held, so member 0 finds what lies in each part. */
+    while (klsm_try_delete_min(&queue->members[0], &item) == KLSM_OK)
+        each(context, &item);
+    klsm_drop(queue);
 }
 
 /* A short English text for a code. Any thread, at any time. */
@@ -375,15 +472,49 @@ KLSM_COLD int32_t klsm_delete_min_after_pauses(klsm_member *member, klsm_item *i
 }
 
 /* klsm_try_insert, again and again while it is KLSM_BUSY. How long it may wait is not promised. */
-KLSM_MUST_USE KLSM_INLINE int32_t klsm_insert(klsm_member *member, uint64_t key, uint64_t load) {
+KLSM_MUST_USE KLSM_NOT_NULL(1)
+KLSM_INLINE int32_t klsm_insert(klsm_member *member, uint64_t key, uint64_t load) {
     int32_t code = klsm_try_insert(member, key, load);
     return __builtin_expect(code == KLSM_BUSY, 0) ? klsm_insert_after_pauses(member, key, load) : code;
 }
 
 /* klsm_try_delete_min, again and again while it is KLSM_BUSY. It does not wait for an item. */
+KLSM_NOT_NULL(1, 2)
 KLSM_INLINE int32_t klsm_delete_min(klsm_member *member, klsm_item *item) {
     int32_t code = klsm_try_delete_min(member, item);
     return __builtin_expect(code == KLSM_BUSY, 0) ? klsm_delete_min_after_pauses(member, item) : code;
+}
+
+/* A count of open work, by which the threads of a crew see the end: that a deletion finds nothing is none, since
+ * another thread may be about to insert what follows from its item. All bytes 0 is a count of none. Each piece of
+ * work is opened before its item is inserted, and done once all that follows from it was opened. Any thread, at
+ * any time. What a thread wrote before its work was done is seen by those that see the end. */
+typedef struct klsm_work {
+    KLSM_ALIGNED uint64_t open; /* on two lines of the cache of its own, as a member is */
+    uint64_t room[15];
+} klsm_work;
+
+KLSM_NOT_NULL(1)
+KLSM_INLINE void klsm_work_open(klsm_work *work) { __atomic_fetch_add(&work->open, 1, __ATOMIC_RELAXED); }
+
+KLSM_NOT_NULL(1)
+KLSM_INLINE void klsm_work_done(klsm_work *work) { __atomic_fetch_sub(&work->open, 1, __ATOMIC_ACQ_REL); }
+
+/* How many pieces are open. Where it is 0, all is done. */
+KLSM_NOT_NULL(1)
+KLSM_INLINE uint64_t klsm_work_left(const klsm_work *work) { return __atomic_load_n(&work->open, __ATOMIC_ACQUIRE); }
+
+/* Deletes a small item, and waits for one while work is open: so KLSM_NOTHING means that all is done. The other
+ * codes are those of klsm_try_delete_min. */
+KLSM_NOT_NULL(1, 2, 3)
+KLSM_INLINE int32_t klsm_work_next(klsm_work *work, klsm_member *member, klsm_item *item) {
+    klsm_pause pause = klsm_first_pause();
+    for (;;) {
+        int32_t code = klsm_delete_min(member, item);
+        if (code != KLSM_NOTHING || klsm_work_left(work) == 0)
+            return code;
+        klsm_wait(&pause);
+    }
 }
 
 #ifdef __cplusplus

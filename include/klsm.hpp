@@ -8,7 +8,8 @@
 //     // once the members are gone:
 //     klsm::account account = queue.close();               // the totals, and what is left, ascending
 //
-// klsm.h says what a deletion may pass over, and when each code comes.
+// klsm.h says what a deletion may pass over, and when each code comes. A klsm::typed_queue<T> has payloads
+// of a type in place of loads, and klsm::work counts open work, so that a crew sees the end.
 //
 // A klsm::queue owns a klsm_queue, which lies in a block of its own on the heap. So a queue may be
 // moved, also while it is open and members of it are out: what the members point to stays where it is.
@@ -20,6 +21,7 @@
 // - One call at a time for each klsm::member, and for each klsm::queue, but that several threads may
 //   call queue::member and queue::threads at once.
 // - No call of a member runs during close(), left(), and the end of its queue, or an assignment to it.
+// Several threads may use one klsm::work at once.
 // No call but the constructors and the close() without an argument throws.
 #ifndef KLSM_HPP
 #define KLSM_HPP
@@ -34,10 +36,12 @@
 #include <atomic>
 #include <cstddef>
 #include <cstdint>
+#include <cstring>
 #include <exception>
 #include <memory>
 #include <new>
 #include <optional>
+#include <type_traits>
 #include <utility>
 #include <vector>
 
@@ -78,6 +82,12 @@ using item = klsm_item;
 }
 [[nodiscard]] inline std::uint64_t bound_of_key(std::uint64_t key) noexcept { return klsm_bound_of_key(key); }
 
+// Keys of other numbers, in their order, and the number of one. The greatest comes first by ~key_of_double(..).
+[[nodiscard]] inline std::uint64_t key_of_double(double number) noexcept { return klsm_key_of_double(number); }
+[[nodiscard]] inline double double_of_key(std::uint64_t key) noexcept { return klsm_double_of_key(key); }
+[[nodiscard]] inline std::uint64_t key_of_int64(std::int64_t number) noexcept { return klsm_key_of_int64(number); }
+[[nodiscard]] inline std::int64_t int64_of_key(std::uint64_t key) noexcept { return klsm_int64_of_key(key); }
+
 // How a queue is opened: klsm::options{4}, or in C++20 klsm::options{.threads = 4, .refill = 8}. A number
 // here is itself, also 0. klsm.h says at klsm_open_with_refill what a refill does.
 struct options {
@@ -117,6 +127,8 @@ struct block {
 
 } // namespace detail
 
+template <class T> class typed_queue;
+
 // What one thread inserts and deletes by.
 class member {
 public:
@@ -152,10 +164,17 @@ public:
         if (at_ == nullptr || klsm_delete_min(at_, &deleted) != KLSM_OK) return std::nullopt;
         return deleted;
     }
+    // The same with a code, which tells a member that is not open from a queue where it found nothing. `deleted`
+    // is written exactly with code::ok.
+    [[nodiscard]] klsm::code delete_min(item &deleted) noexcept {
+        return at_ == nullptr ? code::not_open : code(klsm_delete_min(at_, &deleted));
+    }
     // Deletes a small item, and waits for nobody. `deleted` is written exactly with code::ok.
     [[nodiscard]] klsm::code try_delete_min(item &deleted) noexcept {
         return at_ == nullptr ? code::not_open : code(klsm_try_delete_min(at_, &deleted));
     }
+    // The front: no shared item has a lesser key just then. klsm.h says more at klsm_front.
+    [[nodiscard]] std::uint64_t front() noexcept { return at_ == nullptr ? UINT64_MAX : klsm_front(at_); }
     // How many insertions and deletions were made by this number since the queue was opened.
     [[nodiscard]] std::uint64_t inserted() noexcept {
         return at_ == nullptr ? 0 : klsm_inserted(at_);
@@ -166,6 +185,7 @@ public:
 
 private:
     friend class queue;
+    friend class work;
     member(klsm_member *at, std::shared_ptr<detail::block> of) noexcept : at_(at), block_(std::move(of)) {}
 
     klsm_member *at_;
@@ -241,14 +261,13 @@ public:
         if (block_ == nullptr) return code::not_open;
         std::vector<item> left;
         try {
-            left.resize(static_cast<std::size_t>(this->left()) + 1); // one more: an array is not empty
+            left.resize(static_cast<std::size_t>(this->left()));
         } catch (...) {
             return code::no_memory;
         }
         klsm_account totals;
         std::int32_t closed = klsm_close(&block_->queue, &totals, left.data(), left.size());
         if (closed != KLSM_OK) return klsm::code(closed);
-        left.pop_back();
         answer.inserted = totals.inserted;
         answer.deleted = totals.deleted;
         answer.left = std::move(left);
@@ -256,7 +275,202 @@ public:
     }
 
 private:
+    template <class T> friend class typed_queue;
     std::shared_ptr<detail::block> block_; // aligned as klsm_queue is: C++17 sees to that
+};
+
+// A count of open work, by which the threads of a crew see the end: klsm.h says more at klsm_work. A piece is
+// opened before its item is inserted, and done once all that follows from it was opened.
+class work {
+public:
+    work() = default;
+    work(const work &) = delete;
+    work &operator=(const work &) = delete;
+
+    void open() noexcept { klsm_work_open(&count_); }
+    void done() noexcept { klsm_work_done(&count_); }
+    // How many pieces are open.
+    [[nodiscard]] std::uint64_t left() const noexcept { return klsm_work_left(&count_); }
+
+    // Deletes a small item, and waits for one while work is open. None once all is done, and where the member
+    // is not open.
+    [[nodiscard]] std::optional<item> next(member &by) noexcept {
+        item deleted;
+        if (by.at_ == nullptr || klsm_work_next(&count_, by.at_, &deleted) != KLSM_OK) return std::nullopt;
+        return deleted;
+    }
+    template <class Typed> [[nodiscard]] auto next(Typed &by) noexcept -> decltype(by.delete_min()) {
+        std::optional<item> deleted = next(by.member_);
+        if (!deleted) return std::nullopt;
+        return by.opened(*deleted);
+    }
+
+private:
+    klsm_work count_ = {};
+};
+
+// What a typed_queue gives. `number` is how many insertions its owner had made before.
+template <class T> struct typed_item {
+    std::uint64_t key;
+    std::uint64_t number;
+    std::uint32_t owner;
+    T payload;
+};
+
+// What a closed typed_queue says of itself: inserted = deleted + left.size().
+template <class T> struct typed_account {
+    std::uint64_t inserted = 0;
+    std::uint64_t deleted = 0;
+    std::vector<typed_item<T>> left; // ascending
+};
+
+namespace detail {
+
+// A payload as a load: the load has its bytes, where they are few and plain, and else leads to it.
+template <class T> struct payload_of_load {
+    static constexpr bool is_small = sizeof(T) <= sizeof(std::uint64_t) && std::is_trivially_copyable_v<T>;
+
+    static T *at(std::uint64_t load) noexcept { return reinterpret_cast<T *>(static_cast<std::uintptr_t>(load)); }
+
+    static T take(std::uint64_t load) noexcept {
+        if constexpr (is_small) {
+            alignas(T) unsigned char bytes[sizeof(T)];
+            std::memcpy(bytes, &load, sizeof(T));
+            return *std::launder(reinterpret_cast<T *>(bytes));
+        } else {
+            std::unique_ptr<T> owned(at(load));
+            return std::move(*owned);
+        }
+    }
+
+    static void drop(void *, [[maybe_unused]] const klsm_item *left) noexcept {
+        if constexpr (!is_small) delete at(left->load);
+    }
+};
+
+} // namespace detail
+
+// What one thread inserts and deletes by in a typed_queue. It is moved and goes back as a klsm::member does.
+template <class T> class typed_member {
+public:
+    // Inserts, and waits while a lock is held: never code::busy. `payload` is moved from exactly with code::ok.
+    // code::no_memory comes also where there is none for the payload.
+    [[nodiscard]] klsm::code insert(std::uint64_t key, T &&payload) noexcept {
+        return put(payload, [&](std::uint64_t load) { return member_.insert(key, load); });
+    }
+    // Inserts, and waits for nobody.
+    [[nodiscard]] klsm::code try_insert(std::uint64_t key, T &&payload) noexcept {
+        return put(payload, [&](std::uint64_t load) { return member_.try_insert(key, load); });
+    }
+    // Deletes a small item, and waits while a lock is held. None where it found nothing, and where the queue
+    // is closed.
+    [[nodiscard]] std::optional<typed_item<T>> delete_min() noexcept {
+        std::optional<item> deleted = member_.delete_min();
+        if (!deleted) return std::nullopt;
+        return opened(*deleted);
+    }
+    // Deletes a small item, and waits for nobody. `deleted` has it exactly with code::ok, and is else as it was.
+    [[nodiscard]] klsm::code try_delete_min(std::optional<typed_item<T>> &deleted) noexcept {
+        item found;
+        klsm::code answer = member_.try_delete_min(found);
+        if (answer == code::ok) deleted.emplace(opened(found));
+        return answer;
+    }
+    [[nodiscard]] std::uint64_t front() noexcept { return member_.front(); }
+    // How many insertions and deletions were made by this number since the queue was opened.
+    [[nodiscard]] std::uint64_t inserted() noexcept { return member_.inserted(); }
+    [[nodiscard]] std::uint64_t deleted() noexcept { return member_.deleted(); }
+
+private:
+    friend class typed_queue<T>;
+    friend class work;
+    using payload_of_load = detail::payload_of_load<T>;
+
+    explicit typed_member(klsm::member &&member) noexcept : member_(std::move(member)) {}
+
+    // Another thread may have the payload as soon as it is inserted, so it lies in its place before.
+    template <class Insert> klsm::code put(T &payload, Insert insert) noexcept {
+        if constexpr (payload_of_load::is_small) {
+            std::uint64_t load = 0;
+            std::memcpy(&load, &payload, sizeof(T));
+            return insert(load);
+        } else {
+            T *moved = new (std::nothrow) T(std::move(payload));
+            if (moved == nullptr) return code::no_memory;
+            klsm::code answer = insert(static_cast<std::uint64_t>(reinterpret_cast<std::uintptr_t>(moved)));
+            if (answer != code::ok) {
+                payload = std::move(*moved);
+                delete moved;
+            }
+            return answer;
+        }
+    }
+
+    static typed_item<T> opened(const item &found) noexcept {
+        return {found.key, found.number, found.owner, payload_of_load::take(found.load)};
+    }
+
+    klsm::member member_;
+};
+
+// A queue whose items carry payloads of a type in place of loads. They are moved in and out; what is left is
+// handed back by close(), or destroyed with the queue. A payload costs a block of memory, but none where it has
+// at most 8 plain bytes.
+template <class T> class typed_queue {
+    static_assert(std::is_nothrow_move_constructible_v<T> && std::is_nothrow_move_assignable_v<T> &&
+                  std::is_nothrow_destructible_v<T>);
+
+public:
+    // As those of klsm::queue.
+    explicit typed_queue(std::size_t threads, std::size_t k = 64, pick how = pick::first, std::uint64_t seed = 0)
+        : queue_(threads, k, how, seed) {}
+    explicit typed_queue(const options &by) : queue_(by) {}
+    typed_queue(typed_queue &&) noexcept = default;
+    typed_queue &operator=(typed_queue &&other) noexcept {
+        typed_queue moved(std::move(other));
+        std::swap(queue_, moved.queue_);
+        return *this;
+    }
+
+    // Destroys what is left in it. That takes no memory.
+    ~typed_queue() {
+        if (queue_.block_ != nullptr)
+            klsm_drop_each(&queue_.block_->queue, detail::payload_of_load<T>::drop, nullptr);
+    }
+
+    [[nodiscard]] std::size_t threads() const noexcept { return queue_.threads(); }
+    [[nodiscard]] std::uint64_t left() noexcept { return queue_.left(); }
+    [[nodiscard]] std::optional<typed_member<T>> member(std::size_t number) noexcept {
+        std::optional<klsm::member> member = queue_.member(number);
+        if (!member) return std::nullopt;
+        return typed_member<T>(std::move(*member));
+    }
+
+    // Closes it, as klsm::queue::close does.
+    [[nodiscard]] typed_account<T> close() {
+        typed_account<T> answer;
+        if (klsm::code why = close(answer); why != code::ok) throw error(why);
+        return answer;
+    }
+    // The same with a code. `answer` is written exactly with code::ok.
+    [[nodiscard]] klsm::code close(typed_account<T> &answer) noexcept {
+        std::vector<typed_item<T>> left;
+        try {
+            left.reserve(static_cast<std::size_t>(this->left()));
+        } catch (...) {
+            return code::no_memory;
+        }
+        account closed;
+        if (klsm::code why = queue_.close(closed); why != code::ok) return why;
+        for (const item &one : closed.left) left.push_back(typed_member<T>::opened(one));
+        answer.inserted = closed.inserted;
+        answer.deleted = closed.deleted;
+        answer.left = std::move(left);
+        return code::ok;
+    }
+
+private:
+    klsm::queue queue_;
 };
 
 } // namespace v1

@@ -54,15 +54,10 @@ public:
     }
 
 private:
-    // That no node is found is not the end: another thread may be about to open some.
     void work(klsm::member &member) {
-        while (open_ > 0) {
-            if (std::optional<klsm::item> item = member.delete_min()) {
-                branch(member, node::of(item->load), top_ - klsm::bound_of_key(item->key));
-                open_--;
-            } else {
-                std::this_thread::yield();
-            }
+        while (std::optional<klsm::item> item = nodes_.next(member)) {
+            branch(member, node::of(item->load), top_ - klsm::bound_of_key(item->key));
+            nodes_.done();
         }
     }
 
@@ -80,11 +75,11 @@ private:
     // Puts a node in. One that finds no room is searched at once, so that none is lost.
     void open(klsm::member &member, node at, std::uint64_t bounded) {
         if (bounded <= best_) return;
-        open_++; // before another thread can take it
+        nodes_.open(); // before another thread can take it
         std::uint64_t key = klsm::key_of_bound(top_ - bounded, std::uint32_t(at.level));
         if (member.insert(key, at.load()) != klsm::code::ok) {
             branch(member, at, bounded);
-            open_--;
+            nodes_.done();
         }
     }
 
@@ -119,7 +114,7 @@ private:
     const instance &given_;
     std::uint64_t top_ = 0;               // the root's bound
     std::atomic<std::uint64_t> best_{0};  // the greatest value found
-    std::atomic<std::uint64_t> open_{0};  // nodes that are in the queue or in a thread's hands
+    klsm::work nodes_;                    // nodes that are in the queue or in a thread's hands
 };
 
 static std::uint64_t by_table(const instance &given) {

@@ -5,8 +5,6 @@
  */
 #include "klsm.h"
 #include <pthread.h>
-#include <sched.h>
-#include <stdatomic.h>
 #include <stdio.h>
 #include <stdlib.h>
 
@@ -27,15 +25,14 @@ typedef struct task {
 
 static klsm_queue queue = KLSM_QUEUE_CLOSED;
 
-/* Tasks that were submitted and have not ended. That a deletion finds nothing is no sign that all is
- * done: another thread may run a task just then which submits more, or keep some for itself. */
-static atomic_uint_fast64_t open_tasks;
+/* Tasks that were submitted and have not ended. */
+static klsm_work open_tasks;
 
 static void run_task(worker *self, task *it) {
     it->run(self, it);
     free(it);
     self->tasks_run++;
-    atomic_fetch_sub(&open_tasks, 1);
+    klsm_work_done(&open_tasks);
 }
 
 /* Submits a task that is due at a time. Where the queue has no room, the task is run at once. */
@@ -44,7 +41,7 @@ static void submit(worker *self, uint64_t due, task it) {
     if (copy == NULL)
         abort();
     *copy = it;
-    atomic_fetch_add(&open_tasks, 1);
+    klsm_work_open(&open_tasks);
     if (klsm_insert(self->member, due, (uint64_t)(uintptr_t)copy) != KLSM_OK) {
         self->at_once++;
         run_task(self, copy);
@@ -53,13 +50,9 @@ static void submit(worker *self, uint64_t due, task it) {
 
 static void *work(void *arg) {
     worker *self = arg;
-    while (atomic_load(&open_tasks) > 0) {
-        klsm_item item;
-        if (klsm_delete_min(self->member, &item) == KLSM_OK)
-            run_task(self, (task *)(uintptr_t)item.load);
-        else
-            sched_yield();
-    }
+    klsm_item item;
+    while (klsm_work_next(&open_tasks, self->member, &item) == KLSM_OK)
+        run_task(self, (task *)(uintptr_t)item.load);
     return NULL;
 }
 
@@ -109,8 +102,7 @@ int main(void) {
 
     /* All threads are done, so the account is exact: what was submitted was run. */
     klsm_account account;
-    klsm_item none;
-    code = klsm_close(&queue, &account, &none, 0);
+    code = klsm_close(&queue, &account, NULL, 0);
     if (code != KLSM_OK) {
         fprintf(stderr, "scheduler: %s\n", klsm_text(code));
         klsm_drop(&queue);

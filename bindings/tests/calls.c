@@ -121,7 +121,25 @@ static void closing(const char *name, size_t room) {
     check("the rest of the array is as it was", rest);
 }
 
+/* What is in own parts is not at the front; once it is shared, its least key is. */
+static void fronts(void) {
+    klsm_item item;
+    check("the front of a closed queue", klsm_front(&queue.members[0]) == UINT64_MAX);
+    check_or_stop("open", klsm_open(&queue, 2, 4, KLSM_FIRST, 0) == KLSM_OK);
+    check("of an empty one", klsm_front(&queue.members[1]) == UINT64_MAX);
+    for (uint64_t key = 10; key < 14; key++)
+        check_or_stop("insert", klsm_insert(&queue.members[0], key, 0) == KLSM_OK);
+    check("four own items are not at the front", klsm_front(&queue.members[1]) == UINT64_MAX);
+    check_or_stop("insert", klsm_insert(&queue.members[0], 5, 0) == KLSM_OK);
+    check("the block that moved is", klsm_front(&queue.members[1]) == 10 && klsm_front(&queue.members[0]) == 10);
+    check_or_stop("delete", klsm_delete_min(&queue.members[1], &item) == KLSM_OK && item.key == 10);
+    check("and its next item then", klsm_front(&queue.members[0]) == 11);
+    check("it counts as no call", klsm_inserted(&queue.members[1]) == 0 && klsm_deleted(&queue.members[1]) == 1);
+    klsm_drop(&queue);
+}
+
 int main(void) {
+    fronts();
     texts();
     fields();
     counts();

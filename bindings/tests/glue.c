@@ -150,13 +150,82 @@ static void counts(void) {
     check("a closed queue is not dropped a second time", stub_queues() == 0);
 }
 
+/* Counts the items that come in order, with what was handed on beside. */
+static uint64_t seen;
+static void see(void *context, const klsm_item *it) { seen += context == &queue && it->key == seen; }
+
+/* Opens three members with five items each, and what a closing answers. */
+static void begin_closing(int32_t code) {
+    stub_begin();
+    stub_answer(STUB_INSERTED, 9);
+    stub_answer(STUB_DELETED, 4);
+    stub_leave(27, 12, 15);
+    check_or_stop("open", klsm_open(&queue, 3, 40, KLSM_FIRST, 0) == KLSM_OK);
+    stub_answer(STUB_CLOSE, (uint64_t)code);
+    seen = 0;
+}
+
+static int has_closed(uint64_t room) {
+    return stub_asked(STUB_CLOSE) == 1 && stub_argument(STUB_CLOSE, 0) == address(&queue) &&
+           stub_argument(STUB_CLOSE, 2) != 0 && stub_argument(STUB_CLOSE, 3) == room;
+}
+
+static void closings(void) {
+    klsm_account account = {0, 0, 0};
+    begin_closing(KLSM_OK);
+    check_code("close into no array", klsm_close(&queue, &account, NULL, 0), KLSM_OK);
+    check("the library gets one all the same", has_closed(0) && account.left == 15);
+    begin_closing(KLSM_OK);
+    check_code("close into an array", klsm_close(&queue, &account, &item, 1), KLSM_OK);
+    check("the library gets it", has_closed(1) && stub_argument(STUB_CLOSE, 2) == address(&item));
+    begin_closing(KLSM_OK);
+    check_code("close, each by each", klsm_close_each(&queue, &account, see, &queue), KLSM_OK);
+    check("each comes once, in order", has_closed(15) && seen == 15);
+    for (int i = 1; i < CODES; i++) {
+        begin_closing(codes[i].code);
+        check_code("close, each by each, has this code", klsm_close_each(&queue, &account, see, &queue), codes[i].code);
+        check("and hands nothing on", has_closed(15) && seen == 0);
+        klsm_drop(&queue);
+    }
+}
+
+/* The stub gives one item after another, all with one key, and at last says that the member is not open. */
+static void see_any(void *context, const klsm_item *it) { seen += context == &queue && it->key == 101; }
+
+static void drops(void) {
+    begin_closing(KLSM_OK);
+    klsm_drop_each(&queue, see_any, &queue);
+    check("each that is deleted is handed on", seen > 0 && seen + 1 == stub_asked(STUB_TRY_DELETE_MIN));
+    check("by member 0", stub_argument(STUB_TRY_DELETE_MIN, 0) == address(&queue.members[0]));
+    check("and the queue is dropped, once", stub_asked(STUB_DROP) == 1 && stub_queues() == 0);
+}
+
+static void counts_of_work(void) {
+    static klsm_work work;
+    stub_begin();
+    stub_answer(STUB_TRY_DELETE_MIN, KLSM_NOTHING);
+    check_code("no work is open: the end", klsm_work_next(&work, member(), &item), KLSM_NOTHING);
+    check("is seen at once", stub_asked(STUB_TRY_DELETE_MIN) == 1);
+    klsm_work_open(&work);
+    klsm_work_open(&work);
+    klsm_work_done(&work);
+    check("one of two is open", klsm_work_left(&work) == 1);
+    check_code("it is waited for", klsm_work_next(&work, member(), &item), KLSM_NOT_OPEN);
+    check("as long as it takes", stub_asked(STUB_TRY_DELETE_MIN) > 100);
+    klsm_work_done(&work);
+    check("none is open", klsm_work_left(&work) == 0);
+}
+
 int main(void) {
     stub_begin();
-    check("the version is the library's", klsm_abi() == KLSM_ABI);
+    check("the version is the library's", klsm_abi() == KLSM_ABI && klsm_version() == KLSM_VERSION_NUMBER);
     texts();
     waiting_calls();
     calls_that_do_not_wait();
     openings();
     counts();
+    closings();
+    drops();
+    counts_of_work();
     return check_status();
 }

@@ -54,6 +54,10 @@ static void names() {
                                                static_cast<std::uint32_t>(klsm::pick::random) == KLSM_RANDOM);
     check("a key of a bound", klsm::key_of_bound(7, 3) == klsm_key_of_bound(7, 3));
     check("the bound of a key", klsm::bound_of_key(klsm_key_of_bound(7, 3)) == 7);
+    check("a key of a double", klsm::key_of_double(-2.5) == klsm_key_of_double(-2.5));
+    check("the double of a key", klsm::double_of_key(klsm_key_of_double(-2.5)) == -2.5);
+    check("a key of a number with a sign", klsm::key_of_int64(-3) == klsm_key_of_int64(-3));
+    check("the number of a key", klsm::int64_of_key(klsm_key_of_int64(-3)) == -3);
 }
 
 // Whether a queue was opened once, by the opening that names a refill, with these numbers.
@@ -194,7 +198,7 @@ static bool has_closed(std::uint64_t room) {
            stub_argument(STUB_CLOSE, 3) == room;
 }
 
-// Three members with so many items each: the array has room for one more, so that it is none of no items.
+// Three members with so many items each. The library gets an array also where it has no room.
 static void closings(std::uint64_t each) {
     stub_begin();
     stub_answer(STUB_INSERTED, 4 + each);
@@ -203,7 +207,7 @@ static void closings(std::uint64_t each) {
     {
         klsm::queue queue(3);
         klsm::account account = queue.close();
-        check("the array is one", has_closed(3 * each + 1));
+        check("the array has room for each", has_closed(3 * each));
         check("the totals", account.inserted == 12 + 3 * each && account.deleted == 12);
         bool same = account.left.size() == 3 * each;
         for (std::uint64_t i = 0; i < 3 * each && same; i++)
@@ -229,11 +233,11 @@ static void refused_closings() {
         if (number == KLSM_OK) continue;
         begin(STUB_CLOSE, 0, number);
         klsm::account account{7, 8, {klsm::item{1, 2, 3, 4}}};
-        check("close has this code", klsm::queue(3).close(account) == code && has_closed(1));
+        check("close has this code", klsm::queue(3).close(account) == code && has_closed(0));
         check("and writes nothing", account.inserted == 7 && account.deleted == 8 && account.left.size() == 1);
         check("the queue is dropped at its end", stub_queues() == 0 && stub_asked(STUB_DROP) == 1);
         begin(STUB_CLOSE, 0, number);
-        check("the other form throws it", thrown_by_close() == code && has_closed(1));
+        check("the other form throws it", thrown_by_close() == code && has_closed(0));
         check("the queue is dropped at its end", stub_queues() == 0 && stub_asked(STUB_DROP) == 1);
     }
 }

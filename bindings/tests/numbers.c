@@ -99,6 +99,7 @@ static void limits(void) {
 
 static void versions(void) {
     is_number("crates/klsm_c/src/codes.rt", "fn klsm_abi() -> u32\n    ensures { result ≡ ", KLSM_ABI);
+    is_number("crates/klsm_c/src/codes.rt", "fn klsm_version() -> u32\n    ensures { result ≡ ", KLSM_VERSION_NUMBER);
     is_number("bindings/rust/src/sys.rs", "const ABI: u32 = ", KLSM_ABI);
     const char *program = behind("crates/klsm_words/src/version.rt", "VERSION: &str = \"\\\n");
     check("the version is that of klsm --version", strncmp(program, KLSM_VERSION ",", sizeof KLSM_VERSION) == 0);

@@ -77,6 +77,8 @@ static void close_members(klsm_queue *queue) {
 
 uint32_t klsm_abi(void) { return (uint32_t)answer(STUB_ABI, (arguments){{0}}); }
 
+uint32_t klsm_version(void) { return KLSM_VERSION_NUMBER; }
+
 int32_t klsm_open(klsm_queue *queue, size_t threads, size_t k, uint32_t pick, uint64_t seed) {
     int32_t code = answer_code(STUB_OPEN, (arguments){{address(queue), threads, k, pick, seed}});
     if (code == KLSM_OK)
@@ -104,6 +106,8 @@ int32_t klsm_try_delete_min(klsm_member *member, klsm_item *item) {
     return code;
 }
 
+uint64_t klsm_front(klsm_member *member) { return answer(STUB_FRONT, (arguments){{address(member)}}); }
+
 uint64_t klsm_inserted(klsm_member *member) {
     return member->live * answer(STUB_INSERTED, (arguments){{address(member)}});
 }
@@ -112,7 +116,7 @@ uint64_t klsm_deleted(klsm_member *member) {
     return member->live * answer(STUB_DELETED, (arguments){{address(member)}});
 }
 
-int32_t klsm_close(klsm_queue *queue, klsm_account *account, klsm_item *left, size_t room) {
+int32_t klsm_close_into(klsm_queue *queue, klsm_account *account, klsm_item *left, size_t room) {
     arguments with = {{address(queue), address(account), address(left), room}};
     int32_t code = answer_code(STUB_CLOSE, with);
     if (code == KLSM_OK || code == KLSM_SHARED)

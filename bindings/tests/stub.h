@@ -20,6 +20,7 @@ enum stub_call {
     STUB_DELETED,
     STUB_CLOSE,
     STUB_DROP,
+    STUB_FRONT,
     STUB_CALLS
 };
 

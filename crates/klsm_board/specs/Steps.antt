@@ -9,7 +9,7 @@ use Rattle.klsm_world.specs.declared.step.Entry.TheVariants.{Acquired, Committed
 use Rattle.klsm_board.specs.declared.sizes.Sizes.{Sizes}
 use Rattle.klsm_board.specs.declared.rule.Own.{Own}
 use Rattle.klsm_board.specs.declared.rule.View.{View}
-use Rattle.klsm_board.specs.Rule.{own, view, place, IsReached}
+use Rattle.klsm_board.specs.Rule.{own, view, place, IsReached, SeesFront}
 
 -- the first list gains an entry
 abbrev pub gained : List Own → Entry → List Own
@@ -71,6 +71,10 @@ module _ {S : Type 0} where
       MatchBool (ltb x.key n)
       ((me' ≡ (gain me.0 (Committed (Early x n)), me.1)) × is_reached m t me')
       (me' ≡ me)
+
+  -- the front was loaded, and nothing else happened
+  abbrev pub glanced : Sizes → ℕ → Step S → Me S View → ℕ → Me S View → Type 0
+  glanced m t st me n me' = (me' ≡ me) × SeesFront m t (mine me.0) n
 
 -- the first list, and the others
 abbrev pub others : List Own → List Own

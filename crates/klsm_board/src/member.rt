@@ -3,7 +3,7 @@ ghost use Rattle.std.specs.Prelude.{◌≡◌, ◌<◌, ◌≤◌, ◌+◌, ◌+
 ghost use Rattle.std.specs.Option.{option_to_list};
 ghost use Rattle.klsm_run.specs.declared.item.Item.{Item};
 ghost use Rattle.klsm_world.specs.OwnSteps.{inserted, deleted};
-ghost use Rattle.klsm_board.specs.Rule.{IsReached};
+ghost use Rattle.klsm_board.specs.Rule.{IsReached, SeesFront};
 ghost use Rattle.klsm_board.specs.Members.{most_deletions};
 ghost use Rattle.klsm_board.specs.Boards.{Adds, IsOf, IsSame, own_steps};
 ghost use Rattle.klsm_board.specs.Inserting.{Inserts, RefusesInsert, RefusesInsertWaiting, stamp_of, stamped};
@@ -13,6 +13,7 @@ use crate::board::{Board, Member};
 use crate::deleting::{delete_now, delete_waiting};
 use crate::errors::{Busy, InsertError, TryInsertError};
 use crate::inserting::{insert_now, insert_waiting};
+use crate::steps::see_front;
 use klsm_parts::Picker;
 use klsm_run::{Item, Stamp};
 use std::sync::Wait;
@@ -44,6 +45,25 @@ impl<const CAP: usize, const LEVELS: usize> Member<CAP, LEVELS> {
         ensures within { result ≤ most_deletions }
     {
         self.deleted
+    }
+
+    /// The front: the key of the least shared item, and the greatest number where no item is shared. No
+    /// shared item has a lesser key at the moment at which it is looked at; the items in members' own
+    /// parts may have. It takes no lock, waits for nobody, and changes nothing.
+    #[inline]
+    pub fn front(&mut self, board: &Board<CAP, LEVELS>) -> u64
+        requires { IsOf self.old board.now }
+        ensures same { IsSame self.old self.new }
+        ensures steps { own_steps self.new ≡ own_steps self.old }
+        ensures seen { SeesFront self.old.sizes self.old.number (own_steps self.old) result }
+    {
+        let thread = self.number as usize;
+        see_front(
+            &board.table.shared,
+            &mut self.seat,
+            self.sizes.threads,
+            thread,
+        )
     }
 
     // The item of its next insertion.

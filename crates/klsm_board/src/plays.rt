@@ -86,3 +86,14 @@ impl<S: Holding, D: Told> Play<S, View> for Look<D> {
 
     ghost then = { looked D.least D.sizes D.thread };
 }
+
+/// The front is looked at, and no more.
+pub(crate) struct Glance<D> {
+    of: PhantomData<D>,
+}
+
+impl<S: Holding, D: Told> Play<S, View> for Glance<D> {
+    ghost use Rattle.klsm_board.specs.Steps.{glanced};
+
+    ghost then = { glanced D.sizes D.thread };
+}

@@ -7,13 +7,13 @@ ghost use Rattle.klsm_world.specs.declared.step.Event.{Event};
 ghost use Rattle.klsm_world.specs.declared.step.Entry.TheVariants.{Acquired, Committed, Released, Missed};
 ghost use Rattle.klsm_world.specs.OwnSteps.{Hand, Holds, own_part, found_in, after_event, hand_of, inserted};
 ghost use Rattle.klsm_parts.specs.Least.{IsLeast};
-ghost use Rattle.klsm_board.specs.Rule.{place};
+ghost use Rattle.klsm_board.specs.Rule.{place, SeesFront};
 ghost use Rattle.klsm_world.specs.LegalSteps.{MayCommit};
-ghost use Rattle.klsm_board.specs.Steps.{mine, IsMine, attempted, released, committed, looked, set_front};
+ghost use Rattle.klsm_board.specs.Steps.{mine, IsMine, attempted, released, committed, looked, glanced, set_front};
 ghost use Rattle.klsm_board.specs.Seats.{Carries, Stands, Has, CarriedOut, QuotaAllows, LeavesShared, SetsFront, IsSeatOf, own_in_hand, both_in_hand};
 ghost use Rattle.klsm_board.specs.Entries.{both_released};
 
-use crate::plays::{Acquire, Commit, Look, Release, SetFront, Told};
+use crate::plays::{Acquire, Commit, Glance, Look, Release, SetFront, Told};
 use crate::rule::{Holding, Locks, MemberSeat, STRIDE};
 use klsm_run::Item;
 use klsm_world::Event;
@@ -146,6 +146,27 @@ fn load_front<S: Holding, D: Told>(
     let _ = thread;
     let _ = least;
     table.load::<Look<D>>(seat, (threads + 1) * STRIDE)
+}
+
+// Loads the front, and no more.
+fn load_front_alone<S: Holding, D: Told>(
+    table: &Locks<S>,
+    seat: &mut MemberSeat<S>,
+    threads: usize,
+    thread: usize,
+) -> u64
+    requires told { (D.sizes ≡ table.now.key) × (D.thread ≡ thread) }
+    requires seat { IsSeatOf seat.old.table_id table.now.table_id table.now.key thread }
+    requires threads { threads ≡ table.now.key.threads }
+    requires view { IsMine seat.old.me.0 thread }
+    ensures same { (seat.new.table_id ≡ seat.old.table_id) × (seat.new.id ≡ seat.old.id) }
+    ensures told { glanced table.now.key thread
+        (step table.now.table_id.slots (place (threads + 1)) 0 0 none) seat.old.me result
+        seat.new.me }
+{
+    // For the proof: the contract alone names the thread.
+    let _ = thread;
+    table.load::<Glance<D>>(seat, (threads + 1) * STRIDE)
 }
 
 /// A try to acquire a part. The word found is 0 where it came to the seat, and else names its holder.
@@ -379,4 +400,21 @@ pub(crate) fn look_at_front<S: Holding>(
         seat.new.me }
 {
     load_front::<S, Brand>(table, seat, threads, thread, least)
+}
+
+/// Loads the front, and no more.
+pub(crate) fn see_front<S: Holding>(
+    table: &Locks<S>,
+    seat: &mut MemberSeat<S>,
+    threads: usize,
+    thread: usize,
+) -> u64
+    requires seat { IsSeatOf seat.old.table_id table.now.table_id table.now.key thread }
+    requires threads { threads ≡ table.now.key.threads }
+    requires view { IsMine seat.old.me.0 thread }
+    ensures same { (seat.new.table_id ≡ seat.old.table_id) × (seat.new.id ≡ seat.old.id)
+        × (seat.new.me ≡ seat.old.me) }
+    ensures seen { SeesFront table.now.key thread (mine seat.old.me.0) result }
+{
+    load_front_alone::<S, Brand>(table, seat, threads, thread)
 }

@@ -8,8 +8,8 @@ use Rattle.klsm_board.specs.declared.errors.TryInsertError.{TryInsertError}
 use Rattle.klsm_c.specs.declared.item.PlainItem.{PlainItem}
 use Rattle.klsm_owned.specs.declared.owned.OwnedMember.{OwnedMember}
 use Rattle.klsm_owned.specs.Owned.{IsSameOwned}
-use Rattle.klsm_owned.specs.Trying.{TriesInsert, TriesDelete}
-use Rattle.klsm_c.specs.Calls.{Inserts, Deletes, insert_code, delete_code, written}
+use Rattle.klsm_owned.specs.Trying.{LooksAtFront, TriesInsert, TriesDelete}
+use Rattle.klsm_c.specs.Calls.{Inserts, Deletes, LooksAt, insert_code, delete_code, written}
 
 pub inserts_told : (old new : List OwnedMember) (x y : OwnedMember) (key load : ℕ) (code : ℤ) (answer : Result Stamp TryInsertError)
     → old ≡ x ∷ [] → new ≡ y ∷ [] → IsSameOwned x y → TriesInsert x y key load answer → code ≡ insert_code answer
@@ -28,3 +28,9 @@ deletes_told old new x y item item' code answer was is same tries code_is writte
 
 pub deletes_none : (old new : List OwnedMember) (item : PlainItem) → old ≡ [] → new ≡ [] → Deletes old new item item (pos 6)
 deletes_none old new item was is = subst (λ (xs : List OwnedMember). Deletes xs new item item (pos 6)) (sym was) (refl, is, refl)
+
+pub looks_told : (old new : List OwnedMember) (x y : OwnedMember) (front : ℕ) → old ≡ x ∷ [] → new ≡ y ∷ [] → IsSameOwned x y → LooksAtFront x y front → LooksAt old new front
+looks_told old new x y front was is same looks = subst (λ (xs : List OwnedMember). LooksAt xs new front) (sym was) (y, is, same, looks)
+
+pub looks_none : (old new : List OwnedMember) → old ≡ [] → new ≡ [] → LooksAt old new 18446744073709551615
+looks_none old new was is = subst (λ (xs : List OwnedMember). LooksAt xs new 18446744073709551615) (sym was) (refl, is)

@@ -12,7 +12,7 @@ use Rattle.klsm_owned.specs.Owned.{IsSameOwned, IsWhole, member_of, members_of}
 use Rattle.klsm_owned.proofs.ListLemmas.{unmapped}
 use Rattle.klsm_c.specs.declared.item.PlainItem.{PlainItem}
 use Rattle.klsm_c.specs.declared.slot.Slot.{Slot}
-use Rattle.klsm_c.specs.Calls.{Deletes, Inserts}
+use Rattle.klsm_c.specs.Calls.{Deletes, Inserts, LooksAt}
 use Rattle.klsm_c.specs.Slots.{owned_in}
 use Rattle.klsm_c.proofs.BoardLemmas.{mapped}
 use Rattle.klsm_c.proofs.ListLemmas.{map_behind}
@@ -55,6 +55,10 @@ kept_by_insert (x ∷ xs) new key load code told = (told.0, told.1, told.2)
 pub kept_by_delete : (old new : List OwnedMember) (item item' : PlainItem) (code : ℤ) → Deletes old new item item' code → IsKept old new
 kept_by_delete [] new item item' code told = told.1
 kept_by_delete (x ∷ xs) new item item' code told = (told.0, told.1, told.2)
+
+pub kept_by_look : (old new : List OwnedMember) (front : ℕ) → LooksAt old new front → IsKept old new
+kept_by_look [] new front told = told.1
+kept_by_look (x ∷ xs) new front told = (told.0, told.1, told.2)
 
 pub kept_by_count : (old new : List OwnedMember) → length old ≤ 1 → new ≡ old → IsKept old new
 kept_by_count [] new few same = same

@@ -13,7 +13,7 @@ use Rattle.klsm_board.specs.declared.errors.TryInsertError.{TryInsertError}
 use Rattle.klsm_board.specs.declared.errors.TryInsertError.TheVariants.{Spent, Busy, Full, NoMemory}
 use Rattle.klsm_owned.specs.declared.owned.OwnedMember.{OwnedMember}
 use Rattle.klsm_owned.specs.Owned.{IsSameOwned, member_of}
-use Rattle.klsm_owned.specs.Trying.{TriesInsert, TriesDelete}
+use Rattle.klsm_owned.specs.Trying.{LooksAtFront, TriesInsert, TriesDelete}
 use Rattle.klsm_c.specs.declared.item.PlainItem.{PlainItem}
 use Rattle.klsm_c.specs.declared.slot.Slot.{Slot}
 use Rattle.klsm_c.specs.Items.{plain_of}
@@ -62,6 +62,11 @@ Deletes [] new item item' code = (code ≡ pos 6) × (new ≡ []) × (item' ≡ 
 Deletes (x ∷ xs) new item item' code = (y : OwnedMember) × (new ≡ y ∷ []) × IsSameOwned x y
     × (answer : Result (Option Item) IsBusy) × (code ≡ delete_code answer) × (item' ≡ written item answer)
     × TriesDelete x y answer
+
+-- A look at the front: the greatest number where there is no member.
+abbrev pub LooksAt : List OwnedMember → List OwnedMember → ℕ → Type 0
+LooksAt [] new front = (front ≡ 18446744073709551615) × (new ≡ [])
+LooksAt (x ∷ xs) new front = (y : OwnedMember) × (new ≡ y ∷ []) × IsSameOwned x y × LooksAtFront x y front
 
 -- one slot of a queue went through a call that tells this, and the others are as they were
 abbrev pub CallsSlot : ℕ → List Slot → List Slot → (List OwnedMember → List OwnedMember → Type 0) → Type 0

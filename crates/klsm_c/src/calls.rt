@@ -1,7 +1,7 @@
 //! The calls of one slot. None of them waits.
 ghost use Rattle.std.specs.Prelude.{◌≡◌, ◌≤◌};
 ghost use Rattle.klsm_board.specs.Members.{most_deletions, most_insertions};
-ghost use Rattle.klsm_c.specs.Calls.{Deletes, Inserts, deleted_in, inserted_in};
+ghost use Rattle.klsm_c.specs.Calls.{Deletes, Inserts, LooksAt, deleted_in, inserted_in};
 
 use crate::codes::{BUSY, FULL, NO_MEMORY, NOT_OPEN, NOTHING, OK, SPENT};
 use crate::item::PlainItem;
@@ -46,6 +46,20 @@ pub extern "C" fn klsm_try_delete_min(alloc: Global, slot: &mut Slot, item: &mut
         Ok(None) => NOTHING,
         Err(Busy { .. }) => BUSY,
     }
+}
+
+/// The front: no shared item of the slot's queue has a lesser key at that moment. The greatest number where no
+/// item is shared, and where the slot is not open.
+#[unsafe(no_mangle)]
+pub extern "C" fn klsm_front(alloc: Global, slot: &mut Slot) -> u64
+    ensures { LooksAt slot.old.handle.held slot.new.handle.held result }
+{
+    let Some(mut member) = slot.take(alloc) else {
+        return u64::MAX;
+    };
+    let front = member.front();
+    slot.fill(member);
+    front
 }
 
 /// How many insertions the slot's member has made, and 0 where the slot is not open.

@@ -39,7 +39,7 @@ pub struct Account {
 ///
 /// It takes memory for the list of members and for the list of what is left, before anything changes.
 #[unsafe(no_mangle)]
-pub extern "C" fn klsm_close(
+pub extern "C" fn klsm_close_into(
     alloc: Global,
     queue: &mut Queue,
     account: &mut Account,

@@ -9,6 +9,15 @@ pub extern "C" fn klsm_abi() -> u32
     1
 }
 
+/// The version of the library: 10,000 times the first of its three numbers, and 100 times the second, and
+/// the third.
+#[unsafe(no_mangle)]
+pub extern "C" fn klsm_version() -> u32
+    ensures { result ≡ 10000 }
+{
+    10_000
+}
+
 pub(crate) const OK: i32 = 0;
 
 pub(crate) const NOTHING: i32 = 1;

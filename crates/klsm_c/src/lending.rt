@@ -1,8 +1,8 @@
 //! The calls of one member of a queue, for a caller that has the whole queue.
 ghost use Rattle.std.specs.Prelude.{◌≡◌, ◌<◌};
-ghost use Rattle.klsm_c.specs.Calls.{CallsSlot, Deletes, Inserts, deleted_in, inserted_in};
+ghost use Rattle.klsm_c.specs.Calls.{CallsSlot, Deletes, Inserts, LooksAt, deleted_in, inserted_in};
 
-use crate::calls::{klsm_deleted, klsm_inserted, klsm_try_delete_min, klsm_try_insert};
+use crate::calls::{klsm_deleted, klsm_front, klsm_inserted, klsm_try_delete_min, klsm_try_insert};
 use crate::item::PlainItem;
 use crate::queue::Queue;
 use std::alloc::Global;
@@ -26,6 +26,15 @@ impl Queue {
             (λ before after. Deletes before after item.old item.new result) }
     {
         klsm_try_delete_min(alloc, &mut self.slots[number], item)
+    }
+
+    /// The front, as C asks for it by a pointer to this slot. The members stay those of one board.
+    pub fn front(&mut self, alloc: Global, number: usize) -> u64
+        requires { number < 16 }
+        ensures { CallsSlot number self.old.slots self.new.slots
+            (λ before after. LooksAt before after result) }
+    {
+        klsm_front(alloc, &mut self.slots[number])
     }
 
     /// How many insertions the member of this number has made, and 0 where it is not open.

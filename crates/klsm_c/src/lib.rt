@@ -3,7 +3,7 @@
 //! A queue is memory of the caller's: sixteen slots of two cache lines each. A slot that is open has one
 //! member of a board, behind a pointer; a slot of zeros is closed. `klsm_open` makes a board and puts its
 //! members into the first slots; so does `klsm_open_with_refill`. From then on each thread uses one slot
-//! (`klsm_try_insert`, `klsm_try_delete_min`), and once they are done, `klsm_close` ends the board with the
+//! (`klsm_try_insert`, `klsm_try_delete_min`), and once they are done, `klsm_close_into` ends the board with the
 //! account of all members and what is left. `klsm_drop` lets a queue go without an account.
 //!
 //! What C gets is what `klsm_board` promises:
@@ -14,7 +14,7 @@
 //! - **A code comes exactly where its cause holds**; memory is refused only where `malloc` gives none. After
 //!   a refusal nothing has changed.
 //! - **The members of an open queue are all those of one board.** That is part of the type `Queue`, each
-//!   call keeps it, and so `klsm_close` has no premise.
+//!   call keeps it, and so `klsm_close_into` has no premise.
 //! - **At the end each item that was inserted was deleted, once, or is left, once** (`IsAccount` of
 //!   `specs/Closing.antt`).
 //!
@@ -31,9 +31,9 @@ mod opening;
 mod queue;
 mod slot;
 
-pub use calls::{klsm_deleted, klsm_inserted, klsm_try_delete_min, klsm_try_insert};
-pub use closing::{Account, klsm_close, klsm_drop};
-pub use codes::klsm_abi;
+pub use calls::{klsm_deleted, klsm_front, klsm_inserted, klsm_try_delete_min, klsm_try_insert};
+pub use closing::{Account, klsm_close_into, klsm_drop};
+pub use codes::{klsm_abi, klsm_version};
 pub use handle::Handle;
 pub use item::PlainItem;
 pub use opening::{klsm_open, klsm_open_with_refill};

@@ -8,6 +8,7 @@ use Rattle.klsm_board.specs.declared.errors.Busy.{Busy}
 use Rattle.klsm_board.specs.declared.errors.TryInsertError.{TryInsertError}
 use Rattle.klsm_board.specs.declared.errors.TryInsertError.TheVariants.{Spent}
 use Rattle.klsm_board.specs.Boards.{Adds, own_steps}
+use Rattle.klsm_board.specs.Rule.{SeesFront}
 use Rattle.klsm_board.specs.Inserting.{Inserts, RefusesInsert, stamp_of, stamped}
 use Rattle.klsm_board.specs.Deleting.{AnswersDeletion, MissesDeletion}
 use Rattle.klsm_owned.specs.declared.owned.OwnedMember.{OwnedMember}
@@ -42,3 +43,9 @@ pub record TriesDelete (before after : OwnedMember) (result : Result (Option Ite
       × (choice_of after ≡ choice_of before)
       × MissesDeletion (member_of before).number
       (own_steps (member_of before)) (own_steps (member_of after)) busy)
+
+-- A look at the front, which leaves the member's list as it was: the front of a world with that list.
+pub record LooksAtFront (before after : OwnedMember) (front : ℕ) : Type 0 where
+  pub steps : own_steps (member_of after) ≡ own_steps (member_of before)
+  pub sees : SeesFront (member_of before).sizes (member_of before).number (own_steps (member_of before)) front
+  pub choice : choice_of after ≡ choice_of before

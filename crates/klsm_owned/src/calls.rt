@@ -5,7 +5,7 @@ ghost use Rattle.klsm_world.specs.OwnSteps.{inserted, deleted};
 ghost use Rattle.klsm_board.specs.Boards.{IsOf, own_steps};
 ghost use Rattle.klsm_board.specs.Members.{most_deletions, most_insertions};
 ghost use Rattle.klsm_owned.specs.Owned.{IsSameOwned, board_of, member_of};
-ghost use Rattle.klsm_owned.specs.Trying.{TriesInsert, TriesDelete};
+ghost use Rattle.klsm_owned.specs.Trying.{LooksAtFront, TriesInsert, TriesDelete};
 
 use crate::owned::OwnedMember;
 use klsm_board::{Board, Busy, Member, TryInsertError};
@@ -30,6 +30,15 @@ impl OwnedMember {
         ensures tries { TriesDelete self.old self.new result }
     {
         self.member.try_delete_min(&self.board, &mut self.choice)
+    }
+
+    /// The front, as `Member::front`: no shared item has a lesser key at that moment.
+    #[inline]
+    pub fn front(&mut self) -> u64
+        ensures same { IsSameOwned self.old self.new }
+        ensures looks { LooksAtFront self.old self.new result }
+    {
+        self.member.front(&self.board)
     }
 
     /// How many insertions the member has made.

@@ -22,13 +22,14 @@ use Rattle.klsm_world.specs.Worlds.{Limits, World, steps_of, hand_in}
 use Rattle.klsm_world.specs.LawfulWorlds.{IsLawful}
 use Rattle.klsm_world.specs.Schedules.{NamesFront, MayStep, front_after, Leads}
 use Rattle.klsm_world.proofs.lemmas.hands.PartContentLemmas.{content_held}
+use Rattle.klsm_world.proofs.lemmas.theorems.RunLemmas.{schedules_keep_lawful}
 use Rattle.klsm_board.specs.declared.sizes.Sizes.{Sizes}
 use Rattle.klsm_board.specs.declared.rule.View.{View}
 use Rattle.klsm_board.specs.Rule.{place, lock_words, front_word, world_limits, content_at, board_world, Ruled, IsReached}
-use Rattle.klsm_board.specs.Steps.{gain, looked, set_front}
+use Rattle.klsm_board.specs.Steps.{gain, glanced, looked, set_front}
 use Rattle.klsm_board.specs.Seats.{QuotaAllows, LeavesShared, SetsFront}
 use Rattle.klsm_board.proofs.lemmas.table.PlaceLemmas.{locks_stay, front_set_at}
-use Rattle.klsm_board.proofs.lemmas.table.KeepLemmas.{Goes, world, alone, keeps_rule, keeps_reached, here, same_steps, inside, few_now, few_more, room_for, stays}
+use Rattle.klsm_board.proofs.lemmas.table.KeepLemmas.{Goes, world, alone, keeps_rule, keeps_reached, here, same_steps, inside, few_now, few_more, room_for, stays, each_within}
 
 -- an event that leaves the shared part names no front
 pub no_front : (word t : ℕ) (hand : Hand) (event : Event) → LeavesShared t hand event → NamesFront word event
@@ -154,6 +155,22 @@ module _ {S : Type 0} (content : S → List Item) (suits : ℕ → ℕ → S →
           subst (λ b. MatchBool b Took (now ≡ now)) (sym above) refl,
         )
 
+    -- the front is loaded, and all stays as it is
+    glances : Goes content suits m s id (m.threads + 1) cs (glanced m t (step slots (place (m.threads + 1)) 0 0 none) (alone content suits m t xs, cs)) (front_word m s.words)
+    glances =
+        let n : ℕ = front_word m s.words in
+        let ws : List ℕ = set s.words (place (m.threads + 1)) n in
+        let led : Leads (world_limits m) r.schedule (board_world content (lock_words m ws) (front_word m ws) s.homes r.lists) =
+        subst (λ z. Leads (world_limits m) r.schedule (board_world content (lock_words m z) (front_word m z) s.homes r.lists)) (sym (set-get_or s.words (place (m.threads + 1)) 0)) r.leads in
+        let lawful : IsLawful (world_limits m) w0 = schedules_keep_lawful (world_limits m) r.schedule w0 r.leads in
+        let few = r.within in (
+          alone content suits m t xs,
+          keeps,
+          tt,
+          keeps_rule content suits m s r id t xs xs at lt ws s.homes r.lists r.schedule (stays content suits m s r id t xs at lt (m.threads + 1) n) led (here content suits m s r id t xs at lt) (λ u d. refl) r.suited (few_now content suits m s r id t xs at lt),
+          (refl, record { world = w0; schedule = r.schedule; leads = r.leads; within = λ u ltu. each_within m.quota r.lists few u; list_is = same_steps content suits m s r id t xs at lt; front_is = lawful.front_is }),
+        )
+
   -- an event that sets the front is committed by the store of it
   pub set_allows : (fits : Event → Type 0) (slots id t : ℕ) (xs : List Entry) (cs : List (ℕ × S)) (e : Event) (front : ℕ) → fits e → t < m.threads → MayCommit m.k t (hand_of t xs) (length (inserted xs)) e
       → QuotaAllows m.quota xs e → SetsFront t (hand_of t xs) e front
@@ -169,3 +186,8 @@ module _ {S : Type 0} (content : S → List Item) (suits : ℕ → ℕ → S →
           → Goes content suits m s id (m.threads + 1) cs (looked x m t (step slots (place (m.threads + 1)) 0 0 none) (alone content suits m t xs, cs)) (front_word m s.words)
       by_test true is = looks_below s r id t xs at lt slots cs own x holds least is
       by_test false is = looks_only s r id t xs at lt slots cs x is
+
+  -- a load of the front alone
+  pub glance_allows : (slots id t : ℕ) (xs : List Entry) (cs : List (ℕ × S)) → t < m.threads
+      → Allows (Ruled content suits m) slots id (alone content suits m t xs, cs) (place (m.threads + 1)) (λ n. n) (glanced m t (step slots (place (m.threads + 1)) 0 0 none) (alone content suits m t xs, cs))
+  glance_allows slots id t xs cs lt s r deep at small = glances s r id t xs at lt slots cs

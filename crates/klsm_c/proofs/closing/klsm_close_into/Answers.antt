@@ -1,5 +1,5 @@
 use Rattle.std.proofs.Common.{rules}
-use Rattle.klsm_c.proofs.closing.klsm_close.Goals as goal
+use Rattle.klsm_c.proofs.closing.klsm_close_into.Goals as goal
 
 pub invariant_of-queue : goal.invariant_of-queue
 invariant_of-queue c = record { whole = c.close_slots.ensures.whole }

@@ -1,0 +1,96 @@
+// What the conveniences of klsm.hpp cost beside the plain calls: an insertion and a deletion with sixteen items
+// there, in nanoseconds, the medians of nine rounds that take turns. One thread.
+#include <klsm.hpp>
+
+#include <algorithm>
+#include <array>
+#include <chrono>
+#include <cstdio>
+#include <cstdlib>
+#include <memory>
+
+enum { ROUNDS = 9, CALLS = 1000000, LIVE = 16 };
+
+static volatile std::uint64_t result; // keeps the calls from being left out
+
+// Calls that insert a number and delete one, made so often.
+template <class Pair> static double time_of(Pair pair) {
+    auto start = std::chrono::steady_clock::now();
+    std::uint64_t sum = 0;
+    for (std::uint64_t i = 0; i < CALLS; i++) sum += pair(i);
+    result = sum;
+    return std::chrono::duration<double, std::nano>(std::chrono::steady_clock::now() - start).count() / CALLS;
+}
+
+static void must(bool holds) {
+    if (!holds) std::abort();
+}
+
+int main() {
+    klsm::queue plain(1), counted(1);
+    klsm::typed_queue<std::uint64_t> small(1);
+    klsm::typed_queue<std::unique_ptr<std::uint64_t>> behind(1);
+    klsm::member of_plain = plain.member(0).value(), of_counted = counted.member(0).value();
+    auto of_small = small.member(0).value();
+    auto of_behind = behind.member(0).value();
+    klsm::work work;
+
+    auto load = [&](std::uint64_t i) {
+        must(of_plain.insert(i, i) == klsm::code::ok);
+        return of_plain.delete_min()->load;
+    };
+    auto payload = [&](std::uint64_t i) {
+        must(of_small.insert(i, std::uint64_t(i)) == klsm::code::ok);
+        return of_small.delete_min()->payload;
+    };
+    // A block for each item, owned by hand in the one and by the queue in the other.
+    auto pointer = [&](std::uint64_t i) {
+        auto *moved = new std::unique_ptr<std::uint64_t>();
+        must(of_plain.insert(i, reinterpret_cast<std::uintptr_t>(moved)) == klsm::code::ok);
+        std::uint64_t found = of_plain.delete_min()->load;
+        if (found > CALLS) delete reinterpret_cast<std::unique_ptr<std::uint64_t> *>(found);
+        return found;
+    };
+    auto owned = [&](std::uint64_t i) {
+        must(of_behind.insert(i, std::unique_ptr<std::uint64_t>()) == klsm::code::ok);
+        return std::uint64_t(of_behind.delete_min()->payload == nullptr);
+    };
+    // A piece of work is opened, found and done, beside a count that the program keeps.
+    auto next = [&](std::uint64_t i) {
+        work.open();
+        must(of_counted.insert(i, i) == klsm::code::ok);
+        std::uint64_t found = work.next(of_counted)->load;
+        work.done();
+        return found;
+    };
+    std::atomic<std::uint64_t> open{0};
+    auto by_hand = [&](std::uint64_t i) {
+        open++;
+        must(of_plain.insert(i, i) == klsm::code::ok);
+        std::uint64_t found = of_plain.delete_min()->load;
+        open--;
+        return found;
+    };
+    for (std::uint64_t i = 0; i < LIVE; i++) { // keys that stay behind
+        must(of_plain.insert(UINT64_MAX, 0) == klsm::code::ok && of_counted.insert(UINT64_MAX, 0) == klsm::code::ok);
+        must(of_small.insert(UINT64_MAX, 0) == klsm::code::ok);
+        must(of_behind.insert(UINT64_MAX, nullptr) == klsm::code::ok);
+    }
+
+    const char *const names[] = {"load", "payload-in-the-load", "pointer-by-hand", "payload-behind-a-pointer",
+                                 "count-by-hand", "count-by-klsm-work"};
+    std::array<std::array<double, ROUNDS>, 6> times{};
+    for (std::size_t round = 0; round < ROUNDS; round++) {
+        times[0][round] = time_of(load);
+        times[1][round] = time_of(payload);
+        times[2][round] = time_of(pointer);
+        times[3][round] = time_of(owned);
+        times[4][round] = time_of(by_hand);
+        times[5][round] = time_of(next);
+    }
+    std::puts("medians of nine, in nanoseconds:");
+    for (std::size_t i = 0; i < 6; i++) {
+        std::sort(times[i].begin(), times[i].end());
+        std::printf("%s %.1f\n", names[i], times[i][ROUNDS / 2]);
+    }
+}

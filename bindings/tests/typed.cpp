@@ -1,0 +1,143 @@
+// Payloads of klsm.hpp: each is moved in and out, and destroyed once, wherever it ends.
+#include "klsm.hpp"
+
+#include "check.h"
+#include <atomic>
+#include <memory>
+#include <string>
+#include <thread>
+#include <type_traits>
+#include <vector>
+
+static std::atomic<int> alive{0};
+
+// A payload that counts how many of it are there.
+struct counted {
+    std::uint64_t number;
+    std::unique_ptr<std::uint64_t> far; // so that it can only be moved
+
+    explicit counted(std::uint64_t from) : number(from), far(new std::uint64_t(from)) { alive++; }
+    counted(counted &&other) noexcept : number(other.number), far(std::move(other.far)) { alive++; }
+    counted &operator=(counted &&other) noexcept {
+        number = other.number;
+        far = std::move(other.far);
+        return *this;
+    }
+    ~counted() { alive--; }
+    bool is_whole() const { return far != nullptr && *far == number; }
+};
+
+// Few plain bytes, and no constructor without arguments.
+struct pair {
+    std::uint32_t first, second;
+    pair(std::uint32_t one, std::uint32_t other) : first(one), second(other) {}
+};
+
+static_assert(!std::is_copy_constructible_v<klsm::typed_queue<int>>);
+static_assert(std::is_nothrow_move_constructible_v<klsm::typed_queue<std::string>>);
+static_assert(std::is_nothrow_move_assignable_v<klsm::typed_member<std::string>>);
+
+static void calls() {
+    klsm::typed_queue<counted> queue(klsm::options{2});
+    auto member = queue.member(0).value();
+    check("a member is out once", !queue.member(0) && queue.member(1) && !queue.member(2) && queue.threads() == 2);
+    check("insert", member.insert(9, counted(90)) == klsm::code::ok);
+    check("try_insert", member.try_insert(7, counted(70)) == klsm::code::ok);
+    check("two are there", alive == 2 && queue.left() == 2);
+    auto least = member.delete_min();
+    check("delete_min", least && least->key == 7 && least->number == 1 && least->owner == 0 &&
+                            least->payload.number == 70 && least->payload.is_whole());
+    std::optional<klsm::typed_item<counted>> next;
+    check("try_delete_min", member.try_delete_min(next) == klsm::code::ok && next->payload.number == 90);
+    check("and nothing", member.try_delete_min(next) == klsm::code::nothing && next->payload.is_whole());
+    check("nothing, by the other", !member.delete_min());
+    check("counts", member.inserted() == 2 && member.deleted() == 2);
+    check("both are ours", alive == 2);
+}
+
+static void ends() {
+    check("none is there", alive == 0);
+    {
+        klsm::typed_queue<counted> queue(3, 4);
+        for (std::size_t t = 0; t < 3; t++) {
+            auto member = queue.member(t).value();
+            for (std::uint64_t i = 0; i < 50; i++)
+                check_or_stop("insert", member.insert(i * 31 % 17, counted(i)) == klsm::code::ok);
+        }
+        check_or_stop("delete", queue.member(1)->delete_min().has_value());
+        check("what is left is there", alive == 149);
+    }
+    check("and goes with the queue", alive == 0);
+    klsm::typed_queue<counted> queue(3, 4);
+    for (std::uint64_t i = 0; i < 50; i++)
+        check_or_stop("insert", queue.member(i % 3)->insert(i * 31 % 17, counted(i)) == klsm::code::ok);
+    {
+        klsm::typed_account<counted> account = queue.close();
+        bool is_ascending = account.left.size() == 50;
+        for (std::size_t i = 0; i < account.left.size(); i++)
+            is_ascending = is_ascending && account.left[i].payload.is_whole() &&
+                           (i == 0 || account.left[i - 1].key <= account.left[i].key);
+        check("close hands back what is left", is_ascending && account.inserted == 50 && account.deleted == 0);
+        check("once", alive == 50);
+        klsm::typed_account<counted> none;
+        check("a second time it is not open", queue.close(none) == klsm::code::not_open && none.left.empty());
+    }
+    check("then it is ours", alive == 0);
+}
+
+// A queue is moved, and assigned over, with payloads in it.
+static void moves() {
+    klsm::typed_queue<counted> queue(1), other(2);
+    check_or_stop("insert", queue.member(0)->insert(1, counted(1)) == klsm::code::ok);
+    check_or_stop("insert", other.member(1)->insert(2, counted(2)) == klsm::code::ok);
+    klsm::typed_queue<counted> moved(std::move(queue));
+    check("what was moved from has no members", queue.threads() == 0 && !queue.member(0) && alive == 2);
+    moved = std::move(other);
+    check("what is assigned over goes with its payloads", alive == 1 && moved.threads() == 2);
+    check("what is assigned stays", moved.member(0)->delete_min()->payload.number == 2);
+}
+
+static void small_payloads() {
+    klsm::typed_queue<pair> pairs(1);
+    check("a small one", pairs.member(0)->insert(3, pair(4, 5)) == klsm::code::ok);
+    auto found = pairs.member(0)->delete_min();
+    check("comes back", found && found->payload.first == 4 && found->payload.second == 5);
+    klsm::typed_queue<double> numbers(1);
+    check("a double, by its own key", numbers.member(0)->insert(klsm::key_of_double(-2.5), -2.5) == klsm::code::ok);
+    auto number = numbers.member(0)->delete_min();
+    check("comes back", number && number->payload == -2.5 && klsm::double_of_key(number->key) == -2.5);
+}
+
+// Each piece of work leads to two shorter ones, whose payloads are made by one thread and read by another.
+static void a_crew() {
+    klsm::typed_queue<std::string> queue(klsm::options{4});
+    klsm::work work;
+    std::atomic<std::uint64_t> done{0};
+    work.open();
+    check_or_stop("insert", queue.member(0)->insert(0, std::string()) == klsm::code::ok);
+    std::vector<std::thread> crew;
+    for (std::size_t t = 0; t < 4; t++)
+        crew.emplace_back([&, member = queue.member(t).value()]() mutable {
+            while (auto item = work.next(member)) {
+                for (char letter : {'a', 'b'}) {
+                    if (item->payload.size() == 12) continue;
+                    work.open();
+                    check_or_stop("insert", member.insert(item->key + 1, item->payload + letter) == klsm::code::ok);
+                }
+                done++;
+                work.done();
+            }
+        });
+    for (std::thread &thread : crew) thread.join();
+    check("a crew ends once all is done", done == 8191 && work.left() == 0 && queue.left() == 0);
+}
+
+int main() {
+    calls();
+    ends();
+    moves();
+    small_payloads();
+    a_crew();
+    check("none is left over", alive == 0);
+    return check_status();
+}

@@ -1,0 +1,25 @@
+use Rattle.std.proofs.Common.{◌∙◌, sym, subst, ap}
+use Rattle.klsm_parts.proofs.FitLemmas.{local_fits, shared_fits}
+use Rattle.klsm_board.specs.Members.{IsResting}
+use Rattle.klsm_board.specs.Rule.{SeesFront}
+use Rattle.klsm_board.specs.Steps.{mine}
+use Rattle.klsm_board.proofs.board.Member.front.Goals as goal
+
+pub invariant_of-self : goal.invariant_of-self
+invariant_of-self g c =
+    let me = c.args.self.now in
+    record { rests = subst (IsResting me.sizes me.number me.inserted me.deleted) (sym c.see_front.ensures.same.2) me.rests; in_range = me.in_range; capacity = me.capacity; levels = me.levels }
+
+pub returns-clause-steps : goal.returns-clause-steps
+returns-clause-steps g c = ap (λ me. mine me.0) c.see_front.ensures.same.2
+
+pub returns-clause-seen : goal.returns-clause-seen
+returns-clause-seen g c =
+    let me = c.args.self.now in
+    subst (λ m. SeesFront m me.number (mine me.seat.me.0) c.see_front.result) (c.args.board.now.key ∙ sym c.requires.1) c.see_front.ensures.seen
+
+pub see_front-requires-room-S-Holding : goal.see_front-requires-room-S-Holding
+see_front-requires-room-S-Holding g c κs = local_fits _ c.args.self.now.capacity
+
+pub see_front-requires-room-S-Holding-2 : goal.see_front-requires-room-S-Holding-2
+see_front-requires-room-S-Holding-2 g c κs = shared_fits _ c.args.self.now.levels
