@@ -149,7 +149,7 @@ mod sys;
 
 pub use builder::Builder;
 pub use errors::{Busy, FinishError, InsertError, OpenError, TryInsertError};
-pub use keys::{bound_of_key, key_of_bound};
+pub use keys::{bound_of_key, f64_of_key, i64_of_key, key_of_bound, key_of_f64, key_of_i64};
 pub use member::{Member, Members};
 pub use queue::{Account, Pick, Queue};
 pub use sys::Item;
