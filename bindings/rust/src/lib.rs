@@ -104,13 +104,11 @@
 //! });
 //! ```
 //!
-//! Nor is a queue:
+//! A queue may be shared, but what is shared neither lends its members nor counts what is left:
 //!
-//! ```compile_fail,E0277
-//! let queue = klsm::Queue::new(2, 4).unwrap();
-//! std::thread::scope(|scope| {
-//!     scope.spawn(|| queue.left());
-//! });
+//! ```compile_fail,E0596
+//! let queue = std::sync::Arc::new(klsm::Queue::new(2, 4).unwrap());
+//! queue.left();
 //! ```
 //!
 //! The slot by which the library knows a member cannot be reached, so the slots of two queues cannot

@@ -42,6 +42,11 @@ pub struct Queue {
     threads: usize,
 }
 
+// SAFETY: a slot is not `Sync`, since the library wants one call at a time for each. No call that takes a
+// queue by `&` is one of the library, or looks into a slot: `threads` and `Debug` read a number that stays
+// as it is.
+unsafe impl Sync for Queue {}
+
 impl Queue {
     /// Opens a queue for `threads` threads, 1 to 16, each of which keeps at most `k` items for itself,
     /// 0 to 64. Where a deletion takes a shared item, it is the least, and it moves no others. It takes
@@ -116,10 +121,10 @@ impl Queue {
         Members::of(&mut self.slots.members[..self.threads])
     }
 
-    /// How many items are in the queue: those inserted less those deleted. No member is lent when this
-    /// is asked. It takes some nanoseconds for each member.
+    /// How many items are in the queue: those inserted less those deleted. It takes some nanoseconds for
+    /// each member.
     #[must_use]
-    pub fn left(&self) -> u64 {
+    pub fn left(&mut self) -> u64 {
         let slots = &self.slots.members[..self.threads];
         let inserted: u64 = slots.iter().map(inserted_by).sum();
         let deleted: u64 = slots.iter().map(deleted_by).sum();
@@ -176,7 +181,6 @@ impl fmt::Debug for Queue {
     fn fmt(&self, to: &mut fmt::Formatter<'_>) -> fmt::Result {
         to.debug_struct("Queue")
             .field("threads", &self.threads)
-            .field("left", &self.left())
-            .finish()
+            .finish_non_exhaustive()
     }
 }
