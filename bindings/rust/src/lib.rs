@@ -144,6 +144,7 @@ mod member;
 mod pause;
 mod queue;
 mod sys;
+mod work;
 
 pub use builder::Builder;
 pub use errors::{Busy, FinishError, InsertError, OpenError, TryInsertError};
@@ -151,3 +152,4 @@ pub use keys::{bound_of_key, f64_of_key, i64_of_key, key_of_bound, key_of_f64, k
 pub use member::{Member, Members};
 pub use queue::{Account, Pick, Queue};
 pub use sys::Item;
+pub use work::{DeleteMin, Work};

@@ -3,6 +3,7 @@
 use crate::errors::{Busy, InsertError, TryInsertError};
 use crate::pause::until_free;
 use crate::sys::{self, code, Item, Slot};
+use crate::work::DeleteMin;
 use std::fmt;
 use std::iter::{Enumerate, FusedIterator};
 use std::slice::IterMut;
@@ -69,8 +70,8 @@ impl Member<'_> {
     ///
     /// `None`: the member's own part, the shared part and each other part that could be looked into
     /// were empty. At most (T-1)·k items were in the queue then. They may be more a moment later, and
-    /// some may be with a member that inserts right now: count open work apart from the queue to tell
-    /// when all is done.
+    /// some may be with a member that inserts right now: count open work apart from the queue, as
+    /// [`Work`](crate::Work) does, to tell when all is done.
     pub fn delete_min(&mut self) -> Option<Item> {
         let mut item = Item::default();
         match until_free(|| self.deletion(&mut item)) {
@@ -119,6 +120,14 @@ impl Member<'_> {
     fn deletion(&mut self, item: &mut Item) -> i32 {
         // SAFETY: as in `insertion`; and `item` is a place for an item outside of the queue.
         unsafe { sys::klsm_try_delete_min(self.slot, item) }
+    }
+}
+
+impl DeleteMin for Member<'_> {
+    type Item = Item;
+
+    fn delete_min(&mut self) -> Option<Item> {
+        Member::delete_min(self)
     }
 }
 

@@ -9,3 +9,5 @@ mod keys;
 mod openings;
 mod stub;
 mod texts;
+#[path = "../work.rs"]
+mod work;
