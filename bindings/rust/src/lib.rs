@@ -31,6 +31,13 @@
 //! # }
 //! ```
 //!
+//! # Which queue, which member
+//!
+//! A [`Member`] borrows its queue: it is for scoped threads. [`Queue::into_members`] gives members that
+//! own the queue together, for a pool and for threads that borrow nothing. [`Work`] tells the threads when
+//! all is done. Keys that are no whole numbers of 64 bits are made by [`key_of_f64`], [`key_of_i64`] and
+//! [`key_of_bound`].
+//!
 //! # What is behind it
 //!
 //! The queue is a library that is proved in Rattle and called through its interface for C. The proof
@@ -43,8 +50,8 @@
 //!
 //! The library wants a queue to stay where it is, one call at a time for each member, and the whole
 //! queue for opening, closing and dropping. Here a queue's memory is on the heap and never moves,
-//! each call that changes a member takes it by `&mut`, and members borrow their queue. So no safe
-//! code can break these rules. In particular:
+//! each call that changes a member takes it by `&mut`, and members borrow their queue, or own it
+//! together. So no safe code can break these rules. In particular:
 //!
 //! A queue cannot be finished while a member is in use:
 //!
@@ -104,6 +111,15 @@
 //! });
 //! ```
 //!
+//! and neither is one that owns its queue with the others:
+//!
+//! ```compile_fail,E0277
+//! let member = klsm::Queue::new(1, 4).unwrap().into_members().remove(0);
+//! std::thread::scope(|scope| {
+//!     scope.spawn(|| member.inserted_count());
+//! });
+//! ```
+//!
 //! A queue may be shared, but what is shared neither lends its members nor counts what is left:
 //!
 //! ```compile_fail,E0596
@@ -141,6 +157,7 @@ mod builder;
 mod errors;
 mod keys;
 mod member;
+mod owned;
 mod pause;
 mod queue;
 mod sys;
@@ -150,6 +167,7 @@ pub use builder::Builder;
 pub use errors::{Busy, FinishError, InsertError, OpenError, TryInsertError};
 pub use keys::{bound_of_key, f64_of_key, i64_of_key, key_of_bound, key_of_f64, key_of_i64};
 pub use member::{Member, Members};
+pub use owned::OwnedMember;
 pub use queue::{Account, Pick, Queue};
 pub use sys::Item;
 pub use work::{DeleteMin, Work};

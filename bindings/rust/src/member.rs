@@ -19,7 +19,11 @@ pub struct Member<'queue> {
     number: u32,
 }
 
-impl Member<'_> {
+impl<'queue> Member<'queue> {
+    pub(crate) fn of(slot: &'queue mut Slot, number: u32) -> Self {
+        Member { slot, number }
+    }
+
     /// The member's number, from 0 to T-1: the owner of the items that it inserts.
     #[must_use]
     pub fn number(&self) -> u32 {
@@ -168,10 +172,7 @@ impl<'queue> Members<'queue> {
 }
 
 fn member_of((number, slot): (usize, &mut Slot)) -> Member<'_> {
-    Member {
-        slot,
-        number: number as u32,
-    }
+    Member::of(slot, number as u32)
 }
 
 impl<'queue> Iterator for Members<'queue> {

@@ -3,8 +3,10 @@
 use crate::builder::Builder;
 use crate::errors::{FinishError, OpenError};
 use crate::member::{deleted_by, inserted_by, Members};
-use crate::sys::{self, code, Item, Slots, Totals};
+use crate::owned::{HasQueue, OwnedMember};
+use crate::sys::{self, code, Item, Slot, Slots, Totals};
 use std::fmt;
+use std::ptr::NonNull;
 
 /// Which of the k+1 least shared items a deletion takes, where it takes a shared one. Of those up to
 /// the one that is picked, the first that its own member inserted goes before it.
@@ -44,7 +46,7 @@ pub struct Queue {
 
 // SAFETY: a slot is not `Sync`, since the library wants one call at a time for each. No call that takes a
 // queue by `&` is one of the library, or looks into a slot: `threads` and `Debug` read a number that stays
-// as it is.
+// as it is, and `places` gives pointers, each of which is used by the `Part` that has it alone.
 unsafe impl Sync for Queue {}
 
 impl Queue {
@@ -121,6 +123,13 @@ impl Queue {
         Members::of(&mut self.slots.members[..self.threads])
     }
 
+    /// Gives the queue to its members, which own it together, in the order of their numbers: for
+    /// threads that borrow nothing, such as those of a pool.
+    #[must_use]
+    pub fn into_members(self) -> Vec<OwnedMember> {
+        OwnedMember::all_of(self)
+    }
+
     /// How many items are in the queue: those inserted less those deleted. It takes some nanoseconds for
     /// each member.
     #[must_use]
@@ -129,6 +138,11 @@ impl Queue {
         let inserted: u64 = slots.iter().map(inserted_by).sum();
         let deleted: u64 = slots.iter().map(deleted_by).sum();
         inserted - deleted
+    }
+
+    /// Where the slots of the members are, in the order of their numbers.
+    pub(crate) fn places(&self) -> impl Iterator<Item = NonNull<Slot>> + '_ {
+        self.slots.members[..self.threads].iter().map(Slot::place)
     }
 
     /// Ends the queue and gives the account: the totals, and the items that are left.
@@ -167,6 +181,12 @@ impl Queue {
             code::SHARED => Err(FinishError::Shared),
             other => sys::unexpected("klsm_close", other),
         }
+    }
+}
+
+impl HasQueue for Queue {
+    fn queue(&self) -> &Queue {
+        self
     }
 }
 

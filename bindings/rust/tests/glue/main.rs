@@ -7,6 +7,7 @@ mod closing;
 #[path = "../keys.rs"]
 mod keys;
 mod openings;
+mod owned;
 mod stub;
 mod texts;
 #[path = "../work.rs"]
