@@ -4,6 +4,7 @@ use crate::builder::Builder;
 use crate::errors::{FinishError, OpenError};
 use crate::member::{deleted_by, inserted_by, Members};
 use crate::owned::{HasQueue, OwnedMember};
+use crate::rest::Rest;
 use crate::sys::{self, code, Item, Slot, Slots, Totals};
 use std::fmt;
 use std::ptr::NonNull;
@@ -24,13 +25,13 @@ pub enum Pick {
 
 /// What a queue comes to: each item that was inserted was deleted or is left, once.
 #[derive(Clone, Debug, Default, PartialEq, Eq)]
-pub struct Account {
+pub struct Account<I = Item> {
     /// How many insertions all members made.
     pub inserted: u64,
     /// How many items all members deleted.
     pub deleted: u64,
     /// The items that were not deleted, in ascending order.
-    pub left: Vec<Item>,
+    pub left: Vec<I>,
 }
 
 /// A relaxed priority queue with a member for each of up to sixteen threads.
@@ -134,10 +135,21 @@ impl Queue {
     /// each member.
     #[must_use]
     pub fn left(&mut self) -> u64 {
-        let slots = &self.slots.members[..self.threads];
-        let inserted: u64 = slots.iter().map(inserted_by).sum();
-        let deleted: u64 = slots.iter().map(deleted_by).sum();
+        let (inserted, deleted) = self.counts();
         inserted - deleted
+    }
+
+    /// How many insertions and deletions all members made.
+    pub(crate) fn counts(&mut self) -> (u64, u64) {
+        let slots = &self.slots.members[..self.threads];
+        let inserted = slots.iter().map(inserted_by).sum();
+        let deleted = slots.iter().map(deleted_by).sum();
+        (inserted, deleted)
+    }
+
+    /// Takes out what is left, in no order and with no memory.
+    pub(crate) fn rest(&mut self) -> Rest<'_> {
+        Rest::of(self)
     }
 
     /// Where the slots of the members are, in the order of their numbers.

@@ -1,6 +1,7 @@
 //! A crew that counts its open work ends when all is done, and not before.
 
-use klsm::{Queue, Work};
+use klsm::{Queue, TypedQueue, Work};
+use std::sync::Arc;
 use std::thread;
 
 const THREADS: usize = 4;
@@ -48,4 +49,42 @@ fn a_crew_ends_when_all_is_done() {
             assert!(found.into_iter().eq((0..=levels).flat_map(of_level)));
         }
     }
+}
+
+/// Words grow to three letters, by threads each of which has its member for its own.
+#[test]
+fn a_crew_of_threads_that_borrow_nothing() {
+    let work = Arc::new(Work::new());
+    let mut members = TypedQueue::<String>::new(THREADS, 8)
+        .unwrap()
+        .into_members();
+    work.open_many(26);
+    for (key, letter) in (0..).zip('a'..='z') {
+        members[0].insert(key, letter.to_string()).unwrap();
+    }
+    let running = members.into_iter().map(|mut member| {
+        let work = Arc::clone(&work);
+        thread::spawn(move || {
+            let mut ends = Vec::new();
+            while let Some(item) = work.next(&mut member) {
+                if item.payload.len() < 3 {
+                    work.open();
+                    member.insert(item.key, item.payload + ".").unwrap();
+                } else {
+                    ends.push(item.payload);
+                }
+                work.done();
+            }
+            ends
+        })
+    });
+    let running: Vec<_> = running.collect();
+    let ends = running
+        .into_iter()
+        .flat_map(|thread| thread.join().unwrap());
+    let mut ends: Vec<String> = ends.collect();
+    ends.sort_unstable();
+    assert!(ends
+        .into_iter()
+        .eq(('a'..='z').map(|letter| format!("{letter}.."))));
 }

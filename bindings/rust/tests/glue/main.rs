@@ -2,6 +2,7 @@
 //! it hands on, and what it answers. `bindings/check` builds the stub, and names this test; without the stub
 //! it cannot be linked. The tests of what calls no library stand here too.
 
+mod blocks;
 mod calls;
 mod closing;
 #[path = "../keys.rs"]
@@ -10,5 +11,6 @@ mod openings;
 mod owned;
 mod stub;
 mod texts;
+mod typed;
 #[path = "../work.rs"]
 mod work;
