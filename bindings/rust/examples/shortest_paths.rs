@@ -5,15 +5,15 @@
 //! A label is a node with the length of a path to it: the item's key is the length, its load the node.
 //! The queue is relaxed, so a node may be examined before its shortest path is known. It is then
 //! examined again with the better label, and the distances are right once no label is open. Labels are
-//! open while they wait in the queue or are examined, and are counted, since an answer "nothing" does
-//! not say that the queue is empty. The distances are compared with those of Dijkstra's algorithm.
+//! open while they wait in the queue or are examined, which `Work` counts. The distances are compared
+//! with those of Dijkstra's algorithm.
 
-use klsm::{InsertError, Member, Pick, Queue};
+use klsm::{InsertError, Member, Pick, Queue, Work};
 use std::cmp::Reverse;
 use std::collections::BinaryHeap;
 use std::env;
 use std::error::Error;
-use std::sync::atomic::{AtomicBool, AtomicU64, Ordering::SeqCst};
+use std::sync::atomic::{AtomicU64, Ordering::SeqCst};
 use std::thread;
 
 /// A square grid, whose edges have lengths from 1 to 100.
@@ -50,8 +50,7 @@ fn length(from: usize, to: usize) -> u64 {
 struct Search<'grid> {
     grid: &'grid Grid,
     distances: Vec<AtomicU64>,
-    open: AtomicU64,
-    has_failed: AtomicBool,
+    labels: Work,
 }
 
 impl Search<'_> {
@@ -60,28 +59,25 @@ impl Search<'_> {
         if self.distances[node].fetch_min(length, SeqCst) <= length {
             return Ok(());
         }
-        self.open.fetch_add(1, SeqCst);
-        member.insert(length, node as u64)
+        self.labels.open();
+        let inserted = member.insert(length, node as u64);
+        inserted.inspect_err(|_| self.labels.done())
     }
 
-    /// Examines labels until none is open. How many it examined.
+    /// Examines labels until none is open. How many it examined, or why one could not be put in.
     fn work(&self, mut member: Member<'_>) -> Result<u64, InsertError> {
-        while self.open.load(SeqCst) > 0 && !self.has_failed.load(SeqCst) {
-            let Some(label) = member.delete_min() else {
-                thread::yield_now();
-                continue;
-            };
+        let mut offers = Ok(());
+        while let Some(label) = self.labels.next(&mut member) {
             let node = label.load as usize;
             if label.key == self.distances[node].load(SeqCst) {
                 for (other, length) in self.grid.neighbours(node) {
-                    self.offer(&mut member, other, label.key + length)
-                        .inspect_err(|_| self.has_failed.store(true, SeqCst))?;
+                    offers = offers.and(self.offer(&mut member, other, label.key + length));
                 }
             }
-            // Only now, so that `open` is not 0 before the labels that this one led to are counted.
-            self.open.fetch_sub(1, SeqCst);
+            // Only now that the labels that this one led to are open.
+            self.labels.done();
         }
-        Ok(member.deleted_count())
+        offers.map(|()| member.deleted_count())
     }
 }
 
@@ -91,8 +87,7 @@ fn search(grid: &Grid, threads: usize, k: usize) -> Result<(Vec<u64>, u64), Box<
     let search = Search {
         grid,
         distances: (0..grid.len()).map(|_| AtomicU64::new(u64::MAX)).collect(),
-        open: AtomicU64::new(0),
-        has_failed: AtomicBool::new(false),
+        labels: Work::new(),
     };
     for mut member in queue.members().take(1) {
         search.offer(&mut member, 0, 0)?;

@@ -2,6 +2,7 @@
 
 use crate::errors::OpenError;
 use crate::queue::{Pick, Queue};
+use crate::typed::TypedQueue;
 
 const DEFAULT_K: usize = 64;
 const DEFAULT_REFILL: usize = 16;
@@ -65,5 +66,14 @@ impl Builder {
     pub fn open(&self) -> Result<Queue, OpenError> {
         let refill = self.refill.unwrap_or(self.k.min(DEFAULT_REFILL));
         Queue::open(self.threads, self.k, self.pick, self.seed, refill)
+    }
+
+    /// Opens a queue whose items carry payloads, as [`open`](Builder::open) does one of loads.
+    ///
+    /// # Errors
+    ///
+    /// Those of [`open`](Builder::open).
+    pub fn open_typed<T: Send>(&self) -> Result<TypedQueue<T>, OpenError> {
+        self.open().map(TypedQueue::over)
     }
 }

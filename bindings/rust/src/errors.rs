@@ -1,6 +1,7 @@
 //! Why calls are refused.
 
 use crate::queue::Queue;
+use crate::typed::TypedQueue;
 use std::error::Error;
 use std::fmt;
 
@@ -55,6 +56,20 @@ pub enum FinishError {
     /// The library found another owner of the queue. No call of this crate leads there, but no proof
     /// says so. The queue is gone with what was in it.
     Shared,
+}
+
+/// Why a typed queue is not finished: memory was refused. Nothing has changed: here is the queue, which
+/// goes on as it was.
+pub struct TypedFinishError<T>(pub TypedQueue<T>);
+
+/// An insertion into a typed queue that was refused: the payload, which comes back, and why. Nothing has
+/// changed then.
+#[derive(Clone, Copy, PartialEq, Eq)]
+pub struct Refused<T, Why> {
+    /// What was not inserted.
+    pub payload: T,
+    /// Why: an [`InsertError`], or a [`TryInsertError`].
+    pub why: Why,
 }
 
 impl From<InsertError> for TryInsertError {
@@ -125,8 +140,37 @@ impl fmt::Display for FinishError {
     }
 }
 
+// No payload is shown, so that there is a text whatever it is.
+impl<T> fmt::Debug for TypedFinishError<T> {
+    fn fmt(&self, to: &mut fmt::Formatter<'_>) -> fmt::Result {
+        to.debug_tuple("TypedFinishError").field(&self.0).finish()
+    }
+}
+
+impl<T> fmt::Display for TypedFinishError<T> {
+    fn fmt(&self, to: &mut fmt::Formatter<'_>) -> fmt::Result {
+        to.write_str(MEMORY_TEXT)
+    }
+}
+
+impl<T, Why: fmt::Debug> fmt::Debug for Refused<T, Why> {
+    fn fmt(&self, to: &mut fmt::Formatter<'_>) -> fmt::Result {
+        to.debug_struct("Refused")
+            .field("why", &self.why)
+            .finish_non_exhaustive()
+    }
+}
+
+impl<T, Why: fmt::Display> fmt::Display for Refused<T, Why> {
+    fn fmt(&self, to: &mut fmt::Formatter<'_>) -> fmt::Result {
+        self.why.fmt(to)
+    }
+}
+
 impl Error for Busy {}
 impl Error for OpenError {}
 impl Error for InsertError {}
 impl Error for TryInsertError {}
 impl Error for FinishError {}
+impl<T> Error for TypedFinishError<T> {}
+impl<T, Why: Error> Error for Refused<T, Why> {}

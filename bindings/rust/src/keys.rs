@@ -1,4 +1,4 @@
-//! Keys for a search by bounds.
+//! Keys for a search by bounds, and for numbers that have a sign.
 
 const MOST_BOUND: u64 = (1 << 48) - 1;
 const MOST_DEPTH: u32 = 65_535;
@@ -18,8 +18,16 @@ const MOST_DEPTH: u32 = 65_535;
 /// ```
 #[must_use]
 pub const fn key_of_bound(bound: u64, depth: u32) -> u64 {
-    let bound = if bound < MOST_BOUND { bound } else { MOST_BOUND };
-    let depth = if depth < MOST_DEPTH { depth } else { MOST_DEPTH };
+    let bound = if bound < MOST_BOUND {
+        bound
+    } else {
+        MOST_BOUND
+    };
+    let depth = if depth < MOST_DEPTH {
+        depth
+    } else {
+        MOST_DEPTH
+    };
     bound << 16 | (MOST_DEPTH - depth) as u64
 }
 
@@ -27,4 +35,62 @@ pub const fn key_of_bound(bound: u64, depth: u32) -> u64 {
 #[must_use]
 pub const fn bound_of_key(key: u64) -> u64 {
     key >> 16
+}
+
+/// The bit that tells a number's sign.
+const SIGN: u64 = 1 << 63;
+
+/// The bits of the one NaN that has a key: quiet, positive, and nothing else.
+const NAN: u64 = 0x7ff8_0000_0000_0000;
+
+/// A key that orders items by a double, the least first. `!key_of_f64(x)` orders them with the greatest
+/// first.
+///
+/// Of numbers the lesser has the lesser key, and equal ones, which 0 and -0 are, have the same. Each NaN
+/// has one key above that of infinity.
+///
+/// ```
+/// assert!(klsm::key_of_f64(-1.5) < klsm::key_of_f64(2.0));
+/// assert_eq!(klsm::key_of_f64(-0.0), klsm::key_of_f64(0.0));
+/// assert!(klsm::key_of_f64(f64::NAN) > klsm::key_of_f64(f64::INFINITY));
+/// assert_eq!(klsm::f64_of_key(klsm::key_of_f64(-1.5)), -1.5);
+/// ```
+#[must_use]
+pub fn key_of_f64(number: f64) -> u64 {
+    let bits = if number.is_nan() {
+        NAN
+    } else if number == 0.0 {
+        0
+    } else {
+        number.to_bits()
+    };
+    if bits & SIGN == 0 {
+        bits | SIGN
+    } else {
+        !bits
+    }
+}
+
+/// The double of a key that [`key_of_f64`] made: 0 for -0, and a quiet NaN for each NaN.
+#[must_use]
+pub fn f64_of_key(key: u64) -> f64 {
+    f64::from_bits(if key & SIGN == 0 { !key } else { key & !SIGN })
+}
+
+/// A key that orders items by a whole number with a sign, the least first. `!key_of_i64(x)` orders them
+/// with the greatest first.
+///
+/// ```
+/// assert!(klsm::key_of_i64(-7) < klsm::key_of_i64(3));
+/// assert_eq!(klsm::i64_of_key(klsm::key_of_i64(-7)), -7);
+/// ```
+#[must_use]
+pub const fn key_of_i64(number: i64) -> u64 {
+    number as u64 ^ SIGN
+}
+
+/// The number of a key that [`key_of_i64`] made.
+#[must_use]
+pub const fn i64_of_key(key: u64) -> i64 {
+    (key ^ SIGN) as i64
 }

@@ -31,6 +31,14 @@
 //! # }
 //! ```
 //!
+//! # Which queue, which member
+//!
+//! A [`Member`] borrows its queue: it is for scoped threads. [`Queue::into_members`] gives members that
+//! own the queue together, for a pool and for threads that borrow nothing. The items of a [`TypedQueue`]
+//! carry payloads of a type, such as a `String` or a `Box`, where those of a [`Queue`] have a number.
+//! [`Work`] tells the threads when all is done. Keys that are no whole numbers of 64 bits are made by
+//! [`key_of_f64`], [`key_of_i64`] and [`key_of_bound`].
+//!
 //! # What is behind it
 //!
 //! The queue is a library that is proved in Rattle and called through its interface for C. The proof
@@ -43,8 +51,8 @@
 //!
 //! The library wants a queue to stay where it is, one call at a time for each member, and the whole
 //! queue for opening, closing and dropping. Here a queue's memory is on the heap and never moves,
-//! each call that changes a member takes it by `&mut`, and members borrow their queue. So no safe
-//! code can break these rules. In particular:
+//! each call that changes a member takes it by `&mut`, and members borrow their queue, or own it
+//! together. So no safe code can break these rules. In particular:
 //!
 //! A queue cannot be finished while a member is in use:
 //!
@@ -104,13 +112,20 @@
 //! });
 //! ```
 //!
-//! Nor is a queue:
+//! and neither is one that owns its queue with the others:
 //!
 //! ```compile_fail,E0277
-//! let queue = klsm::Queue::new(2, 4).unwrap();
+//! let member = klsm::Queue::new(1, 4).unwrap().into_members().remove(0);
 //! std::thread::scope(|scope| {
-//!     scope.spawn(|| queue.left());
+//!     scope.spawn(|| member.inserted_count());
 //! });
+//! ```
+//!
+//! A queue may be shared, but what is shared neither lends its members nor counts what is left:
+//!
+//! ```compile_fail,E0596
+//! let queue = std::sync::Arc::new(klsm::Queue::new(2, 4).unwrap());
+//! queue.left();
 //! ```
 //!
 //! The slot by which the library knows a member cannot be reached, so the slots of two queues cannot
@@ -134,6 +149,27 @@
 //!
 //! (To swap `a` and `b` themselves compiles. Each still leads to its own slot in its own queue.)
 //!
+//! A [`TypedQueue`] has payloads that threads may send to each other:
+//!
+//! ```compile_fail,E0277
+//! klsm::TypedQueue::<std::rc::Rc<u32>>::new(2, 4).unwrap();
+//! ```
+//!
+//! and that live as long as it says:
+//!
+//! ```compile_fail,E0597
+//! let mut queue = klsm::TypedQueue::<&'static str>::new(2, 4).unwrap();
+//! let text = "short".to_string();
+//! queue.members().next().unwrap().insert(1, &text).unwrap();
+//! ```
+//!
+//! ```compile_fail,E0597
+//! let mut members = klsm::TypedQueue::<&'static str>::new(2, 4).unwrap().into_members();
+//! let text = "short".to_string();
+//! members.remove(0).insert(1, &text).unwrap();
+//! members[0].delete_min();
+//! ```
+//!
 //! # What is left to the caller
 //!
 //! No call from a signal handler, and none in a forked child of a process that had several threads.
@@ -143,13 +179,22 @@ mod builder;
 mod errors;
 mod keys;
 mod member;
+mod owned;
 mod pause;
 mod queue;
+mod rest;
 mod sys;
+mod typed;
+mod work;
 
 pub use builder::Builder;
-pub use errors::{Busy, FinishError, InsertError, OpenError, TryInsertError};
-pub use keys::{bound_of_key, key_of_bound};
+pub use errors::{
+    Busy, FinishError, InsertError, OpenError, Refused, TryInsertError, TypedFinishError,
+};
+pub use keys::{bound_of_key, f64_of_key, i64_of_key, key_of_bound, key_of_f64, key_of_i64};
 pub use member::{Member, Members};
+pub use owned::OwnedMember;
 pub use queue::{Account, Pick, Queue};
 pub use sys::Item;
+pub use typed::{OwnedTypedMember, TypedItem, TypedMember, TypedMembers, TypedQueue};
+pub use work::{DeleteMin, Work};

@@ -3,6 +3,7 @@
 use crate::errors::{Busy, InsertError, TryInsertError};
 use crate::pause::until_free;
 use crate::sys::{self, code, Item, Slot};
+use crate::work::DeleteMin;
 use std::fmt;
 use std::iter::{Enumerate, FusedIterator};
 use std::slice::IterMut;
@@ -18,7 +19,11 @@ pub struct Member<'queue> {
     number: u32,
 }
 
-impl Member<'_> {
+impl<'queue> Member<'queue> {
+    pub(crate) fn of(slot: &'queue mut Slot, number: u32) -> Self {
+        Member { slot, number }
+    }
+
     /// The member's number, from 0 to T-1: the owner of the items that it inserts.
     #[must_use]
     pub fn number(&self) -> u32 {
@@ -69,8 +74,8 @@ impl Member<'_> {
     ///
     /// `None`: the member's own part, the shared part and each other part that could be looked into
     /// were empty. At most (T-1)·k items were in the queue then. They may be more a moment later, and
-    /// some may be with a member that inserts right now: count open work apart from the queue to tell
-    /// when all is done.
+    /// some may be with a member that inserts right now: count open work apart from the queue, as
+    /// [`Work`](crate::Work) does, to tell when all is done.
     pub fn delete_min(&mut self) -> Option<Item> {
         let mut item = Item::default();
         match until_free(|| self.deletion(&mut item)) {
@@ -122,6 +127,14 @@ impl Member<'_> {
     }
 }
 
+impl DeleteMin for Member<'_> {
+    type Item = Item;
+
+    fn delete_min(&mut self) -> Option<Item> {
+        Member::delete_min(self)
+    }
+}
+
 impl fmt::Debug for Member<'_> {
     fn fmt(&self, to: &mut fmt::Formatter<'_>) -> fmt::Result {
         to.debug_struct("Member")
@@ -159,10 +172,7 @@ impl<'queue> Members<'queue> {
 }
 
 fn member_of((number, slot): (usize, &mut Slot)) -> Member<'_> {
-    Member {
-        slot,
-        number: number as u32,
-    }
+    Member::of(slot, number as u32)
 }
 
 impl<'queue> Iterator for Members<'queue> {

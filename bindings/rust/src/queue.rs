@@ -3,8 +3,11 @@
 use crate::builder::Builder;
 use crate::errors::{FinishError, OpenError};
 use crate::member::{deleted_by, inserted_by, Members};
-use crate::sys::{self, code, Item, Slots, Totals};
+use crate::owned::{HasQueue, OwnedMember};
+use crate::rest::Rest;
+use crate::sys::{self, code, Item, Slot, Slots, Totals};
 use std::fmt;
+use std::ptr::NonNull;
 
 /// Which of the k+1 least shared items a deletion takes, where it takes a shared one. Of those up to
 /// the one that is picked, the first that its own member inserted goes before it.
@@ -22,13 +25,13 @@ pub enum Pick {
 
 /// What a queue comes to: each item that was inserted was deleted or is left, once.
 #[derive(Clone, Debug, Default, PartialEq, Eq)]
-pub struct Account {
+pub struct Account<I = Item> {
     /// How many insertions all members made.
     pub inserted: u64,
     /// How many items all members deleted.
     pub deleted: u64,
     /// The items that were not deleted, in ascending order.
-    pub left: Vec<Item>,
+    pub left: Vec<I>,
 }
 
 /// A relaxed priority queue with a member for each of up to sixteen threads.
@@ -41,6 +44,11 @@ pub struct Queue {
     slots: Box<Slots>,
     threads: usize,
 }
+
+// SAFETY: a slot is not `Sync`, since the library wants one call at a time for each. No call that takes a
+// queue by `&` is one of the library, or looks into a slot: `threads` and `Debug` read a number that stays
+// as it is, and `places` gives pointers, each of which is used by the `Part` that has it alone.
+unsafe impl Sync for Queue {}
 
 impl Queue {
     /// Opens a queue for `threads` threads, 1 to 16, each of which keeps at most `k` items for itself,
@@ -116,14 +124,37 @@ impl Queue {
         Members::of(&mut self.slots.members[..self.threads])
     }
 
-    /// How many items are in the queue: those inserted less those deleted. No member is lent when this
-    /// is asked. It takes some nanoseconds for each member.
+    /// Gives the queue to its members, which own it together, in the order of their numbers: for
+    /// threads that borrow nothing, such as those of a pool.
     #[must_use]
-    pub fn left(&self) -> u64 {
-        let slots = &self.slots.members[..self.threads];
-        let inserted: u64 = slots.iter().map(inserted_by).sum();
-        let deleted: u64 = slots.iter().map(deleted_by).sum();
+    pub fn into_members(self) -> Vec<OwnedMember> {
+        OwnedMember::all_of(self)
+    }
+
+    /// How many items are in the queue: those inserted less those deleted. It takes some nanoseconds for
+    /// each member.
+    #[must_use]
+    pub fn left(&mut self) -> u64 {
+        let (inserted, deleted) = self.counts();
         inserted - deleted
+    }
+
+    /// How many insertions and deletions all members made.
+    pub(crate) fn counts(&mut self) -> (u64, u64) {
+        let slots = &self.slots.members[..self.threads];
+        let inserted = slots.iter().map(inserted_by).sum();
+        let deleted = slots.iter().map(deleted_by).sum();
+        (inserted, deleted)
+    }
+
+    /// Takes out what is left, in no order and with no memory.
+    pub(crate) fn rest(&mut self) -> Rest<'_> {
+        Rest::of(self)
+    }
+
+    /// Where the slots of the members are, in the order of their numbers.
+    pub(crate) fn places(&self) -> impl Iterator<Item = NonNull<Slot>> + '_ {
+        self.slots.members[..self.threads].iter().map(Slot::place)
     }
 
     /// Ends the queue and gives the account: the totals, and the items that are left.
@@ -165,6 +196,12 @@ impl Queue {
     }
 }
 
+impl HasQueue for Queue {
+    fn queue(&self) -> &Queue {
+        self
+    }
+}
+
 impl Drop for Queue {
     fn drop(&mut self) {
         // SAFETY: the queue is open or closed, as the library left it, and no member is lent.
@@ -176,7 +213,6 @@ impl fmt::Debug for Queue {
     fn fmt(&self, to: &mut fmt::Formatter<'_>) -> fmt::Result {
         to.debug_struct("Queue")
             .field("threads", &self.threads)
-            .field("left", &self.left())
-            .finish()
+            .finish_non_exhaustive()
     }
 }

@@ -5,7 +5,7 @@ use std::cell::UnsafeCell;
 use std::cmp::Ordering;
 use std::ffi::c_void;
 use std::mem::{align_of, offset_of, size_of};
-use std::ptr::null_mut;
+use std::ptr::{null_mut, NonNull};
 
 #[cfg(not(all(target_arch = "x86_64", target_os = "linux")))]
 compile_error!("libklsm.a is for Linux on x86-64");
@@ -55,6 +55,11 @@ impl Slot {
             live: 0,
             room: [0; 14],
         }))
+    }
+
+    /// Where the slot is. All of it is in a cell, so who has it alone may write there.
+    pub(crate) fn place(&self) -> NonNull<Slot> {
+        NonNull::from(&self.0).cast()
     }
 }
 

@@ -1,33 +1,48 @@
-//! Finishing where this crate's own memory is refused: the queue comes back as it was.
+//! This crate's own memory: where it is refused, what was given comes back; and all of it is given back.
 
-use klsm::{FinishError, Queue};
+use klsm::{FinishError, InsertError, Queue, TryInsertError, TypedFinishError, TypedQueue};
 use std::alloc::{GlobalAlloc, Layout, System};
+use std::cell::Cell;
 use std::ptr::null_mut;
-use std::sync::atomic::{AtomicUsize, Ordering};
+use std::sync::Arc;
 
-/// Refuses blocks of more bytes than this.
-static MOST: AtomicUsize = AtomicUsize::new(usize::MAX);
+thread_local! {
+    /// This thread is refused blocks of more bytes.
+    static MOST: Cell<usize> = const { Cell::new(usize::MAX) };
+    /// How many blocks this thread took, less those that it gave back.
+    static BLOCKS: Cell<isize> = const { Cell::new(0) };
+}
 
-struct Rationed;
+struct Counted;
 
 // SAFETY: each call is passed on to the system's allocator, or refused with a null pointer.
-unsafe impl GlobalAlloc for Rationed {
+unsafe impl GlobalAlloc for Counted {
     unsafe fn alloc(&self, layout: Layout) -> *mut u8 {
-        if layout.size() > MOST.load(Ordering::SeqCst) {
+        if layout.size() > MOST.get() {
             return null_mut();
         }
+        BLOCKS.set(BLOCKS.get() + 1);
         // SAFETY: the caller's duties are those of this call.
         unsafe { System.alloc(layout) }
     }
 
     unsafe fn dealloc(&self, at: *mut u8, layout: Layout) {
+        BLOCKS.set(BLOCKS.get() - 1);
         // SAFETY: as in `alloc`.
         unsafe { System.dealloc(at, layout) }
     }
 }
 
 #[global_allocator]
-static ALLOCATOR: Rationed = Rationed;
+static ALLOCATOR: Counted = Counted;
+
+/// What a call answers where all memory is refused.
+fn without_memory<T>(call: impl FnOnce() -> T) -> T {
+    MOST.set(0);
+    let answer = call();
+    MOST.set(usize::MAX);
+    answer
+}
 
 #[test]
 fn a_refused_finish_gives_the_queue_back() {
@@ -37,9 +52,7 @@ fn a_refused_finish_gives_the_queue_back() {
             member.insert(key, key).unwrap();
         }
     }
-    MOST.store(100_000, Ordering::SeqCst);
-    let refused = queue.finish();
-    MOST.store(usize::MAX, Ordering::SeqCst);
+    let refused = without_memory(|| queue.finish());
     let mut queue = match refused {
         Err(FinishError::NoMemory(queue)) => queue,
         other => panic!("{other:?}"),
@@ -48,4 +61,87 @@ fn a_refused_finish_gives_the_queue_back() {
     assert!(queue.members().next().unwrap().delete_min().is_some());
     let account = queue.finish().unwrap();
     assert_eq!((account.deleted, account.left.len()), (1, 19_999));
+}
+
+#[test]
+fn a_refused_finish_gives_the_payloads_back() {
+    let mut queue = TypedQueue::new(2, 4).unwrap();
+    for mut member in queue.members() {
+        for key in 0..10_000 {
+            member.insert(key, key.to_string()).unwrap();
+        }
+    }
+    let Err(TypedFinishError(mut queue)) = without_memory(|| queue.finish()) else {
+        panic!("it is not refused");
+    };
+    assert_eq!(queue.left(), 20_000);
+    assert!(queue.members().next().unwrap().delete_min().is_some());
+    let account = queue.finish().unwrap();
+    assert_eq!((account.deleted, account.left.len()), (1, 19_999));
+    let mut left = account.left.iter();
+    assert!(left.all(|item| item.payload == item.key.to_string()));
+}
+
+#[test]
+fn a_payload_for_which_memory_is_refused_comes_back() {
+    let mut queue = TypedQueue::new(2, 4).unwrap();
+    let mut member = queue.members().next().unwrap();
+    let payload = "payload".to_string();
+    let refused = without_memory(|| member.insert(1, payload)).unwrap_err();
+    assert_eq!(refused.why, InsertError::NoMemory);
+    assert_eq!(refused.payload, "payload");
+    let refused = without_memory(|| member.try_insert(1, refused.payload)).unwrap_err();
+    assert_eq!(refused.why, TryInsertError::NoMemory);
+    assert_eq!(refused.payload, "payload");
+    assert_eq!(member.inserted_count(), 0);
+    assert_eq!(member.insert(1, refused.payload), Ok(()));
+    let item = without_memory(|| member.delete_min()).unwrap();
+    assert_eq!(item.payload, "payload");
+}
+
+#[test]
+fn a_payload_of_no_bytes_takes_no_memory() {
+    let mut queue = TypedQueue::new(1, 4).unwrap();
+    let mut member = queue.members().next().unwrap();
+    without_memory(|| member.insert(1, ())).unwrap();
+    assert_eq!(member.delete_min().map(|item| item.key), Some(1));
+}
+
+#[test]
+fn a_queue_of_payloads_is_dropped_without_memory() {
+    let payload = Arc::new(7);
+    let mut queue = TypedQueue::new(2, 4).unwrap();
+    for mut member in queue.members() {
+        for key in 0..10_000 {
+            member.insert(key, payload.clone()).unwrap();
+        }
+    }
+    assert_eq!(Arc::strong_count(&payload), 20_001);
+    without_memory(|| drop(queue));
+    assert_eq!(Arc::strong_count(&payload), 1);
+}
+
+#[test]
+fn each_payload_gives_its_block_back() {
+    let ends: [fn(TypedQueue<[u64; 3]>); 3] = [
+        drop,
+        |queue| drop(queue.finish().unwrap()),
+        |queue| drop(queue.into_members()),
+    ];
+    for end in ends {
+        let before = BLOCKS.get();
+        let mut queue = TypedQueue::new(1, 4).unwrap();
+        let mut member = queue.members().next().unwrap();
+        let opened = BLOCKS.get();
+        for key in 0..1_000 {
+            member.insert(key, [key; 3]).unwrap();
+        }
+        assert_eq!(BLOCKS.get(), opened + 1_000);
+        for key in 0..400 {
+            assert_eq!(member.delete_min().unwrap().payload, [key; 3]);
+        }
+        assert_eq!(BLOCKS.get(), opened + 600);
+        end(queue);
+        assert_eq!(BLOCKS.get(), before);
+    }
 }

@@ -1,6 +1,7 @@
 //! Members used by threads at once: the account is exact, and members may change threads.
 
-use klsm::{Member, Members, Pick, Queue};
+use klsm::{FinishError, Member, Members, Pick, Queue};
+use std::error::Error;
 use std::sync::mpsc;
 use std::thread;
 
@@ -9,11 +10,45 @@ const INSERTIONS: u64 = 20_000;
 
 fn is_send<T: Send>() {}
 
+fn is_shared<T: Send + Sync + 'static>() {}
+
 #[test]
 fn queues_and_members_may_be_sent() {
     is_send::<Queue>();
     is_send::<Member<'_>>();
     is_send::<Members<'_>>();
+}
+
+#[test]
+fn queues_and_their_errors_may_be_shared() {
+    is_shared::<Queue>();
+    is_shared::<FinishError>();
+}
+
+/// As a program has it whose errors go from thread to thread.
+fn deleted() -> Result<u64, Box<dyn Error + Send + Sync>> {
+    let mut queue = Queue::new(2, 8)?;
+    let mut member = queue.members().next().ok_or("no member")?;
+    member.insert(1, 10)?;
+    member.try_insert(2, 20)?;
+    member.try_delete_min()?;
+    Ok(queue.finish()?.deleted)
+}
+
+#[test]
+fn each_error_becomes_one_that_may_be_shared() {
+    assert_eq!(deleted().unwrap(), 1);
+}
+
+#[test]
+fn a_shared_queue_says_how_many_members_it_has() {
+    let queue = Queue::new(3, 8).unwrap();
+    thread::scope(|scope| {
+        for _ in 0..2 {
+            scope.spawn(|| assert_eq!(queue.threads(), 3));
+        }
+    });
+    assert_eq!(format!("{queue:?}"), "Queue { threads: 3, .. }");
 }
 
 /// A small generator, so that each thread has keys of its own.

@@ -49,7 +49,7 @@ fn what_is_finished_is_not_dropped_a_second_time() {
 fn want_of_memory_gives_the_queue_back() {
     let queue = queue_of(5);
     stub::answer(Call::Close, stub::code("NO_MEMORY") as u64);
-    let Err(FinishError::NoMemory(queue)) = queue.finish() else {
+    let Err(FinishError::NoMemory(mut queue)) = queue.finish() else {
         panic!("no queue came back");
     };
     assert_closed_into(16);

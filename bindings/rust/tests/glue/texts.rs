@@ -1,6 +1,8 @@
 //! The texts of errors, the greatest bound and depth of a key, and the version of the crate.
 
-use klsm::{Busy, FinishError, InsertError, OpenError, TryInsertError};
+use crate::stub;
+use klsm::{Busy, FinishError, InsertError, OpenError, Refused, TryInsertError};
+use klsm::{TypedFinishError, TypedQueue};
 use std::error::Error;
 
 const HEADER: &str = include_str!("../../../../include/klsm.h");
@@ -12,8 +14,21 @@ fn of_code(name: &str) -> &'static str {
     rest.split_once('"').unwrap().0
 }
 
+/// A payload that has no text.
+struct Silent;
+
+fn refused<Why>(why: Why) -> Refused<Silent, Why> {
+    let payload = Silent;
+    Refused { payload, why }
+}
+
+fn unfinished() -> TypedFinishError<Silent> {
+    stub::begin();
+    TypedFinishError(TypedQueue::new(2, 4).unwrap())
+}
+
 /// Each error, and what it says: the words of klsm.h, or its own.
-fn texts() -> [(Box<dyn Error>, &'static str); 14] {
+fn texts() -> [(Box<dyn Error>, &'static str); 17] {
     let (memory, spent) = (of_code("NO_MEMORY"), of_code("SPENT"));
     let (busy, full) = (
         "a lock is held by another member",
@@ -40,6 +55,9 @@ fn texts() -> [(Box<dyn Error>, &'static str); 14] {
         (Box::new(TryInsertError::Full), full),
         (Box::new(TryInsertError::NoMemory), memory),
         (Box::new(FinishError::Shared), of_code("SHARED")),
+        (Box::new(refused(InsertError::Spent)), spent),
+        (Box::new(refused(TryInsertError::Busy)), busy),
+        (Box::new(unfinished()), memory),
     ]
 }
 
@@ -48,6 +66,14 @@ fn each_error_has_its_text() {
     for (error, text) in texts() {
         assert_eq!(error.to_string(), text);
     }
+}
+
+#[test]
+fn errors_with_payloads_have_none_in_their_text() {
+    let text = format!("{:?}", refused(InsertError::Full));
+    assert_eq!(text, "Refused { why: Full, .. }");
+    let text = format!("{:?}", unfinished());
+    assert_eq!(text, "TypedFinishError(TypedQueue { threads: 2, .. })");
 }
 
 #[test]

@@ -1,0 +1,42 @@
+//! What is left in a queue, taken out by deletions.
+
+use crate::member::{Member, Members};
+use crate::queue::Queue;
+use crate::sys::Item;
+
+/// What is left in a queue that no one else uses, in no order, each item deleted when it is given.
+///
+/// Deletions take no memory. One member finds what all have, since no part is held by another. The
+/// others are asked all the same, so that it ends and leaves nothing whatever the first one finds.
+pub(crate) struct Rest<'queue> {
+    left: u64,
+    member: Option<Member<'queue>>,
+    others: Members<'queue>,
+}
+
+impl<'queue> Rest<'queue> {
+    pub(crate) fn of(queue: &'queue mut Queue) -> Self {
+        let left = queue.left();
+        let mut members = queue.members();
+        Rest {
+            left,
+            member: members.next(),
+            others: members,
+        }
+    }
+}
+
+impl Iterator for Rest<'_> {
+    type Item = Item;
+
+    fn next(&mut self) -> Option<Item> {
+        while self.left > 0 {
+            if let Some(item) = self.member.as_mut()?.delete_min() {
+                self.left -= 1;
+                return Some(item);
+            }
+            self.member = self.others.next();
+        }
+        None
+    }
+}

@@ -1,0 +1,166 @@
+//! A member of a typed queue.
+
+use super::payload::{boxed, load_of};
+use super::{TypedItem, TypedQueue};
+use crate::errors::{Busy, InsertError, Refused, TryInsertError};
+use crate::member::{Member, Members};
+use crate::work::DeleteMin;
+use std::fmt;
+use std::iter::FusedIterator;
+use std::marker::PhantomData;
+
+/// One member of a [`TypedQueue`], which it borrows: a [`Member`] whose items carry payloads.
+pub struct TypedMember<'queue, T> {
+    // A member of a queue whose loads are boxes of `T`.
+    member: Member<'queue>,
+    payloads: PhantomData<&'queue mut TypedQueue<T>>,
+}
+
+impl<'queue, T> TypedMember<'queue, T> {
+    /// The typed member over one of a typed queue of this `T`.
+    pub(super) fn over(member: Member<'queue>) -> Self {
+        TypedMember {
+            member,
+            payloads: PhantomData,
+        }
+    }
+
+    /// The member's number, from 0 to T-1: the owner of the items that it inserts.
+    #[must_use]
+    pub fn number(&self) -> u32 {
+        self.member.number()
+    }
+
+    /// Inserts a key with a payload, and waits while a lock that it needs is held: [`Member::insert`]. It
+    /// takes memory for the payload.
+    ///
+    /// # Errors
+    ///
+    /// Those of [`Member::insert`], each with the payload.
+    pub fn insert(&mut self, key: u64, payload: T) -> Result<(), Refused<T, InsertError>> {
+        let insert = |member: &mut Member<'_>, load| member.insert(key, load);
+        self.insertion(payload, InsertError::NoMemory, insert)
+    }
+
+    /// Inserts a key with a payload, and waits for nobody: [`Member::try_insert`]. It takes memory for the
+    /// payload.
+    ///
+    /// # Errors
+    ///
+    /// Those of [`Member::try_insert`], each with the payload.
+    pub fn try_insert(&mut self, key: u64, payload: T) -> Result<(), Refused<T, TryInsertError>> {
+        let insert = |member: &mut Member<'_>, load| member.try_insert(key, load);
+        self.insertion(payload, TryInsertError::NoMemory, insert)
+    }
+
+    /// Inserts a payload by a call, which gets the load that stands for it.
+    fn insertion<Why>(
+        &mut self,
+        payload: T,
+        no_memory: Why,
+        insert: impl FnOnce(&mut Member<'queue>, u64) -> Result<(), Why>,
+    ) -> Result<(), Refused<T, Why>> {
+        let payload = match boxed(payload) {
+            Ok(payload) => Box::into_raw(payload),
+            Err(payload) => {
+                return Err(Refused {
+                    payload,
+                    why: no_memory,
+                })
+            }
+        };
+        insert(&mut self.member, load_of(payload)).map_err(|why| {
+            // SAFETY: it comes from a box, and was not inserted, so no one else has it.
+            let payload = *unsafe { Box::from_raw(payload) };
+            Refused { payload, why }
+        })
+    }
+
+    /// Deletes a small item and answers it, and waits while a lock that it needs is held:
+    /// [`Member::delete_min`], which says what `None` means.
+    pub fn delete_min(&mut self) -> Option<TypedItem<T>> {
+        let item = self.member.delete_min()?;
+        // SAFETY: the member's queue is a typed one of this `T`, and the item is given here alone.
+        Some(unsafe { TypedItem::of(item) })
+    }
+
+    /// Deletes a small item and answers it, and waits for nobody: [`Member::try_delete_min`].
+    ///
+    /// # Errors
+    ///
+    /// Those of [`Member::try_delete_min`].
+    pub fn try_delete_min(&mut self) -> Result<Option<TypedItem<T>>, Busy> {
+        let item = self.member.try_delete_min()?;
+        // SAFETY: as in `delete_min`.
+        Ok(item.map(|item| unsafe { TypedItem::of(item) }))
+    }
+
+    /// How many insertions the member has made. It takes some nanoseconds and no lock.
+    #[must_use]
+    pub fn inserted_count(&self) -> u64 {
+        self.member.inserted_count()
+    }
+
+    /// How many items the member has deleted. It takes some nanoseconds and no lock.
+    #[must_use]
+    pub fn deleted_count(&self) -> u64 {
+        self.member.deleted_count()
+    }
+}
+
+impl<T> DeleteMin for TypedMember<'_, T> {
+    type Item = TypedItem<T>;
+
+    fn delete_min(&mut self) -> Option<TypedItem<T>> {
+        TypedMember::delete_min(self)
+    }
+}
+
+impl<T> fmt::Debug for TypedMember<'_, T> {
+    fn fmt(&self, to: &mut fmt::Formatter<'_>) -> fmt::Result {
+        to.debug_tuple("TypedMember").field(&self.member).finish()
+    }
+}
+
+/// The members of a typed queue, in the order of their numbers: what [`TypedQueue::members`] gives.
+pub struct TypedMembers<'queue, T> {
+    members: Members<'queue>,
+    payloads: PhantomData<&'queue mut TypedQueue<T>>,
+}
+
+impl<'queue, T> TypedMembers<'queue, T> {
+    pub(super) fn of(typed: &'queue mut TypedQueue<T>) -> Self {
+        TypedMembers {
+            members: typed.queue.members(),
+            payloads: PhantomData,
+        }
+    }
+}
+
+impl<'queue, T> Iterator for TypedMembers<'queue, T> {
+    type Item = TypedMember<'queue, T>;
+
+    fn next(&mut self) -> Option<Self::Item> {
+        self.members.next().map(TypedMember::over)
+    }
+
+    fn size_hint(&self) -> (usize, Option<usize>) {
+        self.members.size_hint()
+    }
+}
+
+impl<T> DoubleEndedIterator for TypedMembers<'_, T> {
+    fn next_back(&mut self) -> Option<Self::Item> {
+        self.members.next_back().map(TypedMember::over)
+    }
+}
+
+impl<T> ExactSizeIterator for TypedMembers<'_, T> {}
+
+impl<T> FusedIterator for TypedMembers<'_, T> {}
+
+impl<T> fmt::Debug for TypedMembers<'_, T> {
+    fn fmt(&self, to: &mut fmt::Formatter<'_>) -> fmt::Result {
+        to.debug_tuple("TypedMembers").field(&self.members).finish()
+    }
+}

@@ -1,0 +1,119 @@
+//! A member that owns a typed queue together with the others.
+
+use super::{TypedItem, TypedMember, TypedQueue};
+use crate::errors::{Busy, InsertError, Refused, TryInsertError};
+use crate::member::{deleted_by, inserted_by};
+use crate::owned::Part;
+use crate::work::DeleteMin;
+use std::fmt;
+
+/// One member of a typed queue that its members own together: what [`TypedQueue::into_members`] gives.
+///
+/// It borrows nothing, so it may be sent to any thread. Its calls are those of a [`TypedMember`]. The queue
+/// is dropped with the last of its members, and the payloads that are left with it, unless that member is
+/// given back by [`into_queue`](OwnedTypedMember::into_queue).
+///
+/// ```
+/// # fn main() -> Result<(), Box<dyn std::error::Error>> {
+/// type Task = Box<dyn FnOnce() -> u64 + Send>;
+/// let mut members = klsm::TypedQueue::<Task>::new(2, 8)?.into_members();
+/// members[0].insert(5, Box::new(|| 50))?;
+/// let threads = members.into_iter().map(|mut member| {
+///     std::thread::spawn(move || member.delete_min().map(|item| (item.payload)()))
+/// });
+/// let threads: Vec<_> = threads.collect();
+/// let done = threads.into_iter().filter_map(|thread| thread.join().expect("no thread panics"));
+/// assert_eq!(done.sum::<u64>(), 50);
+/// # Ok(())
+/// # }
+/// ```
+pub struct OwnedTypedMember<T>(Part<TypedQueue<T>>);
+
+impl<T> OwnedTypedMember<T> {
+    pub(super) fn all_of(queue: TypedQueue<T>) -> Vec<OwnedTypedMember<T>> {
+        let parts = Part::all_of(queue).into_iter();
+        parts.map(OwnedTypedMember).collect()
+    }
+
+    /// The member as one that borrows this one, for a function that takes such a one.
+    pub fn lend(&mut self) -> TypedMember<'_, T> {
+        TypedMember::over(self.0.lend())
+    }
+
+    /// The member's number, from 0 to T-1: the owner of the items that it inserts.
+    #[must_use]
+    pub fn number(&self) -> u32 {
+        self.0.number()
+    }
+
+    /// Inserts a key with a payload, and waits while a lock that it needs is held:
+    /// [`TypedMember::insert`].
+    ///
+    /// # Errors
+    ///
+    /// Those of [`TypedMember::insert`].
+    pub fn insert(&mut self, key: u64, payload: T) -> Result<(), Refused<T, InsertError>> {
+        self.lend().insert(key, payload)
+    }
+
+    /// Inserts a key with a payload, and waits for nobody: [`TypedMember::try_insert`].
+    ///
+    /// # Errors
+    ///
+    /// Those of [`TypedMember::try_insert`].
+    pub fn try_insert(&mut self, key: u64, payload: T) -> Result<(), Refused<T, TryInsertError>> {
+        self.lend().try_insert(key, payload)
+    }
+
+    /// Deletes a small item and answers it, and waits while a lock that it needs is held:
+    /// [`TypedMember::delete_min`].
+    pub fn delete_min(&mut self) -> Option<TypedItem<T>> {
+        self.lend().delete_min()
+    }
+
+    /// Deletes a small item and answers it, and waits for nobody: [`TypedMember::try_delete_min`].
+    ///
+    /// # Errors
+    ///
+    /// Those of [`TypedMember::try_delete_min`].
+    pub fn try_delete_min(&mut self) -> Result<Option<TypedItem<T>>, Busy> {
+        self.lend().try_delete_min()
+    }
+
+    /// How many insertions the member has made. It takes some nanoseconds and no lock.
+    #[must_use]
+    pub fn inserted_count(&self) -> u64 {
+        inserted_by(self.0.slot())
+    }
+
+    /// How many items the member has deleted. It takes some nanoseconds and no lock.
+    #[must_use]
+    pub fn deleted_count(&self) -> u64 {
+        deleted_by(self.0.slot())
+    }
+
+    /// Gives the member back. The last one that is given back gets the queue, and the others `None`, as
+    /// [`OwnedMember::into_queue`](crate::OwnedMember::into_queue) says.
+    #[must_use = "the queue is dropped with what is in it"]
+    pub fn into_queue(self) -> Option<TypedQueue<T>> {
+        self.0.into_whole()
+    }
+}
+
+impl<T> DeleteMin for OwnedTypedMember<T> {
+    type Item = TypedItem<T>;
+
+    fn delete_min(&mut self) -> Option<TypedItem<T>> {
+        OwnedTypedMember::delete_min(self)
+    }
+}
+
+impl<T> fmt::Debug for OwnedTypedMember<T> {
+    fn fmt(&self, to: &mut fmt::Formatter<'_>) -> fmt::Result {
+        to.debug_struct("OwnedTypedMember")
+            .field("number", &self.number())
+            .field("inserted", &self.inserted_count())
+            .field("deleted", &self.deleted_count())
+            .finish()
+    }
+}

@@ -1,0 +1,224 @@
+//! Payloads: what arrives, what a refusal gives back, and what is dropped.
+
+use crate::blocks::blocks;
+use crate::stub::{self, Call};
+use klsm::{Pick, Refused, TypedItem, TypedQueue};
+use std::cell::Cell;
+
+thread_local! {
+    static DROPS: Cell<u64> = const { Cell::new(0) };
+}
+
+/// Counts its drops. It has no bytes, so it may be where the load of the stub's item leads to.
+struct Counted;
+
+impl Drop for Counted {
+    fn drop(&mut self) {
+        DROPS.set(DROPS.get() + 1);
+    }
+}
+
+/// What a call by member 2 says.
+fn said(call: impl FnOnce(&mut klsm::TypedMember<'_, String>) -> String) -> String {
+    let mut queue = TypedQueue::new(3, 4).unwrap();
+    let mut member = queue.members().nth(2).unwrap();
+    assert_eq!(member.number(), 2);
+    stub::said(|| call(&mut member))
+}
+
+/// What is said of an insertion: why it was refused, and the payload that came back.
+fn of_insertion<Why: std::fmt::Debug>(answer: Result<(), Refused<String, Why>>) -> String {
+    match answer {
+        Ok(()) => "Ok".to_string(),
+        Err(refused) => format!("{:?}, {}", refused.why, refused.payload),
+    }
+}
+
+/// What is to be said of an insertion, as text that is written as text.
+fn expected(name: &str, code: i32) -> String {
+    let said = match name {
+        "SPENT" => "Spent, payload",
+        "BUSY" => "Busy, payload",
+        "FULL" => "Full, payload",
+        "NO_MEMORY" => "NoMemory, payload",
+        _ => return stub::never("klsm_try_insert", code),
+    };
+    format!("{said:?}")
+}
+
+fn payload() -> String {
+    "payload".to_string()
+}
+
+/// An insertion was made so often, each time by member 2 with the same key and load.
+fn assert_asked(times: u64) {
+    assert_eq!(stub::asked(Call::TryInsert), times);
+    assert!(stub::repeats(Call::TryInsert));
+    let queue = stub::argument(Call::OpenWithRefill, 0);
+    assert_eq!(stub::argument(Call::TryInsert, 0), queue + 2 * 128);
+    assert_eq!(stub::argument(Call::TryInsert, 1), 5);
+}
+
+#[test]
+fn a_refusal_gives_the_payload_back() {
+    for (name, code) in stub::codes().into_iter().filter(|(name, _)| *name != "OK") {
+        stub::answer_code(Call::TryInsert, 0, code);
+        let answer = said(|member| of_insertion(member.try_insert(5, payload())));
+        assert_eq!(answer, expected(name, code));
+        assert_asked(1);
+        for held in [0, 1, 45] {
+            stub::answer_code(Call::TryInsert, held, code);
+            if name != "BUSY" {
+                let answer = said(|member| of_insertion(member.insert(5, payload())));
+                assert_eq!(answer, expected(name, code));
+                assert_asked(held + 1);
+            }
+        }
+    }
+}
+
+#[test]
+fn a_held_lock_gives_the_payload_back() {
+    stub::answer_code(Call::TryInsert, 1, stub::code("OK"));
+    let answer = said(|member| of_insertion(member.try_insert(5, payload())));
+    assert_eq!(answer, expected("BUSY", 0));
+    assert_asked(1);
+}
+
+#[test]
+fn a_refused_payload_is_dropped_once() {
+    DROPS.set(0);
+    stub::answer_code(Call::TryInsert, 0, stub::code("FULL"));
+    let mut queue = TypedQueue::new(1, 4).unwrap();
+    let mut member = queue.members().next().unwrap();
+    let refused = member.insert(1, Counted).unwrap_err();
+    assert_eq!(DROPS.get(), 0);
+    drop(refused);
+    assert_eq!(DROPS.get(), 1);
+    drop(member.try_insert(1, Counted));
+    drop(queue);
+    assert_eq!(DROPS.get(), 2);
+}
+
+#[test]
+fn a_refused_payload_gives_its_block_back() {
+    stub::answer_code(Call::TryInsert, 0, stub::code("FULL"));
+    let mut queue = TypedQueue::new(1, 4).unwrap();
+    let mut member = queue.members().next().unwrap();
+    let before = blocks();
+    let refused = member.insert(1, payload()).unwrap_err();
+    assert_eq!(blocks(), before + 1);
+    drop(refused);
+    drop(member.try_insert(1, payload()));
+    assert_eq!(blocks(), before);
+}
+
+/// The load that arrives is the address of the payload, which the queue then has.
+#[test]
+fn a_payload_arrives() {
+    stub::begin();
+    let mut queue = TypedQueue::new(1, 4).unwrap();
+    queue
+        .members()
+        .next()
+        .unwrap()
+        .insert(1, payload())
+        .unwrap();
+    let load = stub::argument(Call::TryInsert, 2) as usize;
+    drop(queue);
+    // SAFETY: it is the address of the box that was inserted, and the stub forgets it.
+    let arrived = unsafe { Box::from_raw(load as *mut String) };
+    assert_eq!(*arrived, "payload");
+}
+
+#[test]
+fn an_item_comes_with_its_payload() {
+    stub::answer_code(Call::TryDeleteMin, 1, stub::code("OK"));
+    let mut queue = TypedQueue::<()>::new(3, 4).unwrap();
+    let mut member = queue.members().nth(1).unwrap();
+    assert_eq!(format!("{:?}", member.try_delete_min()), "Err(Busy)");
+    let item = TypedItem {
+        key: 101,
+        payload: (),
+        number: 103,
+        owner: 104,
+    };
+    assert_eq!(member.try_delete_min(), Ok(Some(item)));
+    stub::answer_code(Call::TryDeleteMin, 45, stub::code("OK"));
+    assert_eq!(member.delete_min(), Some(item));
+    assert_eq!(stub::asked(Call::TryDeleteMin), 46);
+    stub::answer(Call::TryDeleteMin, stub::code("NOTHING") as u64);
+    assert_eq!(member.delete_min(), None);
+    assert_eq!(member.try_delete_min(), Ok(None));
+}
+
+#[test]
+fn counts_are_those_of_the_library() {
+    stub::begin();
+    stub::answer(Call::Inserted, 9);
+    stub::answer(Call::Deleted, 4);
+    stub::answer(Call::TryDeleteMin, stub::code("NOTHING") as u64);
+    let mut queue = TypedQueue::<()>::new(3, 4).unwrap();
+    assert_eq!((queue.threads(), queue.left()), (3, 15));
+    let member = queue.members().nth(1).unwrap();
+    assert_eq!((member.inserted_count(), member.deleted_count()), (9, 4));
+    let member = queue.into_members().remove(1);
+    assert_eq!((member.inserted_count(), member.deleted_count()), (9, 4));
+}
+
+/// A queue of three members, of which the stub says that each has five items.
+fn queue_of_15(deletion: &str) -> TypedQueue<Counted> {
+    DROPS.set(0);
+    stub::begin();
+    stub::answer(Call::Inserted, 9);
+    stub::answer(Call::Deleted, 4);
+    stub::answer(Call::TryDeleteMin, stub::code(deletion) as u64);
+    TypedQueue::new(3, 4).unwrap()
+}
+
+#[test]
+fn what_is_left_is_dropped_with_the_queue() {
+    let ends: [fn(TypedQueue<Counted>); 2] = [drop, |queue| drop(queue.into_members())];
+    for end in ends {
+        end(queue_of_15("OK"));
+        assert_eq!((DROPS.get(), stub::asked(Call::TryDeleteMin)), (15, 15));
+        assert_eq!((stub::queues(), stub::asked(Call::Drop)), (0, 1));
+    }
+}
+
+#[test]
+fn each_member_is_asked_for_what_is_left() {
+    drop(queue_of_15("NOTHING"));
+    assert_eq!((DROPS.get(), stub::asked(Call::TryDeleteMin)), (0, 3));
+    let last = stub::argument(Call::OpenWithRefill, 0) + 2 * 128;
+    assert_eq!(stub::argument(Call::TryDeleteMin, 0), last);
+    assert_eq!((stub::queues(), stub::asked(Call::Drop)), (0, 1));
+}
+
+#[test]
+fn a_finish_gives_what_is_left() {
+    let account = queue_of_15("OK").finish().unwrap();
+    assert_eq!((account.inserted, account.deleted), (27, 12));
+    assert_eq!(account.left.len(), 15);
+    assert_eq!(stub::asked(Call::Close), 0);
+    assert_eq!((stub::queues(), stub::asked(Call::Drop)), (0, 1));
+}
+
+#[test]
+fn all_numbers_of_an_opening_arrive() {
+    stub::begin();
+    let mut numbers = klsm::Queue::builder(3);
+    let numbers = numbers.k(40).pick(Pick::Random).seed(9).refill(30);
+    let queue = numbers.open_typed::<String>().unwrap();
+    let opened = [1, 2, 3, 4, 5].map(|place| stub::argument(Call::OpenWithRefill, place));
+    assert_eq!(opened, [3, 40, stub::pick("Random"), 9, 30]);
+    assert_eq!(queue.threads(), 3);
+    drop(TypedQueue::<String>::new(5, 7).unwrap());
+    let opened = [1, 2, 3, 4, 5].map(|place| stub::argument(Call::OpenWithRefill, place));
+    assert_eq!(opened, [5, 7, stub::pick("First"), 0, 0]);
+    stub::answer_code(Call::OpenWithRefill, 0, stub::code("BAD_K"));
+    assert_eq!(
+        stub::said(|| TypedQueue::<u8>::new(2, 4).unwrap_err()),
+        "BadK"
+    );
+}
