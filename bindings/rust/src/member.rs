@@ -101,6 +101,16 @@ impl<'queue> Member<'queue> {
         }
     }
 
+    /// The front: the key of the least shared item, and `u64::MAX` where no item is shared.
+    ///
+    /// No shared item has a lesser key at the moment at which it is looked at. Items that members keep
+    /// for themselves may have: those of the others are at most (T-1)·k. It takes no lock.
+    #[must_use]
+    pub fn front(&mut self) -> u64 {
+        // SAFETY: as in `insertion`.
+        unsafe { sys::klsm_front(self.slot) }
+    }
+
     /// How many insertions the member has made. It takes some nanoseconds and no lock.
     #[must_use]
     pub fn inserted_count(&self) -> u64 {

@@ -141,6 +141,12 @@ impl OwnedMember {
         self.lend().try_delete_min()
     }
 
+    /// The front, the key of the least shared item: [`Member::front`].
+    #[must_use]
+    pub fn front(&mut self) -> u64 {
+        self.lend().front()
+    }
+
     /// How many insertions the member has made. It takes some nanoseconds and no lock.
     #[must_use]
     pub fn inserted_count(&self) -> u64 {

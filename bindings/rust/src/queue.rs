@@ -177,7 +177,7 @@ impl Queue {
         // SAFETY: the queue is as the library left it, and no member is lent. `totals` and `left` lie
         // outside of it, and `left` has room for as many items as it is long.
         let code = unsafe {
-            sys::klsm_close(&mut *self.slots, &mut totals, left.as_mut_ptr(), left.len())
+            sys::klsm_close_into(&mut *self.slots, &mut totals, left.as_mut_ptr(), left.len())
         };
         match code {
             code::OK => {
@@ -191,7 +191,7 @@ impl Queue {
             }
             code::NO_MEMORY => Err(FinishError::NoMemory(self)),
             code::SHARED => Err(FinishError::Shared),
-            other => sys::unexpected("klsm_close", other),
+            other => sys::unexpected("klsm_close_into", other),
         }
     }
 }

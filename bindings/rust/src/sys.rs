@@ -139,7 +139,7 @@ extern "C" {
         seed: u64,
         refill: usize,
     ) -> i32;
-    pub(crate) fn klsm_close(
+    pub(crate) fn klsm_close_into(
         queue: *mut Slots,
         account: *mut Totals,
         left: *mut Item,
@@ -148,6 +148,7 @@ extern "C" {
     pub(crate) fn klsm_drop(queue: *mut Slots);
     pub(crate) fn klsm_try_insert(member: *mut Slot, key: u64, load: u64) -> i32;
     pub(crate) fn klsm_try_delete_min(member: *mut Slot, item: *mut Item) -> i32;
+    pub(crate) fn klsm_front(member: *mut Slot) -> u64;
     pub(crate) fn klsm_inserted(member: *const Slot) -> u64;
     pub(crate) fn klsm_deleted(member: *const Slot) -> u64;
 }

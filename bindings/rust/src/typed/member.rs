@@ -95,6 +95,12 @@ impl<'queue, T> TypedMember<'queue, T> {
         Ok(item.map(|item| unsafe { TypedItem::of(item) }))
     }
 
+    /// The front, the key of the least shared item: [`Member::front`].
+    #[must_use]
+    pub fn front(&mut self) -> u64 {
+        self.member.front()
+    }
+
     /// How many insertions the member has made. It takes some nanoseconds and no lock.
     #[must_use]
     pub fn inserted_count(&self) -> u64 {

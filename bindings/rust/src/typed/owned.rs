@@ -80,6 +80,12 @@ impl<T> OwnedTypedMember<T> {
         self.lend().try_delete_min()
     }
 
+    /// The front, the key of the least shared item: [`Member::front`](crate::Member::front).
+    #[must_use]
+    pub fn front(&mut self) -> u64 {
+        self.0.lend().front()
+    }
+
     /// How many insertions the member has made. It takes some nanoseconds and no lock.
     #[must_use]
     pub fn inserted_count(&self) -> u64 {

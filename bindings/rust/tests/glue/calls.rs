@@ -129,3 +129,11 @@ fn counts_are_those_of_the_library() {
     assert_asked(Call::Deleted, 1);
     assert_eq!(Queue::new(16, 4).unwrap().left(), 16 * 5);
 }
+
+#[test]
+fn the_front_is_that_of_the_library() {
+    stub::begin();
+    stub::answer(Call::Front, 77);
+    assert_eq!(said(|member| member.front()), "77");
+    assert_asked(Call::Front, 1);
+}

@@ -70,7 +70,7 @@ fn each_code_is_its_own_error() {
             "OK" => assert!(said.starts_with("Ok(Account {")),
             "NO_MEMORY" => assert!(said.starts_with("Err(NoMemory(Queue {")),
             "SHARED" => assert_eq!(said, "Err(Shared)"),
-            _ => assert_eq!(said, stub::never("klsm_close", code)),
+            _ => assert_eq!(said, stub::never("klsm_close_into", code)),
         }
         assert_eq!((stub::queues(), stub::asked(Call::Drop)), (0, 1));
     }

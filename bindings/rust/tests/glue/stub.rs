@@ -15,6 +15,7 @@ pub enum Call {
     Deleted,
     Close,
     Drop,
+    Front,
 }
 
 mod declared {
