@@ -31,6 +31,3 @@ deletes_none old new item was is = subst (λ (xs : List OwnedMember). Deletes xs
 
 pub looks_told : (old new : List OwnedMember) (x y : OwnedMember) (front : ℕ) → old ≡ x ∷ [] → new ≡ y ∷ [] → IsSameOwned x y → LooksAtFront x y front → LooksAt old new front
 looks_told old new x y front was is same looks = subst (λ (xs : List OwnedMember). LooksAt xs new front) (sym was) (y, is, same, looks)
-
-pub looks_none : (old new : List OwnedMember) → old ≡ [] → new ≡ [] → LooksAt old new 18446744073709551615
-looks_none old new was is = subst (λ (xs : List OwnedMember). LooksAt xs new 18446744073709551615) (sym was) (refl, is)
