@@ -80,10 +80,12 @@ impl Work {
     ///
     /// # Panics
     ///
-    /// No piece was open.
+    /// No piece was open. The count stays 0.
     pub fn done(&self) {
-        let open = self.open.fetch_sub(1, Ordering::Release);
-        assert!(open > 0, "a piece of work is done that was not open");
+        if self.open.fetch_sub(1, Ordering::Release) == 0 {
+            self.open.fetch_add(1, Ordering::Relaxed);
+            panic!("a piece of work is done that was not open");
+        }
     }
 
     /// Whether no work is open. Where that is so, what was written before a piece was done is seen.

@@ -4,6 +4,16 @@ use klsm::{DeleteMin, Work};
 use std::panic::catch_unwind;
 use std::sync::atomic::{AtomicU64, Ordering::Relaxed};
 use std::thread;
+use std::time::{Duration, Instant};
+
+/// Waits until all is done, for ten seconds at most.
+fn wait(work: &Work) {
+    let begin = Instant::now();
+    while !work.is_done() {
+        assert!(begin.elapsed() < Duration::from_secs(10), "work stays open");
+        thread::yield_now();
+    }
+}
 
 /// What was written before a piece was done is seen by who finds that all is.
 #[test]
@@ -20,9 +30,7 @@ fn what_the_others_wrote_is_seen() {
                     work.done();
                 });
             }
-            while !work.is_done() {
-                thread::yield_now();
-            }
+            wait(&work);
             let seen = written.iter().map(|number| number.load(Relaxed));
             assert_eq!(seen.sum::<u64>(), 33);
         });
@@ -89,5 +97,7 @@ fn the_count_is_that_of_the_open_pieces() {
 
 #[test]
 fn what_is_not_open_is_not_done() {
-    assert!(catch_unwind(|| Work::new().done()).is_err());
+    let work = Work::new();
+    assert!(catch_unwind(|| work.done()).is_err());
+    assert!(work.is_done());
 }
