@@ -44,8 +44,9 @@
 //! The queue is a library that is proved in Rattle and called through its interface for C. The proof
 //! speaks of the functions of that library, call by call. It does not speak of this crate, which is
 //! thin, has no dependencies and is tested. The folder that has `libklsm.a` is named by the variable
-//! `KLSM_LIB_DIR` at build time; without it, it is `out` beside this crate's folder, where the
-//! command `bindings/build` puts the archive.
+//! `KLSM_LIB_DIR` at build time. Without it, it is `out` beside this crate's folder, where the command
+//! `bindings/build` of the repository puts the archive, or `lib` of the folder that `bindings/install`
+//! has installed this crate in.
 //!
 //! # What the types keep apart
 //!
