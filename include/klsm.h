@@ -51,7 +51,7 @@
 #define KLSM_H
 
 #if !defined(__linux__) || !defined(__x86_64__) || !defined(__GNUC__)
-#error "klsm.h: the library is for Linux on x86-64, and the header for compilers like GCC and Clang"
+#error "klsm.h: the library is for Linux on x86-64 (x86-64-v2), and the header for compilers like GCC and Clang"
 #endif
 
 #include <sched.h>
