@@ -326,9 +326,12 @@ template <class T> struct typed_account {
 
 namespace detail {
 
-// A payload as a load: the load has its bytes, where they are few and plain, and else leads to it.
+// A payload as a load: the load has its bytes, where they are few, plain, and none of them is padding, and else
+// leads to it.
 template <class T> struct payload_of_load {
-    static constexpr bool is_small = sizeof(T) <= sizeof(std::uint64_t) && std::is_trivially_copyable_v<T>;
+    static constexpr bool is_small =
+        sizeof(T) <= sizeof(std::uint64_t) && std::is_trivially_copyable_v<T> &&
+        (std::has_unique_object_representations_v<T> || std::is_floating_point_v<T>);
 
     static T *at(std::uint64_t load) noexcept { return reinterpret_cast<T *>(static_cast<std::uintptr_t>(load)); }
 
@@ -415,7 +418,7 @@ private:
 
 // A queue whose items carry payloads of a type in place of loads. They are moved in and out; what is left is
 // handed back by close(), or destroyed with the queue. A payload costs a block of memory, but none where it has
-// at most 8 plain bytes.
+// at most 8 plain bytes without padding.
 template <class T> class typed_queue {
     static_assert(std::is_nothrow_move_constructible_v<T> && std::is_nothrow_move_assignable_v<T> &&
                   std::is_nothrow_destructible_v<T>);
