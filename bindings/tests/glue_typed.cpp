@@ -69,6 +69,8 @@ static void deletions() {
     }
     begin(STUB_TRY_DELETE_MIN, 1, code::ok);
     check("and writes with ok", of_plain.delete_min(item) == code::ok && item.key == 101);
+    klsm::member gone = std::move(of_plain);
+    check("a member that was moved from is not open", of_plain.delete_min(item) == code::not_open);
 }
 
 static void work() {
