@@ -35,9 +35,9 @@
  *
  * Nothing checks the following, and what happens otherwise is undefined:
  * - One call at a time for each member. Different members may be used at the same time. The openings,
- *   klsm_close, klsm_drop and klsm_left have the whole queue for themselves. One call comes before
- *   another where a thread's start or join, a lock, or a sequentially consistent atomic orders them;
- *   so a member may change threads.
+ *   the calls klsm_close.. and klsm_drop.., and klsm_left have the whole queue for themselves. One call
+ *   comes before another where a thread's start or join, a lock, or a sequentially consistent atomic
+ *   orders them; so a member may change threads.
  * - A queue is all bytes 0 (KLSM_QUEUE_CLOSED, static storage, or memset), or as the last call left
  *   it. It is aligned to 128 bytes: malloc does not give that, aligned_alloc(128, ..) does. While it
  *   is open it is not copied, moved, written to or freed.
@@ -251,9 +251,8 @@ int32_t klsm_try_delete_min(klsm_member *member, klsm_item *item);
 
 /* The front: the key of the least shared item, and UINT64_MAX where no item is shared, or the member is not
  * open. No shared item has a lesser key at the moment at which it is looked at; items in members' own parts
- * may have, of which others have at most (T-1)*k. So a search may end where all that is left cannot be
- * better, once its threads have no own items. The member's thread, one call at a time. Takes no lock and
- * waits for nobody. */
+ * may have, of which others have at most (T-1)*k. So it is a bound of what the shared part may still give.
+ * The member's thread, one call at a time. Takes no lock and waits for nobody. */
 KLSM_NOT_NULL(1) uint64_t klsm_front(klsm_member *member);
 
 /* How many insertions and deletions of the member answered KLSM_OK since the queue was opened; 0
