@@ -54,7 +54,15 @@ impl<Q> Part<Q> {
         Member::of(slot, self.number)
     }
 
-    pub(crate) fn slot(&self) -> &Slot {
+    pub(crate) fn inserted_count(&self) -> u64 {
+        inserted_by(self.slot())
+    }
+
+    pub(crate) fn deleted_count(&self) -> u64 {
+        deleted_by(self.slot())
+    }
+
+    fn slot(&self) -> &Slot {
         // SAFETY: as in `lend`. A part is not `Sync`, so this is no way by which two threads have a slot.
         unsafe { self.slot.as_ref() }
     }
@@ -150,13 +158,13 @@ impl OwnedMember {
     /// How many insertions the member has made. It takes some nanoseconds and no lock.
     #[must_use]
     pub fn inserted_count(&self) -> u64 {
-        inserted_by(self.0.slot())
+        self.0.inserted_count()
     }
 
     /// How many items the member has deleted. It takes some nanoseconds and no lock.
     #[must_use]
     pub fn deleted_count(&self) -> u64 {
-        deleted_by(self.0.slot())
+        self.0.deleted_count()
     }
 
     /// Gives the member back. The last one that is given back gets the queue, and the others `None`.

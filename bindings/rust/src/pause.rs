@@ -18,13 +18,13 @@ const SPIN_LIMIT: u32 = 6;
 const MISSES_AWAKE: u32 = 40;
 const SLEEP: Duration = Duration::from_micros(50);
 
-struct Pause {
+pub(crate) struct Pause {
     length: u32,
     misses: u32,
 }
 
 impl Pause {
-    fn new() -> Pause {
+    pub(crate) fn new() -> Pause {
         Pause {
             length: SHORTEST_PAUSE,
             misses: 0,
@@ -32,7 +32,7 @@ impl Pause {
     }
 
     /// Looks away, and lets other threads run after some misses. The next time it takes longer.
-    fn wait(&mut self) {
+    pub(crate) fn wait(&mut self) {
         if self.misses >= MISSES_AWAKE {
             sleep(SLEEP);
             return;

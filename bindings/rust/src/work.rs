@@ -1,7 +1,7 @@
 //! Open work, counted, so that a crew of threads ends when all is done and not before.
 
+use crate::pause::Pause;
 use std::sync::atomic::{AtomicU64, Ordering};
-use std::thread::yield_now;
 
 /// A count of open work, by which the threads of a crew know when all is done.
 ///
@@ -100,12 +100,13 @@ impl Work {
         self.open.load(Ordering::Relaxed)
     }
 
-    /// Deletes by a member until it finds an item, and lets other threads run between two tries. `None`:
-    /// nothing was found, and no work is open.
+    /// Deletes by a member until it finds an item, and pauses between two tries, longer each time, as a call
+    /// does that waits for a lock. `None`: nothing was found, and no work is open.
     ///
     /// The item is still open, until the caller says [`done`](Work::done).
     #[must_use = "the item is out of the queue"]
     pub fn next<M: DeleteMin>(&self, member: &mut M) -> Option<M::Item> {
+        let mut pause = Pause::new();
         loop {
             if let Some(item) = member.delete_min() {
                 return Some(item);
@@ -113,7 +114,7 @@ impl Work {
             if self.is_done() {
                 return None;
             }
-            yield_now();
+            pause.wait();
         }
     }
 }

@@ -1,40 +1,10 @@
 //! This crate's own memory: where it is refused, what was given comes back; and all of it is given back.
 
+mod blocks;
+
+use blocks::{BLOCKS, MOST};
 use klsm::{FinishError, InsertError, Queue, TryInsertError, TypedFinishError, TypedQueue};
-use std::alloc::{GlobalAlloc, Layout, System};
-use std::cell::Cell;
-use std::ptr::null_mut;
 use std::sync::Arc;
-
-thread_local! {
-    /// This thread is refused blocks of more bytes.
-    static MOST: Cell<usize> = const { Cell::new(usize::MAX) };
-    /// How many blocks this thread took, less those that it gave back.
-    static BLOCKS: Cell<isize> = const { Cell::new(0) };
-}
-
-struct Counted;
-
-// SAFETY: each call is passed on to the system's allocator, or refused with a null pointer.
-unsafe impl GlobalAlloc for Counted {
-    unsafe fn alloc(&self, layout: Layout) -> *mut u8 {
-        if layout.size() > MOST.get() {
-            return null_mut();
-        }
-        BLOCKS.set(BLOCKS.get() + 1);
-        // SAFETY: the caller's duties are those of this call.
-        unsafe { System.alloc(layout) }
-    }
-
-    unsafe fn dealloc(&self, at: *mut u8, layout: Layout) {
-        BLOCKS.set(BLOCKS.get() - 1);
-        // SAFETY: as in `alloc`.
-        unsafe { System.dealloc(at, layout) }
-    }
-}
-
-#[global_allocator]
-static ALLOCATOR: Counted = Counted;
 
 /// What a call answers where all memory is refused.
 fn without_memory<T>(call: impl FnOnce() -> T) -> T {

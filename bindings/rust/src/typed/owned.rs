@@ -2,7 +2,6 @@
 
 use super::{TypedItem, TypedMember, TypedQueue};
 use crate::errors::{Busy, InsertError, Refused, TryInsertError};
-use crate::member::{deleted_by, inserted_by};
 use crate::owned::Part;
 use crate::work::DeleteMin;
 use std::fmt;
@@ -89,13 +88,13 @@ impl<T> OwnedTypedMember<T> {
     /// How many insertions the member has made. It takes some nanoseconds and no lock.
     #[must_use]
     pub fn inserted_count(&self) -> u64 {
-        inserted_by(self.0.slot())
+        self.0.inserted_count()
     }
 
     /// How many items the member has deleted. It takes some nanoseconds and no lock.
     #[must_use]
     pub fn deleted_count(&self) -> u64 {
-        deleted_by(self.0.slot())
+        self.0.deleted_count()
     }
 
     /// Gives the member back. The last one that is given back gets the queue, and the others `None`, as

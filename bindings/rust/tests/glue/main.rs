@@ -2,6 +2,7 @@
 //! it hands on, and what it answers. `bindings/check` builds the stub, and names this test; without the stub
 //! it cannot be linked. The tests of what calls no library stand here too.
 
+#[path = "../blocks/mod.rs"]
 mod blocks;
 mod calls;
 mod closing;

@@ -1,6 +1,6 @@
 //! Payloads: what arrives, what a refusal gives back, and what is dropped.
 
-use crate::blocks::blocks;
+use crate::blocks::BLOCKS;
 use crate::stub::{self, Call};
 use klsm::{Pick, Refused, TypedItem, TypedQueue};
 use std::cell::Cell;
@@ -105,12 +105,12 @@ fn a_refused_payload_gives_its_block_back() {
     stub::answer_code(Call::TryInsert, 0, stub::code("FULL"));
     let mut queue = TypedQueue::new(1, 4).unwrap();
     let mut member = queue.members().next().unwrap();
-    let before = blocks();
+    let before = BLOCKS.get();
     let refused = member.insert(1, payload()).unwrap_err();
-    assert_eq!(blocks(), before + 1);
+    assert_eq!(BLOCKS.get(), before + 1);
     drop(refused);
     drop(member.try_insert(1, payload()));
-    assert_eq!(blocks(), before);
+    assert_eq!(BLOCKS.get(), before);
 }
 
 /// The load that arrives is the address of the payload, which the queue then has.
