@@ -8,6 +8,5 @@
 
 #[cfg(test)]
 mod knapsack;
-pub mod letting_go;
 #[cfg(test)]
 mod program;

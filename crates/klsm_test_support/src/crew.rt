@@ -15,7 +15,6 @@ use std::mem;
 use std::sync::Wait;
 
 /// A board, those of its members that hold no part, the one that holds one, and those that are away.
-#[derive(Drop)]
 pub struct Crew<const LEVELS: usize> {
     pub board: Board<64, LEVELS>,
     pub members: Vec<Member<64, LEVELS>>,
@@ -24,6 +23,18 @@ pub struct Crew<const LEVELS: usize> {
     ghost members_are_of: { All (λ member. IsOf member board) members.items },
     ghost held_is_of: { IfSome held (λ held. IsHeldOf held board) } by { Prim.hlevel props },
     ghost away_are_of: { All (λ member. IsOf member board) away.items },
+}
+
+// Written out, so that who lets a crew go calls this, and no other crate proves how a board is let go.
+impl<const LEVELS: usize> Drop for Crew<LEVELS> {
+    fn drop(self) {
+        let Crew {
+            board: _board,
+            members: _members,
+            held: _held,
+            away: _away,
+        } = self;
+    }
 }
 
 impl<const LEVELS: usize> Crew<LEVELS> {

@@ -5,11 +5,13 @@
 #![tactic(auto)]
 
 mod crew;
+mod made;
 mod meeting;
 mod numbered;
 mod rationed;
 
 pub use crew::{Crew, refused};
+pub use made::Made;
 pub use meeting::{Counting, LOOKS, Meeting};
 pub use numbered::add_words;
 pub use rationed::Rationed;

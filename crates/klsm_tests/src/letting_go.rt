@@ -1,11 +1,11 @@
-//! How a board and its members are let go.
+//! How a shared part is let go.
 //!
-//! It is read without the tests too: the proofs of it stand by the names of calls, which have to be there
+//! It is read without the tests too: the proof of it stands by the name of a call, which has to be there
 //! both times.
 
-use klsm_test_support::Crew;
+use klsm_parts::Shared;
 
-/// Lets a board and its members go, as the end of a test does.
-pub fn let_go(crew: Crew<21>) {
-    drop(crew);
+/// Lets shared parts go, as the table of a board does.
+pub fn let_go(parts: Vec<Shared<21>>) {
+    drop(parts);
 }

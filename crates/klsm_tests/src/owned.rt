@@ -79,7 +79,12 @@ pub(crate) fn are_of(items: &[Item], keys: &[u64]) -> bool {
     items.len() == keys.len()
 }
 
-/// Whether both are the same items. Each comparison of slices takes longer to prove than a call.
+/// Whether both are the same item, or none. A comparison takes longer to prove than a call.
+pub(crate) fn same_item(item: Option<Item>, other: Option<Item>) -> bool {
+    item == other
+}
+
+/// Whether both are the same items.
 pub(crate) fn same_items(items: &[Item], others: &[Item]) -> bool {
     items == others
 }

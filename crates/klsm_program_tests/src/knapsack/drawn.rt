@@ -9,16 +9,20 @@ use std::alloc::Global;
 use std::sync::Wait;
 use std::thread::Threads;
 
-// The rows of up to 12 things.
-fn drawn(alloc: Global, seed: u64) -> Option<Vec<u8>> {
-    let mut mix = Pcg32::seed_from_u64(seed);
-    let mut text = Vec::new(alloc);
-    add_words(&mut text, &[("capacity,", mix.next_u64() % 60)], "\n")?;
+// Adds the rows of up to 12 things.
+fn add_drawn(text: &mut Vec<u8>, mix: &mut Pcg32) -> Option<()> {
+    add_words(text, &[("capacity,", mix.next_u64() % 60)], "\n")?;
     for _ in 0..mix.next_u64() % 13 {
         let value = 1 + mix.next_u64() % 100;
         let weight = 1 + mix.next_u64() % 20;
-        add_words(&mut text, &[("", value), (",", weight)], "\n")?;
+        add_words(text, &[("", value), (",", weight)], "\n")?;
     }
+    Some(())
+}
+
+fn drawn(alloc: Global, seed: u64) -> Option<Vec<u8>> {
+    let mut text = Vec::new(alloc);
+    add_drawn(&mut text, &mut Pcg32::seed_from_u64(seed))?;
     Some(text)
 }
 
@@ -54,24 +58,55 @@ fn is_best(instance: &Instance, best: u64, value: u64, picks: u64) -> bool {
     value == best && value_of(instance, picks) == Some(best)
 }
 
+// Whether the search in one thread gives such a selection.
+fn agrees_in_turn(instance: &Instance, best: u64) -> bool {
+    let found = solve_in_turn(instance);
+    is_best(instance, best, found.value, found.picks)
+}
+
+// Whether one by so many threads does at this k.
+fn agrees(
+    rt: &(impl Threads + Wait + Sync),
+    alloc: Global,
+    instance: &Instance,
+    best: u64,
+    (threads, k): (usize, usize),
+) -> bool {
+    match solve::<21>(rt, alloc, instance, threads, k, 4, &Open) {
+        Ok(found) => is_best(instance, best, found.value, found.picks),
+        Err(_) => false,
+    }
+}
+
+// Members and k of the boards.
+const BOARDS: &[(usize, usize)] = &[
+    (1, 0),
+    (1, 1),
+    (1, 16),
+    (2, 0),
+    (2, 1),
+    (2, 16),
+    (4, 0),
+    (4, 1),
+    (4, 16),
+];
+
 // Whether all searches of an instance give a selection of the best value.
-fn agree(rt: &(impl Threads + Wait + Sync), alloc: Global, instance: &Instance) -> Option<bool> {
+fn agree(rt: &(impl Threads + Wait + Sync), alloc: Global, instance: &Instance) -> bool {
     let best = best_value(instance);
-    let in_turn = solve_in_turn(instance);
-    let mut all = is_best(instance, best, in_turn.value, in_turn.picks);
-    for threads in [1, 2, 4] {
-        for k in [0, 1, 16] {
-            let found = solve::<21>(rt, alloc, instance, threads, k, 4, &Open).ok()?;
-            all &= is_best(instance, best, found.value, found.picks);
+    for board in BOARDS {
+        if !agrees(rt, alloc, instance, best, *board) {
+            return false;
         }
     }
-    Some(all)
+    agrees_in_turn(instance, best)
 }
 
 // The same of a drawn one.
 fn agree_on_drawn(rt: &(impl Threads + Wait + Sync), alloc: Global, seed: u64) -> Option<bool> {
     let text = drawn(alloc, seed)?;
-    agree(rt, alloc, &Instance::read(alloc, text.as_slice()).ok()?)
+    let instance = Instance::read(alloc, text.as_slice()).ok()?;
+    Some(agree(rt, alloc, &instance))
 }
 
 #[test]

@@ -29,19 +29,18 @@ fn rows_are_refused_for_the_first_reason(rt: HostRuntime) {
     }
 }
 
-// The first row, 32 rows, and this last one.
-fn text_of_33(alloc: Global, last: &[u8]) -> Result<Vec<u8>, AllocError> {
-    let mut text = Vec::new(alloc);
+// Adds the first row, 32 rows, and this last one.
+fn add_33(text: &mut Vec<u8>, last: &[u8]) -> Result<(), AllocError> {
     text.extend_from_slice(b"capacity,10\n")?;
     for _ in 0..32 {
         text.extend_from_slice(b"1,1\n")?;
     }
-    text.extend_from_slice(last)?;
-    Ok(text)
+    text.extend_from_slice(last)
 }
 
 fn refusal_of_33(alloc: Global, last: &[u8]) -> Result<Option<ReadError>, AllocError> {
-    let text = text_of_33(alloc, last)?;
+    let mut text = Vec::new(alloc);
+    add_33(&mut text, last)?;
     Ok(refusal(alloc, text.as_slice()))
 }
 

@@ -75,28 +75,42 @@ fn picks_are_given_back_by_the_rows(rt: HostRuntime) {
     }
 }
 
-// The rows of 1 to 12 things, of few values and weights, so that many are as steep as others.
-fn drawn(alloc: Global, seed: u64) -> Option<Vec<u8>> {
-    let mut mix = Pcg32::seed_from_u64(seed);
-    let mut text = Vec::new(alloc);
-    add_words(&mut text, &[("capacity,", mix.next_u64() % 20)], "\n")?;
+// Adds the rows of 1 to 12 things, of few values and weights, so that many are as steep as others.
+fn add_drawn(text: &mut Vec<u8>, mix: &mut Pcg32) -> Option<()> {
+    add_words(text, &[("capacity,", mix.next_u64() % 20)], "\n")?;
     for _ in 0..mix.next_u64() % 13 {
         let value = 1 + mix.next_u64() % 6;
         let weight = 1 + mix.next_u64() % 6;
-        add_words(&mut text, &[("", value), (",", weight)], "\n")?;
+        add_words(text, &[("", value), (",", weight)], "\n")?;
     }
+    Some(())
+}
+
+fn drawn(alloc: Global, seed: u64) -> Option<Vec<u8>> {
+    let mut text = Vec::new(alloc);
+    add_drawn(&mut text, &mut Pcg32::seed_from_u64(seed))?;
     Some(text)
 }
 
-// Whether no thing is steeper than the one before it, nor heavier where it is as steep.
+// Whether a thing of this value and weight is no steeper than the one before it, nor heavier where it is
+// as steep.
+fn comes_after((value, weight): (u64, u64), (former_value, former_weight): (u64, u64)) -> bool {
+    let before = former_value.wrapping_mul(weight);
+    let behind = value.wrapping_mul(former_weight);
+    behind < before || behind == before && weight <= former_weight
+}
+
+// Whether each thing does come after the one before it.
 fn falls(instance: &Instance) -> bool {
-    let mut all = true;
-    for i in 1..instance.len() {
-        let before = instance.value(i - 1).wrapping_mul(instance.weight(i));
-        let behind = instance.value(i).wrapping_mul(instance.weight(i - 1));
-        all &= behind < before || behind == before && instance.weight(i) <= instance.weight(i - 1);
+    let mut former = (u64::MAX, 1);
+    for i in 0..instance.len() {
+        let thing = (instance.value(i), instance.weight(i));
+        if i > 0 && !comes_after(thing, former) {
+            return false;
+        }
+        former = thing;
     }
-    all
+    true
 }
 
 // Whether the answer given back is one of the instance, and of the value of its own.

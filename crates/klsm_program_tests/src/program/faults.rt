@@ -66,16 +66,9 @@ fn leaves_first(
     room: usize,
     fails: bool,
 ) -> bool {
-    let mut output = Output {
-        room,
-        at_a_time: 5,
-        fails,
-        ..Output::ample(alloc)
-    };
+    let mut output = Output::refusing(alloc, room, fails);
     let status = run(rt, alloc, words, Input::whole(input), &mut output);
-    let taken = output.taken.as_slice();
-    let first = text.get(..room).unwrap_or(text);
-    status == 4 && output.refused == 1 && taken.len() == room && taken.starts_with(first)
+    status == 4 && output.refused == 1 && output.is_filled_by(text)
 }
 
 /// The same for each number of bytes below that of the text, and for both kinds of refusal.
@@ -136,12 +129,7 @@ fn tells_written(
     room: usize,
     fails: bool,
 ) -> bool {
-    let mut output = Output {
-        room,
-        at_a_time: 5,
-        fails,
-        ..Output::ample(rt.alloc())
-    };
+    let mut output = Output::refusing(rt.alloc(), room, fails);
     let report = report_of(rt, command, &mut output);
     let written = output.taken.len() as u64;
     let end = End::WriteFault;

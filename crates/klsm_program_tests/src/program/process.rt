@@ -96,6 +96,23 @@ impl Output {
             refused: 0,
         }
     }
+
+    /// One that takes five bytes at a time, and refuses after so many.
+    pub(super) fn refusing(alloc: Global, room: usize, fails: bool) -> Self {
+        Output {
+            taken: Vec::new(alloc),
+            room,
+            at_a_time: 5,
+            fails,
+            refused: 0,
+        }
+    }
+
+    /// Whether it has as many bytes as there was room for, the first of them those of a text.
+    pub(super) fn is_filled_by(&self, text: &[u8]) -> bool {
+        let first = text.get(..self.room).unwrap_or(text);
+        self.taken.len() == self.room && self.taken.as_slice().starts_with(first)
+    }
 }
 
 impl Write for Output {

@@ -272,6 +272,22 @@ impl Progress for Heard {
     }
 }
 
+/// A run over an input, of which all is heard.
+fn run_heard(
+    rt: &(impl Wait + Threads + Sync),
+    alloc: Global,
+    words: &[&[u8]],
+    input: &[u8],
+    heard: &Heard,
+) {
+    run_program(
+        &(Process { rt, words }, alloc),
+        Input::whole(input),
+        &mut Output::ample(alloc),
+        heard,
+    );
+}
+
 /// What is heard of a run of this command over an input.
 fn heard_of(
     rt: &(impl Wait + Threads + Sync),
@@ -280,14 +296,7 @@ fn heard_of(
     input: &[u8],
 ) -> [u64; 7] {
     let heard = Heard::nothing();
-    let words: &[&[u8]] = &[b"klsm", command];
-    let mut output = Output::ample(alloc);
-    run_program(
-        &(Process { rt, words }, alloc),
-        Input::whole(input),
-        &mut output,
-        &heard,
-    );
+    run_heard(rt, alloc, &[b"klsm", command], input, &heard);
     heard.all()
 }
 

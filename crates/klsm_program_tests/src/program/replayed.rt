@@ -1,7 +1,8 @@
 //! Scripts that are run with settings of the test's own, over a board of their own or over one that
 //! is given.
 
-use klsm_board::{Board, Member};
+use klsm_board::Member;
+use klsm_test_support::Made;
 use klsm_tool::{End, Report, Settings, replay_on, replay_over};
 use std::alloc::Global;
 use std::sync::Wait;
@@ -58,20 +59,33 @@ pub(super) fn run_on(
         refill,
         ..
     } = *settings;
-    let Ok((board, mut members)) = Board::with_refill(rt.alloc(), threads, k, MANY, refill) else {
+    let Ok(mut made) = Made::with_refill(rt.alloc(), threads, k, MANY, refill) else {
         return None;
     };
     let mut text = empty;
-    let report = replay_on(rt, script, &mut text, settings, &board, &mut members);
-    let counts = counts_of(rt.alloc(), members.as_slice())?;
+    let lent = &mut made;
+    let report = replay_on(
+        rt,
+        script,
+        &mut text,
+        settings,
+        &lent.board,
+        &mut lent.members,
+    );
+    let counts = counts_of(rt.alloc(), made.members.as_slice())?;
     Some((Run { text, report }, counts))
 }
 
 fn counts_of(alloc: Global, members: &[Member<64, 21>]) -> Option<Vec<Counts>> {
     let mut counts = Vec::new(alloc);
+    add_counts(&mut counts, members)?;
+    Some(counts)
+}
+
+fn add_counts(counts: &mut Vec<Counts>, members: &[Member<64, 21>]) -> Option<()> {
     for member in members {
         let of_member = (member.inserted_count(), member.deleted_count());
         counts.push(of_member).ok()?;
     }
-    Some(counts)
+    Some(())
 }

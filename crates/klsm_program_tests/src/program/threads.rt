@@ -249,20 +249,30 @@ const ONE_THREAD: Settings = Settings {
 /// How many items a script has: one more than the thread keeps.
 const ITEMS: u64 = 65;
 
-/// Adds insertions, the greatest key first, and a deletion for each, to a script, and their answers
-/// to a text.
-fn add_rows(script: &mut Vec<u8>, text: &mut Vec<u8>) -> Option<()> {
+/// Adds insertions to a script, the greatest key first, and their answers to a text.
+fn add_insertions(script: &mut Vec<u8>, text: &mut Vec<u8>) -> Option<()> {
     for number in 0..ITEMS {
         let key = ITEMS - 1 - number;
         add_words(script, &[("0,i,", key), (",", number)], "\n")?;
         add_words(text, &[("0 i ", key), (" 0.", number)], "\n")?;
     }
+    Some(())
+}
+
+/// Adds a deletion for each.
+fn add_deletions(script: &mut Vec<u8>, text: &mut Vec<u8>) -> Option<()> {
     for key in 0..ITEMS {
         let number = ITEMS - 1 - key;
         let words = [("0 d ", key), (" 0.", number), (" load ", number)];
         add_words(script, &[], "0,d,,\n")?;
         add_words(text, &words, " skip 0\n")?;
     }
+    Some(())
+}
+
+fn add_rows(script: &mut Vec<u8>, text: &mut Vec<u8>) -> Option<()> {
+    add_insertions(script, text)?;
+    add_deletions(script, text)?;
     add_words(text, &[], "max skip 0 bound 64\n")
 }
 

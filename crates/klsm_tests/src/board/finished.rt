@@ -3,6 +3,7 @@ ghost use Rattle.klsm_parts.specs.Limit.{IsLevelCount};
 
 use super::script::{Name, Step, all_go, item};
 use klsm_board::{Account, FinishError, TryInsertError};
+use klsm_run::Item;
 use klsm_test_support::{Crew, refused};
 use std::alloc::Global;
 use std::sync::Wait;
@@ -59,19 +60,25 @@ fn finished_again<const LEVELS: usize>(
     if !crew.are(numbers) {
         return None;
     }
-    crew.finish(alloc).ok()
+    match crew.finish(alloc) {
+        Ok(account) => Some(account),
+        Err(_) => None,
+    }
+}
+
+// Whether items have these names.
+fn are(items: &[Item], names: &[Name]) -> bool {
+    for (found, name) in items.iter().zip(names) {
+        if *found != item(*name) {
+            return false;
+        }
+    }
+    items.len() == names.len()
 }
 
 // Whether these numbers of items were inserted and deleted, and these items are left.
 fn tells(account: &Account, inserted: u64, deleted: u64, left: &[Name]) -> bool {
-    account.inserted == inserted
-        && account.deleted == deleted
-        && account.left.len() == left.len()
-        && account
-            .left
-            .iter()
-            .zip(left)
-            .all(|(found, name)| *found == item(*name))
+    account.inserted == inserted && account.deleted == deleted && are(account.left.as_slice(), left)
 }
 
 const TWO_MEMBERS: &[Step] = &[

@@ -3,8 +3,9 @@
 
 use super::plain::Plain;
 use crate::rules::Pick;
-use klsm_board::TryInsertError;
+use klsm_board::{Busy, TryInsertError};
 use klsm_parts::{First, Last, Random};
+use klsm_run::{Item, Stamp};
 use klsm_test_support::Crew;
 use rand_core::{Rng, SeedableRng};
 use rand_pcg::Pcg32;
@@ -51,6 +52,19 @@ fn both_of(alloc: Global, kind: Kind, picks: Picks) -> Option<Both> {
     })
 }
 
+// A member's number.
+fn number_of(member: usize) -> Option<u32> {
+    u32::try_from(member).ok()
+}
+
+// An insertion of a plain board, as one of a board.
+fn as_tried(answer: Result<Stamp, Busy>) -> Result<Stamp, TryInsertError> {
+    match answer {
+        Ok(stamp) => Ok(stamp),
+        Err(busy) => Err(TryInsertError::Busy(busy)),
+    }
+}
+
 // A number below `bound`, or 0.
 fn below(mix: &mut Pcg32, bound: usize) -> usize {
     mix.next_u32() as usize % bound.max(1)
@@ -61,10 +75,8 @@ impl Both {
     fn insert(&mut self, member: usize) -> Option<bool> {
         let key = self.mix.next_u64() % 40;
         let load = self.mix.next_u64();
-        let number = u32::try_from(member).ok()?;
-        let want = self.plain.insert(number, key, load)?;
-        let answer = self.crew.try_insert(member, key, load)?;
-        Some(answer == want.map_err(TryInsertError::Busy))
+        let want = as_tried(self.plain.insert(number_of(member)?, key, load)?);
+        Some(self.crew.try_insert(member, key, load)? == want)
     }
 
     // How this deletion picks.
@@ -79,29 +91,42 @@ impl Both {
     // Whether a deletion ends alike.
     fn delete(&mut self, member: usize) -> Option<bool> {
         let pick = self.next_pick()?;
-        let number = u32::try_from(member).ok()?;
-        let want = self.plain.delete(number, pick)?;
-        let answer = match self.picks {
-            Picks::First => self.crew.try_delete_min(member, &mut First)?,
-            Picks::Last => self.crew.try_delete_min(member, &mut Last)?,
+        let want = self.plain.delete(number_of(member)?, pick)?;
+        Some(self.try_delete(member)? == want)
+    }
+
+    // How it ends on the board.
+    fn try_delete(&mut self, member: usize) -> Option<Result<Option<Item>, Busy>> {
+        match self.picks {
+            Picks::First => self.crew.try_delete_min(member, &mut First),
+            Picks::Last => self.crew.try_delete_min(member, &mut Last),
             Picks::Random => {
                 let mut random = Random::new(&mut self.mix);
-                self.crew.try_delete_min(member, &mut random)?
+                self.crew.try_delete_min(member, &mut random)
             }
-        };
-        Some(answer == want)
+        }
+    }
+
+    // The number of the last member that holds no part.
+    fn last_free(&self) -> Option<u32> {
+        Some(number_of(self.crew.members.len())?.saturating_sub(1))
+    }
+
+    // Whether a member holds a part of which there is this to be seen.
+    fn sees(&self, member: u32, lock: usize, sight: Option<(usize, Option<Item>)>) -> bool {
+        match sight {
+            Some((len, least)) => self.crew.holds(member, lock, len, least),
+            None => false,
+        }
     }
 
     // Whether a try of the last member to hold a part ends alike, and it sees what there is.
     fn hold(&mut self, lock: usize) -> Option<bool> {
-        let member = u32::try_from(self.crew.members.len())
-            .ok()?
-            .saturating_sub(1);
-        let (len, least) = self.plain.sight(lock).unwrap_or((0, None));
+        let member = self.last_free()?;
+        let sight = self.plain.sight(lock);
         let want = self.plain.hold(member, lock);
-        let answer = self.crew.try_hold(lock)?;
-        let sees = want.is_err() || self.crew.holds(member, lock, len, least);
-        Some(answer == want && sees)
+        let is_same = self.crew.try_hold(lock)? == want;
+        Some(is_same && (want.is_err() || self.sees(member, lock, sight)))
     }
 
     // Whether the part that is held goes back.

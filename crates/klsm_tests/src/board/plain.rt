@@ -1,6 +1,7 @@
 //! The plain board: the rules over lists of items, in one thread, as slow as they read. It calls
 //! nothing of the code under test.
 
+use crate::owned::same_items;
 use crate::rules::{Blocks, Pick, add, chosen, remove, sorted, spied};
 use klsm_board::{Account, Busy, HoldError};
 use klsm_run::{Item, Stamp};
@@ -109,23 +110,48 @@ impl Plain {
         if let Some(busy) = self.busy(own_lock(member)) {
             return Some(Err(busy));
         }
-        let least = self.own_items(member)?.first().copied();
-        if least.is_some_and(|own| own.key < self.front()) {
-            self.early = self.early.saturating_add(self.busy(0).is_some() as u64);
-            return Some(Ok(self.take_out(member, least)?));
+        let least = self.least_own(member)?;
+        if self.is_below_front(least) {
+            return Some(Ok(self.take_early(member, least)?));
         }
-        if let Some(busy) = self.busy(0) {
-            return Some(Err(busy));
+        match self.busy(0) {
+            Some(busy) => Some(Err(busy)),
+            None => Some(Ok(self.take_any(member, least, pick)?)),
         }
+    }
+
+    // The least item of a member's own part.
+    fn least_own(&self, member: u32) -> Option<Option<Item>> {
+        Some(self.own_items(member)?.first().copied())
+    }
+
+    // Whether there is such an item, and its key is below the front.
+    fn is_below_front(&self, least: Option<Item>) -> bool {
+        match least {
+            Some(own) => own.key < self.front(),
+            None => false,
+        }
+    }
+
+    // Takes the least own item by the front.
+    fn take_early(&mut self, member: u32, least: Option<Item>) -> Option<Option<Item>> {
+        if self.busy(0).is_some() {
+            self.early = self.early.saturating_add(1);
+        }
+        self.take_out(member, least)
+    }
+
+    // Takes an item with both parts in hand, after a spy where both are empty.
+    fn take_any(&mut self, member: u32, least: Option<Item>, pick: Pick) -> Option<Option<Item>> {
         if least.is_none() && self.shared.is_empty() {
             self.spy(member)?;
         }
-        Some(Ok(self.take(member, pick)?))
+        self.take(member, pick)
     }
 
     // Takes what a deletion takes with both parts in hand, and moves more where that was shared.
     fn take(&mut self, member: u32, pick: Pick) -> Option<Option<Item>> {
-        let least = self.own_items(member)?.first().copied();
+        let least = self.least_own(member)?;
         let count = self.k.saturating_add(1).min(self.shared.len());
         let item = chosen(least, &self.shared[..count], member, pick);
         let before = self.shared.len();
@@ -218,16 +244,20 @@ impl Plain {
         Some(left)
     }
 
-    /// Whether an account tells of its insertions and deletions, and of what is left.
-    pub(super) fn has_account(&self, account: &Account) -> Option<bool> {
+    // How many items were inserted.
+    fn inserted(&self) -> u64 {
         let mut inserted: u64 = 0;
         for own in &self.owns {
             inserted = inserted.saturating_add(own.inserted);
         }
-        Some(
-            (account.inserted, account.deleted) == (inserted, self.deleted)
-                && account.left.as_slice() == self.left()?.as_slice(),
-        )
+        inserted
+    }
+
+    /// Whether an account tells of its insertions and deletions, and of what is left.
+    pub(super) fn has_account(&self, account: &Account) -> Option<bool> {
+        let counts = account.inserted == self.inserted() && account.deleted == self.deleted;
+        let left = self.left()?;
+        Some(counts && same_items(account.left.as_slice(), left.as_slice()))
     }
 }
 

@@ -95,6 +95,50 @@ fn delete<const LEVELS: usize>(
     crew.try_delete_min(index, &mut First)
 }
 
+// Whether a member's insertion of a key ends so.
+fn inserts<const LEVELS: usize>(
+    rt: &impl Wait,
+    crew: &mut Crew<LEVELS>,
+    waits: bool,
+    (member, key): (u32, u64),
+    want: Result<Stamp, TryInsertError>,
+) -> bool {
+    insert(rt, crew, waits, member, key) == Some(want)
+}
+
+// Whether a member's deletion ends so.
+fn deletes<const LEVELS: usize>(
+    rt: &impl Wait,
+    crew: &mut Crew<LEVELS>,
+    waits: bool,
+    member: u32,
+    want: Result<Option<Item>, Busy>,
+) -> bool {
+    delete(rt, crew, waits, member) == Some(want)
+}
+
+// Whether a try of the last member to hold a part ends so.
+fn holds<const LEVELS: usize>(
+    crew: &mut Crew<LEVELS>,
+    lock: usize,
+    want: Result<(), HoldError>,
+) -> bool {
+    crew.try_hold(lock) == Some(want)
+}
+
+// Whether a member has made so many insertions and deletions.
+fn has_counts<const LEVELS: usize>(crew: &Crew<LEVELS>, member: u32, want: (u64, u64)) -> bool {
+    crew.counts(member as usize) == Some(want)
+}
+
+// The item of that name, if there is one.
+fn named(name: Option<Name>) -> Option<Item> {
+    match name {
+        Some(name) => Some(item(name)),
+        None => None,
+    }
+}
+
 // Whether a step goes as it has to.
 fn goes<const LEVELS: usize>(
     rt: &impl Wait,
@@ -104,25 +148,19 @@ fn goes<const LEVELS: usize>(
 ) -> bool {
     match step {
         Step::Inserts((key, owner, number)) => {
-            insert(rt, crew, waits, owner, key) == Some(Ok(Stamp { owner, number }))
+            inserts(rt, crew, waits, (owner, key), Ok(Stamp { owner, number }))
         }
-        Step::IsRefused(member, key, why) => {
-            insert(rt, crew, waits, member, key) == Some(Err(why))
-        }
-        Step::Deletes(member, name) => {
-            delete(rt, crew, waits, member) == Some(Ok(name.map(item)))
-        }
-        Step::Misses(member, busy) => delete(rt, crew, waits, member) == Some(Err(busy)),
+        Step::IsRefused(member, key, why) => inserts(rt, crew, waits, (member, key), Err(why)),
+        Step::Deletes(member, name) => deletes(rt, crew, waits, member, Ok(named(name))),
+        Step::Misses(member, busy) => deletes(rt, crew, waits, member, Err(busy)),
         Step::Holds(member, lock, len, least) => {
-            crew.try_hold(lock) == Some(Ok(())) && crew.holds(member, lock, len, least.map(item))
+            holds(crew, lock, Ok(())) && crew.holds(member, lock, len, named(least))
         }
-        Step::CannotHold(lock, why) => crew.try_hold(lock) == Some(Err(why)),
+        Step::CannotHold(lock, why) => holds(crew, lock, Err(why)),
         Step::PutsBack => crew.put_back().is_some(),
         Step::DropsHeld => crew.drop_held().is_some(),
         Step::DropsMember => crew.drop_member().is_some(),
-        Step::Counts(member, inserted, deleted) => {
-            crew.counts(member as usize) == Some((inserted, deleted))
-        }
+        Step::Counts(member, inserted, deleted) => has_counts(crew, member, (inserted, deleted)),
     }
 }
 

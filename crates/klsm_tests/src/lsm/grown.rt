@@ -5,7 +5,7 @@ ghost use Rattle.std.specs.List.{All, AllByRecursion};
 ghost use Rattle.klsm_lsm.specs.Lsm.{content};
 ghost use Rattle.klsm_lsm.specs.Limit.{IsLevelCount};
 
-use super::super::owned::{are_keys, has_keys, heap_run_of, run_of};
+use super::super::owned::{are_keys, has_blocks, has_keys, heap_run_of, run_of};
 use klsm_lsm::{Lsm, LsmError, Refused};
 use klsm_run::{FixedRun, HeapRun, Item, Run};
 use klsm_test_support::Rationed;
@@ -128,6 +128,11 @@ impl<'a> RationedGrown<'a> {
             How::Run => self.absorb_keys(heap, keys, growths),
             How::Copy => self.absorb_copy(heap, keys, growths),
         }
+    }
+
+    /// Whether its blocks have these keys.
+    pub fn has(&self, blocks: &[&[u64]]) -> bool {
+        has_blocks(&self.lsm, blocks)
     }
 
     /// Has the items of these runs in place of its own, with all growths granted.

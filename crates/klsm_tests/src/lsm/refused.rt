@@ -1,6 +1,5 @@
 //! Refusals: an LSM that is full, and a growth that is refused. Nothing changes, and a run comes
 //! back.
-use super::super::owned::has_blocks;
 use super::grown::{Grown, How, RationedGrown};
 use klsm_lsm::LsmError;
 use klsm_test_support::Rationed;
@@ -15,6 +14,20 @@ struct Row {
     run: Result<(), LsmError>,
     copy: Result<(), LsmError>,
     blocks: &'static [&'static [u64]],
+}
+
+impl Row {
+    // What comes of it, and the blocks then.
+    fn after(&self, how: How) -> (Result<(), LsmError>, &'static [&'static [u64]]) {
+        let want = match how {
+            How::Run => self.run,
+            How::Copy => self.copy,
+        };
+        match want {
+            Ok(()) => (want, self.blocks),
+            Err(_) => (want, self.runs),
+        }
+    }
 }
 
 // As many items as the limit of 8, and one more. Then a run of one item, which becomes one with all
@@ -96,12 +109,8 @@ fn adds<'a>(
 ) -> Option<bool> {
     grown.refill(heap, how, row.runs)?;
     let answer = grown.add(heap, how, row.keys, row.growths)?;
-    let want = match how {
-        How::Run => row.run,
-        How::Copy => row.copy,
-    };
-    let blocks = if want.is_ok() { row.blocks } else { row.runs };
-    Some(answer == want && has_blocks(&grown.lsm, blocks))
+    let (want, blocks) = row.after(how);
+    Some(answer == want && grown.has(blocks))
 }
 
 // Whether each row goes so, by both ways.

@@ -26,7 +26,7 @@ fn are_added<'a>(
 ) -> Option<bool> {
     for (runs, blocks) in ADDED {
         grown.refill(heap, how, runs)?;
-        if !has_blocks(&grown.lsm, blocks) {
+        if !grown.has(blocks) {
             return Some(false);
         }
     }
@@ -115,6 +115,15 @@ fn has_partners<R: Run, const LEVELS: usize>(
     true
 }
 
+// Whether an LSM tells these cascades and partners.
+fn foretells(
+    grown: &RationedGrown,
+    cascades: &[(usize, usize)],
+    partners: &[Option<usize>],
+) -> bool {
+    has_cascades(&grown.lsm, cascades) && has_partners(&grown.lsm, partners)
+}
+
 // Runs, the blocks that a run of each level from 0 on would become one with, and the partner of each
 // block.
 const FORETOLD: &[(&[&[u64]], &[(usize, usize)], &[Option<usize>])] = &[
@@ -130,7 +139,7 @@ const FORETOLD: &[(&[&[u64]], &[(usize, usize)], &[Option<usize>])] = &[
 fn are_foretold<'a>(heap: &'a Rationed<Global>, grown: &mut RationedGrown<'a>) -> Option<bool> {
     for (runs, cascades, partners) in FORETOLD {
         grown.refill(heap, How::Run, runs)?;
-        if !has_cascades(&grown.lsm, cascades) || !has_partners(&grown.lsm, partners) {
+        if !foretells(grown, cascades, partners) {
             return Some(false);
         }
     }

@@ -95,20 +95,25 @@ fn take_some(parts: &mut Parts, mix: &mut Pcg32) -> Option<()> {
     Some(())
 }
 
-// Whether both are the same at this k after each of 500 such steps.
+// Makes 500 such steps.
+fn mix_parts(parts: &mut Parts, mix: &mut Pcg32) -> Option<()> {
+    for number in 0..500 {
+        if mix.next_u32() % 9 < 5 {
+            insert_some(parts, mix, number)?;
+        } else {
+            take_some(parts, mix)?;
+        }
+    }
+    Some(())
+}
+
+// Whether both are the same at this k after each of them.
 fn same_for_owners(alloc: Global, k: usize) -> Option<bool>
     requires { k ≤ 64 }
 {
     let heap = Rationed::new(alloc);
     let mut parts = parts_at(alloc, &heap, k);
-    let mut mix = Pcg32::seed_from_u64(9);
-    for number in 0..500 {
-        if mix.next_u32() % 9 < 5 {
-            insert_some(&mut parts, &mut mix, number)?;
-        } else {
-            take_some(&mut parts, &mut mix)?;
-        }
-    }
+    mix_parts(&mut parts, &mut Pcg32::seed_from_u64(9))?;
     Some(!parts.shared.is_empty())
 }
 

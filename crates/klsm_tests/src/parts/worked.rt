@@ -4,6 +4,7 @@ ghost use Rattle.std.specs.Prelude.{◌≤◌};
 use super::both::{Both, both_at, insert_all, item};
 use super::spied::own_part;
 use super::taken::{Parts, parts_at};
+use crate::owned::same_item;
 use crate::rules::Pick;
 use klsm_lsm::LsmError;
 use klsm_parts::{Last, Local, Part, Queue, Shared, flush};
@@ -11,125 +12,161 @@ use klsm_run::Item;
 use klsm_test_support::Rationed;
 use std::alloc::Global;
 
-// Inserts the items of these keys in turn, numbered from 0, into parts at this k with no item.
-fn parts_of<'a>(
-    alloc: Global,
-    heap: &'a Rationed<Global>,
-    k: usize,
-    keys: &[u64],
-) -> Option<Parts<'a>>
-    requires { k ≤ 64 }
-{
-    let mut parts = parts_at(alloc, heap, k);
+// Inserts the items of these keys in turn, numbered from 0.
+fn insert_parts(parts: &mut Parts, keys: &[u64]) -> Option<()> {
     for (number, key) in keys.iter().enumerate() {
         parts.insert(item(*key, number as u64))?;
     }
-    Some(parts)
+    Some(())
 }
 
 // Whether an owner's deletions, which pick the greatest candidate, answer these in turn.
 fn takes(parts: &mut Parts, owner: u32, want: &[Option<Item>]) -> Option<bool> {
     for want in want {
-        if parts.take(owner, &mut Last, Pick::Last)? != *want {
+        if !same_item(parts.take(owner, &mut Last, Pick::Last)?, *want) {
             return Some(false);
         }
     }
     Some(true)
 }
 
+// Whether the least own item is taken, and is this.
+fn takes_least(parts: &mut Parts, want: Option<Item>) -> Option<bool> {
+    Some(same_item(parts.take_least()?, want))
+}
+
+// Whether this is the least own item, and a search finds it.
+fn finds(parts: &mut Parts, want: Item) -> Option<bool> {
+    Some(same_item(parts.find_least()?, Some(want)))
+}
+
 const SEVEN: &[u64] = &[5, 1, 4, 2, 3, 9, 8];
 
-// The parts of seven insertions at k = 2, of which each has the owner 0.
-fn seven<'a>(alloc: Global, heap: &'a Rationed<Global>) -> Option<Parts<'a>> {
-    let parts = parts_of(alloc, heap, 2, SEVEN)?;
-    parts
-        .plain
-        .shows(&[&[8]], &[&[1, 2, 4, 5], &[3, 9]], &[2, 1], &[1, 2, 3])?
-        .then_some(parts)
+// What two parts have, as the plain program shows it: the own blocks, the shared ones, their pivots and
+// the candidates.
+type Shown = (
+    &'static [&'static [u64]],
+    &'static [&'static [u64]],
+    &'static [usize],
+    &'static [u64],
+);
+
+fn shows(parts: &Parts, (own, shared, pivots, candidates): &Shown) -> Option<bool> {
+    parts.plain.shows(own, shared, pivots, candidates)
 }
 
-// Another owner's deletion takes the greatest candidate.
-fn another_takes(alloc: Global) -> Option<bool> {
-    let heap = Rationed::new(alloc);
-    let mut parts = seven(alloc, &heap)?;
-    let takes_three = takes(&mut parts, 1, &[Some(item(3, 4))])?;
-    let after = parts
-        .plain
-        .shows(&[&[8]], &[&[1, 2, 4, 5], &[9]], &[3, 0], &[1, 2, 4])?;
-    Some(takes_three && after)
+// The parts of seven insertions at k = 2, of which each has the owner 0; after a deletion by another
+// owner, which takes the greatest candidate; after one by the owner, which takes its least item; and
+// without the own item, which is not below the front, and is taken by itself all the same.
+const OF_SEVEN: Shown = (&[&[8]], &[&[1, 2, 4, 5], &[3, 9]], &[2, 1], &[1, 2, 3]);
+
+const WITHOUT_THREE: Shown = (&[&[8]], &[&[1, 2, 4, 5], &[9]], &[3, 0], &[1, 2, 4]);
+
+const WITHOUT_ONE: Shown = (&[&[8]], &[&[2, 4, 5], &[3, 9]], &[2, 1], &[2, 3, 4]);
+
+const WITHOUT_EIGHT: Shown = (&[], &[&[1, 2, 4, 5], &[3, 9]], &[2, 1], &[1, 2, 3]);
+
+// Makes the seven insertions. Whether the parts then show them.
+fn has_seven(parts: &mut Parts) -> Option<bool> {
+    insert_parts(parts, SEVEN)?;
+    shows(parts, &OF_SEVEN)
 }
 
-// The owner's takes its least item.
-fn the_owner_takes(alloc: Global) -> Option<bool> {
-    let heap = Rationed::new(alloc);
-    let mut parts = seven(alloc, &heap)?;
-    let takes_one = takes(&mut parts, 0, &[Some(item(1, 1))])?;
-    let after = parts
-        .plain
-        .shows(&[&[8]], &[&[2, 4, 5], &[3, 9]], &[2, 1], &[2, 3, 4])?;
-    Some(takes_one && after)
+fn another_takes(parts: &mut Parts) -> Option<bool> {
+    let seven = has_seven(parts)?;
+    let takes_three = takes(parts, 1, &[Some(item(3, 4))])?;
+    Some(seven && takes_three && shows(parts, &WITHOUT_THREE)?)
 }
 
-// The least own item is not below the front, and is taken by itself all the same.
-fn own_goes_alone(alloc: Global) -> Option<bool> {
-    let heap = Rationed::new(alloc);
-    let mut parts = seven(alloc, &heap)?;
-    let front = parts.shared.front();
-    let takes_eight = parts.take_least()? == Some(item(8, 6));
-    let after = parts
-        .plain
-        .shows(&[], &[&[1, 2, 4, 5], &[3, 9]], &[2, 1], &[1, 2, 3])?;
-    Some(front == 1 && takes_eight && after && parts.take_least()?.is_none())
+fn the_owner_takes(parts: &mut Parts) -> Option<bool> {
+    let seven = has_seven(parts)?;
+    let takes_one = takes(parts, 0, &[Some(item(1, 1))])?;
+    Some(seven && takes_one && shows(parts, &WITHOUT_ONE)?)
 }
 
-#[test]
-fn blocks_pivots_and_candidates(rt: HostRuntime) {
-    assert!(rt; another_takes(rt.alloc()) == Some(true));
-    assert!(rt; the_owner_takes(rt.alloc()) == Some(true));
-    assert!(rt; own_goes_alone(rt.alloc()) == Some(true));
+fn own_goes_alone(parts: &mut Parts) -> Option<bool> {
+    let seven = has_seven(parts)? && parts.shared.front() == 1;
+    let takes_eight = takes_least(parts, Some(item(8, 6)))?;
+    let after = shows(parts, &WITHOUT_EIGHT)?;
+    Some(seven && takes_eight && after && takes_least(parts, None)?)
 }
 
 // Own items go that are the least of both parts, or less than the candidate; or a candidate that is
 // less than the least own one.
-fn own_items_go(alloc: Global) -> Option<bool> {
-    let heap = Rationed::new(alloc);
-    let mut parts = parts_of(alloc, &heap, 1, &[7, 2, 5])?;
-    let two = takes(&mut parts, 1, &[Some(item(5, 2)), Some(item(7, 0))])?;
+fn own_items_go(parts: &mut Parts) -> Option<bool> {
+    insert_parts(parts, &[7, 2, 5])?;
+    let two = takes(parts, 1, &[Some(item(5, 2)), Some(item(7, 0))])?;
     parts.insert(item(1, 3))?;
-    let one = takes(&mut parts, 1, &[Some(item(1, 3)), Some(item(2, 1)), None])?;
-    Some(two && one)
+    Some(two && takes(parts, 1, &[Some(item(1, 3)), Some(item(2, 1)), None])?)
 }
+
+const THREE_SHARED: Shown = (&[], &[&[1, 3], &[2]], &[1, 0], &[1]);
 
 // With k = 0 each item goes to the shared part, and the least one is the only candidate.
-fn all_shared(alloc: Global) -> Option<bool> {
-    let heap = Rationed::new(alloc);
-    let mut parts = parts_of(alloc, &heap, 0, &[3, 1, 2])?;
-    let shows_three = parts.plain.shows(&[], &[&[1, 3], &[2]], &[1, 0], &[1])?;
-    Some(shows_three && takes(&mut parts, 1, &[Some(item(1, 1))])?)
-}
-
-#[test]
-fn own_items_and_none(rt: HostRuntime) {
-    assert!(rt; own_items_go(rt.alloc()) == Some(true));
-    assert!(rt; all_shared(rt.alloc()) == Some(true));
+fn all_shared(parts: &mut Parts) -> Option<bool> {
+    insert_parts(parts, &[3, 1, 2])?;
+    Some(shows(parts, &THREE_SHARED)? && takes(parts, 1, &[Some(item(1, 1))])?)
 }
 
 // A search for the least own item, of two blocks, is void once a lesser item is put in, and once the
 // item that it found is gone.
-fn finds_anew(alloc: Global) -> Option<bool> {
-    let heap = Rationed::new(alloc);
-    let mut parts = parts_of(alloc, &heap, 8, &[7, 6, 5])?;
-    let five = parts.find_least()? == Some(item(5, 2));
+fn finds_anew(parts: &mut Parts) -> Option<bool> {
+    insert_parts(parts, &[7, 6, 5])?;
+    let five = finds(parts, item(5, 2))?;
     parts.insert(item(4, 3))?;
-    let four = parts.take_least()? == Some(item(4, 3));
-    let same_five = parts.find_least()? == Some(item(5, 2));
-    let goes = takes(&mut parts, 0, &[Some(item(5, 2)), Some(item(6, 1))])?;
+    let four = takes_least(parts, Some(item(4, 3)))?;
+    let same_five = finds(parts, item(5, 2))?;
+    let goes = takes(parts, 0, &[Some(item(5, 2)), Some(item(6, 1))])?;
     Some(five && four && same_five && goes)
+}
+
+// What is done with new parts.
+#[derive(Clone, Copy)]
+enum Steps {
+    AnotherTakes,
+    TheOwnerTakes,
+    OwnGoesAlone,
+    OwnItemsGo,
+    AllShared,
+    FindsAnew,
+}
+
+fn go(parts: &mut Parts, steps: Steps) -> Option<bool> {
+    match steps {
+        Steps::AnotherTakes => another_takes(parts),
+        Steps::TheOwnerTakes => the_owner_takes(parts),
+        Steps::OwnGoesAlone => own_goes_alone(parts),
+        Steps::OwnItemsGo => own_items_go(parts),
+        Steps::AllShared => all_shared(parts),
+        Steps::FindsAnew => finds_anew(parts),
+    }
+}
+
+// Whether they go as they have to, at this k.
+fn all_go(alloc: Global, k: usize, steps: Steps) -> bool
+    requires { k ≤ 64 }
+{
+    let heap = Rationed::new(alloc);
+    let mut parts = parts_at(alloc, &heap, k);
+    go(&mut parts, steps) == Some(true)
+}
+
+#[test]
+fn blocks_pivots_and_candidates(rt: HostRuntime) {
+    assert!(rt; all_go(rt.alloc(), 2, Steps::AnotherTakes));
+    assert!(rt; all_go(rt.alloc(), 2, Steps::TheOwnerTakes));
+    assert!(rt; all_go(rt.alloc(), 2, Steps::OwnGoesAlone));
+}
+
+#[test]
+fn own_items_and_none(rt: HostRuntime) {
+    assert!(rt; all_go(rt.alloc(), 1, Steps::OwnItemsGo));
+    assert!(rt; all_go(rt.alloc(), 0, Steps::AllShared));
 }
 
 #[test]
 fn a_remembered_place_is_forgotten(rt: HostRuntime) {
-    assert!(rt; finds_anew(rt.alloc()) == Some(true));
+    assert!(rt; all_go(rt.alloc(), 8, Steps::FindsAnew));
 }
 
 // Eight keys in turn, which all stay in an own part.

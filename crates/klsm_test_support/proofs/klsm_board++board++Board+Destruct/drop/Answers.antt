@@ -1,5 +1,0 @@
-use Rattle.klsm_parts.proofs.FitLemmas.{local_fits}
-use Rattle.klsm_test_support.proofs.klsm_board++board++Board+Destruct.drop.Goals as goal
-
-pub drop-requires-room-P-TableRule : goal.drop-requires-room-P-TableRule
-drop-requires-room-P-TableRule g c κs = local_fits _ c.args.arg1.capacity
