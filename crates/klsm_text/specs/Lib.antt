@@ -9,3 +9,4 @@ pub mod TotalsText  -- the line of the totals
 pub mod SelectionText  -- the lines of `klsm knapsack`
 pub mod LineText  -- the text of a line that is being made
 pub mod Output  -- what writing a line does
+pub mod Waiting  -- what has gone out before a row is waited for

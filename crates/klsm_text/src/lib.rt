@@ -4,8 +4,9 @@
 //! row is answered makes the last line. Lines are kept, and go out many at a time:
 //!
 //! ```text
+//! let mut output = Output::new(alloc)?;
 //! let mut script = Script::new(alloc, reader);
-//! script.advance()?;                                            // the next row, or why there is none
+//! script.advance(&output)?;                                     // the next row, or why there is none
 //! let request = request_of(&script.row, 2).map_err(Stop::Refused)?;
 //! let line = Line { thread: request.thread, answer: Answer::Nothing };
 //! output.put(writer, Printed { line, skip: 0 }.text().as_bytes())?;
@@ -22,6 +23,9 @@
 //!   the contract of `request_of`.
 //! - **No row is passed over, and none is made up**: the contracts of `Script::advance` and of
 //!   `keep_rows`, which keeps each row for its thread alone.
+//! - **A row is read only once the answers before it have gone out**, unless a whole row is known to have
+//!   been read ahead: premise `sent` of `Script::advance`, and the contract of `Script::may_wait`. What is
+//!   known of the rows ahead no contract says.
 //! - **The lines are those of the definitions**: clauses `text`.
 //! - **What is put goes out in its order, and is counted**, up to where the writer fails: the contracts
 //!   of `Output::put`, `flush` and `close`, of `write_text` and of `write_last`.

@@ -100,7 +100,7 @@ pub fn keep_rows<R: Read + Drop>(
         }
         pace.count(progress);
     }
-    let stop = match script.advance() {
+    let stop = match script.next_row() {
         Ok(()) => Stop::Refused(Refusal::Rows),
         Err(stop) => stop,
     };
@@ -121,7 +121,7 @@ fn keep_row<R: Read + Drop>(
         → KeepsOn R.remaining threads input rows (map (λ list. list.items) lists.new)
         script.new result }
 {
-    script.advance()?;
+    script.next_row()?;
     match request_of(&script.row, lists.len()) {
         Ok(request) => keep(lists, number, request),
         Err(why) => Err(Stop::Refused(why)),

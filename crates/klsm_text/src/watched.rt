@@ -35,7 +35,9 @@ impl<R> Watched<R> {
     }
 
     /// Up to which byte the rows are whole at least.
-    pub(crate) fn whole_rows_end(&self) -> u64 {
+    pub(crate) fn whole_rows_end(&self) -> u64
+        ensures { result ≡ self.now.whole_rows_end }
+    {
         self.whole_rows_end
     }
 

@@ -28,6 +28,8 @@
 //!   clause of `replay_on`.
 //! - **A read fault comes only where the reader has failed**: clause `fault` of `replay_script`, and
 //!   `LivesBy`, the clause of `live_script`, since a clause can name no reader that is gone.
+//! - **All lines have gone out before a further row is waited for**, but for what is known of the rows
+//!   ahead: a premise of the call of `klsm_text` that reads one.
 //! - **The answers are those of the board's members**: the members' lists have these and no others.
 //!   A row is refused for the first reason that holds: the same clause. The board of `replay_over`
 //!   is its own, and finished: `ReplaysAlone`.

@@ -14,6 +14,7 @@ ghost use Rattle.klsm_text.specs.Script.{row_limit};
 ghost use Rattle.klsm_tool.specs.Crews.{AreFew, AreMembers, board_sizes, lists_in};
 ghost use Rattle.klsm_tool.specs.Answering.{live_beside, picker_count};
 ghost use Rattle.klsm_text.specs.Reading.{HasReadScript, reader_failed};
+ghost use Rattle.klsm_text.specs.Waiting.{HasSentBefore};
 ghost use Rattle.klsm_tool.specs.Progress.{HasStopped, IsCutOff, IsTold, StandsAfter};
 ghost use Rattle.klsm_tool.specs.Progress.{StopsBefore};
 ghost use Rattle.klsm_tool.specs.Replay.{Replays, ReplaysAlone};
@@ -246,18 +247,19 @@ impl Replay {
             (length rows + 1) self.new.beside.most self.new.output why) }
     {
         send_before_wait(script, &mut self.output, writer)?;
-        let line = next_line(rt, script, &mut self.beside, board, members)?;
+        let line = next_line(rt, script, &self.output, &mut self.beside, board, members)?;
         self.output.put(writer, line.text().as_bytes())
     }
 }
 
-// Sends what is pending where the next row may have to be waited for.
+// Sends what is pending where the next row may have to be waited for. Then nothing is pending there.
 fn send_before_wait<R: Read + Drop, W: Write>(
     script: &Script<R>,
     output: &mut Output,
     writer: &mut W,
 ) -> Result<(), Stop>
     requires put { put_count output.old < 2 ^ 63 }
+    ensures sent { HasSentBefore script.now output.new }
     ensures put { put_count output.new ≤ put_count output.old }
     ensures told { (before : Option (List ℕ)) (lines : List Line) →
         IsTold before (W.contents writer.old) lines output.old
@@ -277,10 +279,12 @@ fn send_before_wait<R: Read + Drop, W: Write>(
 fn next_line<R: Read + Drop>(
     rt: &impl Wait,
     script: &mut Script<R>,
+    output: &Output,
     beside: &mut Beside,
     board: &Board<64, 21>,
     members: &mut [Member<64, 21>],
 ) -> Result<Printed, Stop>
+    requires sent { HasSentBefore script.old output.now }
     requires members { AreMembers board.now members.old }
     requires pickers { picker_count beside.old ≡ board.now.sizes.threads }
     requires quota { row_limit < board.now.sizes.quota }
@@ -301,7 +305,7 @@ fn next_line<R: Read + Drop>(
         (StopsBefore (reader_failed script.new) board.now.sizes.threads board.now.sizes.k
         (lists_in members.new) input rows lines beside.new.most) }
 {
-    script.advance()?;
+    script.advance(output)?;
     match request_of(&script.row, board.threads()) {
         Ok(request) => beside.answer(rt, board, members, request),
         Err(why) => Err(Stop::Refused(why)),
@@ -326,7 +330,7 @@ fn stop_behind<R: Read + Drop, W: Write>(
     if let Err(stop) = send_before_wait(script, output, writer) {
         return stop;
     }
-    match script.advance() {
+    match script.advance(output) {
         Ok(()) => Stop::Refused(Refusal::Rows),
         Err(stop) => stop,
     }

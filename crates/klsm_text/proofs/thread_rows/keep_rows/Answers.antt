@@ -6,7 +6,7 @@ use Rattle.klsm_text.specs.declared.request.Refusal.TheVariants as refusal
 use Rattle.klsm_text.specs.declared.stop.Stop.TheVariants as stop
 use Rattle.klsm_text.specs.Reading.{reader_failed}
 use Rattle.klsm_text.proofs.KeepingLemmas.{beyond, ended, fault_failed, stops_reading}
-use Rattle.klsm_text.proofs.thread_rows.keep_rows.Goals.{in-Ok, in-Err-advance}
+use Rattle.klsm_text.proofs.thread_rows.keep_rows.Goals.{in-Ok, in-Err-next_row}
 use Rattle.klsm_text.proofs.thread_rows.keep_rows.Goals as goal
 
 pub returns-in-Err : goal.returns-in-Err
@@ -27,12 +27,12 @@ pub returns : goal.returns
 returns g c = λ threads input read kept.
     let k = c.loop-number.invariant threads input read kept in
     let all : length k.0 ≡ row_limit = omega (arith, k.1, c.loop-number-test.false) in
-    let stops : StopsReading threads input k.0 c.match-advance.stop = elim c.match-advance.branch [
-      | in-Ok w ↦ subst (StopsReading threads input k.0) (sym w.stop-is) (beyond g.R.Read.remaining threads input k.0 c.advance.new.self (fields_of c.advance.new.self.row) all (w.in-Ok.ensures input k.0 k.2))
-      | in-Err-advance w ↦ subst (StopsReading threads input k.0) (sym w.stop-is) (stops_reading _ threads input k.0 w.in-Err-advance.stop (w.in-Err-advance.ensures input k.0 k.2))
+    let stops : StopsReading threads input k.0 c.match-next_row.stop = elim c.match-next_row.branch [
+      | in-Ok w ↦ subst (StopsReading threads input k.0) (sym w.stop-is) (beyond g.R.Read.remaining threads input k.0 c.next_row.new.self (fields_of c.next_row.new.self.row) all (w.in-Ok.ensures input k.0 k.2))
+      | in-Err-next_row w ↦ subst (StopsReading threads input k.0) (sym w.stop-is) (stops_reading _ threads input k.0 w.in-Err-next_row.stop (w.in-Err-next_row.ensures input k.0 k.2))
     ] in
-    let fault : c.match-advance.stop ≡ stop.ReadFault → reader_failed c.advance.new.self ≡ true = elim c.match-advance.branch [
+    let fault : c.match-next_row.stop ≡ stop.ReadFault → reader_failed c.next_row.new.self ≡ true = elim c.match-next_row.branch [
       | in-Ok w ↦ (λ is. absurd (let bad : stop.Refused refusal.Rows ≡ stop.ReadFault = sym w.stop-is ∙ is in cc))
-      | in-Err-advance w ↦ (λ is. fault_failed _ input k.0 w.in-Err-advance.stop (w.in-Err-advance.ensures input k.0 k.2) (sym w.stop-is ∙ is))
+      | in-Err-next_row w ↦ (λ is. fault_failed _ input k.0 w.in-Err-next_row.stop (w.in-Err-next_row.ensures input k.0 k.2) (sym w.stop-is ∙ is))
     ] in
     ended threads _ _ input k.0 _ _ k.3 (subst (StopsReading threads input k.0) (sym c.at-2.ensures.stop) stops) (λ end. k.4) (λ is. fault (sym c.at-2.ensures.stop ∙ is)) (omega (arith, all)) (c.at-2.ensures.row ∙ omega (arith, all))
