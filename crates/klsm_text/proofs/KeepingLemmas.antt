@@ -17,7 +17,7 @@ use Rattle.klsm_rows.specs.Rows.{Row}
 use Rattle.klsm_text.specs.Script.{request_of, request_after, row_limit}
 use Rattle.klsm_text.specs.Reading.{HasReadScript, ReadStops, reader_failed}
 use Rattle.klsm_text.specs.Keeping.{AreKept, KeepsNoMore, KeepsOn, KeepsOne, asked_in, kept_for}
-use Rattle.klsm_text.specs.ThreadRows.{AreAccepted, Asked, StopsReading, asked_of, asks}
+use Rattle.klsm_text.specs.ThreadRows.{AreAccepted, Asked, HasReadToRefusal, StandsAtRefusal, StopsReading, asked_of, asks}
 use Rattle.klsm_text.proofs.ScriptLemmas.{first_read, judged}
 
 -- a choice between two numbers that are one, or that differ
@@ -74,14 +74,24 @@ row_kept rem threads many number input rows a b row request lists lists' (Err wh
   subst (StopsReading threads input rows) (sym memory) (first_read rem input rows a was),
   λ end. absurd (let bad : stop.NoMemory ≡ stop.AtEnd = sym memory ∙ end in cc),
   λ fault. absurd (let bad : stop.NoMemory ≡ stop.ReadFault = sym memory ∙ fault in cc),
+  λ refusal is. absurd (let bad : stop.NoMemory ≡ stop.Refused refusal = sym memory ∙ is in cc),
 )
 
 -- a row that is read and refused
-pub row_refused : {R : Type 0} (rem : R → Option (List ℕ)) (threads : ℕ) (input : Option (List ℕ)) (rows : List Row) (b : Script R) (row : Row) (why : Refusal) (many : ℕ) (before lists : List (List ThreadRow)) → length before ≡ many → AreKept threads rows before → length rows < row_limit → HasReadScript rem input (row ∷ rows) b → request_of many row ≡ Err why
+pub refusal_read : {R : Type 0} (rem : R → Option (List ℕ)) (threads : ℕ) (input : Option (List ℕ)) (rows : List Row) (b : Script R) (row : Row) (why : Refusal) → AreAccepted threads rows → HasReadScript rem input (row ∷ rows) b → request_after threads rows row ≡ Err why
+    → HasReadToRefusal rem threads input b
+refusal_read rem threads input rows b row why accepted read refused = record { rows = rows; row = row; why = why; accepted = accepted; refused = refused; read = read }
+
+pub row_refused : {R : Type 0} (rem : R → Option (List ℕ)) (threads : ℕ) (input : Option (List ℕ)) (rows : List Row) (b : Script R) (row : Row) (why : Refusal) (many : ℕ) (before lists : List (List ThreadRow)) → length before ≡ many → AreAccepted threads rows → AreKept threads rows before → length rows < row_limit → HasReadScript rem input (row ∷ rows) b → request_of many row ≡ Err why
     → KeepsOn rem threads input rows lists b (Err (stop.Refused why))
-row_refused rem threads input rows b row why many before lists so_many kept below read asks_for =
+row_refused rem threads input rows b row why many before lists so_many accepted kept below read asks_for =
     let asks : request_of threads row ≡ Err why = ap (λ n. request_of n row) (sym kept.many ∙ so_many) ∙ asks_for in
-    ((row, first_read rem input (row ∷ rows) b read, judged threads rows row below ∙ asks), λ end. absurd (let bad : stop.Refused why ≡ stop.AtEnd = end in cc), λ fault. absurd (let bad : stop.Refused why ≡ stop.ReadFault = fault in cc))
+    let refused : request_after threads rows row ≡ Err why = judged threads rows row below ∙ asks in (
+      (row, first_read rem input (row ∷ rows) b read, refused),
+      λ end. absurd (let bad : stop.Refused why ≡ stop.AtEnd = end in cc),
+      λ fault. absurd (let bad : stop.Refused why ≡ stop.ReadFault = fault in cc),
+      λ refusal is. refusal_read rem threads input rows b row why accepted read refused,
+    )
 
 -- no row is read
 pub stops_reading : (failed : Bool) (threads : ℕ) (input : Option (List ℕ)) (rows : List Row) (why : Stop) → ReadStops failed input rows why → StopsReading threads input rows why
@@ -96,16 +106,23 @@ stops_reading failed threads input rows stop.WriteFault h = absurd h
 pub fault_failed : (failed : Bool) (input : Option (List ℕ)) (rows : List Row) (why : Stop) → ReadStops failed input rows why → why ≡ stop.ReadFault → failed ≡ true
 fault_failed failed input rows why h is = (subst (ReadStops failed input rows) is h).1
 
+-- nor is a row refused then
+pub none_refused : {R : Type 0} (rem : R → Option (List ℕ)) (threads : ℕ) (failed : Bool) (input : Option (List ℕ)) (rows : List Row) (b : Script R) (why : Stop) → ReadStops failed input rows why → StandsAtRefusal rem threads input b why
+none_refused rem threads failed input rows b why stops refusal is = absurd (subst (ReadStops failed input rows) is stops)
+
 -- no row is read, and none is kept
 pub row_stops : {R : Type 0} (rem : R → Option (List ℕ)) (threads : ℕ) (input : Option (List ℕ)) (rows : List Row) (b : Script R) (why : Stop) (lists : List (List ThreadRow)) → AreKept threads rows lists → ReadStops (reader_failed b) input rows why → KeepsOn rem threads input rows lists b (Err why)
-row_stops rem threads input rows b why lists kept stops = (stops_reading (reader_failed b) threads input rows why stops, λ end. kept, fault_failed (reader_failed b) input rows why stops)
+row_stops rem threads input rows b why lists kept stops = (stops_reading (reader_failed b) threads input rows why stops, λ end. kept, fault_failed (reader_failed b) input rows why stops, none_refused rem threads (reader_failed b) input rows b why stops)
 
 -- one row too many
+refuses_beyond : (threads : ℕ) (rows : List Row) (row : Row) → length rows ≡ row_limit → request_after threads rows row ≡ Err refusal.Rows
+refuses_beyond threads rows row all = let at_limit : eqb (length rows) row_limit ≡ true = grind (arith, nat_tests) in rw at_limit refl
+
 pub beyond : {R : Type 0} (rem : R → Option (List ℕ)) (threads : ℕ) (input : Option (List ℕ)) (rows : List Row) (b : Script R) (row : Row) → length rows ≡ row_limit → HasReadScript rem input (row ∷ rows) b → StopsReading threads input rows (stop.Refused refusal.Rows)
-beyond rem threads input rows b row all read =
-    let at_limit : eqb (length rows) row_limit ≡ true = grind (arith, nat_tests) in
-    let refuses : request_after threads rows row ≡ Err refusal.Rows = rw at_limit refl in
-    (row, first_read rem input (row ∷ rows) b read, refuses)
+beyond rem threads input rows b row all read = (row, first_read rem input (row ∷ rows) b read, refuses_beyond threads rows row all)
+
+pub beyond_read : {R : Type 0} (rem : R → Option (List ℕ)) (threads : ℕ) (input : Option (List ℕ)) (rows : List Row) (b : Script R) (row : Row) → AreAccepted threads rows → length rows ≡ row_limit → HasReadScript rem input (row ∷ rows) b → HasReadToRefusal rem threads input b
+beyond_read rem threads input rows b row accepted all read = refusal_read rem threads input rows b row refusal.Rows accepted read (refuses_beyond threads rows row all)
 
 -- as many rows are asked for as there are at most
 pub asked_few : (threads t : ℕ) (rows : List Row) → length (asked_of threads t rows) ≤ length rows
@@ -123,9 +140,9 @@ asked_few threads t (row ∷ rows) =
     one number (Err why) = omega arith
 
 -- reading has ended
-pub ended : (threads number : ℕ) (failed : Bool) (input : Option (List ℕ)) (rows : List Row) (lists : List (List ThreadRow)) (why : Stop) → AreAccepted threads rows → StopsReading threads input rows why → (why ≡ stop.AtEnd → AreKept threads rows lists) → (why ≡ stop.ReadFault → failed ≡ true) → length rows ≤ row_limit → number ≡ length rows + 1
-    → KeepsNoMore threads failed input lists number why
-ended threads number failed input rows lists why accepted stops kept fault few number_is = record { rows = rows; accepted = accepted; stops = stops; kept = kept; fault = fault; few = few; number_is = number_is }
+pub ended : {R : Type 0} (rem : R → Option (List ℕ)) (threads number : ℕ) (input : Option (List ℕ)) (rows : List Row) (lists : List (List ThreadRow)) (b : Script R) (why : Stop) → AreAccepted threads rows → StopsReading threads input rows why → (why ≡ stop.AtEnd → AreKept threads rows lists) → (why ≡ stop.ReadFault → reader_failed b ≡ true) → StandsAtRefusal rem threads input b why → length rows ≤ row_limit → number ≡ length rows + 1
+    → KeepsNoMore rem threads input lists b number why
+ended rem threads number input rows lists b why accepted stops kept fault stands few number_is = record { rows = rows; accepted = accepted; stops = stops; kept = kept; fault = fault; stands = stands; few = few; number_is = number_is }
 
 -- none is kept for a thread beyond the last
 none_beyond : (lists : List (List ThreadRow)) (t : ℕ) → length lists ≤ t → slice_index_or lists t [] ≡ []

@@ -1,6 +1,6 @@
 -- How far the reading of a whole script has come.
 use Rattle.std.specs.Prelude.{ℕ, ◌≡◌, ◌+◌, ◌<◌, ◌≤◌, List, [], ◌∷◌, ◌++◌, length, map, slice_index_or}
-use Rattle.std.specs.Prelude.{if◌then◌else◌, Bool, true, Option, Result, Ok, Err}
+use Rattle.std.specs.Prelude.{if◌then◌else◌, true, Option, Result, Ok, Err}
 use Rattle.klsm_text.specs.declared.request.Operation.{Operation}
 use Rattle.klsm_text.specs.declared.request.Operation.TheVariants.{Insert, Delete}
 use Rattle.klsm_text.specs.declared.request.Request.{Request}
@@ -11,7 +11,7 @@ use Rattle.klsm_text.specs.declared.script.Script.{Script}
 use Rattle.klsm_rows.specs.Rows.{Row}
 use Rattle.klsm_text.specs.Script.{row_limit}
 use Rattle.klsm_text.specs.Reading.{HasReadScript, reader_failed}
-use Rattle.klsm_text.specs.ThreadRows.{AreAccepted, Asked, StopsReading, asked_of, asks}
+use Rattle.klsm_text.specs.ThreadRows.{AreAccepted, Asked, StandsAtRefusal, StopsReading, asked_of, asks}
 
 -- what a kept row asks for
 abbrev pub operation_in : ThreadRow → Operation
@@ -44,15 +44,17 @@ KeepsOn rem threads input rows lists script (Ok done) =
 KeepsOn rem threads input rows lists script (Err why) =
     StopsReading threads input rows why × (why ≡ stop.AtEnd → AreKept threads rows lists)
     × (why ≡ stop.ReadFault → reader_failed script ≡ true)
+    × StandsAtRefusal rem threads input script why
 
--- no further row is kept, and this is the number of the next one. `failed` says whether the reader of
--- the script has failed
-pub record KeepsNoMore (threads : ℕ) (failed : Bool) (input : Option (List ℕ))
-    (lists : List (List ThreadRow)) (number : ℕ) (why : Stop) : Type 0 where
+-- no further row is kept, and this is the number of the next one
+pub record KeepsNoMore {R : Type 0} (rem : R → Option (List ℕ)) (threads : ℕ)
+    (input : Option (List ℕ)) (lists : List (List ThreadRow)) (script : Script R) (number : ℕ)
+    (why : Stop) : Type 0 where
   pub rows : List Row
   pub accepted : AreAccepted threads rows
   pub stops : StopsReading threads input rows why
   pub kept : why ≡ stop.AtEnd → AreKept threads rows lists
-  pub fault : why ≡ stop.ReadFault → failed ≡ true
+  pub fault : why ≡ stop.ReadFault → reader_failed script ≡ true
+  pub stands : StandsAtRefusal rem threads input script why
   pub few : length rows ≤ row_limit
   pub number_is : number ≡ length rows + 1

@@ -8,7 +8,9 @@ use Rattle.klsm_text.specs.declared.request.Refusal.{Refusal}
 use Rattle.klsm_text.specs.declared.request.Request.{Request}
 use Rattle.klsm_text.specs.declared.stop.Stop.{Stop}
 use Rattle.klsm_text.specs.declared.stop.Stop.TheVariants as stop
+use Rattle.klsm_text.specs.declared.script.Script.{Script}
 use Rattle.klsm_rows.specs.Rows.{Row, AreFirstRows, AreAllRows}
+use Rattle.klsm_text.specs.Reading.{HasReadScript}
 use Rattle.klsm_text.specs.Script.{request_after, request_of}
 
 -- what a thread is asked for, by the row of this number
@@ -46,6 +48,23 @@ StopsReading threads input rows stop.Full = ⊥
 StopsReading threads input rows stop.NoMemory = AreFirstRows input rows
 StopsReading threads input rows stop.ReadFault = AreFirstRows input rows
 StopsReading threads input rows stop.WriteFault = ⊥
+
+-- the rows that were read are accepted, but for the latest one, which is refused: behind it none was
+-- read
+pub record HasReadToRefusal {R : Type 0} (rem : R → Option (List ℕ)) (threads : ℕ)
+    (input : Option (List ℕ)) (script : Script R) : Type 0 where
+  pub rows : List Row
+  pub row : Row
+  pub why : Refusal
+  pub accepted : AreAccepted threads rows
+  pub refused : request_after threads rows row ≡ Err why
+  pub read : HasReadScript rem input (row ∷ rows) script
+
+-- where a script stands whose reading stopped so
+abbrev pub StandsAtRefusal : {R : Type 0} → (R → Option (List ℕ)) → ℕ → Option (List ℕ) → Script R
+    → Stop → Type 0
+StandsAtRefusal rem threads input script why =
+    (refusal : Refusal) → why ≡ stop.Refused refusal → HasReadToRefusal rem threads input script
 
 -- whether a row inserts
 abbrev pub insertions_at : Operation → ℕ

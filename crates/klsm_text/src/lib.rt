@@ -23,6 +23,7 @@
 //!   the contract of `request_of`.
 //! - **No row is passed over, and none is made up**: the contracts of `Script::advance` and of
 //!   `keep_rows`, which keeps each row for its thread alone.
+//! - **Behind a row that is refused `keep_rows` reads none**: the same contract.
 //! - **A row is read only once the answers before it have gone out**, unless a whole row is known to have
 //!   been read ahead: premise `sent` of `Script::advance`, and the contract of `Script::may_wait`. What is
 //!   known of the rows ahead no contract says.

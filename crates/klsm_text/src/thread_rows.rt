@@ -2,7 +2,7 @@
 ghost use Rattle.std.specs.Prelude.{◌≡◌, ◌<◌, ◌≤◌, ◌+◌, ℕ, List, [], length, map, Option, IfOk, IfErr};
 ghost use Rattle.klsm_rows.specs.Rows.{Row};
 ghost use Rattle.klsm_text.specs.Script.{row_limit};
-ghost use Rattle.klsm_text.specs.Reading.{HasReadScript, reader_failed};
+ghost use Rattle.klsm_text.specs.Reading.{HasReadScript};
 ghost use Rattle.klsm_text.specs.Keeping.{AreKept, KeepsNoMore, KeepsOn, KeepsOne};
 ghost use Rattle.klsm_text.specs.ThreadRows.{AreAccepted};
 
@@ -79,7 +79,8 @@ pub fn no_rows(alloc: Global, threads: usize) -> Result<Vec<Vec<ThreadRow>>, All
 }
 
 /// Reads a whole script, and keeps each row for its thread. Says why it read no further, and the
-/// number of the row that it did not keep: at the end of the script, that of the row behind it.
+/// number of the row that it did not keep: at the end of the script, that of the row behind it. Behind
+/// a row that is refused it reads none.
 pub fn keep_rows<R: Read + Drop>(
     script: &mut Script<R>,
     lists: &mut [Vec<ThreadRow>],
@@ -89,7 +90,7 @@ pub fn keep_rows<R: Read + Drop>(
     ensures { (threads : ℕ) (input : Option (List ℕ))
         → HasReadScript R.remaining input [] script.old
         → AreKept threads [] (map (λ list. list.items) lists.old)
-        → KeepsNoMore threads (reader_failed script.new) input (map (λ list. list.items) lists.new)
+        → KeepsNoMore R.remaining threads input (map (λ list. list.items) lists.new) script.new
         result.row result.stop }
 {
     progress.begins(None);

@@ -11,6 +11,7 @@ use Rattle.klsm_text.specs.declared.answer.Line.{Line}
 use Rattle.klsm_text.specs.declared.output.Output.{Output}
 use Rattle.klsm_text.specs.declared.report.End.TheVariants as end
 use Rattle.klsm_text.specs.declared.report.Report.{Report}
+use Rattle.klsm_text.specs.declared.request.Refusal.{Refusal}
 use Rattle.klsm_text.specs.declared.stop.Closing.{Closing}
 use Rattle.klsm_text.specs.declared.stop.Stop.{Stop}
 use Rattle.klsm_text.specs.declared.stop.Stop.TheVariants as stop
@@ -182,3 +183,17 @@ pub fault_failed : (failed : Bool) (threads k : ℕ) (lists : List (List Entry))
 fault_failed failed threads k lists input before now after closing output report stopped (inl cut) is = absurd (let bad : end.WriteFault ≡ end.ReadFault = sym cut.1 ∙ is in cc)
 fault_failed failed threads k lists input before now after closing output report stopped (inr (goes, (inl whole))) is = stopped.fault (read_fault closing.stop (sym whole.0 ∙ is))
 fault_failed failed threads k lists input before now after closing output report stopped (inr (goes, (inr cut))) is = absurd (let bad : end.WriteFault ≡ end.ReadFault = sym cut.0 ∙ is in cc)
+
+-- only where a row is refused is the end a refusal
+pub refused_end : (why : Stop) → end_of why ≡ end.Refused → (refusal : Refusal) × (why ≡ stop.Refused refusal)
+refused_end stop.AtEnd is = absurd (let bad : end.Done ≡ end.Refused = is in cc)
+refused_end (stop.Refused refusal) is = (refusal, refl)
+refused_end stop.Full is = absurd (let bad : end.Full ≡ end.Refused = is in cc)
+refused_end stop.NoMemory is = absurd (let bad : end.NoMemory ≡ end.Refused = is in cc)
+refused_end stop.ReadFault is = absurd (let bad : end.ReadFault ≡ end.Refused = is in cc)
+refused_end stop.WriteFault is = absurd (let bad : end.WriteFault ≡ end.Refused = is in cc)
+
+pub refused_closing : (now after : Option (List ℕ)) (closing : Closing) (output : Output) (report : Report) → Closes now after closing output report → report.end ≡ end.Refused → (refusal : Refusal) × (closing.stop ≡ stop.Refused refusal)
+refused_closing now after closing output report (inl cut) is = absurd (let bad : end.WriteFault ≡ end.Refused = sym cut.1 ∙ is in cc)
+refused_closing now after closing output report (inr (goes, (inl whole))) is = refused_end closing.stop (sym whole.0 ∙ is)
+refused_closing now after closing output report (inr (goes, (inr cut))) is = absurd (let bad : end.WriteFault ≡ end.Refused = sym cut.0 ∙ is in cc)

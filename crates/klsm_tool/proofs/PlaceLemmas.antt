@@ -1,5 +1,5 @@
 -- The workers at their places, before they begin and when all are back.
-use Rattle.std.proofs.Common.{◌≡◌, ℕ, Bool, zero, suc, ◌+◌, ◌<◌, List, [], ◌∷◌, length, map, drop, get_or, slice_index_or, Option, Some, None, Result, Ok, Err, IfOk, IfErr, refl, sym, ap, ap₂, ◌∙◌, subst, arith}
+use Rattle.std.proofs.Common.{◌≡◌, ◌≢◌, ℕ, Bool, zero, suc, ◌+◌, ◌<◌, List, [], ◌∷◌, length, map, drop, get_or, slice_index_or, Option, Some, None, Result, Ok, Err, IfOk, IfErr, refl, sym, ap, ap₂, ◌∙◌, subst, arith}
 use Rattle.std.specs.List.{All}
 use Rattle.std.proofs.lemmas.List.{length-map}
 use mathlib.Core.Option.{some, some-injective, some-ne-none}
@@ -11,6 +11,7 @@ use Rattle.klsm_board.specs.declared.sizes.Sizes.{Sizes}
 use Rattle.klsm_board.specs.Boards.{IsCrew, IsOf, own_steps}
 use Rattle.klsm_board.specs.Rule.{IsReached}
 use Rattle.klsm_board.proofs.lemmas.ending.EndLemmas.{each_of}
+use Rattle.klsm_text.specs.declared.request.Refusal.{Refusal}
 use Rattle.klsm_text.specs.declared.stop.Stop.{Stop}
 use Rattle.klsm_text.specs.declared.stop.Stop.TheVariants as stop
 use Rattle.klsm_text.specs.declared.stop.Closing.{Closing}
@@ -22,7 +23,7 @@ use Rattle.klsm_tool.specs.Live.{GaveUpAt, GivesUpFirst, HasNoTotals, RunsAll, R
 use Rattle.klsm_rows.specs.Rows.{AreAllRows, Row}
 use Rattle.klsm_tool.specs.Shown.{shown_in}
 use Rattle.klsm_text.specs.ThreadRows.{AreAccepted, Asked, asked_of}
-use Rattle.klsm_tool.specs.Turns.{AreAnswers}
+use Rattle.klsm_tool.specs.Turns.{AreAnswers, StopsInsertion}
 use Rattle.klsm_tool.specs.Working.{AreAccounted, HasRunRows, HasRunAt, IsReady, IsReadyAt, Works, gave_up_at, ready, steps_at}
 use Rattle.klsm_tool.proofs.TotalLemmas.{adds_up, insertions_are}
 
@@ -162,6 +163,10 @@ reached_at board t asked (Some worker) ran =
 gives_up_at : (board : Board 64 21) (t : ℕ) (asked : List Asked) (place : Option Worker) (gave_up : GaveUp) → HasRunAt board t asked place → gave_up_at place ≡ Some gave_up → GaveUpAt board.sizes.k t asked (steps_at place) gave_up.row gave_up.stop
 gives_up_at board t asked None gave_up ran is = absurd ran
 gives_up_at board t asked (Some worker) gave_up ran is = subst (Works board.sizes.k t asked (own_steps worker.member)) is ran.works
+
+-- and no worker gives up since a row is refused
+pub gives_up_unrefused : (board : Board 64 21) (t : ℕ) (asked : List Asked) (place : Option Worker) (gave_up : GaveUp) → HasRunAt board t asked place → gave_up_at place ≡ Some gave_up → (why : Refusal) → gave_up.stop ≢ stop.Refused why
+gives_up_unrefused board t asked place gave_up ran gave why is = subst (StopsInsertion 21 board.sizes.k t (steps_at place)) is (gives_up_at board t asked place gave_up ran gave).gives_up
 
 answers_at : (board : Board 64 21) (t : ℕ) (asked : List Asked) (place : Option Worker) → HasRunAt board t asked place → gave_up_at place ≡ None → AreAnswers asked (shown_in (steps_at place))
 answers_at board t asked None ran is = absurd ran

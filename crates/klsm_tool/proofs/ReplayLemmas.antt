@@ -29,8 +29,9 @@ use Rattle.klsm_tool.specs.Answering.{Answers}
 use Rattle.klsm_tool.specs.Crews.{AreFew, Goes, steps_in}
 use Rattle.klsm_tool.specs.Shown.{AreShown, answers_of, shown_in}
 use Rattle.klsm_tool.specs.Turns.{StopsInsertion}
-use Rattle.klsm_tool.specs.Replay.{Stopped}
+use Rattle.klsm_tool.specs.Replay.{Answered, Stopped}
 use Rattle.klsm_text.specs.Reading.{HasReadScript, ReadStops, reader_failed}
+use Rattle.klsm_text.specs.ThreadRows.{AreAccepted, StandsAtRefusal}
 use Rattle.klsm_tool.specs.Progress.{StandsAfter, StopsBefore}
 use Rattle.klsm_text.proofs.ScriptLemmas.{first_read, judged}
 
@@ -157,3 +158,22 @@ too_many rem threads k lists input rows b row all read =
     let beyond : eqb (length rows) row_limit ≡ true = grind (arith, nat_tests) in
     let asks : request_after threads rows row ≡ Err refusal.Rows = rw beyond refl in
     ((row, first_read rem input (row ∷ rows) b read, asks), λ e. cc)
+
+-- a replay that begins
+pub first_stands : {R : Type 0} (rem : R → Option (List ℕ)) (threads : ℕ) (lists : List (List Entry)) (input : Option (List ℕ)) (script : Script R) (items : List Item) (most : ℕ) → AreShown threads lists [] → HasReadScript rem input [] script → items ≡ [] → most ≡ 0 → StandsAfter rem threads lists input [] [] script items most
+first_stands rem threads lists input script items most shown read none least = record { answered = tt; shown = shown; read = read; items_are = ap sorted none; most_is = least }
+
+-- rows that are answered are accepted
+pub accepted_rows : (threads : ℕ) (rows : List Row) (lines : List Line) → Answered threads rows lines → AreAccepted threads rows
+accepted_rows threads [] lines answered = tt
+accepted_rows threads (row ∷ rows) [] answered = absurd answered
+accepted_rows threads (row ∷ rows) (line ∷ lines) answered = ((answered.0.0, answered.0.1), accepted_rows threads rows lines answered.1)
+
+-- a row that its member does not answer is not refused
+pub unanswered_stands : {R : Type 0} (rem : R → Option (List ℕ)) (threads k t : ℕ) (input : Option (List ℕ)) (script : Script R) (es : List Entry) (A B : Type 0) (result : Result Printed Stop) → IfErr result (λ why. A × B × StopsInsertion 21 k t es why) → IfErr result (StandsAtRefusal rem threads input script)
+unanswered_stands rem threads k t input script es A B (Ok printed) told = tt
+unanswered_stands rem threads k t input script es A B (Err why) told = λ refusal is. absurd (subst (StopsInsertion 21 k t es) is told.2)
+
+-- nor is one where the writer failed
+pub cut_stands : {R : Type 0} (rem : R → Option (List ℕ)) (threads : ℕ) (input : Option (List ℕ)) (script : Script R) (why : Stop) → why ≡ stop.WriteFault → StandsAtRefusal rem threads input script why
+cut_stands rem threads input script why cut refusal is = absurd (let bad : stop.WriteFault ≡ stop.Refused refusal = sym cut ∙ is in cc)

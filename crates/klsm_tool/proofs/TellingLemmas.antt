@@ -1,5 +1,5 @@
 -- What writing a line does to a replay, and where a replay stops.
-use Rattle.std.proofs.Common.{◌≡◌, ◌≢◌, ℕ, Bool, ◌+◌, List, [], ◌∷◌, ◌++◌, length, take, Option, Result, Ok, Err, refl, sym, ap, ◌∙◌, subst, arith}
+use Rattle.std.proofs.Common.{◌≡◌, ◌≢◌, ℕ, Bool, ◌+◌, List, [], ◌∷◌, ◌++◌, length, take, Option, Result, Ok, Err, IfErr, refl, sym, ap, ◌∙◌, subst, arith}
 use Rattle.std.specs.Result.{MatchResult}
 use Rattle.std.specs.Io.KnownBytes.{Appends}
 use Rattle.std.proofs.lemmas.List.{append-nil, append_assoc, length-append}
@@ -16,11 +16,22 @@ use Rattle.klsm_text.specs.AnswerText.{answer_text, lines_text, live_by, skip_of
 use Rattle.klsm_tool.specs.Shown.{AreShown}
 use Rattle.klsm_text.specs.Output.{AddsText, FlushesText, PutsText, pending}
 use Rattle.klsm_text.specs.Reading.{HasReadScript}
+use Rattle.klsm_text.specs.ThreadRows.{StandsAtRefusal}
 use Rattle.klsm_tool.specs.Progress.{HasStopped, IsCutOff, IsTold, IsToldUntil, StandsAfter, StopsBefore}
 use Rattle.klsm_tool.specs.Replay.{Answered}
 use Rattle.klsm_text.specs.Reports.{IsCut}
 use Rattle.klsm_text.proofs.ScriptLemmas.{first_read}
-use Rattle.klsm_text.proofs.OutputLemmas.{appends_more, cut_after}
+use Rattle.klsm_tool.proofs.ReplayLemmas.{cut_stands}
+use Rattle.klsm_text.proofs.OutputLemmas.{appends_more, appends_nothing, cut_after}
+
+-- nothing is told yet
+pub nothing_told : (before : Option (List ℕ)) (output : Output) → output.written ≡ 0 → pending output ≡ [] → IsTold before before [] output
+nothing_told before output none empty = record { gone = []; appended = appends_nothing before; count = none; all = empty }
+
+-- a line that could not be put is not refused
+pub put_stands : {R : Type 0} (rem : R → Option (List ℕ)) (threads : ℕ) (input before after : Option (List ℕ)) (script : Script R) (text : List ℕ) (output output' : Output) (result : Result (Unit {0}) Stop) → PutsText before after text output output' result → IfErr result (StandsAtRefusal rem threads input script)
+put_stands rem threads input before after script text output output' (Ok done) puts = tt
+put_stands rem threads input before after script text output output' (Err why) puts = cut_stands rem threads input script why puts.0
 
 -- as many rows as lines
 answered_lengths : (threads : ℕ) (rows : List Row) (lines : List Line) → Answered threads rows lines → length rows ≡ length lines

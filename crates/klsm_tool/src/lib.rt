@@ -26,8 +26,9 @@
 //! - **The text is that of the definition.** What goes out is the first `written` bytes of the
 //!   answer text of the rows that were read, and all of it unless the writer failed: `Replays`, the
 //!   clause of `replay_on`.
-//! - **A read fault comes only where the reader has failed**: clause `fault` of `replay_script`, and
-//!   `LivesBy`, the clause of `live_script`, since a clause can name no reader that is gone.
+//! - **A read fault comes only where the reader has failed, and behind a refused row none is read**:
+//!   clauses `fault` and `refused` of `replay_script`, and `lives` and `refused` of `live_script`, since
+//!   a clause can name no reader that is gone.
 //! - **All lines have gone out before a further row is waited for**, but for what is known of the rows
 //!   ahead: a premise of the call of `klsm_text` that reads one.
 //! - **The answers are those of the board's members**: the members' lists have these and no others.

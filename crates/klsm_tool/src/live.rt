@@ -1,11 +1,13 @@
 //! `klsm live`: each thread's rows in a thread of its own.
-ghost use Rattle.std.specs.Prelude.{◌≡◌, ◌<◌, ◌≤◌, ℕ, Bool, List, [], length, map, slice_index_or};
-ghost use Rattle.std.specs.Prelude.{Option, Some, None, IfErr, IfOk, IfSome};
+ghost use Rattle.std.specs.Prelude.{◌≡◌, ◌≢◌, ◌<◌, ◌≤◌, ℕ, Bool, List, [], length, map};
+ghost use Rattle.std.specs.Prelude.{slice_index_or, Option, Some, None, IfErr, IfOk, IfSome};
 ghost use Rattle.klsm_rows.specs.Rows.{Row, AreAllRows};
 ghost use Rattle.klsm_text.specs.Script.{row_limit};
 ghost use Rattle.klsm_text.specs.Reports.{GoesOrFails};
 ghost use Rattle.klsm_tool.specs.Crews.{AreMembers, board_sizes, lists_in};
-ghost use Rattle.klsm_text.specs.ThreadRows.{AreAccepted};
+ghost use Rattle.klsm_text.specs.ThreadRows.{AreAccepted, HasReadToRefusal, StandsAtRefusal};
+ghost use Rattle.klsm_text.specs.declared.request.Refusal.{Refusal};
+ghost use Rattle.klsm_text.specs.declared.stop.Stop.TheVariants as stop;
 ghost use Rattle.klsm_text.specs.Keeping.{AreKept, kept_for};
 ghost use Rattle.klsm_text.specs.Reading.{HasReadScript, reader_failed};
 ghost use Rattle.klsm_tool.specs.Working.{AreAccounted, HasRunAt, IsReadyAt, gave_up_at, ready};
@@ -73,7 +75,7 @@ pub fn live_told<P: AllocGlobal + Wait + Threads + Sync, R: Read + Drop, W: Writ
 }
 
 /// The same over a script of the caller's, of which no row was read yet. A read fault is answered only
-/// where the reader of that has failed.
+/// where the reader of that has failed. Behind a row that is refused none is read.
 pub fn live_script<P: AllocGlobal + Wait + Threads + Sync, R: Read + Drop, W: Write>(
     rt: &P,
     script: &mut Script<R>,
@@ -87,9 +89,12 @@ pub fn live_script<P: AllocGlobal + Wait + Threads + Sync, R: Read + Drop, W: Wr
     requires k { settings.now.k ≤ 64 }
     requires refill { settings.now.refill ≤ settings.now.k }
     requires read { (input : Option (List ℕ)) × HasReadScript R.remaining input [] script.old }
-    ensures { (input : Option (List ℕ)) → HasReadScript R.remaining input [] script.old
+    ensures lives { (input : Option (List ℕ)) → HasReadScript R.remaining input [] script.old
         → LivesBy (reader_failed script.new) (board_sizes settings.now) input
         (W.contents writer.old) (W.contents writer.new) result }
+    ensures refused { (input : Option (List ℕ)) → HasReadScript R.remaining input [] script.old
+        → result.end ≡ End.Refused
+        → HasReadToRefusal R.remaining settings.now.threads input script.new }
 {
     let outcome = run_script(rt, script, settings, gate, progress);
     progress.ended();
@@ -120,8 +125,11 @@ fn run_script<P: AllocGlobal + Wait + Threads + Sync, R: Read + Drop>(
     requires k { settings.now.k ≤ 64 }
     requires refill { settings.now.refill ≤ settings.now.k }
     requires read { (input : Option (List ℕ)) × HasReadScript R.remaining input [] script.old }
-    ensures { (input : Option (List ℕ)) → HasReadScript R.remaining input [] script.old
+    ensures runs { (input : Option (List ℕ)) → HasReadScript R.remaining input [] script.old
         → RunsScript (reader_failed script.new) (board_sizes settings.now) input result }
+    ensures refused { (input : Option (List ℕ)) → HasReadScript R.remaining input [] script.old
+        → IfErr result (λ closing.
+        StandsAtRefusal R.remaining settings.now.threads input script.new closing.stop) }
 {
     let Ok(mut rows) = no_rows(rt.alloc(), settings.threads) else {
         return Err(Closing::at(Stop::NoMemory, 1));
@@ -149,10 +157,11 @@ fn run_rows<P: AllocGlobal + Wait + Threads + Sync>(
     requires refill { settings.now.refill ≤ settings.now.k }
     requires many { length rows.now ≡ settings.now.threads }
     requires few { (t : ℕ) → length (kept_for (map (λ list. list.items) rows.now) t) ≤ row_limit }
-    ensures { (failed : Bool) (input : Option (List ℕ)) (all : List Row) → AreAllRows input all
+    ensures runs { (failed : Bool) (input : Option (List ℕ)) (all : List Row) → AreAllRows input all
         → AreAccepted settings.now.threads all
         → AreKept settings.now.threads all (map (λ list. list.items) rows.now)
         → RunsScript failed (board_sizes settings.now) input result }
+    ensures other { IfErr result (λ closing. (why : Refusal) → closing.stop ≢ stop.Refused why) }
 {
     let Ok((board, members)) = board_for(rt.alloc(), settings) else {
         return Err(Closing::at(Stop::NoMemory, 1));

@@ -1,6 +1,6 @@
 //! `klsm replay`: a script, answered row by row by the members of a board.
 ghost use Rattle.std.specs.Prelude.{◌≡◌, ℕ, ◌+◌, ◌*◌, ◌<◌, ◌≤◌, ◌^◌, List, [], ◌∷◌};
-ghost use Rattle.std.specs.Prelude.{length, Option, IfOk, MatchResult, true};
+ghost use Rattle.std.specs.Prelude.{length, Option, IfErr, IfOk, MatchResult, true};
 ghost use Rattle.std.specs.List.{All};
 ghost use Rattle.klsm_run.specs.declared.item.Item.{Item};
 ghost use Rattle.klsm_world.specs.declared.step.Entry.{Entry};
@@ -14,6 +14,7 @@ ghost use Rattle.klsm_text.specs.Script.{row_limit};
 ghost use Rattle.klsm_tool.specs.Crews.{AreFew, AreMembers, board_sizes, lists_in};
 ghost use Rattle.klsm_tool.specs.Answering.{live_beside, picker_count};
 ghost use Rattle.klsm_text.specs.Reading.{HasReadScript, reader_failed};
+ghost use Rattle.klsm_text.specs.ThreadRows.{AreAccepted, HasReadToRefusal, StandsAtRefusal};
 ghost use Rattle.klsm_text.specs.Waiting.{HasSentBefore};
 ghost use Rattle.klsm_tool.specs.Progress.{HasStopped, IsCutOff, IsTold, StandsAfter};
 ghost use Rattle.klsm_tool.specs.Progress.{StopsBefore};
@@ -112,7 +113,8 @@ pub fn replay_on<P: AllocGlobal + Wait, R: Read + Drop, W: Write>(
 }
 
 /// The same over a script of the caller's, of which no row was read yet; and it tells of a long run
-/// while it lasts. A read fault is answered only where the reader of that has failed.
+/// while it lasts. A read fault is answered only where the reader of that has failed. Behind a row that
+/// is refused none is read.
 pub fn replay_script<P: AllocGlobal + Wait, R: Read + Drop, W: Write>(
     rt: &P,
     script: &mut Script<R>,
@@ -133,6 +135,9 @@ pub fn replay_script<P: AllocGlobal + Wait, R: Read + Drop, W: Write>(
         (W.contents writer.old) (W.contents writer.new) result }
     ensures fault { (input : Option (List ℕ)) → HasReadScript R.remaining input [] script.old
         → result.end ≡ End.ReadFault → reader_failed script.new ≡ true }
+    ensures refused { (input : Option (List ℕ)) → HasReadScript R.remaining input [] script.old
+        → result.end ≡ End.Refused
+        → HasReadToRefusal R.remaining settings.now.threads input script.new }
 {
     let Ok(mut replay) = Replay::new(rt.alloc(), settings) else {
         return write_last(writer, NO_MEMORY, 0, End::NoMemory);
@@ -191,6 +196,11 @@ impl Replay {
             → HasStopped (reader_failed script.new) settings.now.threads settings.now.k
             (lists_in members.new) input before (W.contents writer.new) result.row result.most
             self.new.output result.stop }
+        ensures refused { (input before : Option (List ℕ)) →
+            StandsAfter R.remaining settings.now.threads (lists_in members.old) input [] []
+            script.old (live_beside self.old.beside) self.old.beside.most
+            → IsTold before (W.contents writer.old) [] self.old.output
+            → StandsAtRefusal R.remaining settings.now.threads input script.new result.stop }
     {
         let bound = settings.threads * settings.k;
         let mut pace = Pace::new(Counted::RowsAnswered);
@@ -245,6 +255,10 @@ impl Replay {
             (λ why. HasStopped (reader_failed script.new) board.now.sizes.threads
             board.now.sizes.k (lists_in members.new) input before (W.contents writer.new)
             (length rows + 1) self.new.beside.most self.new.output why) }
+        ensures refused { (input : Option (List ℕ)) (rows : List Row)
+            → HasReadScript R.remaining input rows script.old
+            → AreAccepted board.now.sizes.threads rows → length rows < row_limit
+            → IfErr result (StandsAtRefusal R.remaining board.now.sizes.threads input script.new) }
     {
         send_before_wait(script, &mut self.output, writer)?;
         let line = next_line(rt, script, &self.output, &mut self.beside, board, members)?;
@@ -267,6 +281,7 @@ fn send_before_wait<R: Read + Drop, W: Write>(
         (λ _. IsTold before (W.contents writer.new) lines output.new)
         (λ why. (why ≡ stop.WriteFault)
         × IsCutOff before (W.contents writer.new) lines output.new.written) }
+    ensures fault { IfErr result (λ why. why ≡ stop.WriteFault) }
 {
     if script.may_wait() {
         output.flush(writer)
@@ -304,6 +319,10 @@ fn next_line<R: Read + Drop>(
         × (printed.skip ≡ skip_of (live_by lines) printed.line.answer))
         (StopsBefore (reader_failed script.new) board.now.sizes.threads board.now.sizes.k
         (lists_in members.new) input rows lines beside.new.most) }
+    ensures refused { (input : Option (List ℕ)) (rows : List Row)
+        → HasReadScript R.remaining input rows script.old
+        → AreAccepted board.now.sizes.threads rows → length rows < row_limit
+        → IfErr result (StandsAtRefusal R.remaining board.now.sizes.threads input script.new) }
 {
     script.advance(output)?;
     match request_of(&script.row, board.threads()) {
@@ -326,6 +345,9 @@ fn stop_behind<R: Read + Drop, W: Write>(
         → length rows ≡ row_limit → IsTold before (W.contents writer.old) lines output.old
         → HasStopped (reader_failed script.new) threads k lists input before
         (W.contents writer.new) (length rows + 1) most output.new result }
+    ensures refused { (threads : ℕ) (input : Option (List ℕ)) (rows : List Row)
+        → HasReadScript R.remaining input rows script.old → AreAccepted threads rows
+        → length rows ≡ row_limit → StandsAtRefusal R.remaining threads input script.new result }
 {
     if let Err(stop) = send_before_wait(script, output, writer) {
         return stop;

@@ -18,4 +18,4 @@ returns-in-Ok g c = λ threads input rows read accepted below number kept.
 pub returns-in-Err : goal.returns-in-Err
 returns-in-Err g c = λ threads input rows read accepted below number kept.
     row_refused g.R.Read.remaining threads input rows c.next_row.new.self (fields_of c.next_row.new.self.row) c.in-Err.why (length c.args.lists.now) _ _
-    (length-map c.args.lists.now (λ list. list.items)) kept below (c.in_ok-next_row.ensures input rows read) (sym c.request_of.ensures.request ∙ c.in-Err.is)
+    (length-map c.args.lists.now (λ list. list.items)) accepted kept below (c.in_ok-next_row.ensures input rows read) (sym c.request_of.ensures.request ∙ c.in-Err.is)

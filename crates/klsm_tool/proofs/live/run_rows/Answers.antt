@@ -11,7 +11,8 @@ use Rattle.klsm_tool.specs.Crews.{board_sizes}
 use Rattle.klsm_tool.specs.Live.{HasNoTotals}
 use Rattle.klsm_tool.specs.Working.{HasRunAt, IsReadyAt, gave_up_at, ready}
 use Rattle.klsm_tool.proofs.CrewLemmas.{written_back}
-use Rattle.klsm_tool.proofs.PlaceLemmas.{all_back, crew_ready, finished, one_gave_up}
+use Rattle.klsm_tool.proofs.NotRunLemmas.{memory_refuses_no_row, rows_not_refused}
+use Rattle.klsm_tool.proofs.PlaceLemmas.{all_back, crew_ready, finished, gives_up_unrefused, one_gave_up}
 use Rattle.klsm_tool.proofs.live.run_rows.Goals as goal
 
 -- there is a place for each member
@@ -22,11 +23,11 @@ as_many crew members threads is count = ap (λ (z : List (Option Worker)). lengt
 none_run : (failed : Bool) (m : Sizes) (number : ℕ) (input : Option (List ℕ)) (why : Stop) → why ≡ stop.NoMemory → HasNoTotals failed m input number why
 none_run failed m number input why is = subst (HasNoTotals failed m input number) (sym is) tt
 
-pub returns-in_default : goal.returns-in_default
-returns-in_default g c = λ failed input _ _ _ _. none_run failed (board_sizes c.args.settings.now) _ input _ c.at.ensures.stop
+pub returns-in_default-clause-runs : goal.returns-in_default-clause-runs
+returns-in_default-clause-runs g c = λ failed input _ _ _ _. none_run failed (board_sizes c.args.settings.now) _ input _ c.at.ensures.stop
 
-pub returns-in_default-crew_of : goal.returns-in_default-crew_of
-returns-in_default-crew_of g c = λ failed input _ _ _ _. none_run failed (board_sizes c.args.settings.now) _ input _ c.at-in_default-crew_of.ensures.stop
+pub returns-in_default-crew_of-clause-runs : goal.returns-in_default-crew_of-clause-runs
+returns-in_default-crew_of-clause-runs g c = λ failed input _ _ _ _. none_run failed (board_sizes c.args.settings.now) _ input _ c.at-in_default-crew_of.ensures.stop
 
 pub run_all-requires-clause-some : goal.run_all-requires-clause-some
 run_all-requires-clause-some g c =
@@ -48,8 +49,8 @@ run_all-requires-clause-ready g c =
     λ _ _ t d. subst (λ (z : List (Option Worker)). t < length z → IsReadyAt c.in-Ok.board t (slice_index_or z t d)) (sym same)
     (crew_ready c.in-Ok.board c.in-Ok.members.items c.in-Ok.ensures.of c.in-Ok.ensures.crew t d)
 
-pub returns-in-Some : goal.returns-in-Some
-returns-in-Some g c = λ failed input all rows accepted kept.
+pub returns-in-Some-clause-runs : goal.returns-in-Some-clause-runs
+returns-in-Some-clause-runs g c = λ failed input all rows accepted kept.
     let crew = c.run_all.new.crew in let threads = c.args.settings.now.threads in
     let same = c.as_mut_slice.ensures.value ∙ c.in-Ok-crew_of.ensures in
     let lent : length c.as_mut_slice.result.now ≡ threads = as_many _ c.in-Ok.members.items _ same c.in-Ok.ensures.count in
@@ -80,8 +81,8 @@ finish-requires g c =
     (λ t d below. subst (λ (z : List (Option Worker)). gave_up_at (slice_index_or z t d) ≡ None) whole (c.in_default-first_to_give_up.ensures.none refl t d (subst (λ (z : List (Option Worker)). t < length z) (sym whole) below))) in
     record { crew = (all.0, back ∙ all.1, all.2) }
 
-pub returns : goal.returns
-returns g c = λ failed input all rows accepted kept.
+pub returns-clause-runs : goal.returns-clause-runs
+returns-clause-runs g c = λ failed input all rows accepted kept.
     let crew = c.run_all.new.crew in let threads = c.args.settings.now.threads in
     let same = c.as_mut_slice.ensures.value ∙ c.in-Ok-crew_of.ensures in
     let lent : length c.as_mut_slice.result.now ≡ threads = as_many _ c.in-Ok.members.items _ same c.in-Ok.ensures.count in
@@ -94,3 +95,25 @@ returns g c = λ failed input all rows accepted kept.
     (λ t d below. subst (λ asked. HasRunAt c.in-Ok.board t asked (slice_index_or crew t d)) (kept.each t (omega (arith, below, many))) (c.run_all.ensures t d (omega (arith, below, many, lent))))
     (λ t d below. subst (λ (z : List (Option Worker)). gave_up_at (slice_index_or z t d) ≡ None) whole (c.in_default-first_to_give_up.ensures.none refl t d (subst (λ (z : List (Option Worker)). t < length z) (sym whole) below))) in
     finished failed (board_sizes c.args.settings.now) input all c.in-Ok.board _ told.0 c.finish.result c.in-Ok.ensures.sizes rows accepted (back ∙ told.1) told.2 told.3 c.finish.ensures.totals c.finish.ensures.refused
+
+pub returns-in_default-clause-other : goal.returns-in_default-clause-other
+returns-in_default-clause-other g c = λ why. memory_refuses_no_row why _ c.at.ensures.stop
+
+pub returns-in_default-crew_of-clause-other : goal.returns-in_default-crew_of-clause-other
+returns-in_default-crew_of-clause-other g c = λ why. memory_refuses_no_row why _ c.at-in_default-crew_of.ensures.stop
+
+pub returns-in-Some-clause-other : goal.returns-in-Some-clause-other
+returns-in-Some-clause-other g c = λ why is.
+    let crew = c.run_all.new.crew in let threads = c.args.settings.now.threads in
+    let lent : length c.as_mut_slice.result.now ≡ threads = as_many _ c.in-Ok.members.items _ (c.as_mut_slice.ensures.value ∙ c.in-Ok-crew_of.ensures) c.in-Ok.ensures.count in
+    let many : length crew ≡ threads = c.run_all.auto.crew ∙ lent in
+    let len : c.in-Ok-crew_of.crew.len ≡ threads = c.in-Ok-crew_of.crew.ok.0 ∙ as_many _ c.in-Ok.members.items _ c.in-Ok-crew_of.ensures c.in-Ok.ensures.count in
+    let whole : c.as_slice.result.now ≡ crew = c.as_slice.ensures.value ∙ written_back crew (drop (length crew) c.in-Ok-crew_of.crew.items) c.in-Ok-crew_of.crew.len (many ∙ sym len) in
+    let first = c.in-Some.ensures.some in
+    let within : first.0 < length crew = subst (λ (z : List (Option Worker)). first.0 < length z) whole first.1 in
+    let here = first.2 None in
+    gives_up_unrefused c.in-Ok.board first.0 _ (slice_index_or crew first.0 None) c.in-Some.field-0 (c.run_all.ensures first.0 None (omega (arith, within, many, lent)))
+    (subst (λ (z : List (Option Worker)). gave_up_at (slice_index_or z first.0 None) ≡ Some c.in-Some.field-0) whole here) why (sym c.at-in-Some.ensures.stop ∙ is)
+
+pub returns-clause-other : goal.returns-clause-other
+returns-clause-other g c = rows_not_refused c.finish.result c.finish.ensures.refused

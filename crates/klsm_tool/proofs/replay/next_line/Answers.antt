@@ -1,9 +1,12 @@
 use Rattle.std.proofs.Common.{arith, ap, sym, ◌∙◌}
+use Rattle.std.proofs.lemmas.Result.{err_from_is_err_and}
 use Rattle.csv.specs.Records.{fields_of}
 use Rattle.klsm_tool.specs.Answering.{live_beside}
 use Rattle.klsm_tool.specs.Crews.{lists_in, steps_in}
 use Rattle.klsm_text.specs.Script.{request_of}
-use Rattle.klsm_tool.proofs.ReplayLemmas.{refused, row_after, few_after}
+use Rattle.klsm_text.proofs.KeepingLemmas.{none_refused, refusal_read}
+use Rattle.klsm_text.proofs.ScriptLemmas.{judged}
+use Rattle.klsm_tool.proofs.ReplayLemmas.{refused, row_after, few_after, unanswered_stands}
 use Rattle.klsm_tool.proofs.ShownLemmas.{inserted_within}
 use Rattle.klsm_tool.proofs.replay.next_line.Goals as goal
 
@@ -31,3 +34,18 @@ returns-in-Err-clause-step g c = λ input rows lines now below.
     let asks = ap (λ n. request_of n (fields_of c.advance.new.self.row)) (sym c.threads.ensures.threads) ∙ (sym c.request_of.ensures.request ∙ c.in-Err.is) in
     refused g.R.Read.remaining c.args.board.now.sizes.threads c.args.board.now.sizes.k (lists_in c.args.members.now) input rows lines c.args.script.now c.advance.new.self (live_beside c.args.beside.now) c.args.beside.now.most (fields_of c.advance.new.self.row) c.in-Err.why
     now below (c.in_ok-advance.ensures input rows now.read) asks
+
+pub returns-in_err-advance-clause-refused : goal.returns-in_err-advance-clause-refused
+returns-in_err-advance-clause-refused g c = λ input rows read accepted below.
+    let p = err_from_is_err_and c.from_residual.result c.from_residual.ensures.1 in
+    rw (p.1, p.2) (none_refused g.R.Read.remaining c.args.board.now.sizes.threads _ input rows c.advance.new.self _ (c.in_err-advance.ensures input rows read))
+
+pub returns-in-Ok-clause-refused : goal.returns-in-Ok-clause-refused
+returns-in-Ok-clause-refused g c = λ input rows read accepted below.
+    unanswered_stands g.R.Read.remaining c.args.board.now.sizes.threads c.args.board.now.sizes.k c.in-Ok.request.thread input c.advance.new.self _ _ _ c.answer.result c.answer.ensures.refused
+
+pub returns-in-Err-clause-refused : goal.returns-in-Err-clause-refused
+returns-in-Err-clause-refused g c = λ input rows read accepted below refusal is.
+    let row = fields_of c.advance.new.self.row in
+    let asks = ap (λ n. request_of n row) (sym c.threads.ensures.threads) ∙ (sym c.request_of.ensures.request ∙ c.in-Err.is) in
+    refusal_read g.R.Read.remaining c.args.board.now.sizes.threads input rows c.advance.new.self row c.in-Err.why accepted (c.in_ok-advance.ensures input rows read) (judged c.args.board.now.sizes.threads rows row below ∙ asks)

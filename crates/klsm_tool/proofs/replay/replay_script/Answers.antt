@@ -1,11 +1,9 @@
-use Rattle.std.proofs.Common.{[], arith, ap, sym, ◌∙◌, length}
-use Rattle.klsm_tool.specs.Answering.{live_beside}
+use Rattle.std.proofs.Common.{arith, ap, sym, ◌∙◌, length}
 use Rattle.klsm_tool.specs.Crews.{lists_in}
-use Rattle.klsm_run.specs.Content.{sorted}
-use Rattle.klsm_tool.specs.Progress.{IsTold, StandsAfter}
 use Rattle.klsm_tool.proofs.CrewLemmas.{new_crew, new_crew_shows_none}
-use Rattle.klsm_text.proofs.OutputLemmas.{appends_nothing}
-use Rattle.klsm_tool.proofs.ClosingLemmas.{fault_failed, replays, replays_nothing}
+use Rattle.klsm_tool.proofs.ClosingLemmas.{fault_failed, refused_closing, replays, replays_nothing}
+use Rattle.klsm_tool.proofs.ReplayLemmas.{first_stands}
+use Rattle.klsm_tool.proofs.TellingLemmas.{nothing_told}
 use Rattle.klsm_tool.proofs.replay.replay_script.Goals as goal
 
 pub returns-in_default-clause-members : goal.returns-in_default-clause-members
@@ -26,31 +24,24 @@ answer_rows-closing-requires-clause-few g c κs within t below = let none = ap (
 
 pub returns-clause-replays : goal.returns-clause-replays
 returns-clause-replays g c = λ input read.
-    let e = c.answer_rows-closing.ensures in let threads = c.args.settings.now.threads in let k = c.args.settings.now.k in
-    let stands : StandsAfter {R = g.row.R.Denot} g.R.Read.remaining threads (lists_in c.args.members.now) input [] [] c.args.script.now (live_beside c.in-Ok.replay.beside) c.in-Ok.replay.beside.most = record {
-      answered = tt;
-      shown = λ t below. sym (new_crew_shows_none c.args.members.now t c.requires.crew);
-      read = read;
-      items_are = ap sorted c.in-Ok.ensures.live;
-      most_is = c.in-Ok.ensures.most;
-    } in
-    let told : IsTold (g.W.Write.contents c.args.writer.now) (g.W.Write.contents c.args.writer.now) [] c.in-Ok.replay.output = record { gone = []; appended = appends_nothing _; count = c.in-Ok.ensures.written; all = c.in-Ok.ensures.empty } in
-    replays _ threads k (lists_in c.answer_rows-closing.new.members) input (g.W.Write.contents c.args.writer.now) (g.W.Write.contents c.answer_rows-closing.new.writer) (g.W.Write.contents c.close.new.writer) c.answer_rows-closing.result c.answer_rows-closing.new.self.output c.close.result
-    (e.stops input (g.W.Write.contents c.args.writer.now) stands told) e.bound c.close.ensures.closes
+    let e = c.answer_rows-closing.ensures in let threads = c.args.settings.now.threads in let k = c.args.settings.now.k in let before = g.W.Write.contents c.args.writer.now in let new = c.in-Ok.ensures in
+    let stands = first_stands g.R.Read.remaining threads (lists_in c.args.members.now) input c.args.script.now _ _ (λ t below. sym (new_crew_shows_none c.args.members.now t c.requires.crew)) read new.live new.most in
+    replays _ threads k (lists_in c.answer_rows-closing.new.members) input before (g.W.Write.contents c.answer_rows-closing.new.writer) (g.W.Write.contents c.close.new.writer) c.answer_rows-closing.result c.answer_rows-closing.new.self.output c.close.result
+    (e.stops input before stands (nothing_told before _ new.written new.empty)) e.bound c.close.ensures.closes
 
 pub returns-clause-fault : goal.returns-clause-fault
 returns-clause-fault g c = λ input read.
-    let e = c.answer_rows-closing.ensures in let threads = c.args.settings.now.threads in let k = c.args.settings.now.k in
-    let stands : StandsAfter {R = g.row.R.Denot} g.R.Read.remaining threads (lists_in c.args.members.now) input [] [] c.args.script.now (live_beside c.in-Ok.replay.beside) c.in-Ok.replay.beside.most = record {
-      answered = tt;
-      shown = λ t below. sym (new_crew_shows_none c.args.members.now t c.requires.crew);
-      read = read;
-      items_are = ap sorted c.in-Ok.ensures.live;
-      most_is = c.in-Ok.ensures.most;
-    } in
-    let told : IsTold (g.W.Write.contents c.args.writer.now) (g.W.Write.contents c.args.writer.now) [] c.in-Ok.replay.output = record { gone = []; appended = appends_nothing _; count = c.in-Ok.ensures.written; all = c.in-Ok.ensures.empty } in
-    fault_failed _ threads k _ input _ _ (g.W.Write.contents c.close.new.writer) c.answer_rows-closing.result c.answer_rows-closing.new.self.output c.close.result
-    (e.stops input (g.W.Write.contents c.args.writer.now) stands told) c.close.ensures.closes
+    let threads = c.args.settings.now.threads in let before = g.W.Write.contents c.args.writer.now in let new = c.in-Ok.ensures in
+    let stands = first_stands g.R.Read.remaining threads (lists_in c.args.members.now) input c.args.script.now _ _ (λ t below. sym (new_crew_shows_none c.args.members.now t c.requires.crew)) read new.live new.most in
+    fault_failed _ threads c.args.settings.now.k _ input _ _ (g.W.Write.contents c.close.new.writer) c.answer_rows-closing.result c.answer_rows-closing.new.self.output c.close.result
+    (c.answer_rows-closing.ensures.stops input before stands (nothing_told before _ new.written new.empty)) c.close.ensures.closes
+
+pub returns-clause-refused : goal.returns-clause-refused
+returns-clause-refused g c = λ input read is.
+    let threads = c.args.settings.now.threads in let before = g.W.Write.contents c.args.writer.now in let new = c.in-Ok.ensures in
+    let stands = first_stands g.R.Read.remaining threads (lists_in c.args.members.now) input c.args.script.now _ _ (λ t below. sym (new_crew_shows_none c.args.members.now t c.requires.crew)) read new.live new.most in
+    let refusal = refused_closing _ _ c.answer_rows-closing.result c.answer_rows-closing.new.self.output c.close.result c.close.ensures.closes is in
+    c.answer_rows-closing.ensures.refused input before stands (nothing_told before _ new.written new.empty) refusal.0 refusal.1
 
 pub returns-clause-written : goal.returns-clause-written
 returns-clause-written g c =

@@ -2,7 +2,8 @@ use Rattle.std.proofs.Common.{arith, ◌∙◌}
 use Rattle.std.proofs.lemmas.Result.{err_from_is_err_and}
 use Rattle.klsm_tool.specs.Crews.{lists_in}
 use Rattle.klsm_text.proofs.OutputLemmas.{puts_at_most}
-use Rattle.klsm_tool.proofs.TellingLemmas.{stops_told, stops_cut, line_put}
+use Rattle.klsm_tool.proofs.ReplayLemmas.{cut_stands}
+use Rattle.klsm_tool.proofs.TellingLemmas.{stops_told, stops_cut, line_put, put_stands}
 use Rattle.klsm_tool.proofs.replay.Replay.answer_row.Goals as goal
 
 pub returns-in_err-send_before_wait-clause-step : goal.returns-in_err-send_before_wait-clause-step
@@ -29,3 +30,17 @@ returns-clause-step g c input before rows lines now below told =
     let h = c.in_ok-line.ensures.step input rows lines now below in
     let puts = rw (c.as_bytes.ensures.text ∙ c.text.ensures.text) at c.put.ensures in
     line_put g.R.Read.remaining _ sizes.threads sizes.k (lists_in c.args.members.now) (lists_in c.next_line.new.members) input before _ _ rows lines c.args.script.now c.next_line.new.script _ _ _ _ _ _ h.0 c.in_ok-line.line c.put.result now h.1 h.2 (c.in_ok-send_before_wait.ensures.told before lines told) puts
+
+pub returns-in_err-send_before_wait-clause-refused : goal.returns-in_err-send_before_wait-clause-refused
+returns-in_err-send_before_wait-clause-refused g c input rows read accepted below =
+    let p = err_from_is_err_and c.from_residual.result c.from_residual.ensures.1 in
+    rw (p.1, p.2) (cut_stands g.R.Read.remaining c.args.board.now.sizes.threads input c.args.script.now _ c.in_err-send_before_wait.ensures.fault)
+
+pub returns-in_err-line-clause-refused : goal.returns-in_err-line-clause-refused
+returns-in_err-line-clause-refused g c input rows read accepted below =
+    let p = err_from_is_err_and c.from_residual-in_err-line.result c.from_residual-in_err-line.ensures.1 in
+    rw (p.1, p.2) (c.in_err-line.ensures.refused input rows read accepted below)
+
+pub returns-clause-refused : goal.returns-clause-refused
+returns-clause-refused g c input rows read accepted below =
+    put_stands g.R.Read.remaining c.args.board.now.sizes.threads input (g.W.Write.contents c.send_before_wait.new.writer) (g.W.Write.contents c.put.new.writer) c.next_line.new.script c.as_bytes.result.now c.send_before_wait.new.output c.put.new.self c.put.result c.put.ensures

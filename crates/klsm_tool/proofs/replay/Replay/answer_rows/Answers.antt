@@ -3,7 +3,9 @@ use Rattle.klsm_tool.specs.Answering.{live_beside}
 use Rattle.klsm_tool.specs.Crews.{lists_in}
 use Rattle.klsm_text.specs.Script.{row_limit}
 use Rattle.klsm_text.specs.Reading.{reader_failed}
+use Rattle.klsm_text.specs.ThreadRows.{StandsAtRefusal}
 use Rattle.klsm_tool.specs.Progress.{HasStopped, StandsAfter}
+use Rattle.klsm_tool.proofs.ReplayLemmas.{accepted_rows}
 use Rattle.klsm_tool.proofs.replay.Replay.answer_rows.Goals as goal
 
 pub answer_row-requires-clause-quota : goal.answer_row-requires-clause-quota
@@ -51,3 +53,19 @@ returns-clause-stops g c input before stands told =
     let now = subst (λ n. StandsAfter g.R.Read.remaining n (lists_in c.loop-answered.members) input k.0 k.1 c.loop-answered.script (live_beside c.loop-answered.self.beside) c.loop-answered.self.beside.most) threads k.3 in
     let stops = c.stop_behind.ensures.stops c.args.settings.now.threads c.args.settings.now.k (lists_in c.loop-answered.members) input before k.0 k.1 _ _ now all k.4 in
     subst (λ (n : ℕ). HasStopped (reader_failed c.stop_behind.new.script) c.args.settings.now.threads c.args.settings.now.k (lists_in c.loop-answered.members) input before (g.W.Write.contents c.stop_behind.new.writer) (n + 1) c.loop-answered.self.beside.most c.stop_behind.new.output c.stop_behind.result) all stops
+
+pub returns-in-Err-clause-refused : goal.returns-in-Err-clause-refused
+returns-in-Err-clause-refused g c input before stands told =
+    let k = c.loop-answered.invariant.stands input before stands told in
+    let few : length k.0 < row_limit = omega (arith, k.2, c.loop-answered-test.true) in
+    let accepted = accepted_rows c.args.board.now.sizes.threads k.0 k.1 k.3.answered in
+    let threads = ap (λ z. z.threads) c.requires.sizes in
+    subst (λ n. StandsAtRefusal g.R.Read.remaining n input c.answer_row.new.script c.in-Err.stop) threads (c.in-Err.ensures.refused input k.0 k.3.read accepted few)
+
+pub returns-clause-refused : goal.returns-clause-refused
+returns-clause-refused g c input before stands told =
+    let k = c.loop-answered.invariant.stands input before stands told in
+    let all : length k.0 ≡ row_limit = omega (arith, k.2, c.loop-answered-test.false) in
+    let accepted = accepted_rows c.args.board.now.sizes.threads k.0 k.1 k.3.answered in
+    let threads = ap (λ z. z.threads) c.requires.sizes in
+    subst (λ n. StandsAtRefusal g.R.Read.remaining n input c.stop_behind.new.script c.stop_behind.result) threads (c.stop_behind.ensures.refused _ input k.0 k.3.read accepted all)
