@@ -4,6 +4,7 @@ pub mod NotRunLemmas  -- scripts that are not run, and how far they were read
 pub mod LiveItemLemmas  -- what joins and leaves the live items
 pub mod CrewLemmas  -- one member goes on, and the others stay
 pub mod ShownLemmas  -- what the calls of a member show in the text
+pub mod PickingLemmas  -- the pickers of the threads
 pub mod ReplayLemmas
 pub mod TellingLemmas
 pub mod WorkLemmas  -- what a worker's rows are answered with

@@ -5,15 +5,20 @@ use Rattle.klsm_run.specs.Content.{sorted}
 use Rattle.klsm_world.specs.declared.step.Entry.{Entry}
 use Rattle.klsm_text.specs.declared.answer.Printed.{Printed}
 use Rattle.klsm_tool.specs.declared.beside.Beside.{Beside}
+use Rattle.klsm_tool.specs.declared.picking.ThreadPicker.{ThreadPicker}
 use Rattle.klsm_text.specs.declared.request.Request.{Request}
 use Rattle.klsm_text.specs.AnswerText.{live_after, skip_of}
 use Rattle.klsm_tool.specs.Crews.{Goes}
 use Rattle.klsm_tool.specs.LiveItems.{live_content}
 use Rattle.klsm_tool.specs.Turns.{IsAnswerTo}
 
--- how many pickers there are
+-- the pickers
+abbrev pub pickers_beside : Beside → List ThreadPicker
+pickers_beside beside = beside.pickers.items
+
+-- how many there are
 abbrev pub picker_count : Beside → ℕ
-picker_count beside = length beside.pickers.items
+picker_count beside = length (pickers_beside beside)
 
 -- the live items
 abbrev pub live_beside : Beside → List Item

@@ -1,12 +1,5 @@
 //! What is kept beside a board whose members answer rows.
-ghost use Rattle.std.specs.Prelude.{◌≡◌, ◌<◌, [], ◌∷◌, length, max, IfOk, IfErr};
-ghost use Rattle.klsm_run.specs.Content.{sorted};
-ghost use Rattle.klsm_world.specs.OwnSteps.{inserted};
-ghost use Rattle.klsm_text.specs.AnswerText.{live_after, skip_of};
-ghost use Rattle.klsm_tool.specs.Crews.{AreMembers, Goes, lists_in, steps_in};
-ghost use Rattle.klsm_tool.specs.Answering.{Answers, picker_count, live_beside};
-ghost use Rattle.klsm_tool.specs.Turns.{StopsInsertion, IsDeletion};
-ghost use Rattle.klsm_text.specs.declared.answer.Answer.TheVariants.{Inserted};
+ghost use Rattle.klsm_tool.specs.Picking.{ArePlaced};
 
 use crate::live_items::LiveItems;
 use crate::picking::{ThreadPicker, pickers_of};
@@ -18,17 +11,30 @@ use klsm_words::Settings;
 use std::alloc::{AllocError, Global};
 use std::sync::Wait;
 
-/// How each thread picks, the live items, and the greatest skip so far.
+/// How each thread picks, each by the picker at its place, the live items, and the greatest skip so far.
 #[derive(Drop)]
 pub(crate) struct Beside {
     pickers: Vec<ThreadPicker>,
     live: LiveItems,
     pub most: usize,
+    ghost placed: { ArePlaced pickers.items },
 }
 
 impl Beside {
+    ghost use Rattle.std.specs.Prelude.{◌≡◌, ◌<◌, [], ◌∷◌, length, max, IfOk, IfErr};
+    ghost use Rattle.klsm_run.specs.Content.{sorted};
+    ghost use Rattle.klsm_world.specs.OwnSteps.{inserted};
+    ghost use Rattle.klsm_text.specs.AnswerText.{live_after, skip_of};
+    ghost use Rattle.klsm_tool.specs.Crews.{AreMembers, Goes, lists_in, steps_in};
+    ghost use Rattle.klsm_tool.specs.Answering.{Answers, picker_count, pickers_beside, live_beside};
+    ghost use Rattle.klsm_tool.specs.Picking.{ArePickers};
+    ghost use Rattle.klsm_tool.specs.Turns.{StopsInsertion, IsDeletion};
+    ghost use Rattle.klsm_text.specs.declared.answer.Answer.TheVariants.{Inserted};
+
     pub(crate) fn new(alloc: Global, settings: &Settings) -> Result<Self, AllocError>
         ensures pickers { IfOk result (λ beside. picker_count beside ≡ settings.now.threads) }
+        ensures choices { IfOk result (λ beside.
+            ArePickers settings.now (pickers_beside beside)) }
         ensures live { IfOk result (λ beside. live_beside beside ≡ []) }
         ensures most { IfOk result (λ beside. beside.most ≡ 0) }
     {

@@ -16,7 +16,6 @@ ghost use Rattle.klsm_tool.specs.declared.worker.Worker.{Worker};
 ghost use Rattle.klsm_board.specs.declared.board.Member.{Member};
 
 use crate::making::board_for;
-use crate::picking::ThreadPicker;
 use crate::worker::{GaveUp, Worker};
 use klsm_board::{Board, Gate, Member};
 use klsm_progress::{Progress, Silent};
@@ -247,9 +246,8 @@ fn run_at<G: Gate, P: Progress>(
     let Some(worker) = place.take() else {
         unreachable!();
     };
-    let picker = ThreadPicker::of(common.settings, index as u64);
     let rows = common.rows[index].as_slice();
-    *place = Some(worker.run(rt, common.board, rows, picker, common.progress));
+    *place = Some(worker.run(rt, common.board, rows, common.settings, common.progress));
 }
 
 fn crew_of(alloc: Global, members: Vec<Member<64, 21>>) -> Result<Vec<Option<Worker>>, AllocError>

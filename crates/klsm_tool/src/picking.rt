@@ -1,7 +1,6 @@
 //! How the deletions of each thread pick.
-ghost use Rattle.std.specs.Prelude.{◌≡◌, length, IfOk};
-ghost use Rattle.klsm_choice.specs.Choices.{may_choose};
-ghost use Rattle.klsm_tool.specs.Picking.{choice_of};
+ghost use Rattle.std.specs.Prelude.{◌≡◌, IfOk};
+ghost use Rattle.klsm_tool.specs.Picking.{ArePickers, may_pick_for, picker_of};
 
 use klsm_choice::Choice;
 use klsm_parts::Picker;
@@ -17,8 +16,7 @@ pub(crate) struct ThreadPicker {
 }
 
 impl Picker for ThreadPicker {
-    ghost may_pick = { λ before candidates index after.
-        may_choose before.choice candidates index after.choice × (after.thread ≡ before.thread) };
+    ghost may_pick = { may_pick_for };
 
     fn pick(&mut self, candidates: usize) -> usize {
         self.choice.pick(candidates)
@@ -28,8 +26,7 @@ impl Picker for ThreadPicker {
 impl ThreadPicker {
     /// The picker of the thread of this number. Each thread has a seed of its own.
     pub(crate) fn of(settings: &Settings, thread: u64) -> ThreadPicker
-        ensures thread { result.thread ≡ thread }
-        ensures choice { result.choice ≡ choice_of settings.now thread }
+        ensures { result ≡ picker_of settings.now thread }
     {
         let seed = settings.seed.wrapping_add(thread);
         ThreadPicker {
@@ -44,7 +41,7 @@ pub(crate) fn pickers_of(
     alloc: Global,
     settings: &Settings,
 ) -> Result<Vec<ThreadPicker>, AllocError>
-    ensures { IfOk result (λ pickers. length pickers.items ≡ settings.now.threads) }
+    ensures { IfOk result (λ pickers. ArePickers settings.now pickers.items) }
 {
     let mut pickers = Vec::with_capacity(alloc, settings.threads)?;
     for thread in 0..settings.threads {

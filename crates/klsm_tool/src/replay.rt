@@ -12,7 +12,8 @@ ghost use Rattle.klsm_text.specs.declared.stop.Stop.TheVariants as stop;
 ghost use Rattle.klsm_rows.specs.Rows.{Row};
 ghost use Rattle.klsm_text.specs.Script.{row_limit};
 ghost use Rattle.klsm_tool.specs.Crews.{AreFew, AreMembers, board_sizes, lists_in};
-ghost use Rattle.klsm_tool.specs.Answering.{live_beside, picker_count};
+ghost use Rattle.klsm_tool.specs.Answering.{live_beside, picker_count, pickers_beside};
+ghost use Rattle.klsm_tool.specs.Picking.{ArePickers};
 ghost use Rattle.klsm_text.specs.Reading.{HasReadScript, reader_failed};
 ghost use Rattle.klsm_text.specs.ThreadRows.{AreAccepted, HasReadToRefusal, StandsAtRefusal};
 ghost use Rattle.klsm_text.specs.Waiting.{HasSentBefore};
@@ -159,6 +160,8 @@ impl Replay {
     fn new(alloc: Global, settings: &Settings) -> Result<Self, AllocError>
         ensures pickers { IfOk result (λ replay.
             picker_count replay.beside ≡ settings.now.threads) }
+        ensures choices { IfOk result (λ replay.
+            ArePickers settings.now (pickers_beside replay.beside)) }
         ensures live { IfOk result (λ replay. live_beside replay.beside ≡ []) }
         ensures most { IfOk result (λ replay. replay.beside.most ≡ 0) }
         ensures written { IfOk result (λ replay. replay.output.written ≡ 0) }
@@ -183,6 +186,7 @@ impl Replay {
         requires sizes { board.now.sizes ≡ board_sizes settings.now }
         requires members { AreMembers board.now members.old }
         requires pickers { picker_count self.old.beside ≡ board.now.sizes.threads }
+        requires choices { ArePickers settings.now (pickers_beside self.old.beside) }
         requires few { AreFew board.now.sizes.threads 0 (lists_in members.old) }
         requires put { put_count self.old.output ≡ 0 }
         ensures members { AreMembers board.now members.new }

@@ -8,8 +8,8 @@ ghost use Rattle.klsm_tool.specs.Crews.{AreMembers, Goes, lists_in, steps_in};
 ghost use Rattle.klsm_tool.specs.Shown.{shown_in};
 ghost use Rattle.klsm_tool.specs.Turns.{StopsInsertion, IsDeletion};
 
+use crate::picking::ThreadPicker;
 use klsm_board::{Board, InsertError, Member};
-use klsm_parts::Picker;
 use klsm_run::Item;
 use klsm_text::{Answer, Stop};
 use std::sync::Wait;
@@ -40,15 +40,17 @@ pub(crate) fn insert<const CAP: usize, const LEVELS: usize>(
     }
 }
 
-/// A deletion.
-pub(crate) fn delete<P: Picker, const CAP: usize, const LEVELS: usize>(
+/// A deletion, by the picker of the member's thread.
+pub(crate) fn delete<const CAP: usize, const LEVELS: usize>(
     rt: &impl Wait,
     board: &Board<CAP, LEVELS>,
     member: &mut Member<CAP, LEVELS>,
-    picker: &mut P,
+    picker: &mut ThreadPicker,
 ) -> Answer
     requires of { IsOf member.old board.now }
+    requires picks { picker.old.thread ≡ member.old.number }
     ensures same { IsSame member.old member.new }
+    ensures picker { picker.new.thread ≡ picker.old.thread }
     ensures answer { IsDeletion result }
     ensures shown { shown_in (own_steps member.new)
         ≡ shown_in (own_steps member.old) ++ result ∷ [] }
@@ -83,16 +85,18 @@ pub(crate) fn insert_by<const CAP: usize, const LEVELS: usize>(
     insert(rt, board, &mut members[thread as usize], key, load)
 }
 
-/// A deletion by the member of this number.
-pub(crate) fn delete_by<P: Picker, const CAP: usize, const LEVELS: usize>(
+/// A deletion by the member of this number, and by its thread's picker.
+pub(crate) fn delete_by<const CAP: usize, const LEVELS: usize>(
     rt: &impl Wait,
     board: &Board<CAP, LEVELS>,
     members: &mut [Member<CAP, LEVELS>],
     thread: u32,
-    picker: &mut P,
+    picker: &mut ThreadPicker,
 ) -> Answer
     requires members { AreMembers board.now members.old }
     requires thread { thread < board.now.sizes.threads }
+    requires picks { picker.old.thread ≡ thread }
+    ensures picker { picker.new.thread ≡ picker.old.thread }
     ensures members { AreMembers board.now members.new }
     ensures answer { IsDeletion result }
     ensures goes { Goes thread (lists_in members.old) (lists_in members.new) (result ∷ []) }

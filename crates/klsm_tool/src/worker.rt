@@ -5,6 +5,7 @@ ghost use Rattle.klsm_board.specs.Boards.{IsOf, IsSame, own_steps};
 ghost use Rattle.klsm_tool.specs.Shown.{shown_in};
 ghost use Rattle.klsm_tool.specs.Turns.{StopsInsertion, IsAnswerTo};
 ghost use Rattle.klsm_text.specs.Keeping.{asked_in};
+ghost use Rattle.klsm_tool.specs.Picking.{picker_of};
 ghost use Rattle.klsm_tool.specs.Working.{HasRunRows, IsReady, Works};
 
 use crate::picking::ThreadPicker;
@@ -12,6 +13,7 @@ use crate::turns::{delete, insert};
 use klsm_board::{Board, Member};
 use klsm_progress::{Counted, Pace, Progress};
 use klsm_text::{Answer, Operation, Stop, ThreadRow};
+use klsm_words::Settings;
 use std::sync::Wait;
 
 /// A member, and at which row it gave up, if it did.
@@ -29,30 +31,41 @@ pub(crate) struct GaveUp {
 }
 
 impl Worker {
-    /// Runs the rows of its thread in their order, with the picks of its thread.
+    /// Runs the rows of its thread in their order, with the picks that the settings choose for its
+    /// thread.
     pub(crate) fn run(
         self,
         rt: &impl Wait,
         board: &Board<64, 21>,
         rows: &[ThreadRow],
-        mut picker: ThreadPicker,
+        settings: &Settings,
         progress: &impl Progress,
     ) -> Worker
         requires ready { IsReady board.now self.member.number self.member }
         requires few { length rows.now < board.now.sizes.quota }
-        requires picks { picker.thread ≡ self.member.number }
         ensures { HasRunRows board.now self.member.number (map asked_in rows.now) result }
     {
         let Worker { mut member, .. } = self;
-        let gave_up = answer_all(rt, board, &mut member, &mut picker, rows, progress);
+        let mut picker = ThreadPicker::of(settings, member.number() as u64);
+        let gave_up = answer_all(
+            rt,
+            board,
+            &mut member,
+            settings,
+            &mut picker,
+            rows,
+            progress,
+        );
         Worker { member, gave_up }
     }
 }
 
+// The settings are only looked at by the premise that they chose the picker.
 fn answer_all(
     rt: &impl Wait,
     board: &Board<64, 21>,
     member: &mut Member<64, 21>,
+    settings: &Settings,
     picker: &mut ThreadPicker,
     rows: &[ThreadRow],
     progress: &impl Progress,
@@ -60,6 +73,7 @@ fn answer_all(
     requires of { IsOf member.old board.now }
     requires shows_none { shown_in (own_steps member.old) ≡ [] }
     requires few { length rows.now < board.now.sizes.quota }
+    requires picks { picker.old ≡ picker_of settings.now member.old.number }
     ensures same { IsSame member.old member.new }
     ensures works { Works board.now.sizes.k member.old.number (map asked_in rows.now)
         (own_steps member.new) result }
@@ -86,7 +100,9 @@ fn answer(
 ) -> Result<Answer, Stop>
     requires of { IsOf member.old board.now }
     requires room { length (inserted (own_steps member.old)) < member.old.sizes.quota }
+    requires picks { picker.old.thread ≡ member.old.number }
     ensures same { IsSame member.old member.new }
+    ensures picker { picker.new.thread ≡ picker.old.thread }
     ensures answer { IfOk result (IsAnswerTo operation) }
     ensures shown { IfOk result (λ answer.
         shown_in (own_steps member.new) ≡ shown_in (own_steps member.old) ++ answer ∷ []) }

@@ -2,6 +2,7 @@ use Rattle.std.proofs.Common.{◌≡◌, ◌∙◌, [], false, get_or, take, ref
 use Rattle.std.proofs.lemmas.List.{take_all}
 use Rattle.klsm_board.specs.Boards.{own_steps}
 use Rattle.klsm_text.specs.declared.thread_rows.ThreadRow.{ThreadRow}
+use Rattle.klsm_tool.specs.declared.picking.ThreadPicker.{ThreadPicker}
 use Rattle.klsm_tool.specs.Turns.{AreAnswers}
 use Rattle.klsm_tool.specs.Turns.{StopsInsertion, IsAnswerTo}
 use Rattle.klsm_tool.proofs.ShownLemmas.{inserted_within}
@@ -31,6 +32,7 @@ loop-row-preserved g c =
     let row = get_or c.args.rows.now c.loop-row.row-index empty in
     record {
       same = (told.same.0 ∙ was.same.0, told.same.1 ∙ was.same.1, told.same.2 ∙ was.same.2);
+      picks = told.picker ∙ (was.picks ∙ sym told.same.0);
       answers = row_answered c.args.rows.now c.loop-row.row-index empty c.loop-row-test.true (own_steps c.loop-row.member) (own_steps c.answer.new.member) c.in_default.field-0 was.answers
           (subst (λ o. IsAnswerTo o c.in_default.field-0) c.operation.ensures told.answer) told.shown;
     }
@@ -38,6 +40,7 @@ loop-row-preserved g c =
 pub loop-row-init : goal.loop-row-init
 loop-row-init g c = record {
   same = (refl, refl, refl);
+  picks = ap (λ (p : ThreadPicker). p.thread) c.requires.picks;
   answers = subst (AreAnswers []) (sym c.requires.shows_none) tt;
 }
 

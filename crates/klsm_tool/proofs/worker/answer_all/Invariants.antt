@@ -1,4 +1,4 @@
-use Rattle.std.proofs.Common.{map, take}
+use Rattle.std.proofs.Common.{◌≡◌, map, take}
 use Rattle.klsm_board.specs.Boards.{IsSame, own_steps}
 use Rattle.klsm_tool.specs.Shown.{shown_in}
 use Rattle.klsm_text.specs.Keeping.{asked_in}
@@ -9,5 +9,6 @@ use Rattle.klsm_tool.proofs.worker.answer_all.Given as goal
 abbrev pub invariant-loop-row : goal.invariant-loop-row
 invariant-loop-row g l = record {
   same : IsSame l.initial.member l.member;
+  picks : l.picker.thread ≡ l.member.number;
   answers : AreAnswers (map asked_in (take l.row-index l.rows)) (shown_in (own_steps l.member));
 }
