@@ -3,7 +3,8 @@ ghost use Rattle.std.specs.Prelude.{◌≡◌, ◌≤◌, Option, ℕ, List, IfE
 ghost use Rattle.klsm_instance.specs.Answers.{IsBestAnswer};
 ghost use Rattle.klsm_knapsack.specs.Refusals.{RefusesSearch};
 ghost use Rattle.klsm_instance.specs.Format.{IsProblemIn, RefusesInput};
-ghost use Rattle.klsm_tool.specs.Knapsack.{Solves, SolvesProblem, RefusesIn, WritesBest};
+ghost use Rattle.klsm_tool.specs.Knapsack.{Solves, SolvesProblem, RefusesIn};
+ghost use Rattle.klsm_tool.specs.Knapsack.{WritesAnswer, WritesBest};
 
 use klsm_board::Gate;
 use klsm_knapsack::{Best, Instance, Listeners, ReadError, SolveError, solve_told};
@@ -78,9 +79,24 @@ fn solve_read<P: AllocGlobal + Wait + Threads + Sync, W: Write, G: Gate, H: Prog
     ensures { SolvesProblem search.now.threads search.now.k instance.now (W.contents writer.old)
         (W.contents writer.new) result }
 {
-    match solve_in_any_order(rt, instance, search, listeners) {
-        Ok(best) => write_selection(rt.alloc(), writer, instance, &best),
+    let answer = solve_in_any_order(rt, instance, search, listeners);
+    write_answer(rt.alloc(), writer, instance, answer)
+}
+
+// Writes what a search answered.
+fn write_answer<W: Write>(
+    alloc: Global,
+    writer: &mut W,
+    instance: &Instance,
+    answer: Result<Best, SolveError>,
+) -> Report
+    ensures { WritesAnswer (W.contents writer.old) (W.contents writer.new) instance.now answer
+        result }
+{
+    match answer {
+        Ok(best) => write_selection(alloc, writer, instance, &best),
         Err(SolveError::Full) => write_last(writer, FULL, 0, End::Full),
+        // The sizes are in range, so it is memory that is wanted.
         Err(_) => write_last(writer, NO_MEMORY, 0, End::NoMemory),
     }
 }
