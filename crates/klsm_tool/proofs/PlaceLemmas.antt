@@ -16,6 +16,7 @@ use Rattle.klsm_text.specs.declared.stop.Stop.{Stop}
 use Rattle.klsm_text.specs.declared.stop.Stop.TheVariants as stop
 use Rattle.klsm_text.specs.declared.stop.Closing.{Closing}
 use Rattle.klsm_text.specs.declared.totals.Totals.{Totals}
+use Rattle.klsm_tool.specs.declared.passing.Passed.{Passed}
 use Rattle.klsm_tool.specs.declared.worker.GaveUp.{GaveUp}
 use Rattle.klsm_tool.specs.declared.worker.Worker.{Worker}
 use Rattle.klsm_tool.specs.Crews.{AreMembers, lists_in, steps_in}
@@ -24,7 +25,7 @@ use Rattle.klsm_rows.specs.Rows.{AreAllRows, Row}
 use Rattle.klsm_tool.specs.Shown.{shown_in}
 use Rattle.klsm_text.specs.ThreadRows.{AreAccepted, Asked, asked_of}
 use Rattle.klsm_tool.specs.Turns.{AreAnswers, StopsInsertion}
-use Rattle.klsm_tool.specs.Working.{AreAccounted, HasRunRows, HasRunAt, IsReady, IsReadyAt, Works, gave_up_at, ready, steps_at}
+use Rattle.klsm_tool.specs.Working.{AreAccounted, HasRunRows, HasRunAt, IsReady, IsReadyAt, Works, back, gave_up_at, ready, steps_at}
 use Rattle.klsm_tool.proofs.TotalLemmas.{adds_up, insertions_are}
 
 -- ---- before they begin
@@ -50,7 +51,7 @@ member_or d None = d
 member_or d (Some worker) = worker.member
 
 -- the members are told by the workers
-pub same_members : (ms ns : List (Member 64 21)) → map ready ms ≡ map ready ns → ms ≡ ns
+pub same_members : (ms ns : List (Member 64 21)) → map back ms ≡ map back ns → ms ≡ ns
 same_members [] [] same = refl
 same_members [] (n ∷ ns) same = absurd (let bad = ap (λ (z : List (Option Worker)). length z) same in omega (arith, bad))
 same_members (m ∷ ms) [] same = absurd (let bad = ap (λ (z : List (Option Worker)). length z) same in omega (arith, bad))
@@ -85,7 +86,7 @@ one_more board asked n m members is_of number works rest = record { of = of; num
 
 all_ran : (board : Board 64 21) (asked : ℕ → List Asked) (crew : List (Option Worker)) (n : ℕ)
     → ((t : ℕ) (d : Option Worker) → t < length crew → HasRunAt board (n + t) (asked (n + t)) (slice_index_or crew t d) × (gave_up_at (slice_index_or crew t d) ≡ None))
-    → (crew ≡ map ready (members_in crew)) × AllRan board asked n (members_in crew)
+    → (crew ≡ map back (members_in crew)) × AllRan board asked n (members_in crew)
 all_ran board asked [] n each = (refl, record { of = λ i member there. absurd (some-ne-none member (sym there)); numbered = λ i member there. absurd (some-ne-none member (sym there)); answers = λ t below. absurd (omega (arith, below)) })
 all_ran board asked (None ∷ crew) n each = absurd (each 0 None (omega arith)).0
 all_ran board asked (Some worker ∷ crew) n each =
@@ -93,20 +94,21 @@ all_ran board asked (Some worker ∷ crew) n each =
     let rest = all_ran board asked crew (n + 1) (λ t d below. let told = each (suc t) d (omega (arith, below)) in
     (subst (λ j. HasRunAt board j (asked j) (slice_index_or crew t d)) (let e : n + suc t ≡ (n + 1) + t = omega arith in e) told.0, told.1)) in
     let first : HasRunRows board n (asked n) worker = subst (λ j. HasRunRows board j (asked j) worker) (let e : n + 0 ≡ n = omega arith in e) here.0 in
-    let same : Some worker ≡ ready worker.member = ap (λ (g : Option GaveUp). Some (record { member = worker.member; gave_up = g })) here.1 in
+    let passed : worker.passed ≡ Some (record { worker = worker.member.number }) = first.passed ∙ ap (λ (i : ℕ). Some (record { worker = i })) (sym first.number) in
+    let same : Some worker ≡ back worker.member = ap₂ {A = Option Passed} {B = Option GaveUp} (λ p g. Some (record { member = worker.member; passed = p; gave_up = g })) passed here.1 in
     let works : AreAnswers (asked n) (shown_in (own_steps worker.member)) = subst (Works board.sizes.k n (asked n) (own_steps worker.member)) here.1 first.works in (
-      ap (λ (z : Option Worker). z ∷ crew) same ∙ ap (λ (z : List (Option Worker)). ready worker.member ∷ z) rest.0,
+      ap (λ (z : Option Worker). z ∷ crew) same ∙ ap (λ (z : List (Option Worker)). back worker.member ∷ z) rest.0,
       one_more board asked n worker.member (members_in crew) first.of first.number works rest.1,
     )
 
 -- then they are the members of the board, and their lists answer all rows
 pub all_back : (board : Board 64 21) (asked : ℕ → List Asked) (crew : List (Option Worker)) → length crew ≡ board.sizes.threads
     → ((t : ℕ) (d : Option Worker) → t < length crew → HasRunAt board t (asked t) (slice_index_or crew t d)) → ((t : ℕ) (d : Option Worker) → t < length crew → gave_up_at (slice_index_or crew t d) ≡ None)
-    → (members : List (Member 64 21)) × (crew ≡ map ready members) × AreMembers board members × ((t : ℕ) → t < board.sizes.threads → AreAnswers (asked t) (shown_in (steps_in (lists_in members) t)))
+    → (members : List (Member 64 21)) × (crew ≡ map back members) × AreMembers board members × ((t : ℕ) → t < board.sizes.threads → AreAnswers (asked t) (shown_in (steps_in (lists_in members) t)))
 all_back board asked crew many ran none =
     let from_zero = λ (t : ℕ). let e : t ≡ 0 + t = omega arith in e in
     let told = all_ran board asked crew 0 (λ t d below. (subst (λ j. HasRunAt board j (asked j) (slice_index_or crew t d)) (from_zero t) (ran t d below), none t d below)) in
-    let so_many : length (members_in crew) ≡ board.sizes.threads = sym (length-map (members_in crew) ready) ∙ (ap (λ (z : List (Option Worker)). length z) (sym told.0) ∙ many) in (
+    let so_many : length (members_in crew) ≡ board.sizes.threads = sym (length-map (members_in crew) back) ∙ (ap (λ (z : List (Option Worker)). length z) (sym told.0) ∙ many) in (
       members_in crew,
       told.0,
       record { of = told.1.of; many = so_many; numbered = λ i member there. told.1.numbered i member there ∙ sym (from_zero i) },
@@ -136,8 +138,8 @@ all_run m input rows lists totals all accepted many answers accounted =
 
 -- or, where memory was wanted for that, none
 pub finished : (failed : Bool) (m : Sizes) (input : Option (List ℕ)) (rows : List Row) (board : Board 64 21) (crew : List (Option Worker)) (ms : List (Member 64 21)) (result : Result Totals Closing) → board.sizes ≡ m → AreAllRows input rows → AreAccepted m.threads rows
-    → crew ≡ map ready ms → AreMembers board ms → ((t : ℕ) → t < board.sizes.threads → AreAnswers (asked_of m.threads t rows) (shown_in (steps_in (lists_in ms) t)))
-    → IfOk result (λ totals. (members : List (Member 64 21)) × (crew ≡ map ready members) × AreMembers board members × AreAccounted board.sizes (lists_in members) totals) → IfErr result (λ closing. closing.stop ≡ stop.NoMemory) → RunsScript failed m input result
+    → crew ≡ map back ms → AreMembers board ms → ((t : ℕ) → t < board.sizes.threads → AreAnswers (asked_of m.threads t rows) (shown_in (steps_in (lists_in ms) t)))
+    → IfOk result (λ totals. (members : List (Member 64 21)) × (crew ≡ map back members) × AreMembers board members × AreAccounted board.sizes (lists_in members) totals) → IfErr result (λ closing. closing.stop ≡ stop.NoMemory) → RunsScript failed m input result
 finished failed m input rows board crew ms (Ok totals) sizes all accepted is back answers ok err =
     let same = same_members ms ok.0 (sym is ∙ ok.1) in let threads_are = ap (λ z. z.threads) sizes in
     all_run m input rows (lists_in ok.0) totals all accepted (length-map ok.0 own_steps ∙ (ok.2.many ∙ threads_are))

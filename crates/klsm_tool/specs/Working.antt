@@ -20,9 +20,18 @@ abbrev pub Works : ℕ → ℕ → List Asked → List Entry → Option GaveUp �
 Works k t asked es None = AreAnswers asked (shown_in es)
 Works k t asked es (Some gave_up) = GaveUpAt k t asked es gave_up.row gave_up.stop
 
--- the worker that a member is before it begins, and where no row stopped it
+-- the worker that a member is before it begins
 abbrev pub ready : Member 64 21 → Option Worker
-ready member = Some (record { member = member; gave_up = None })
+ready member = Some (record { member = member; passed = None; gave_up = None })
+
+-- and the one that it is when it has run all its rows, behind the gate
+abbrev pub back : Member 64 21 → Option Worker
+back member =
+    Some (record {
+      member = member;
+      passed = Some (record { worker = member.number });
+      gave_up = None;
+    })
 
 -- the member is thread t's of the board, and its list answers nothing
 pub record IsReady (board : Board 64 21) (t : ℕ) (member : Member 64 21) : Type 0 where
@@ -30,11 +39,12 @@ pub record IsReady (board : Board 64 21) (t : ℕ) (member : Member 64 21) : Typ
   pub number : member.number ≡ t
   pub shows_none : shown_in (own_steps member) ≡ []
 
--- it is, and has run what it was asked for
+-- it is, has passed the gate, and has run what it was asked for
 pub record HasRunRows (board : Board 64 21) (t : ℕ) (asked : List Asked) (worker : Worker)
     : Type 0 where
   pub of : IsOf worker.member board
   pub number : worker.member.number ≡ t
+  pub passed : worker.passed ≡ Some (record { worker = t })
   pub works : Works board.sizes.k t asked (own_steps worker.member) worker.gave_up
 
 -- at its place

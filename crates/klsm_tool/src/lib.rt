@@ -19,7 +19,8 @@
 //! Rows are read and judged by `klsm_text`, which also makes the lines and sends them. `replay` reads
 //! a row, `beside` lets the member of its thread answer and counts the skip among `live_items`, and
 //! the line goes out with others before a further row is waited for. Where threads run the rows,
-//! `live` has a `worker` for each; `making` has the board of either. `knapsack` reads an instance, has it solved with the things of the
+//! `live` has a `worker` for each, which goes through the gate by `passing`; `making` has the board of
+//! either, and `picking` the pickers. `knapsack` reads an instance, has it solved with the things of the
 //! greatest value for their weight first, and writes its answer by the rows. `program` runs what its
 //! words ask for, as `klsm_words` reads them.
 //!
@@ -51,6 +52,7 @@ mod knapsack;
 mod live;
 mod live_items;
 mod making;
+mod passing;
 mod picking;
 mod process_words;
 mod program;

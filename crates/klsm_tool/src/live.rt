@@ -10,12 +10,13 @@ ghost use Rattle.klsm_text.specs.declared.request.Refusal.{Refusal};
 ghost use Rattle.klsm_text.specs.declared.stop.Stop.TheVariants as stop;
 ghost use Rattle.klsm_text.specs.Keeping.{AreKept, kept_for};
 ghost use Rattle.klsm_text.specs.Reading.{HasReadScript, reader_failed};
-ghost use Rattle.klsm_tool.specs.Working.{AreAccounted, HasRunAt, IsReadyAt, gave_up_at, ready};
+ghost use Rattle.klsm_tool.specs.Working.{AreAccounted, HasRunAt, IsReadyAt, back, gave_up_at, ready};
 ghost use Rattle.klsm_tool.specs.Live.{Lives, LivesBy, RunsScript, outcome_end, outcome_text};
 ghost use Rattle.klsm_tool.specs.declared.worker.Worker.{Worker};
 ghost use Rattle.klsm_board.specs.declared.board.Member.{Member};
 
 use crate::making::board_for;
+use crate::passing::pass;
 use crate::worker::{GaveUp, Worker};
 use klsm_board::{Board, Gate, Member};
 use klsm_progress::{Progress, Silent};
@@ -242,12 +243,19 @@ fn run_at<G: Gate, P: Progress>(
     ensures { HasRunAt common.now.board.now index
         (kept_for (map (λ list. list.items) common.now.rows.now) index) place.new }
 {
-    common.gate.pass(index);
+    let rows = common.rows[index].as_slice();
+    let passed = pass(common.gate, index);
     let Some(worker) = place.take() else {
         unreachable!();
     };
-    let rows = common.rows[index].as_slice();
-    *place = Some(worker.run(rt, common.board, rows, common.settings, common.progress));
+    *place = Some(worker.run(
+        rt,
+        common.board,
+        rows,
+        common.settings,
+        passed,
+        common.progress,
+    ));
 }
 
 fn crew_of(alloc: Global, members: Vec<Member<64, 21>>) -> Result<Vec<Option<Worker>>, AllocError>
@@ -255,8 +263,11 @@ fn crew_of(alloc: Global, members: Vec<Member<64, 21>>) -> Result<Vec<Option<Wor
 {
     let mut crew = Vec::with_capacity(alloc, members.len())?;
     for member in members {
-        let gave_up = None;
-        crew.push(Some(Worker { member, gave_up }))?;
+        crew.push(Some(Worker {
+            member,
+            passed: None,
+            gave_up: None,
+        }))?;
     }
     Ok(crew)
 }
@@ -289,10 +300,10 @@ fn gave_up_of(place: &Option<Worker>) -> Option<GaveUp>
 
 // Ends the board, once its members have run all their rows.
 fn finish(alloc: Global, board: Board<64, 21>, crew: Vec<Option<Worker>>) -> Result<Totals, Closing>
-    requires crew { (members : List (Member 64 21)) × (crew.items ≡ map ready members)
+    requires crew { (members : List (Member 64 21)) × (crew.items ≡ map back members)
         × AreMembers board members }
     ensures totals { IfOk result (λ totals. (members : List (Member 64 21))
-        × (crew.items ≡ map ready members) × AreMembers board members
+        × (crew.items ≡ map back members) × AreMembers board members
         × AreAccounted board.sizes (lists_in members) totals) }
     ensures refused { IfErr result (λ closing. closing.stop ≡ Stop.NoMemory) }
 {
@@ -311,8 +322,8 @@ fn finish(alloc: Global, board: Board<64, 21>, crew: Vec<Option<Worker>>) -> Res
 }
 
 fn members_of(alloc: Global, crew: Vec<Option<Worker>>) -> Result<Vec<Member<64, 21>>, AllocError>
-    requires { (members : List (Member 64 21)) × (crew.items ≡ map ready members) }
-    ensures { IfOk result (λ members. crew.items ≡ map ready members.items) }
+    requires { (members : List (Member 64 21)) × (crew.items ≡ map back members) }
+    ensures { IfOk result (λ members. crew.items ≡ map back members.items) }
 {
     let mut members = Vec::with_capacity(alloc, crew.len())?;
     for place in crew {

@@ -8,6 +8,7 @@ ghost use Rattle.klsm_text.specs.Keeping.{asked_in};
 ghost use Rattle.klsm_tool.specs.Picking.{picker_of};
 ghost use Rattle.klsm_tool.specs.Working.{HasRunRows, IsReady, Works};
 
+use crate::passing::Passed;
 use crate::picking::ThreadPicker;
 use crate::turns::{delete, insert};
 use klsm_board::{Board, Member};
@@ -16,10 +17,11 @@ use klsm_text::{Answer, Operation, Stop, ThreadRow};
 use klsm_words::Settings;
 use std::sync::Wait;
 
-/// A member, and at which row it gave up, if it did.
+/// A member, that it has passed the gate, once it has, and at which row it gave up, if it did.
 #[derive(Drop)]
 pub(crate) struct Worker {
     pub member: Member<64, 21>,
+    pub passed: Option<Passed>,
     pub gave_up: Option<GaveUp>,
 }
 
@@ -32,17 +34,19 @@ pub(crate) struct GaveUp {
 
 impl Worker {
     /// Runs the rows of its thread in their order, with the picks that the settings choose for its
-    /// thread.
+    /// thread. It has passed the gate before.
     pub(crate) fn run(
         self,
         rt: &impl Wait,
         board: &Board<64, 21>,
         rows: &[ThreadRow],
         settings: &Settings,
+        passed: Passed,
         progress: &impl Progress,
     ) -> Worker
         requires ready { IsReady board.now self.member.number self.member }
         requires few { length rows.now < board.now.sizes.quota }
+        requires passed { passed.worker ≡ self.member.number }
         ensures { HasRunRows board.now self.member.number (map asked_in rows.now) result }
     {
         let Worker { mut member, .. } = self;
@@ -56,7 +60,11 @@ impl Worker {
             rows,
             progress,
         );
-        Worker { member, gave_up }
+        Worker {
+            member,
+            passed: Some(passed),
+            gave_up,
+        }
     }
 }
 

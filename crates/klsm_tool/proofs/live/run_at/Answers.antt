@@ -23,3 +23,8 @@ returns g c =
 
 pub unreachable-unreachable : goal.unreachable-unreachable
 unreachable-unreachable g c = c.unreachable.type_inv
+
+pub run-requires-clause-passed : goal.run-requires-clause-passed
+run-requires-clause-passed g c =
+    let there = subst (IsReadyAt c.args.common.now.board.now c.args.index) (sym c.in-Some.ensures.value) c.requires.ready in
+    λ _ _. c.pass-passed.ensures ∙ sym there.number
