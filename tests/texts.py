@@ -1,11 +1,13 @@
-"""Texts of the parser: each help fits a terminal of 80 columns, the version is one line, and no input is waited for.
+"""Texts of the parser: each help fits a terminal of 80 columns, the version is that of its source file and of the
+changelog, and no input is waited for.
 
 What the help of a command says of its options stands in `program/help`.
 """
 
 import functools
+import re
 
-from process import run_unheard
+from process import ROOT, run_unheard
 
 REQUESTS = [
     "--help",
@@ -31,12 +33,23 @@ def helps(words):
     return f"a line is too long: {long[0]!r}" if long else None
 
 
+def version():
+    """What the source file of the version says: a text, whose lines go on behind a backslash."""
+    source = (ROOT / "crates/klsm_words/src/version.rt").read_text()
+    return re.search(r'VERSION: &str = "(.*?)";', source, re.DOTALL)[1].replace("\\\n", "")
+
+
+def newest():
+    """The newest version of the changelog."""
+    return re.search(r"^## \[(.+?)\]", (ROOT / "CHANGELOG.md").read_text(), re.MULTILINE)[1]
+
+
 def tells_version(word):
     status, answer = run_unheard([word])
-    is_line = answer.count(b"\n") == 1 and answer.endswith(b"\n")
-    names_kit = b", proved with rattle-kit-" in answer
-    if status != 0 or not is_line or not names_kit or not answer.startswith(b"klsm 1."):
+    if status != 0 or answer != f"klsm {version()}\n".encode():
         return f"the status is {status}, and the text is {answer!r}"
+    if not answer.startswith(f"klsm {newest()}, proved with rattle-kit-".encode()):
+        return f"the text is {answer!r}, and the newest version of the changelog is {newest()}"
     return None
 
 

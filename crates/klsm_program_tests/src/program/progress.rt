@@ -8,7 +8,7 @@ use klsm_tool::{Counted, Progress, TerminalLine, Terminals, run_program};
 use std::alloc::Global;
 use std::fmt::Display;
 use std::io;
-use std::io::{Eprint, Error, ErrorKind};
+use std::io::{Eprint, Error, ErrorKind, Write};
 use std::rt::Clock;
 use std::sync::atomic::{AtomicU64, Ordering};
 use std::sync::{Mutex, Wait};
@@ -16,25 +16,38 @@ use std::test::Fail;
 use std::thread::Threads;
 use std::time::Duration;
 
-/// A clock that stands still until it is set, and a standard error that keeps what is written.
+/// A clock that goes on with each look at it and when it is set, and a standard error that keeps what is
+/// written.
 #[derive(Drop)]
 struct Desk {
     alloc: Global,
     millis: AtomicU64,
+    /// How many milliseconds a look takes.
+    look: u64,
     text: Mutex<Vec<u8>>,
 }
 
 impl Desk {
-    fn new(alloc: Global) -> Self {
+    fn new(alloc: Global, look: u64) -> Self {
         Desk {
             alloc,
             millis: AtomicU64::new(0),
+            look,
             text: Mutex::new(Vec::new(alloc)),
         }
     }
 
     fn reads(&self) -> Duration {
-        Duration::from_millis(self.millis.load(Ordering::SeqCst))
+        Duration::from_millis(self.millis.fetch_add(self.look, Ordering::SeqCst))
+    }
+
+    /// Keeps a text behind what was written before.
+    fn keep(&self, text: &[u8]) -> io::Result<()> {
+        let Some(mut all) = self.text.try_lock() else {
+            return Err(Error::from(ErrorKind::Other));
+        };
+        all.extend_from_slice(text)?;
+        Ok(())
     }
 }
 
@@ -51,11 +64,7 @@ impl Clock for Desk {
 impl Eprint for Desk {
     fn eprint<D: Display + Drop>(&self, value: D) -> io::Result<()> {
         let text = format!(in self.alloc; "{value}")?;
-        let Some(mut all) = self.text.try_lock() else {
-            return Err(Error::from(ErrorKind::Other));
-        };
-        all.extend_from_slice(text.as_bytes())?;
-        Ok(())
+        self.keep(text.as_bytes())
     }
 
     fn eprintln<D: Display + Drop>(&self, value: D) -> io::Result<()> {
@@ -197,7 +206,7 @@ fn hear(desk: &Desk, line: &impl Progress, events: &[Event]) {
 
 /// All that is written while this happens.
 fn written(alloc: Global, terminals: Terminals, events: &[Event]) -> Vec<u8> {
-    let desk = Desk::new(alloc);
+    let desk = Desk::new(alloc, 0);
     hear(&desk, &TerminalLine::new(&desk, terminals), events);
     desk.text.into_inner()
 }
@@ -325,5 +334,96 @@ fn each_command_tells_how_far_it_has_come(rt: HostRuntime) -> Result<(), Fail> {
         [1, 0, 0, 0, 0, 1]
     );
     assert!(rt; examined >= 4096 && examined % 4096 == 0);
+    Ok(())
+}
+
+/// A standard output on the same terminal as standard error.
+#[derive(Drop)]
+struct SameTerminal<'a> {
+    desk: &'a Desk,
+}
+
+impl Write for SameTerminal<'_> {
+    fn write(&mut self, buf: &[u8]) -> io::Result<usize> {
+        self.desk.keep(buf)?;
+        Ok(buf.len())
+    }
+
+    fn flush(&mut self) -> io::Result<()> {
+        Ok(())
+    }
+}
+
+/// All that a command writes over an input, where each look at the clock takes more than a second.
+fn shown(
+    rt: &(impl Wait + Threads + Sync),
+    alloc: Global,
+    command: &[u8],
+    input: &[u8],
+) -> Vec<u8> {
+    let desk = Desk::new(alloc, 1500);
+    let words: &[&[u8]] = &[b"klsm", command];
+    run_program(
+        &(Process { rt, words }, alloc),
+        Input::whole(input),
+        &mut SameTerminal { desk: &desk },
+        &TerminalLine::new(&desk, ERROR),
+    );
+    desk.text.into_inner()
+}
+
+/// As many things as there may be, of which no selection fills the knapsack, so that more nodes wait than
+/// the board of a search has room for.
+const FULL: &[u8] = b"\
+capacity,31
+2,2\n2,2\n2,2\n2,2\n2,2\n2,2\n2,2\n2,2\n2,2\n2,2\n2,2\n2,2\n2,2\n2,2\n2,2\n2,2
+2,2\n2,2\n2,2\n2,2\n2,2\n2,2\n2,2\n2,2\n2,2\n2,2\n2,2\n2,2\n2,2\n2,2\n2,2\n2,2
+";
+
+/// What takes the line away.
+const GONE: &[u8] = b"\r\x1b[K";
+
+/// What stands before a piece of text and behind it, where it stands first.
+fn parted<'a>(text: &'a [u8], piece: &[u8]) -> Option<(&'a [u8], &'a [u8])> {
+    for at in 0..text.len() {
+        let (before, rest) = text.split_at(at);
+        if let Some(behind) = rest.strip_prefix(piece) {
+            return Some((before, behind));
+        }
+    }
+    None
+}
+
+/// Whether a line was shown and then taken away, once, and no byte of a last line that begins so was
+/// written before.
+fn goes_before(text: &[u8], last: &[u8]) -> bool {
+    let Some((before, behind)) = parted(text, GONE) else {
+        return false;
+    };
+    before.contains(&b'\r')
+        && !behind.contains(&b'\r')
+        && parted(before, last).is_none()
+        && parted(behind, last).is_some()
+}
+
+#[test]
+fn the_line_goes_before_the_last_one(rt: HostRuntime) -> Result<(), Fail> {
+    let alloc = rt.alloc();
+    let rows = repeated(alloc, b"0,d,,\n", 5000).ok_or("no memory")?;
+    let mut refused = repeated(alloc, b"0,d,,\n", 5000).ok_or("no memory")?;
+    refused.extend_from_slice(b"0,q,,\n")?;
+    let replay = shown(&rt, alloc, b"replay", rows.as_slice());
+    assert!(rt; goes_before(replay.as_slice(), b"max skip 0 bound 64\n"));
+    let live = shown(&rt, alloc, b"live", rows.as_slice());
+    assert!(rt; goes_before(live.as_slice(), b"inserted 0 deleted 0 left 0\n"));
+    let knapsack = shown(&rt, alloc, b"knapsack", THINGS);
+    assert!(rt; goes_before(knapsack.as_slice(), b"value 14 weight 14 picks "));
+    let last = b"refused row 5001: operation\n";
+    let replay = shown(&rt, alloc, b"replay", refused.as_slice());
+    assert!(rt; goes_before(replay.as_slice(), last));
+    let live = shown(&rt, alloc, b"live", refused.as_slice());
+    assert!(rt; goes_before(live.as_slice(), last));
+    let full = shown(&rt, alloc, b"knapsack", FULL);
+    assert!(rt; goes_before(full.as_slice(), b"full\n"));
     Ok(())
 }

@@ -187,6 +187,19 @@ const SCRIPTS: &[(&[Piece], usize, u8)] = &[
         5,
         0,
     ),
+    // A piece that is all in quotes, and one that ends them and begins others, in which a line end is.
+    (
+        &[
+            (b"0,i,5,50\n0,i,6,\"6", 1),
+            (b"0", 1),
+            (b"\"\n0,i,7,\"7\n", 2),
+            (b"\",,\n", 2),
+        ],
+        3,
+        1,
+    ),
+    // A refused row, behind which nothing more is asked for.
+    (&[(b"0,i,5,50\n0,q,,\n", 2), (b"0,d,,\n", 2)], 2, 1),
 ];
 
 /// Whether no answer is kept back in a run over this script, which has so many lines and this
@@ -233,4 +246,31 @@ fn many_answers_go_out_at_once_behind_quotes(rt: HostRuntime) {
     assert!(rt; go_out_at_once(&rt, rt.alloc(), first, b"0,d,,\n") == Some(true));
     let quoted = b"\"0\",\"d\",\"\",\"\"\n";
     assert!(rt; go_out_at_once(&rt, rt.alloc(), quoted, quoted) == Some(true));
+}
+
+/// Whether each of a thousand rows is answered before the next one is asked for.
+fn answers_each(rt: &(impl Wait + Threads + Sync), alloc: Global) -> Option<bool> {
+    let mut pieces: Vec<Piece> = Vec::new(alloc);
+    for number in 0..1000usize {
+        pieces.push((b"0,d,,\n", number.saturating_add(1))).ok()?;
+    }
+    let (seen, status) = run_over(rt, alloc, pieces.as_slice());
+    Some(status == 0 && seen.faults.get() == 0 && seen.lines.get() == 1001)
+}
+
+#[test]
+fn a_thousand_rows_one_by_one(rt: HostRuntime) {
+    assert!(rt; answers_each(&rt, rt.alloc()) == Some(true));
+}
+
+/// Whether the answers to a million rows have gone out before a row more is asked for.
+fn answers_a_million(rt: &(impl Wait + Threads + Sync), alloc: Global) -> Option<bool> {
+    let rows = repeated(alloc, b"0,d,,\n", 1_000_000)?;
+    let (seen, status) = run_over(rt, alloc, &[(rows.as_slice(), 1_000_000)]);
+    Some(status == 0 && seen.faults.get() == 0)
+}
+
+#[test]
+fn a_million_answers_before_the_end(rt: HostRuntime) {
+    assert!(rt; answers_a_million(&rt, rt.alloc()) == Some(true));
 }
