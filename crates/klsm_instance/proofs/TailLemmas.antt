@@ -1,5 +1,7 @@
 -- The tails of an instance.
-use Rattle.std.proofs.Common.{◌≡◌, ℕ, zero, suc, ◌+◌, ◌-◌, ◌/◌, ◌%◌, ◌^◌, ◌<◌, ◌≤◌, ◌==◌, if◌then◌else◌, Bool, true, false, ◌⊎◌, inl, inr, List, [], ◌∷◌, ◌++◌, length, drop, get_or, Option, Some, None, refl, sym, ap, ◌∙◌, subst, arith, drop-cons}
+use Rattle.std.proofs.Common.{◌≡◌, ℕ, zero, suc, ◌+◌, ◌-◌, ◌*◌, ◌/◌, ◌%◌, ◌^◌, ◌<◌, ◌≤◌, ◌↔◌, ◌==◌, min, leb, nat_lt, IsTrue, if◌then◌else◌, Bool, true, false, ◌⊎◌, inl, inr, List, [], ◌∷◌, ◌++◌, length, drop, get_or, Option, Some, None, refl, sym, ap, ◌∙◌, subst, arith, drop-cons}
+use Rattle.std.proofs.lemmas.Bool.{le-leb, lt-ltb, ltb-true}
+use Rattle.std.proofs.Math.Nat.{div-lt_iff_lt-mul}
 use Rattle.std.proofs.lemmas.List.{length-drop}
 use Rattle.std.proofs.lemmas.List.Sums.{sum_by-cons}
 use Rattle.std.specs.Option.{MatchOption}
@@ -70,6 +72,41 @@ tail_at capacity things tails level tail prepared le is =
     let back : length things - n ≡ level = omega arith in
     let within : n < length tails = omega (arith, prepared.as_many) in
     subst (λ (k : ℕ). IsTail (drop k things) tail) back (prepared.tails_are n tail (slice_get_read tails (length tails) n tail refl within is))
+
+-- what the things can add, where some of the capacity is left
+pub gain_of : (xs : List Thing) (tail : Tail) (left : ℕ) → IsTail xs tail → (gain : ℕ) × IsGain xs left gain
+gain_of [] tail left is = (0, refl)
+gain_of (x ∷ xs) tail left is = by_steepest tail.steepest is.steepest
+  where
+    by_steepest : (y : Option Thing) → IsSteepestOf (x ∷ xs) y → (gain : ℕ) × IsGain (x ∷ xs) left gain
+    by_steepest None none = absurd (omega (arith, ap length none))
+    by_steepest (Some y) steep = (min (sum_by (λ z. z.value) (x ∷ xs)) (left * y.value / y.weight), (y, steep, refl))
+
+-- where they have a steepest
+pub gain_by : (xs : List Thing) (tail : Tail) (y : Thing) (left : ℕ) → IsTail xs tail → tail.steepest ≡ Some y → IsGain xs left (min tail.value (left * y.value / y.weight))
+gain_by [] tail y left is steepest =
+    let steep : IsSteepestOf [] (Some y) = subst (λ (o : Option Thing). IsSteepestOf [] o) steepest is.steepest in
+    absurd (omega (arith, steep.among.1))
+gain_by (x ∷ xs) tail y left is steepest =
+    let steep : IsSteepestOf (x ∷ xs) (Some y) = subst (λ (o : Option Thing). IsSteepestOf (x ∷ xs) o) steepest is.steepest in
+    (y, steep, ap (λ v. min v (left * y.value / y.weight)) is.value)
+
+-- and where they have none
+pub gain_none : (xs : List Thing) (tail : Tail) (left : ℕ) → IsTail xs tail → tail.steepest ≡ None → IsGain xs left 0
+gain_none [] tail left is none = refl
+gain_none (x ∷ xs) tail left is none =
+    let empty : x ∷ xs ≡ [] = subst (λ (o : Option Thing). IsSteepestOf (x ∷ xs) o) none is.steepest in
+    absurd (omega (arith, ap length empty))
+
+-- the lesser of a sum and a quotient is no more than a number where the sum is not, or by the product
+pub lesser_by_sum : (v q most : ℕ) → v ≤ most → IsTrue (leb v most) ↔ (min v q ≤ most)
+lesser_by_sum v q most le = (λ yes. omega arith, λ lesser. le-leb v most le)
+
+pub lesser_by_product : (v a w most : ℕ) → 0 < w → (v ≤ most → ⊥) → IsTrue (nat_lt a ((most + 1) * w)) ↔ (min v (a / w) ≤ most)
+lesser_by_product v a w most some_weight more = (
+  λ yes. let below : a / w < most + 1 = (div-lt_iff_lt-mul some_weight).1 (ltb-true a ((most + 1) * w) yes) in omega arith,
+  λ lesser. let below : a / w < most + 1 = omega arith in lt-ltb a ((most + 1) * w) ((div-lt_iff_lt-mul some_weight).0 below),
+)
 
 -- the things from a level on
 pub few_from : (p : Problem) (level : ℕ) → IsInRange p → length (drop level p.things) ≤ 32

@@ -1,5 +1,5 @@
 //! Instances, and the bound of a node.
-ghost use Rattle.std.specs.Prelude.{ℕ, List, ◌≡◌, ◌≤◌, ◌<◌, ◌+◌, ◌-◌, IfOk, length, drop, Some, slice_get, option_map};
+ghost use Rattle.std.specs.Prelude.{ℕ, List, ◌≡◌, ◌≤◌, ◌<◌, ◌+◌, ◌-◌, ◌↔◌, IfOk, IsTrue, length, drop, Some, slice_get, option_map};
 ghost use Rattle.std.specs.List.{AllByRecursion};
 ghost use Rattle.klsm_instance.specs.Selections.{Problem, value_of, weight_of};
 ghost use Rattle.klsm_instance.specs.Limits.{IsInRange, IsThing};
@@ -93,6 +93,16 @@ impl Instance {
         self.things[i]
     }
 
+    // Whether thing `i` is the same as this one.
+    #[inline]
+    pub(crate) fn is_thing(&self, i: usize, other: Thing) -> bool
+        requires { i < length self.now.things }
+        ensures { IsTrue result ↔ (slice_get self.now.things i ≡ Some other) }
+    {
+        let thing = self.things[i];
+        thing.value == other.value && thing.weight == other.weight
+    }
+
     // All things, in a list of one's own.
     pub(crate) fn things_in(&self, alloc: Global) -> Result<Vec<Thing>, AllocError>
         ensures things { IfOk result (λ things. things.items ≡ self.now.things) }
@@ -147,6 +157,23 @@ impl Instance {
         // For the proof: the contract alone names the picks.
         let _ = picks;
         taken.value + self.gain(level, self.capacity - taken.weight)
+    }
+
+    // Whether that is no more than a value.
+    #[inline]
+    pub(crate) fn is_bounded_with(&self, level: usize, picks: u64, taken: Thing, value: u64) -> bool
+        requires node { IsNode self.now level picks }
+        requires value { taken.value ≡ value_of self.now picks }
+        requires weight { taken.weight ≡ weight_of self.now picks }
+        ensures exact { (bound : ℕ) × IsBound self.now level picks bound
+            × (IsTrue result ↔ (bound ≤ value)) }
+        ensures sound { IsTrue result → NoneAbove self.now level picks value }
+    {
+        // For the proof: the contract alone names the picks.
+        let _ = picks;
+        let tail = &self.tails[self.things.len() - level];
+        taken.value <= value
+            && tail.gains_at_most(self.capacity - taken.weight, value - taken.value)
     }
 
     // What the things from a level on can add where `left` of the capacity is left.

@@ -24,8 +24,9 @@
 //!
 //! - **The bound is exact**, and no completion of a node is above it: clauses `exact` and `sound` of
 //!   `Instance::bound`. An instance keeps the sum and the steepest thing of each suffix, so that a
-//!   bound costs one division beside the sum of what is taken.
+//!   bound costs one division beside the sum of what is taken, and to compare it with a value takes none.
 //! - **A text is read by its rows**, and refused for the first reason that holds: `Instance::read`.
+//! - **Things that are the same need not be tried one by one**: clause `covers` of `Instance::leaving_alike`.
 //! - **The search in one thread answers a best selection**: the contract of `solve_in_turn`. It is
 //!   `Instance::finish` at the root, which a solver also takes for the nodes that it has left.
 //! - **What is best in another order is given back as what is best in the first one**: clause `best` of

@@ -1,6 +1,6 @@
 //! Nodes of the search, and the items that they are on a board. A solver over another queue uses
 //! these too.
-ghost use Rattle.std.specs.Prelude.{ℕ, ◌≡◌, ◌+◌, ◌-◌, ◌/◌, ◌%◌, ◌^◌, ◌<◌, ◌≤◌, MatchOption, length};
+ghost use Rattle.std.specs.Prelude.{ℕ, ◌≡◌, ◌+◌, ◌-◌, ◌/◌, ◌%◌, ◌^◌, ◌<◌, ◌≤◌, ◌↔◌, IsTrue, MatchOption, length};
 ghost use Rattle.klsm_instance.specs.Selections.{weight_of};
 ghost use Rattle.klsm_instance.specs.Limits.{IsInRange};
 ghost use Rattle.klsm_instance.specs.Nodes.{IsNode, IsBound, IsNodeOf, NoneAbove, level_in, picks_in};
@@ -79,6 +79,29 @@ impl Instance {
         })
     }
 
+    /// The node that leaves the next thing, and with it each one behind it that is the same. What leaves
+    /// the first of these and takes a later one is worth as much as what takes the first.
+    #[inline]
+    pub fn leaving_alike(&self, node: &Node) -> Node
+        requires node { IsNodeOf self.now node.now }
+        requires free { node.now.level < length self.now.things }
+        ensures node { IsNodeOf self.now result }
+        ensures later { node.now.level < result.level }
+        ensures picks { result.picks ≡ node.now.picks }
+        ensures covers { (n : ℕ)
+            → NoneAbove self.now (node.now.level + 1) (node.now.picks + 2 ^ node.now.level) n
+            → NoneAbove self.now result.level node.now.picks n
+            → NoneAbove self.now node.now.level node.now.picks n }
+    {
+        let thing = self.thing(node.level);
+        let len = self.len();
+        let mut level = node.level + 1;
+        while level < len && self.is_thing(level, thing) {
+            level += 1;
+        }
+        Node { level, ..*node }
+    }
+
     /// The bound of a node.
     #[inline]
     pub fn bound_of(&self, node: &Node) -> u64
@@ -88,6 +111,18 @@ impl Instance {
         ensures sound { NoneAbove self.now node.now.level node.now.picks result }
     {
         self.bound_with(node.level, node.picks, node.taken)
+    }
+
+    /// Whether the bound of a node is no more than a value. It takes no division.
+    #[inline]
+    pub fn is_bounded_by(&self, node: &Node, value: u64) -> bool
+        requires node { IsNodeOf self.now node.now }
+        ensures exact { (bound : ℕ) × IsBound self.now node.now.level node.now.picks bound
+            × (IsTrue result ↔ (bound ≤ value)) }
+        ensures sound { IsTrue result
+            → NoneAbove self.now node.now.level node.now.picks value }
+    {
+        self.is_bounded_with(node.level, node.picks, node.taken, value)
     }
 
     /// The key of a node's item: 32,000,000 less its bound, so that a greater bound comes first.

@@ -34,14 +34,14 @@ impl Instance {
         ensures covers { NoneAbove self.now node.level node.picks result.value }
     {
         let best = raised(best, node.taken.value, node.picks);
-        if node.level == self.len() || self.bound_of(&node) <= best.value {
+        if node.level == self.len() || self.is_bounded_by(&node, best.value) {
             return best;
         }
         let best = match self.taking(&node) {
             Some(child) => self.finish(child, best),
             None => best,
         };
-        self.finish(self.leaving(&node), best)
+        self.finish(self.leaving_alike(&node), best)
     }
 }
 

@@ -1,5 +1,5 @@
 //! What lies from a level on.
-ghost use Rattle.std.specs.Prelude.{ℕ, List, [], ◌∷◌, ◌≡◌, ◌≤◌, ◌+◌, length, drop, IfOk, MatchOption, Some};
+ghost use Rattle.std.specs.Prelude.{ℕ, List, [], ◌∷◌, ◌≡◌, ◌≤◌, ◌+◌, ◌↔◌, length, drop, IfOk, IsTrue, MatchOption, Some};
 ghost use Rattle.std.specs.List.{AllByRecursion};
 ghost use Rattle.klsm_instance.specs.declared.thing.Thing.{Thing};
 ghost use Rattle.klsm_instance.specs.Limits.{IsThing};
@@ -41,6 +41,21 @@ impl Tail {
         match self.steepest {
             None => 0,
             Some(thing) => self.value.min(left * thing.value / thing.weight),
+        }
+    }
+
+    /// Whether that is no more than `most`, without a division.
+    #[inline]
+    pub(crate) fn gains_at_most(&self, left: u64, most: u64) -> bool
+        requires left { left ≤ 1000000000 }
+        requires value { self.now.value ≤ 32000000 }
+        requires steepest { MatchOption self.now.steepest (Unit {0}) IsThing }
+        ensures { (xs : List Thing) → IsTail xs self.now → (gain : ℕ) × IsGain xs left gain
+            × (IsTrue result ↔ (gain ≤ most)) }
+    {
+        match self.steepest {
+            None => true,
+            Some(thing) => { self.value <= most || left * thing.value < (most + 1) * thing.weight }
         }
     }
 }

@@ -7,7 +7,7 @@ use Rattle.klsm_world.specs.declared.step.Entry.{Entry}
 use Rattle.klsm_world.specs.declared.step.Entry.TheVariants.{Committed, Released}
 use Rattle.klsm_world.specs.OwnSteps.{own_part}
 use Rattle.klsm_board.specs.declared.sizes.Sizes.{Sizes}
-use Rattle.klsm_board.specs.Inserting.{Inserts}
+use Rattle.klsm_board.specs.Inserting.{GivesUp, Inserts}
 use Rattle.klsm_board.specs.Deleting.{Deletes, FindsNothing, AnswersDeletion, victim_of, refilled}
 use Rattle.klsm_board.specs.Entries.{own_acquired, both_acquired, both_released}
 use Rattle.klsm_board.proofs.lemmas.calls.AddLemmas.{goes_on, own_quiet, both_quiet}
@@ -59,6 +59,14 @@ insertion_gains levels k t own_misses shared_misses es es' x (inr flushes) = rec
   gained = Flush x flushes.moved ∷ [];
   others = (λ is. cc, tt);
   events = goes_on es (both_acquired t own_misses shared_misses flushes.own flushes.shared es) (Committed (Flush x flushes.moved) ∷ both_released t) es' (both_quiet t own_misses shared_misses flushes.own flushes.shared es) flushes.steps;
+}
+
+-- one that is refused gains none
+pub refusal_gains : (k t : ℕ) (own_misses shared_misses : List ℕ) (es es' : List Entry) (Found : List Item → Type 0) → GivesUp k t own_misses shared_misses es es' Found → GainsOthers es es'
+refusal_gains k t own_misses shared_misses es es' Found gives = record {
+  gained = [];
+  others = tt;
+  events = goes_on es (both_acquired t own_misses shared_misses gives.own gives.shared es) (both_released t) es' (both_quiet t own_misses shared_misses gives.own gives.shared es) gives.steps;
 }
 
 -- neither a Take nor what moves behind it is an answer "nothing"

@@ -13,6 +13,7 @@ use Rattle.klsm_board.specs.declared.board.Member.{Member}
 use Rattle.klsm_board.specs.Boards.{own_steps}
 use Rattle.klsm_board.proofs.lemmas.ending.EndLemmas.{place_within}
 use Rattle.klsm_knapsack.specs.declared.common.Common.{Common}
+use Rattle.klsm_knapsack.specs.declared.common.NoRoom.{NoRoom}
 use Rattle.klsm_knapsack.specs.declared.common.Worker.{Worker}
 use Rattle.klsm_knapsack.specs.declared.errors.Refusal.{Refusal}
 use Rattle.klsm_instance.specs.Selections.{Problem}
@@ -44,36 +45,36 @@ each_alone P x here (suc k) d lt = absurd (omega (arith, lt))
 
 module _ {LEVELS : ℕ} where
   -- a worker that has not begun has done all that it began
-  pub new_at_work : (p : Problem) (w : Worker LEVELS) → IsNew w → IsAtWork p w
-  new_at_work p w new = record {
+  pub new_at_work : (m : NoRoom) (p : Problem) (w : Worker LEVELS) → IsNew w → IsAtWork m p w
+  new_at_work m p w new = record {
     worked = subst (λ (es : List Entry). HasWorked p record { inserted = inserted es; deleted = deleted es; found = found_by w.watcher }) (sym new.steps) none;
-    answered = inl new.steps;
+    answered = λ refuses. inl new.steps;
   }
     where
       none : HasWorked p record { inserted = []; deleted = []; found = found_by w.watcher }
       none = record { inserts_nodes = λ x there. absurd (omega (arith, there.1)); is_done = λ x there node. absurd (omega (arith, there.1)) }
 
   -- and has ended without a refusal
-  new_ended : (w : Worker LEVELS) → IsNew w → HasEndedSo w
-  new_ended w new = subst (λ (r : Option Refusal). HasEnded LEVELS w.member.sizes.k w.member.number (own_steps w.member) r) (sym new.refused) (inl new.steps)
+  new_ended : (m : NoRoom) (w : Worker LEVELS) → IsNew w → HasEndedSo m w
+  new_ended m w new refuses = subst (λ (r : Option Refusal). HasEnded LEVELS w.member.sizes.k w.member.number (own_steps w.member) r) (sym new.refused) (inl new.steps)
 
   -- so where the first worker has ended and the others have not begun, all have ended
-  pub crew_ended : (crew : List (Worker LEVELS)) (after : Worker LEVELS) → All IsNew crew → HasEndedSo after → All HasEndedSo (set crew 0 after)
-  crew_ended [] after new ended = λ k d lt. absurd (omega (arith, lt))
-  crew_ended (w ∷ crew) after new ended = by_place
+  pub crew_ended : (m : NoRoom) (crew : List (Worker LEVELS)) (after : Worker LEVELS) → All IsNew crew → HasEndedSo m after → All (HasEndedSo m) (set crew 0 after)
+  crew_ended m [] after new ended = λ k d lt. absurd (omega (arith, lt))
+  crew_ended m (w ∷ crew) after new ended = by_place
     where
-      by_place : (k : ℕ) (d : Worker LEVELS) → k < length (after ∷ crew) → HasEndedSo (get_or (after ∷ crew) k d)
+      by_place : (k : ℕ) (d : Worker LEVELS) → k < length (after ∷ crew) → HasEndedSo m (get_or (after ∷ crew) k d)
       by_place zero d lt = ended
-      by_place (suc k) d lt = new_ended (get_or crew k d) (new (suc k) d lt)
+      by_place (suc k) d lt = new_ended m (get_or crew k d) (new (suc k) d lt)
 
   -- it has room for its first insertion
   pub new_room : (w : Worker LEVELS) → IsNew w → 2 ≤ w.member.sizes.quota → length (work_of w).inserted < w.member.sizes.quota
   new_room w new room = subst (λ (es : List Entry). length (inserted es) < w.member.sizes.quota) (sym new.steps) (omega (arith, room))
 
   -- after which it is at work
-  pub root_at_work : (p : Problem) (before after : Worker LEVELS) (x : Item) → IsNew before → IsNodeItem p x → level_in x.load ≡ 0 → picks_in x.load ≡ 0 → (work_of after).inserted ≡ (work_of before).inserted ++ x ∷ []
-      → (work_of after).deleted ≡ (work_of before).deleted → EndsAnswered after.member.number (own_steps after.member) → IsAtWork p after × HasNode (work_of after).inserted 0 0
-  root_at_work p before after x new node level picks is same answered = (record { worked = worked; answered = answered }, has_last _ _ x 0 0 is level picks)
+  pub root_at_work : (m : NoRoom) (p : Problem) (before after : Worker LEVELS) (x : Item) → IsNew before → IsNodeItem p x → level_in x.load ≡ 0 → picks_in x.load ≡ 0 → (work_of after).inserted ≡ (work_of before).inserted ++ x ∷ []
+      → (work_of after).deleted ≡ (work_of before).deleted → EndsAnswered after.member.number (own_steps after.member) → IsAtWork m p after × HasNode (work_of after).inserted 0 0
+  root_at_work m p before after x new node level picks is same answered = (record { worked = worked; answered = λ refuses. answered }, has_last _ _ x 0 0 is level picks)
     where
       only : (work_of after).inserted ≡ x ∷ []
       only = is ∙ ap (λ (es : List Entry). inserted es ++ x ∷ []) new.steps
@@ -142,12 +143,12 @@ module _ {LEVELS : ℕ} where
       by_place others (suc k) d lt = others k d (omega (arith, lt))
 
   -- where each worker ran and none was refused, they have worked
-  pub all_worked : (p : Problem) (idle : ℕ) (old new : List (Worker LEVELS)) (d : Worker LEVELS) → 0 < length old → length new ≡ length old
-      → ((i : ℕ) (e : Worker LEVELS) → i < length old → HasRun p idle (get_or old i e) (get_or new i e)) → HasNode (work_of (get_or old 0 d)).inserted 0 0
+  pub all_worked : (m : NoRoom) (p : Problem) (idle : ℕ) (old new : List (Worker LEVELS)) (d : Worker LEVELS) → 0 < length old → length new ≡ length old
+      → ((i : ℕ) (e : Worker LEVELS) → i < length old → HasRun m p idle (get_or old i e) (get_or new i e)) → HasNode (work_of (get_or old 0 d)).inserted 0 0
       → All (λ (w : Worker LEVELS). w.refused ≡ None) new → HaveWorked p new
-  all_worked p idle [] new d some_worker many runs root none = absurd (omega (arith, some_worker))
-  all_worked p idle (w ∷ old) [] d some_worker many runs root none = absurd (omega (arith, many))
-  all_worked p idle (w ∷ old) (v ∷ new) d some_worker many runs root none = record {
+  all_worked m p idle [] new d some_worker many runs root none = absurd (omega (arith, some_worker))
+  all_worked m p idle (w ∷ old) [] d some_worker many runs root none = absurd (omega (arith, many))
+  all_worked m p idle (w ∷ old) (v ∷ new) d some_worker many runs root none = record {
     root =
         let inserts = (runs 0 v (omega arith)).inserts (none 0 v (omega arith)) in
         wider (work_of w).inserted (flat_map (λ (u : Worker LEVELS). (work_of u).inserted) (v ∷ new)) 0 0
@@ -169,10 +170,10 @@ module _ {LEVELS : ℕ} where
   idle_from_first n es w gains (inr spent) = inr spent
 
   -- so where each worker ran and none was refused, each is idle
-  pub all_idle : (p : Problem) (idle : ℕ) (old new : List (Worker LEVELS)) → length new ≡ length old
-      → ((i : ℕ) (e : Worker LEVELS) → i < length old → HasRun p idle (get_or old i e) (get_or new i e)) → All (λ (w : Worker LEVELS). GainsOthers [] (own_steps w.member)) old
+  pub all_idle : (m : NoRoom) (p : Problem) (idle : ℕ) (old new : List (Worker LEVELS)) → length new ≡ length old
+      → ((i : ℕ) (e : Worker LEVELS) → i < length old → HasRun m p idle (get_or old i e) (get_or new i e)) → All (λ (w : Worker LEVELS). GainsOthers [] (own_steps w.member)) old
       → All (λ (w : Worker LEVELS). w.refused ≡ None) new → All (λ (w : Worker LEVELS). IsIdle idle [] w) new
-  all_idle p idle old new many runs gains none = λ k e lt.
+  all_idle m p idle old new many runs gains none = λ k e lt.
       idle_from_first idle (own_steps (get_or old k e).member) (get_or new k e) (gains k e (omega (arith, lt, many))) ((runs k e (omega (arith, lt, many))).idles (none k e lt))
 
   module _ (common : Common LEVELS) where
@@ -196,19 +197,19 @@ module _ {LEVELS : ℕ} where
         numbered (suc i) v there = is.numbered (suc i) v there
 
     -- and all are ready to run
-    pub crew_ready : (p : Problem) (crew : List (Worker LEVELS)) (d after : Worker LEVELS) → AreWorkersOf common crew → All IsNew crew → IsSameWorker (get_or crew 0 d) after → IsAtWork p after
-        → All (λ (w : Worker LEVELS). IsWorkerOf common w × IsAtWork p w) (set crew 0 after)
-    crew_ready p [] d after is new same begun = absurd (omega (arith, is.some_worker))
-    crew_ready p (w ∷ crew) d after is new same begun = ready
+    pub crew_ready : (m : NoRoom) (p : Problem) (crew : List (Worker LEVELS)) (d after : Worker LEVELS) → AreWorkersOf common crew → All IsNew crew → IsSameWorker (get_or crew 0 d) after → IsAtWork m p after
+        → All (λ (w : Worker LEVELS). IsWorkerOf common w × IsAtWork m p w) (set crew 0 after)
+    crew_ready m p [] d after is new same begun = absurd (omega (arith, is.some_worker))
+    crew_ready m p (w ∷ crew) d after is new same begun = ready
       where
-        ready : (k : ℕ) (e : Worker LEVELS) → k < length (after ∷ crew) → IsWorkerOf common (get_or (after ∷ crew) k e) × IsAtWork p (get_or (after ∷ crew) k e)
+        ready : (k : ℕ) (e : Worker LEVELS) → k < length (after ∷ crew) → IsWorkerOf common (get_or (after ∷ crew) k e) × IsAtWork m p (get_or (after ∷ crew) k e)
         ready zero e lt = (same_of w after (is.of 0 e lt) same, begun)
-        ready (suc k) e lt = (is.of (suc k) e lt, new_at_work p (get_or crew k e) (new (suc k) e lt))
+        ready (suc k) e lt = (is.of (suc k) e lt, new_at_work m p (get_or crew k e) (new (suc k) e lt))
 
     -- a crew that ran is one still
-    pub crew_run : (p : Problem) (idle : ℕ) (old new : List (Worker LEVELS)) → length new ≡ length old → ((i : ℕ) (e : Worker LEVELS) → i < length old → HasRun p idle (get_or old i e) (get_or new i e))
+    pub crew_run : (m : NoRoom) (p : Problem) (idle : ℕ) (old new : List (Worker LEVELS)) → length new ≡ length old → ((i : ℕ) (e : Worker LEVELS) → i < length old → HasRun m p idle (get_or old i e) (get_or new i e))
         → AreWorkersOf common old → AreWorkersOf common new
-    crew_run p idle old new many runs is = record {
+    crew_run m p idle old new many runs is = record {
       of = λ k e lt. same_of (get_or old k e) (get_or new k e) (is.of k e (omega (arith, lt, many))) (runs k e (omega (arith, lt, many))).same;
       many = many ∙ is.many;
       some_worker = omega (arith, many, is.some_worker);

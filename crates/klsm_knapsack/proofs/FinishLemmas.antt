@@ -19,6 +19,7 @@ use Rattle.klsm_board.specs.Boards.{IsCrew, IsOf, own_steps}
 use Rattle.klsm_board.specs.Finishing.{AreAll, AreEachOnce, lists_of}
 use Rattle.klsm_board.proofs.lemmas.ending.EndLemmas.{are_lists, each_of}
 use Rattle.klsm_knapsack.specs.declared.common.Common.{Common}
+use Rattle.klsm_knapsack.specs.declared.common.NoRoom.TheVariants.{Refuses}
 use Rattle.klsm_knapsack.specs.declared.common.Worker.{Worker}
 use Rattle.klsm_knapsack.specs.declared.errors.Refusal.{Refusal}
 use Rattle.klsm_knapsack.specs.declared.errors.Refusal.TheVariants as refusal
@@ -149,17 +150,17 @@ module _ {LEVELS : ℕ} where
         subst (λ (m : Sizes). ∥ IsReached m t (own_steps w.member) ∥₁) (worker_at t w there).member.1
         (subst (λ (n : ℕ). ∥ IsReached w.member.sizes n (own_steps w.member) ∥₁) (is.numbered t w there) w.member.rests.reached)
 
-    ended_by : (t : ℕ) (w : Worker LEVELS) → get_elem? crew t ≡ some w → HasEndedSo w → HasEnded LEVELS common.board.sizes.k t (own_steps w.member) w.refused
+    ended_by : (t : ℕ) (w : Worker LEVELS) → get_elem? crew t ≡ some w → HasEndedSo Refuses w → HasEnded LEVELS common.board.sizes.k t (own_steps w.member) w.refused
     ended_by t w there ended =
         subst (λ (m : Sizes). HasEnded LEVELS m.k t (own_steps w.member) w.refused) (worker_at t w there).member.1
-        (subst (λ (n : ℕ). HasEnded LEVELS w.member.sizes.k n (own_steps w.member) w.refused) (is.numbered t w there) ended)
+        (subst (λ (n : ℕ). HasEnded LEVELS w.member.sizes.k n (own_steps w.member) w.refused) (is.numbered t w there) (ended refl))
 
     refusals : (ws : List (Worker LEVELS)) → map (λ (end : End). end.refused) (map end_of ws) ≡ map (λ (w : Worker LEVELS). w.refused) ws
     refusals [] = refl
     refusals (w ∷ ws) = ap (λ (rs : List (Option Refusal)). w.refused ∷ rs) (refusals ws)
 
     -- the first refusal is that of the least numbered worker that met one
-    pub least_refusal : (why : Refusal) → All HasEndedSo crew → first_refusal (map (λ (w : Worker LEVELS). w.refused) crew) ≡ Some why → IsLeastRefusal LEVELS common.board.sizes why
+    pub least_refusal : (why : Refusal) → All (HasEndedSo Refuses) crew → first_refusal (map (λ (w : Worker LEVELS). w.refused) crew) ≡ Some why → IsLeastRefusal LEVELS common.board.sizes why
     least_refusal why ended first = record {
       ends = map end_of crew;
       many = length-map crew end_of ∙ is.many;
@@ -168,7 +169,7 @@ module _ {LEVELS : ℕ} where
           subst (λ (e : End). ∥ IsReached common.board.sizes t e.steps ∥₁) at.2 (reached_by t at.0 at.1);
       ended = λ t end there.
           let at = from_map end_of crew t end there in
-          subst (λ (e : End). HasEnded LEVELS common.board.sizes.k t e.steps e.refused) at.2 (ended_by t at.0 at.1 (each_of HasEndedSo crew ended t at.0 at.1));
+          subst (λ (e : End). HasEnded LEVELS common.board.sizes.k t e.steps e.refused) at.2 (ended_by t at.0 at.1 (each_of (HasEndedSo Refuses) crew ended t at.0 at.1));
       first = ap first_refusal (refusals crew) ∙ first;
     }
 

@@ -8,7 +8,7 @@ use Rattle.klsm_run.specs.declared.item.Item.{Item}
 use Rattle.klsm_board.specs.declared.sizes.Sizes.{Sizes}
 use Rattle.klsm_knapsack.specs.declared.common.Worker.{Worker}
 use Rattle.klsm_instance.specs.Selections.{Problem}
-use Rattle.klsm_instance.specs.Nodes.{level_in, picks_in}
+use Rattle.klsm_instance.specs.Nodes.{NoneAbove, level_in, picks_in}
 use Rattle.klsm_knapsack.specs.Numbers.{value_in}
 use Rattle.klsm_knapsack.specs.Work.{Work, HasNode, IsNodeItem, IsSplit, IsDone, HasWorked}
 use Rattle.klsm_knapsack.specs.Workers.{InsertsNodes, Extends, IsSameWorker}
@@ -65,6 +65,12 @@ split_more p xs ys level picks kept split = record {
 done_more : (p : Problem) (before after : Work) (x : Item) → InsertsNodes p before.inserted after.inserted → before.found ≤ after.found → IsDone p before x → IsDone p after x
 done_more p before after x inserts finds (inl closed) = inl (covers_more p (level_in x.load) (picks_in x.load) (value_in before.found) (value_in after.found) (shr_mono 32 finds) closed)
 done_more p before after x inserts finds (inr split) = inr (split_more p before.inserted after.inserted (level_in x.load) (picks_in x.load) inserts.kept split)
+
+-- what is done with a node is done with its item
+pub done_node : (p : Problem) (w : Work) (x : Item) (level picks : ℕ) → level ≡ level_in x.load → picks ≡ picks_in x.load → NoneAbove p level picks (value_in w.found) ⊎ IsSplit p w.inserted level picks → IsDone p w x
+done_node p w x level picks is_level is_picks done =
+    subst (λ (l : ℕ). NoneAbove p l (picks_in x.load) (value_in w.found) ⊎ IsSplit p w.inserted l (picks_in x.load)) is_level
+    (subst (λ (q : ℕ). NoneAbove p level q (value_in w.found) ⊎ IsSplit p w.inserted level q) is_picks done)
 
 -- one item more was deleted, and is done with
 pub worked_on : (p : Problem) (before between after : Work) (x : Item) → HasWorked p before → between.inserted ≡ before.inserted → between.deleted ≡ before.deleted ++ x ∷ [] → between.found ≡ before.found → Extends p between after → (IsNodeItem p x → IsDone p after x) → HasWorked p after

@@ -8,6 +8,8 @@ use Rattle.klsm_world.specs.declared.step.Entry.{Entry}
 use Rattle.klsm_world.specs.OwnSteps.{inserted, deleted}
 use Rattle.klsm_board.specs.Boards.{IsOf, IsSame, own_steps}
 use Rattle.klsm_knapsack.specs.declared.common.Common.{Common}
+use Rattle.klsm_knapsack.specs.declared.common.NoRoom.{NoRoom}
+use Rattle.klsm_knapsack.specs.declared.common.NoRoom.TheVariants.{Refuses}
 use Rattle.klsm_knapsack.specs.declared.common.Worker.{Worker}
 use Rattle.klsm_instance.specs.Selections.{Problem}
 use Rattle.klsm_instance.specs.Nodes.{NoneAbove, level_in, picks_in}
@@ -46,14 +48,17 @@ module _ {LEVELS : ℕ} where
     pub member : IsSame before.member after.member
     pub watcher : after.watcher.seat.table_id ≡ before.watcher.seat.table_id
 
-  -- the worker is done with all nodes that it deleted, and its last call was answered
-  pub record IsAtWork (p : Problem) (w : Worker LEVELS) : Type 0 where
+  -- the worker is done with all nodes that it deleted, and its last call was answered, where it does not
+  -- go on without room
+  pub record IsAtWork (no_room : NoRoom) (p : Problem) (w : Worker LEVELS) : Type 0 where
     pub worked : HasWorked p (work_of w)
-    pub answered : EndsAnswered w.member.number (own_steps w.member)
+    pub answered : no_room ≡ Refuses → EndsAnswered w.member.number (own_steps w.member)
 
-  -- the worker's last insertion was refused
-  abbrev pub HasEndedSo : Worker LEVELS → Type 0
-  HasEndedSo w = HasEnded LEVELS w.member.sizes.k w.member.number (own_steps w.member) w.refused
+  -- where it does not go on without room, the worker's last call was answered, or its last insertion was
+  -- refused for this reason
+  abbrev pub HasEndedSo : NoRoom → Worker LEVELS → Type 0
+  HasEndedSo no_room w = no_room ≡ Refuses
+      → HasEnded LEVELS w.member.sizes.k w.member.number (own_steps w.member) w.refused
 
   -- since its list was this one, the worker took nodes until it was answered "nothing" n times in a
   -- row, or had no two insertions left
@@ -62,9 +67,9 @@ module _ {LEVELS : ℕ} where
       ⊎ (w.member.sizes.quota < length (inserted (own_steps w.member)) + 2)
 
   -- the worker ran until it was idle or refused
-  pub record HasRun (p : Problem) (idle : ℕ) (before after : Worker LEVELS) : Type 0 where
+  pub record HasRun (no_room : NoRoom) (p : Problem) (idle : ℕ) (before after : Worker LEVELS) : Type 0 where
     pub same : IsSameWorker before after
-    pub ended : HasEndedSo after
+    pub ended : HasEndedSo no_room after
     pub worked : after.refused ≡ None → HasWorked p (work_of after)
     pub inserts : after.refused ≡ None
         → InsertsNodes p (work_of before).inserted (work_of after).inserted

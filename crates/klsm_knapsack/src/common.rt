@@ -3,13 +3,25 @@ use crate::errors::Refusal;
 use crate::incumbent::{Incumbent, Watcher};
 use klsm_board::{Board, Member};
 use klsm_parts::Random;
+use klsm_progress::Pace;
 use rand_pcg::Pcg32;
 
-/// What all workers share: the board that has the open nodes, and the incumbent.
+/// What a worker does with a node of which a child finds no room on the board.
+#[derive(Clone, Copy, PartialEq, Eq)]
+pub(crate) enum NoRoom {
+    /// It ends, and the search is refused.
+    Refuses,
+    /// It searches the node depth first, and then each node that it takes from the board.
+    SearchesAlone,
+}
+
+/// What all workers share: the board that has the open nodes, the incumbent, and what they do where the
+/// board has no room.
 #[derive(Drop)]
 pub(crate) struct Common<const LEVELS: usize> {
     pub board: Board<64, LEVELS>,
     pub incumbent: Incumbent,
+    pub no_room: NoRoom,
 }
 
 /// Who hears of a search: the gate, which each worker passes before its first node, and the progress,
@@ -20,12 +32,14 @@ pub struct Listeners<'a, G, P> {
     pub progress: &'a P,
 }
 
-/// A worker: a member of the board, a seat at the incumbent, how its deletions choose, and why it
-/// ended early, if it did.
+/// A worker: a member of the board, a seat at the incumbent, how its deletions choose, how many nodes it
+/// has told of, whether it goes on without the board's room, and why it ended early, if it did.
 #[derive(Drop)]
 pub(crate) struct Worker<const LEVELS: usize> {
     pub member: Member<64, LEVELS>,
     pub watcher: Watcher,
     pub picker: Random<Pcg32>,
+    pub pace: Pace,
+    pub is_alone: bool,
     pub refused: Option<Refusal>,
 }

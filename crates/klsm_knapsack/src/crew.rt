@@ -16,7 +16,7 @@ use crate::incumbent::{Incumbent, Watcher};
 use klsm_board::{Gate, Member};
 use klsm_instance::Instance;
 use klsm_parts::random_of;
-use klsm_progress::Progress;
+use klsm_progress::{Counted, Pace, Progress};
 use std::alloc::{AllocError, Global};
 use std::sync::Wait;
 use std::thread;
@@ -46,6 +46,8 @@ pub(crate) fn recruit<const LEVELS: usize>(
             member,
             watcher,
             picker,
+            pace: Pace::new(Counted::NodesExamined),
+            is_alone: false,
             refused: None,
         };
         if crew.push(worker).is_err() {
@@ -69,7 +71,7 @@ pub(crate) fn search<R: Threads + Wait + Sync, G: Gate, P: Progress, const LEVEL
     requires new { All IsNew crew.old }
     requires room { 2 ≤ common.now.board.sizes.quota }
     ensures crew { AreWorkersOf common.now crew.new }
-    ensures ended { All HasEndedSo crew.new }
+    ensures ended { All (HasEndedSo common.now.no_room) crew.new }
     ensures worked { All (λ w. w.refused ≡ None) crew.new → HaveWorked instance.now crew.new }
     ensures idle { All (λ w. w.refused ≡ None) crew.new → All (λ w. IsIdle idle [] w) crew.new }
 {
@@ -89,9 +91,11 @@ fn run_all<R: Threads + Wait + Sync, G: Gate, P: Progress, const LEVELS: usize>(
 )
     requires problem { problem_of common.now.incumbent ≡ instance.now }
     requires some { 0 < length crew.old }
-    requires ready { All (λ w. IsWorkerOf common.now w × IsAtWork instance.now w) crew.old }
+    requires ready { All (λ w. IsWorkerOf common.now w
+        × IsAtWork common.now.no_room instance.now w) crew.old }
     ensures { (i : ℕ) (d : Worker LEVELS) → i < length crew.old
-        → HasRun instance.now idle (slice_index_or crew.old i d) (slice_index_or crew.new i d) }
+        → HasRun common.now.no_room instance.now idle
+        (slice_index_or crew.old i d) (slice_index_or crew.new i d) }
 {
     let threads = crew.len();
     thread::for_each_mut(
@@ -101,8 +105,9 @@ fn run_all<R: Threads + Wait + Sync, G: Gate, P: Progress, const LEVELS: usize>(
         &|_, worker: &mut Worker<LEVELS>|
             requires { IsWorkerOf common.now worker.now
                 × (problem_of common.now.incumbent ≡ instance.now)
-                × IsAtWork instance.now worker.now }
-            ensures { HasRun instance.entry.now idle worker.entry.now worker.exit.now }
+                × IsAtWork common.now.no_room instance.now worker.now }
+            ensures { HasRun common.entry.now.no_room instance.entry.now idle
+                worker.entry.now worker.exit.now }
         { worker.run(rt, common, instance, idle, listeners) },
     );
 }

@@ -22,6 +22,23 @@ pub enum SolveError {
     NoMemory,
 }
 
+/// Why a search that no want of room can end has no answer. The causes are tried in this order.
+#[derive(Clone, Copy, Debug, PartialEq, Eq, Error)]
+pub enum UnsolvedError {
+    /// Not 1 to 16 workers.
+    #[error("the number of workers is not 1 to 16")]
+    BadThreads,
+    /// More than 64 items in a member's own part.
+    #[error("an own part cannot hold k items")]
+    BadK,
+    /// More items to move than k.
+    #[error("a deletion cannot move more than k items")]
+    BadRefill,
+    /// A growth was refused.
+    #[error("out of memory")]
+    NoMemory,
+}
+
 /// Why a worker ended before it was idle.
 #[derive(Clone, Copy, PartialEq, Eq)]
 pub(crate) enum Refusal {

@@ -10,6 +10,7 @@
 //! let instance = Instance::read(alloc, text)?;                  // capacity,10 and then value,weight
 //! let best = solve_in_turn(&instance);                          // depth first, in one thread
 //! let best = solve::<21>(&rt, alloc, &instance, 4, 16, 64, &Open)?;      // four workers, k = 16
+//! let best = solve_to_the_end::<_, _, 21>(&rt, alloc, &instance, 4, 16, 64, &listeners)?;   // and never full
 //! ```
 //!
 //! The search goes over the things in the order of its instance: `Instance::steepest_first` gives the
@@ -22,20 +23,25 @@
 //!   `solve` says so; want of memory could also be that of the board itself. The clauses `bad_threads`,
 //!   `bad_k` and `bad_refill` say when the arguments are refused. No growth stands between the joins and
 //!   that answer.
+//! - **No want of room ends `solve_to_the_end`**, whose error has no Full. A worker of it that finds no
+//!   room for a child searches the node depth first, and each node that it takes from then on: clause
+//!   `covers` of `Incumbent::search_alone`, which is private.
 //! - **The incumbent is never lowered.** It is one word of a table of its own, whose rule every step
 //!   keeps: the word is the greatest of the numbers that the seats raised it by, and never below one
 //!   that a seat found there: `Highest`, and clause `rule` of `Incumbent::finish`.
 //!
 //! Why no selection is missed: each worker is done with each node that it deleted, since it closed the
-//! node by a number that it found, or inserted its children; what some worker inserted, some worker
-//! deleted or the board has left, by the account of the board; and what is left the caller finishes.
-//! So by induction on the things that a node leaves free no completion of it is above the answer.
-//! `laws::nothing_is_missed` states this.
+//! node by a number that it found, maybe after it had searched the node alone, or inserted its children;
+//! what some worker inserted, some worker deleted or the board has left, by the account of the board; and
+//! what is left the caller finishes. So by induction on the things that a node leaves free no completion
+//! of it is above the answer. `laws::nothing_is_missed` states this.
 //!
-//! `worker` has what one worker does, `crew` all of them, `ending` what follows, and `solving` the
-//! whole. No contract says how many nodes the workers close, or that a second one finds any.
+//! `worker` has what one worker does, `alone` what it does without the board, `crew` all of them,
+//! `ending` what follows, and `solving` and `to_the_end` the whole. No contract says how many nodes the
+//! workers close, or that a second one finds any.
 #![tactic(auto)]
 
+mod alone;
 mod common;
 mod crew;
 mod ending;
@@ -44,12 +50,14 @@ mod incumbent;
 pub mod laws;
 mod rule;
 mod solving;
+mod to_the_end;
 mod watching;
 mod worker;
 
 pub use common::Listeners;
-pub use errors::SolveError;
+pub use errors::{SolveError, UnsolvedError};
 pub use incumbent::{Incumbent, Watcher};
 pub use klsm_instance::{Best, Instance, Node, ReadError, Reordered, Thing, solve_in_turn};
 pub use rule::{Highest, View};
 pub use solving::{solve, solve_told, solve_with_refill};
+pub use to_the_end::{solve_to_the_end, solve_to_the_end_with_refill};

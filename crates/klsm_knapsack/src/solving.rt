@@ -6,7 +6,7 @@ ghost use Rattle.klsm_board.specs.Boards.{IsCrew, IsOf};
 ghost use Rattle.klsm_instance.specs.Answers.{IsBestAnswer};
 ghost use Rattle.klsm_knapsack.specs.Refusals.{RefusesSearch, RefusesWithRefill};
 
-use crate::common::{Common, Listeners};
+use crate::common::{Common, Listeners, NoRoom};
 use crate::crew::{dismiss, recruit, search};
 use crate::ending::conclude;
 use crate::errors::SolveError;
@@ -20,7 +20,7 @@ use std::thread::Threads;
 
 /// How many nodes a deletion of a shared one moves to its worker's own at most, where the caller does not
 /// say.
-const REFILL: usize = 16;
+pub(crate) const REFILL: usize = 16;
 
 /// A best selection, found by `threads` workers over a board with this k.
 ///
@@ -98,6 +98,35 @@ pub fn solve_with_refill<G: Gate, P: Progress, const LEVELS: usize>(
     ensures bad_refill { IsErrAnd result (λ why. why ≡ SolveError.BadRefill)
         ↔ ((1 ≤ threads) × (threads ≤ 16) × (k ≤ 64) × (k < refill)) }
 {
+    let no_room = NoRoom::Refuses;
+    solve_on_board::<G, P, LEVELS>(
+        rt, alloc, instance, threads, k, refill, idle, listeners, no_room,
+    )
+}
+
+/// The same, where workers do this with a node that finds no room.
+pub(crate) fn solve_on_board<G: Gate, P: Progress, const LEVELS: usize>(
+    rt: &(impl Threads + Wait + Sync),
+    alloc: Global,
+    instance: &Instance,
+    threads: usize,
+    k: usize,
+    refill: usize,
+    idle: u32,
+    listeners: &Listeners<G, P>,
+    no_room: NoRoom,
+) -> Result<Best, SolveError>
+    requires levels { IsLevelCount LEVELS }
+    ensures best { IfOk result (λ best. IsBestAnswer instance.now best) }
+    ensures refused { IfErr result (λ why. no_room ≡ NoRoom.Refuses
+        → RefusesWithRefill LEVELS threads k refill why) }
+    ensures bad_threads { IsErrAnd result (λ why. why ≡ SolveError.BadThreads)
+        ↔ ((threads ≡ 0) ⊎ (16 < threads)) }
+    ensures bad_k { IsErrAnd result (λ why. why ≡ SolveError.BadK)
+        ↔ ((1 ≤ threads) × (threads ≤ 16) × (64 < k)) }
+    ensures bad_refill { IsErrAnd result (λ why. why ≡ SolveError.BadRefill)
+        ↔ ((1 ≤ threads) × (threads ≤ 16) × (k ≤ 64) × (k < refill)) }
+{
     let (board, members) = board_for::<LEVELS>(alloc, threads, k, refill)?;
     let Ok((incumbent, mut first)) = Incumbent::new(alloc, instance) else {
         return Err(SolveError::NoMemory);
@@ -109,12 +138,20 @@ pub fn solve_with_refill<G: Gate, P: Progress, const LEVELS: usize>(
     let Ok(mut crew) = recruit(alloc, &incumbent, &mut first, members) else {
         return Err(SolveError::NoMemory);
     };
-    let common = Common { board, incumbent };
+    let common = Common {
+        board,
+        incumbent,
+        no_room,
+    };
     search(rt, &common, instance, crew.as_mut_slice(), idle, listeners);
     if let Err(why) = dismiss(&common.incumbent, &mut first, crew, &mut back) {
         return Err(why.error());
     }
-    let Common { board, incumbent } = common;
+    let Common {
+        board,
+        incumbent,
+        ..
+    } = common;
     let number = incumbent.finish(first);
     let Ok(account) = board.finish(alloc, back) else {
         return Err(SolveError::NoMemory);

@@ -1,11 +1,11 @@
 //! What a worker does.
-ghost use Rattle.std.specs.Prelude.{ℕ, ◌≡◌, ◌≤◌, ◌<◌, ◌+◌, ◌++◌, ◌↔◌, [], ◌∷◌, IfOk, IfErr, IsTrue, MatchBool, length, None};
+ghost use Rattle.std.specs.Prelude.{ℕ, ◌≡◌, ◌≤◌, ◌<◌, ◌+◌, ◌++◌, ◌↔◌, [], ◌∷◌, ◌⊎◌, IfOk, IfErr, IsTrue, MatchBool, length, false, None};
 ghost use Rattle.klsm_run.specs.declared.item.Item.{Item};
 ghost use Rattle.klsm_world.specs.OwnSteps.{inserted, deleted};
 ghost use Rattle.klsm_board.specs.Boards.{own_steps};
 ghost use Rattle.klsm_instance.specs.Selections.{value_of, weight_of};
 ghost use Rattle.klsm_instance.specs.Limits.{IsInRange};
-ghost use Rattle.klsm_instance.specs.Nodes.{IsNode, IsNodeOf, level_in, picks_in};
+ghost use Rattle.klsm_instance.specs.Nodes.{IsNode, IsNodeOf, NoneAbove, level_in, picks_in};
 ghost use Rattle.klsm_knapsack.specs.Numbers.{value_in};
 ghost use Rattle.klsm_knapsack.specs.Watching.{problem_of};
 ghost use Rattle.klsm_knapsack.specs.Work.{ClosesBounded, HasNode, IsNodeItem, IsSplit, IsDone, HasWorked};
@@ -13,11 +13,11 @@ ghost use Rattle.klsm_knapsack.specs.Ends.{EndsAnswered, EndsRefused};
 ghost use Rattle.klsm_knapsack.specs.Answers.{GainsNothing, GainsOthers, GainsSome};
 ghost use Rattle.klsm_knapsack.specs.Workers.{Extends, HasEndedSo, HasRun, InsertsNodes, IsAtWork, IsIdle, IsNew, IsSameWorker, IsWorkerOf, work_of};
 
-use crate::common::{Common, Listeners, Worker};
+use crate::common::{Common, Listeners, NoRoom, Worker};
 use crate::errors::Refusal;
 use klsm_board::{Gate, InsertError};
 use klsm_instance::{Instance, Node};
-use klsm_progress::{Counted, Pace, Progress};
+use klsm_progress::Progress;
 use std::sync::Wait;
 
 impl<const LEVELS: usize> Worker<LEVELS> {
@@ -32,9 +32,9 @@ impl<const LEVELS: usize> Worker<LEVELS> {
         requires new { IsNew self.old }
         requires room { 2 ≤ self.old.member.sizes.quota }
         ensures same { IsSameWorker self.old self.new }
-        ensures ended { HasEndedSo self.new }
+        ensures ended { HasEndedSo common.now.no_room self.new }
         ensures begun { MatchBool result
-            (IsAtWork instance.now self.new × HasNode (work_of self.new).inserted 0 0)
+            (IsAtWork common.now.no_room instance.now self.new × HasNode (work_of self.new).inserted 0 0)
             (self.new.refused ≡ None → ⊥) }
         ensures gains { IsTrue result →
             GainsOthers (own_steps self.old.member) (own_steps self.new.member) }
@@ -59,8 +59,8 @@ impl<const LEVELS: usize> Worker<LEVELS> {
     )
         requires of { IsWorkerOf common.now self.old }
         requires problem { problem_of common.now.incumbent ≡ instance.now }
-        requires begins { IsAtWork instance.now self.old }
-        ensures { HasRun instance.now idle self.old self.new }
+        requires begins { IsAtWork common.now.no_room instance.now self.old }
+        ensures { HasRun common.now.no_room instance.now idle self.old self.new }
     {
         listeners.gate.pass(self.member.number() as usize);
         let progress = listeners.progress;
@@ -79,24 +79,22 @@ impl<const LEVELS: usize> Worker<LEVELS> {
     ) -> Result<(), Refusal>
         requires of { IsWorkerOf common.now self.old }
         requires problem { problem_of common.now.incumbent ≡ instance.now }
-        requires begins { IsAtWork instance.now self.old }
+        requires begins { IsAtWork common.now.no_room instance.now self.old }
         ensures same { IsSameWorker self.old self.new }
-        ensures goes_on { IfOk result (λ _. IsAtWork instance.now self.new) }
+        ensures goes_on { IfOk result (λ _. IsAtWork common.now.no_room instance.now self.new) }
         ensures inserts { IfOk result (λ _. InsertsNodes instance.now
             (work_of self.old).inserted (work_of self.new).inserted) }
         ensures idle { IfOk result (λ _. IsIdle idle (own_steps self.old.member) self.new) }
         ensures refused { IfErr result (λ why. EndsRefused LEVELS self.new.member.sizes.k
             self.new.member.number (own_steps self.new.member) why) }
     {
-        let mut pace = Pace::new(Counted::NodesExamined);
         let mut nothings = 0;
         for _ in rt.forever() {
             if nothings == idle || !self.may_split(common) {
                 return Ok(());
             }
-            if self.turn(rt, common, instance)? {
+            if self.turn(rt, common, instance, progress)? {
                 nothings = 0;
-                pace.count(progress);
             } else {
                 nothings += 1;
             }
@@ -119,14 +117,15 @@ impl<const LEVELS: usize> Worker<LEVELS> {
         rt: &impl Wait,
         common: &Common<LEVELS>,
         instance: &Instance,
+        progress: &impl Progress,
     ) -> Result<bool, Refusal>
         requires of { IsWorkerOf common.now self.old }
         requires room { length (inserted (own_steps self.old.member)) + 2
             ≤ self.old.member.sizes.quota }
         requires problem { problem_of common.now.incumbent ≡ instance.now }
-        requires begins { IsAtWork instance.now self.old }
+        requires begins { IsAtWork common.now.no_room instance.now self.old }
         ensures same { IsSameWorker self.old self.new }
-        ensures goes_on { IfOk result (λ _. IsAtWork instance.now self.new) }
+        ensures goes_on { IfOk result (λ _. IsAtWork common.now.no_room instance.now self.new) }
         ensures inserts { IfOk result (λ _. InsertsNodes instance.now
             (work_of self.old).inserted (work_of self.new).inserted) }
         ensures answers { IfOk result (λ some. MatchBool some
@@ -138,7 +137,8 @@ impl<const LEVELS: usize> Worker<LEVELS> {
         let Some(item) = self.member.delete_min(rt, &common.board, &mut self.picker) else {
             return Ok(false);
         };
-        self.examine(rt, common, instance, item.load)?;
+        self.pace.count(progress);
+        self.examine(rt, common, instance, item.load, progress)?;
         Ok(true)
     }
 
@@ -149,15 +149,17 @@ impl<const LEVELS: usize> Worker<LEVELS> {
         common: &Common<LEVELS>,
         instance: &Instance,
         load: u64,
+        progress: &impl Progress,
     ) -> Result<(), Refusal>
         requires of { IsWorkerOf common.now self.old }
         requires room { length (inserted (own_steps self.old.member)) + 2
             ≤ self.old.member.sizes.quota }
         requires problem { problem_of common.now.incumbent ≡ instance.now }
-        requires answered { EndsAnswered self.old.member.number (own_steps self.old.member) }
+        requires answered { common.now.no_room ≡ NoRoom.Refuses
+            → EndsAnswered self.old.member.number (own_steps self.old.member) }
         ensures same { IsSameWorker self.old self.new }
-        ensures answered { IfOk result (λ _.
-            EndsAnswered self.new.member.number (own_steps self.new.member)) }
+        ensures answered { IfOk result (λ _. common.now.no_room ≡ NoRoom.Refuses
+            → EndsAnswered self.new.member.number (own_steps self.new.member)) }
         ensures extends { IfOk result (λ _.
             Extends instance.now (work_of self.old) (work_of self.new)) }
         ensures done { IfOk result (λ _. (x : Item) → x.load ≡ load → IsNodeItem instance.now x
@@ -165,7 +167,12 @@ impl<const LEVELS: usize> Worker<LEVELS> {
         ensures raises { IsNode instance.now (level_in load) (picks_in load)
             → value_of instance.now (picks_in load) ≤ value_in (work_of self.new).found }
         ensures closes { IsNode instance.now (level_in load) (picks_in load)
+            → self.new.is_alone ≡ false
             → ClosesBounded instance.now load (work_of self.old) (work_of self.new) }
+        ensures alone { IsTrue self.old.is_alone → IsTrue self.new.is_alone
+            × ((work_of self.new).inserted ≡ (work_of self.old).inserted) }
+        ensures keeps { common.now.no_room ≡ NoRoom.Refuses
+            → self.new.is_alone ≡ self.old.is_alone }
         ensures gains { IfOk result (λ _.
             GainsOthers (own_steps self.old.member) (own_steps self.new.member)) }
         ensures refused { IfErr result (λ why. EndsRefused LEVELS self.new.member.sizes.k
@@ -180,7 +187,59 @@ impl<const LEVELS: usize> Worker<LEVELS> {
         if node.level == instance.len() || instance.bound_of(&node) <= found {
             return Ok(());
         }
-        self.split(rt, common, instance, &node)
+        self.expand(rt, common, instance, node, progress)
+    }
+
+    // Splits a node. Where the board has no room for a child, and the search goes on without it, the node
+    // is searched here; and so is each later one, since the board is then emptied and not filled again.
+    fn expand(
+        &mut self,
+        rt: &impl Wait,
+        common: &Common<LEVELS>,
+        instance: &Instance,
+        node: Node,
+        progress: &impl Progress,
+    ) -> Result<(), Refusal>
+        requires of { IsWorkerOf common.now self.old }
+        requires room { length (inserted (own_steps self.old.member)) + 2
+            ≤ self.old.member.sizes.quota }
+        requires problem { problem_of common.now.incumbent ≡ instance.now }
+        requires range { IsInRange instance.now }
+        requires node { IsNodeOf instance.now node }
+        requires free { node.level < length instance.now.things }
+        requires answered { common.now.no_room ≡ NoRoom.Refuses
+            → EndsAnswered self.old.member.number (own_steps self.old.member) }
+        ensures same { IsSameWorker self.old self.new }
+        ensures answered { IfOk result (λ _. common.now.no_room ≡ NoRoom.Refuses
+            → EndsAnswered self.new.member.number (own_steps self.new.member)) }
+        ensures extends { IfOk result (λ _.
+            Extends instance.now (work_of self.old) (work_of self.new)) }
+        ensures done { IfOk result (λ _.
+            NoneAbove instance.now node.level node.picks (value_in (work_of self.new).found)
+            ⊎ IsSplit instance.now (work_of self.new).inserted node.level node.picks) }
+        ensures finds { (work_of self.old).found ≤ (work_of self.new).found }
+        ensures splits { self.new.is_alone ≡ false
+            → (work_of self.new).found ≡ (work_of self.old).found }
+        ensures alone { IsTrue self.old.is_alone → IsTrue self.new.is_alone
+            × ((work_of self.new).inserted ≡ (work_of self.old).inserted) }
+        ensures keeps { common.now.no_room ≡ NoRoom.Refuses
+            → self.new.is_alone ≡ self.old.is_alone }
+        ensures goes_on { common.now.no_room ≡ NoRoom.SearchesAlone
+            → IfErr result (λ why. why ≡ Refusal.NoMemory) }
+        ensures gains { IfOk result (λ _.
+            GainsOthers (own_steps self.old.member) (own_steps self.new.member)) }
+        ensures refused { IfErr result (λ why. EndsRefused LEVELS self.new.member.sizes.k
+            self.new.member.number (own_steps self.new.member) why) }
+    {
+        if !self.is_alone {
+            match self.split(rt, common, instance, &node) {
+                Err(Refusal::Full) if common.no_room == NoRoom::SearchesAlone => {}
+                told => return told,
+            }
+            self.is_alone = true;
+        }
+        common.incumbent.search_alone(&mut self.watcher, instance, node, &mut self.pace, progress);
+        Ok(())
     }
 
     // Inserts the children of a node.
@@ -199,13 +258,12 @@ impl<const LEVELS: usize> Worker<LEVELS> {
         ensures same { IsSameWorker self.old self.new }
         ensures answered { IfOk result (λ _.
             EndsAnswered self.new.member.number (own_steps self.new.member)) }
-        ensures extends { IfOk result (λ _.
-            Extends instance.now (work_of self.old) (work_of self.new)) }
+        ensures extends { Extends instance.now (work_of self.old) (work_of self.new) }
         ensures split { IfOk result (λ _. IsSplit instance.now (work_of self.new).inserted
             node.now.level node.now.picks) }
         ensures finds { (work_of self.new).found ≡ (work_of self.old).found }
-        ensures gains { IfOk result (λ _.
-            GainsOthers (own_steps self.old.member) (own_steps self.new.member)) }
+        ensures keeps { self.new.is_alone ≡ self.old.is_alone }
+        ensures gains { GainsOthers (own_steps self.old.member) (own_steps self.new.member) }
         ensures refused { IfErr result (λ why. EndsRefused LEVELS self.new.member.sizes.k
             self.new.member.number (own_steps self.new.member) why) }
     {
@@ -232,14 +290,15 @@ impl<const LEVELS: usize> Worker<LEVELS> {
         ensures inserts { IfOk result (λ _. (x : Item) × IsNodeItem instance.now x
             × (level_in x.load ≡ node.now.level) × (picks_in x.load ≡ node.now.picks)
             × ((work_of self.new).inserted ≡ (work_of self.old).inserted ++ x ∷ [])) }
-        ensures deletes { IfOk result (λ _.
-            (work_of self.new).deleted ≡ (work_of self.old).deleted) }
+        ensures refuses { IfErr result (λ why.
+            (work_of self.new).inserted ≡ (work_of self.old).inserted) }
+        ensures deletes { (work_of self.new).deleted ≡ (work_of self.old).deleted }
         ensures finds { (work_of self.new).found ≡ (work_of self.old).found }
-        ensures keeps { self.new.refused ≡ self.old.refused }
+        ensures keeps { (self.new.refused ≡ self.old.refused)
+            × (self.new.is_alone ≡ self.old.is_alone) }
         ensures answered { IfOk result (λ _.
             EndsAnswered self.new.member.number (own_steps self.new.member)) }
-        ensures gains { IfOk result (λ _.
-            GainsOthers (own_steps self.old.member) (own_steps self.new.member)) }
+        ensures gains { GainsOthers (own_steps self.old.member) (own_steps self.new.member) }
         ensures refused { IfErr result (λ why. EndsRefused LEVELS self.new.member.sizes.k
             self.new.member.number (own_steps self.new.member) why) }
     {

@@ -1,6 +1,7 @@
 //! The knapsack client: its worked instance, its rows, its workers, and drawn instances beside a
 //! plain loop over all selections.
 
+mod alone;
 mod drawn;
 mod gated;
 mod pruned;

@@ -1,13 +1,11 @@
 //! `klsm knapsack`: a best selection of the things of an instance.
-ghost use Rattle.std.specs.Prelude.{◌≡◌, ◌≤◌, Option, ℕ, List, IfErr, IfOk};
+ghost use Rattle.std.specs.Prelude.{◌≡◌, ◌≤◌, Option, ℕ, List, IfOk};
 ghost use Rattle.klsm_instance.specs.Answers.{IsBestAnswer};
-ghost use Rattle.klsm_knapsack.specs.Refusals.{RefusesSearch};
 ghost use Rattle.klsm_instance.specs.Format.{IsProblemIn, RefusesInput};
-ghost use Rattle.klsm_tool.specs.Knapsack.{Solves, SolvesProblem, RefusesIn};
-ghost use Rattle.klsm_tool.specs.Knapsack.{WritesAnswer, WritesBest};
+ghost use Rattle.klsm_tool.specs.Knapsack.{Solves, SolvesProblem, RefusesIn, WritesBest};
 
 use klsm_board::Gate;
-use klsm_knapsack::{Best, Instance, Listeners, ReadError, SolveError, solve_told};
+use klsm_knapsack::{Best, Instance, Listeners, ReadError, UnsolvedError, solve_to_the_end};
 use klsm_progress::{Progress, Silent};
 use klsm_text::{End, NO_MEMORY, Report, refusal_text, selection_text, write_last};
 use klsm_words::Search;
@@ -15,9 +13,6 @@ use std::alloc::Global;
 use std::io::{Read, Write};
 use std::sync::Wait;
 use std::thread::Threads;
-
-/// The line that says that the board of a search had no room.
-const FULL: &[u8] = b"full\n";
 
 /// Reads an instance, solves it with workers in threads of their own, and writes a best selection.
 ///
@@ -76,27 +71,10 @@ fn solve_read<P: AllocGlobal + Wait + Threads + Sync, W: Write, G: Gate, H: Prog
     requires some_thread { 1 ≤ search.now.threads }
     requires threads { search.now.threads ≤ 16 }
     requires k { search.now.k ≤ 64 }
-    ensures { SolvesProblem search.now.threads search.now.k instance.now (W.contents writer.old)
-        (W.contents writer.new) result }
+    ensures { SolvesProblem instance.now (W.contents writer.old) (W.contents writer.new) result }
 {
-    let answer = solve_in_any_order(rt, instance, search, listeners);
-    write_answer(rt.alloc(), writer, instance, answer)
-}
-
-// Writes what a search answered.
-fn write_answer<W: Write>(
-    alloc: Global,
-    writer: &mut W,
-    instance: &Instance,
-    answer: Result<Best, SolveError>,
-) -> Report
-    ensures { WritesAnswer (W.contents writer.old) (W.contents writer.new) instance.now answer
-        result }
-{
-    match answer {
-        Ok(best) => write_selection(alloc, writer, instance, &best),
-        Err(SolveError::Full) => write_last(writer, FULL, 0, End::Full),
-        // The sizes are in range, so it is memory that is wanted.
+    match solve_in_any_order(rt, instance, search, listeners) {
+        Ok(best) => write_selection(rt.alloc(), writer, instance, &best),
         Err(_) => write_last(writer, NO_MEMORY, 0, End::NoMemory),
     }
 }
@@ -108,16 +86,14 @@ fn solve_in_any_order<P: AllocGlobal + Wait + Threads + Sync, G: Gate, H: Progre
     instance: &Instance,
     search: &Search,
     listeners: &Listeners<G, H>,
-) -> Result<Best, SolveError>
+) -> Result<Best, UnsolvedError>
     requires some_thread { 1 ≤ search.now.threads }
     requires threads { search.now.threads ≤ 16 }
     requires k { search.now.k ≤ 64 }
     ensures best { IfOk result (λ best. IsBestAnswer instance.now best) }
-    ensures refused { IfErr result (λ why.
-        RefusesSearch 21 search.now.threads search.now.k why) }
 {
     let Ok(steepest) = instance.steepest_first(rt.alloc()) else {
-        return Err(SolveError::NoMemory);
+        return Err(UnsolvedError::NoMemory);
     };
     let best = solve_heard(rt, steepest.instance(), search, listeners)?;
     Ok(steepest.restored(best))
@@ -130,13 +106,11 @@ fn solve_heard<P: AllocGlobal + Wait + Threads + Sync, G: Gate, H: Progress>(
     instance: &Instance,
     search: &Search,
     listeners: &Listeners<G, H>,
-) -> Result<Best, SolveError>
+) -> Result<Best, UnsolvedError>
     ensures best { IfOk result (λ best. IsBestAnswer instance.now best) }
-    ensures refused { IfErr result (λ why.
-        RefusesSearch 21 search.now.threads search.now.k why) }
 {
     listeners.progress.begins(None);
-    let answer = solve_told::<G, H, 21>(
+    let answer = solve_to_the_end::<G, H, 21>(
         rt,
         rt.alloc(),
         instance,

@@ -98,7 +98,6 @@ The line, and the status of the program:
                                 and its things
   refused row ROW: WHAT      1  The row is refused; WHAT is fields, items,
                                 number or range
-  full                       3  The queue had no room for a node
   no memory                  3  A growth of memory was refused
   read fault                 4  Reading failed
   (nothing more)             4  Writing failed

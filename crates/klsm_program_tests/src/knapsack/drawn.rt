@@ -1,8 +1,9 @@
 //! Drawn instances, whose best selection is found by a plain loop over all.
 
 use klsm_board::Open;
-use klsm_knapsack::{Instance, solve, solve_in_turn};
+use klsm_knapsack::{Instance, Listeners, solve, solve_in_turn, solve_to_the_end};
 use klsm_test_support::add_words;
+use klsm_tool::Silent;
 use rand_core::{Rng, SeedableRng};
 use rand_pcg::Pcg32;
 use std::alloc::Global;
@@ -64,7 +65,7 @@ fn agrees_in_turn(instance: &Instance, best: u64) -> bool {
     is_best(instance, best, found.value, found.picks)
 }
 
-// Whether one by so many threads does at this k.
+// Whether one by so many threads does at this k, also where it finds no room on a board of two levels.
 fn agrees(
     rt: &(impl Threads + Wait + Sync),
     alloc: Global,
@@ -72,7 +73,26 @@ fn agrees(
     best: u64,
     (threads, k): (usize, usize),
 ) -> bool {
-    match solve::<21>(rt, alloc, instance, threads, k, 4, &Open) {
+    let Ok(found) = solve::<21>(rt, alloc, instance, threads, k, 4, &Open) else {
+        return false;
+    };
+    is_best(instance, best, found.value, found.picks)
+        && agrees_alone(rt, alloc, instance, best, (threads, k))
+}
+
+// Whether one does that finds no room on a board of two levels.
+fn agrees_alone(
+    rt: &(impl Threads + Wait + Sync),
+    alloc: Global,
+    instance: &Instance,
+    best: u64,
+    (threads, k): (usize, usize),
+) -> bool {
+    let listeners = Listeners {
+        gate: &Open,
+        progress: &Silent,
+    };
+    match solve_to_the_end::<_, _, 2>(rt, alloc, instance, threads, k, 4, &listeners) {
         Ok(found) => is_best(instance, best, found.value, found.picks),
         Err(_) => false,
     }

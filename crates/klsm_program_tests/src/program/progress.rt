@@ -372,14 +372,6 @@ fn shown(
     desk.text.into_inner()
 }
 
-/// As many things as there may be, of which no selection fills the knapsack, so that more nodes wait than
-/// the board of a search has room for.
-const FULL: &[u8] = b"\
-capacity,31
-2,2\n2,2\n2,2\n2,2\n2,2\n2,2\n2,2\n2,2\n2,2\n2,2\n2,2\n2,2\n2,2\n2,2\n2,2\n2,2
-2,2\n2,2\n2,2\n2,2\n2,2\n2,2\n2,2\n2,2\n2,2\n2,2\n2,2\n2,2\n2,2\n2,2\n2,2\n2,2
-";
-
 /// What takes the line away.
 const GONE: &[u8] = b"\r\x1b[K";
 
@@ -423,7 +415,5 @@ fn the_line_goes_before_the_last_one(rt: HostRuntime) -> Result<(), Fail> {
     assert!(rt; goes_before(replay.as_slice(), last));
     let live = shown(&rt, alloc, b"live", refused.as_slice());
     assert!(rt; goes_before(live.as_slice(), last));
-    let full = shown(&rt, alloc, b"knapsack", FULL);
-    assert!(rt; goes_before(full.as_slice(), b"full\n"));
     Ok(())
 }

@@ -1,5 +1,5 @@
 use Rattle.std.proofs.Common.{◌≡◌, ◌++◌, [], ◌∷◌, None, arith, sym, ap, ◌∙◌, refl, List}
-use Rattle.std.specs.Prelude.{is_ok, not, true}
+use Rattle.std.specs.Prelude.{false, is_ok, not, true}
 use Rattle.std.proofs.lemmas.List.Elements.{All-append}
 use Rattle.rand_core.specs.Pcg32Seed.{pcg32_seed}
 use Rattle.rand_pcg.specs.Pcg.{pcg32_of_seed}
@@ -19,7 +19,7 @@ split-watcher-requires g c = c.loop-member.invariant.first
 pub loop-member-preserved : goal.loop-member-preserved
 loop-member-preserved g c =
     let inv = c.loop-member.invariant in
-    let w : Worker g.row.LEVELS = record { member = c.in-Some.member; watcher = c.split-watcher.result; picker = c.random_of-picker.result; refused = None } in
+    let w : Worker g.row.LEVELS = record { member = c.in-Some.member; watcher = c.split-watcher.result; picker = c.random_of-picker.result; pace = c.new.result; is_alone = false; refused = None } in
     let is_seated = λ (v : Worker g.row.LEVELS). IsWatchedBy c.args.incumbent.now v.watcher × (found_by v.watcher ≡ 0) × (v.refused ≡ None) in
     let is_of_number = λ (v : Worker g.row.LEVELS). v.picker ≡ pcg32_of_seed (pcg32_seed 16 v.member.number) in
     let pushed : is_ok c.push.result ≡ true = c.is_err.ensures.negation ∙ ap not c.if-is_err.false in

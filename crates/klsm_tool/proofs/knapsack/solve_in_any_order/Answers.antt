@@ -1,5 +1,5 @@
 use Rattle.std.proofs.Common.{rules}
 use Rattle.klsm_tool.proofs.knapsack.solve_in_any_order.Goals as goal
 
-pub returns-clause-best : goal.returns-clause-best
-returns-clause-best g c = search rules
+pub returns : goal.returns
+returns g c = search rules

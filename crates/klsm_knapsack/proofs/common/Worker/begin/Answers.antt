@@ -9,4 +9,4 @@ pub returns-in-Ok-clause-begun : goal.returns-in-Ok-clause-begun
 returns-in-Ok-clause-begun g c =
     let root = c.root.ensures.root in
     let one = c.in-Ok.ensures.inserts in
-    root_at_work c.args.instance.now c.args.self.now c.insert.new.self one.0 c.requires.new one.1 (one.2 ∙ root.0) (one.3 ∙ root.1) one.4 c.in-Ok.ensures.deletes c.in-Ok.ensures.answered
+    root_at_work c.args.common.now.no_room c.args.instance.now c.args.self.now c.insert.new.self one.0 c.requires.new one.1 (one.2 ∙ root.0) (one.3 ∙ root.1) one.4 c.in-Ok.ensures.deletes c.in-Ok.ensures.answered

@@ -1,7 +1,8 @@
-use Rattle.std.proofs.Common.{refl, rules}
+use Rattle.std.proofs.Common.{◌∙◌, refl, rules}
+use Rattle.std.proofs.lemmas.List.{append-nil}
 use Rattle.klsm_run.specs.declared.item.Item.{Item}
 use Rattle.klsm_knapsack.specs.Work.{IsNodeItem}
-use Rattle.klsm_knapsack.proofs.AnswerLemmas.{insertion_gains}
+use Rattle.klsm_knapsack.proofs.AnswerLemmas.{insertion_gains, refusal_gains}
 use Rattle.klsm_knapsack.proofs.common.Worker.insert.Goals as goal
 
 pub returns-in-Ok-clause-same : goal.returns-in-Ok-clause-same
@@ -24,6 +25,28 @@ returns-in-Ok-clause-gains g c =
 
 pub returns-in-Err-Full-clause-same : goal.returns-in-Err-Full-clause-same
 returns-in-Err-Full-clause-same g c = record { member = c.in-Err-Full.ensures.same; watcher = refl }
+
+pub returns-in-Err-Full-clause-refuses : goal.returns-in-Err-Full-clause-refuses
+returns-in-Err-Full-clause-refuses g c = c.in-Err-Full.ensures.refused.0.inserted_are ∙ append-nil _
+
+pub returns-in-Err-Full-clause-deletes : goal.returns-in-Err-Full-clause-deletes
+returns-in-Err-Full-clause-deletes g c = c.in-Err-Full.ensures.refused.0.deleted_are ∙ append-nil _
+
+pub returns-in-Err-Full-clause-gains : goal.returns-in-Err-Full-clause-gains
+returns-in-Err-Full-clause-gains g c =
+    let refused = rw c.in-Err-Full.field-0-is at c.in-Err-Full.ensures.refused.1 in
+    refusal_gains _ _ refused.0 refused.1 _ _ _ refused.2
+
+pub returns-in-Err-NoMemory-clause-refuses : goal.returns-in-Err-NoMemory-clause-refuses
+returns-in-Err-NoMemory-clause-refuses g c = c.in-Err-NoMemory.ensures.refused.0.inserted_are ∙ append-nil _
+
+pub returns-in-Err-NoMemory-clause-deletes : goal.returns-in-Err-NoMemory-clause-deletes
+returns-in-Err-NoMemory-clause-deletes g c = c.in-Err-NoMemory.ensures.refused.0.deleted_are ∙ append-nil _
+
+pub returns-in-Err-NoMemory-clause-gains : goal.returns-in-Err-NoMemory-clause-gains
+returns-in-Err-NoMemory-clause-gains g c =
+    let refused = rw c.in-Err-NoMemory.field-0-is at c.in-Err-NoMemory.ensures.refused.1 in
+    refusal_gains _ _ refused.0 refused.1 _ _ _ refused.2
 
 pub returns-in-Err-NoMemory-clause-same : goal.returns-in-Err-NoMemory-clause-same
 returns-in-Err-NoMemory-clause-same g c = record { member = c.in-Err-NoMemory.ensures.same; watcher = refl }

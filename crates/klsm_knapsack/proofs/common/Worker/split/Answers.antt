@@ -2,7 +2,8 @@ use Rattle.std.proofs.Common.{◌+◌, ◌^◌, ℕ, arith, ◌∙◌, lit<}
 use Rattle.klsm_knapsack.specs.Workers.{InsertsNodes}
 use Rattle.klsm_knapsack.proofs.CoverageLemmas.{wider}
 use Rattle.klsm_knapsack.proofs.CrewLemmas.{same_of}
-use Rattle.klsm_knapsack.proofs.WorkLemmas.{inserts_one, inserts_both, has_last, room_left, same_both}
+use Rattle.klsm_knapsack.proofs.IdleLemmas.{gains_both}
+use Rattle.klsm_knapsack.proofs.WorkLemmas.{inserts_one, inserts_both, inserts_same, has_last, room_left, same_both}
 use Rattle.klsm_knapsack.proofs.common.Worker.split.Goals as goal
 
 pub returns-in_ok-insert-2-clause-extends : goal.returns-in_ok-insert-2-clause-extends
@@ -14,6 +15,28 @@ returns-in_ok-insert-2-clause-extends g c =
       deletes = c.in_ok-insert-2.ensures.deletes ∙ c.in_ok-insert.ensures.deletes;
       finds = omega (arith, c.in_ok-insert-2.ensures.finds, c.in_ok-insert.ensures.finds);
     }
+
+-- where a child found no room, what was inserted before it is
+pub returns-in_err-insert-clause-extends : goal.returns-in_err-insert-clause-extends
+returns-in_err-insert-clause-extends g c =
+    let told = c.in_err-insert.ensures in
+    record { inserts = inserts_same _ _ _ told.refuses; deletes = told.deletes; finds = omega (arith, told.finds) }
+
+pub returns-in_err-insert-2-clause-extends : goal.returns-in_err-insert-2-clause-extends
+returns-in_err-insert-2-clause-extends g c =
+    let first = c.in_ok-insert.ensures.inserts in
+    let told = c.in_err-insert-2.ensures in
+    record {
+      inserts = inserts_both _ _ _ _ (inserts_one _ _ _ first.0 first.1 first.4) (inserts_same _ _ _ told.refuses);
+      deletes = told.deletes ∙ c.in_ok-insert.ensures.deletes;
+      finds = omega (arith, told.finds, c.in_ok-insert.ensures.finds);
+    }
+
+pub returns-in_ok-insert-2-clause-gains : goal.returns-in_ok-insert-2-clause-gains
+returns-in_ok-insert-2-clause-gains g c = gains_both _ _ _ c.in_ok-insert.ensures.gains c.in_ok-insert-2.ensures.gains
+
+pub returns-in_err-insert-2-clause-gains : goal.returns-in_err-insert-2-clause-gains
+returns-in_err-insert-2-clause-gains g c = gains_both _ _ _ c.in_ok-insert.ensures.gains c.in_err-insert-2.ensures.gains
 
 pub returns-in_ok-insert-2-clause-split : goal.returns-in_ok-insert-2-clause-split
 returns-in_ok-insert-2-clause-split g c =

@@ -14,7 +14,7 @@ returns-clause-goes_on g c =
     let before = c.args.self.now in
     let adds = c.in-Some.ensures.adds in
     record {
-      worked = worked_on c.args.instance.now (work_of before) (work_of record { member = c.delete_min.new.self; watcher = before.watcher; picker = c.delete_min.new.picker; refused = before.refused }) (work_of c.examine.new.self) c.in-Some.item c.requires.begins.worked
+      worked = worked_on c.args.instance.now (work_of before) (work_of record { member = c.delete_min.new.self; watcher = before.watcher; picker = c.delete_min.new.picker; pace = c.count.new.self; is_alone = before.is_alone; refused = before.refused }) (work_of c.examine.new.self) c.in-Some.item c.requires.begins.worked
           (adds.inserted_are ∙ append-nil _) adds.deleted_are refl c.in_ok-examine.ensures.extends (c.in_ok-examine.ensures.done c.in-Some.item refl);
       answered = c.in_ok-examine.ensures.answered;
     }
@@ -48,10 +48,10 @@ returns-clause-answers g c =
     let ok = c.in-Some.ensures.ok in
     gains_more _ _ _ (deletion_gains _ _ _ _ _ ok.0 ok.1 _ _ _ ok.2) c.in_ok-examine.ensures.gains
 
-pub examine-requires : goal.examine-requires
-examine-requires g c =
+pub examine-requires-after_bounds : goal.examine-requires-after_bounds
+examine-requires-after_bounds g c κs within =
     let told = c.in-Some.ensures in let of = c.requires.of.member in let same = told.same in let new = c.delete_min.new.self in
     let many : length (inserted (own_steps new)) ≡ length (inserted (own_steps c.args.self.now.member)) = ap length (told.adds.inserted_are ∙ append-nil _) in
     let room : length (inserted (own_steps new)) + 2 ≤ new.sizes.quota = omega (arith, many, c.requires.room, ap (λ m. m.quota) same.1) in
     let answered = subst (λ t. EndsAnswered t (own_steps new)) (sym same.0) (after_item _ _ _ _ _ told.ok.0 told.ok.1 _ _ _ told.ok.2) in
-    (lit< tt, (lit< tt, (record { member = (same.2 ∙ of.0, same.1 ∙ of.1); watcher = c.requires.of.watcher }, (room, (c.requires.problem, answered)))))
+    (lit< tt, (lit< tt, (record { member = (same.2 ∙ of.0, same.1 ∙ of.1); watcher = c.requires.of.watcher }, (room, (c.requires.problem, λ refuses. answered)))))

@@ -19,8 +19,8 @@ loop-init g c = record {
 pub may_split-requires : goal.may_split-requires
 may_split-requires g c = (lit< tt, (lit< tt, same_of c.args.common.now c.args.self.now c.loop.self c.requires.of c.loop.invariant.same))
 
-pub turn-requires : goal.turn-requires
-turn-requires g c =
+pub turn-requires-after_bounds : goal.turn-requires-after_bounds
+turn-requires-after_bounds g c κs within =
     let inv = c.loop.invariant in
     (lit< tt, (lit< tt, (same_of c.args.common.now c.args.self.now c.loop.self c.requires.of inv.same, ((c.if-not-may_split.ensures).0 refl, (c.requires.problem, inv.at_work)))))
 

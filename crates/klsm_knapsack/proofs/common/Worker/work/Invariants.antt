@@ -9,7 +9,7 @@ invariant-loop g l = record {
   next : (goal.iterator-loop g).can_next l.iterator' × (goal.iterator-loop g).is_finite l.iterator';
   few : l.nothings ≤ l.idle;
   same : IsSameWorker l.fn.self l.self;
-  at_work : IsAtWork l.instance l.self;
+  at_work : IsAtWork l.common.no_room l.instance l.self;
   answers : EndsIdle l.nothings (own_steps l.fn.self.member) (own_steps l.self.member);
   inserts : InsertsNodes l.instance (work_of l.fn.self).inserted (work_of l.self).inserted;
 }

@@ -4,21 +4,22 @@ use Rattle.klsm_board.specs.declared.sizes.Sizes.{Sizes}
 use Rattle.klsm_board.specs.Members.{most_insertions, sizes_of}
 use Rattle.klsm_board.specs.Boards.{IsOf}
 use Rattle.klsm_knapsack.specs.declared.common.Common.{Common}
+use Rattle.klsm_knapsack.specs.declared.common.NoRoom.{NoRoom}
 use Rattle.klsm_knapsack.specs.declared.common.Worker.{Worker}
 use Rattle.klsm_knapsack.specs.declared.errors.SolveError.{SolveError}
 use Rattle.klsm_knapsack.specs.Watching.{IsWatchedBy}
 use Rattle.klsm_knapsack.specs.Ends.{IsLeastRefusal}
 use Rattle.klsm_knapsack.specs.Refusals.{RefusesWithRefill}
-use Rattle.klsm_knapsack.specs.Workers.{AreWorkersOf, IsNew, HaveWorked, IsSearched}
+use Rattle.klsm_knapsack.specs.Workers.{AreWorkersOf, HasEndedSo, IsNew, HaveWorked, IsSearched}
 use Rattle.klsm_knapsack.proofs.CrewLemmas.{none_refused}
 use Rattle.klsm_parts.proofs.FitLemmas.{shared_fits}
 use Rattle.klsm_knapsack.proofs.FinishLemmas.{good_threads, good_k, good_refill, memory_is_not_threads, memory_is_not_k, memory_is_not_refill, whole, refuses, refused_too, recruited, are_new, members_of, least_refusal, searched}
-use Rattle.klsm_knapsack.proofs.solving.solve_with_refill.Goals as goal
+use Rattle.klsm_knapsack.proofs.solving.solve_on_board.Goals as goal
 
 pub search-requires-after_bounds : goal.search-requires-after_bounds
 search-requires-after_bounds g c κs within =
     let board = c.in_ok-board.board in
-    let common : Common g.row.LEVELS = record { board = board; incumbent = c.in-Ok.incumbent } in
+    let common : Common g.row.LEVELS = record { board = board; incumbent = c.in-Ok.incumbent; no_room = c.args.no_room } in
     let workers : List (Worker g.row.LEVELS) = c.in-Ok-recruit.crew.items in
     let made = c.in_ok-board.ensures in
     let threads : board.sizes.threads ≡ c.args.threads = ap (λ (m : Sizes). m.threads) made.sizes in
@@ -32,7 +33,7 @@ search-requires-after_bounds g c κs within =
 
 pub dismiss-requires : goal.dismiss-requires
 dismiss-requires g c =
-    let common : Common g.row.LEVELS = record { board = c.in_ok-board.board; incumbent = c.in-Ok.incumbent } in
+    let common : Common g.row.LEVELS = record { board = c.in_ok-board.board; incumbent = c.in-Ok.incumbent; no_room = c.args.no_room } in
     let after : List (Worker g.row.LEVELS) = c.search.new.crew in
     let crew : AreWorkersOf common after = c.search.ensures.crew in
     let as_long : c.in-Ok-recruit.crew.len ≡ length after = search rules in
@@ -54,20 +55,20 @@ dismiss-requires g c =
     )
 
 pub returns-in-Err-clause-refused : goal.returns-in-Err-clause-refused
-returns-in-Err-clause-refused g c =
-    let common : Common g.row.LEVELS = record { board = c.in_ok-board.board; incumbent = c.in-Ok.incumbent } in
+returns-in-Err-clause-refused g c = λ not_alone.
+    let common : Common g.row.LEVELS = record { board = c.in_ok-board.board; incumbent = c.in-Ok.incumbent; no_room = c.args.no_room } in
     let after : List (Worker g.row.LEVELS) = c.search.new.crew in
     let as_long : c.in-Ok-recruit.crew.len ≡ length after = search rules in
     let is : take c.in-Ok-recruit.crew.len (after ++ drop (length after) c.in-Ok-recruit.crew.items) ≡ after = whole c.in-Ok-recruit.crew.len after (drop (length after) c.in-Ok-recruit.crew.items) as_long in
     let first = rw is at c.in-Err.ensures.refused in
-    let least : IsLeastRefusal g.row.LEVELS c.in_ok-board.board.sizes c.in-Err.why = least_refusal common after c.search.ensures.crew c.in-Err.why c.search.ensures.ended first in
+    let least : IsLeastRefusal g.row.LEVELS c.in_ok-board.board.sizes c.in-Err.why = least_refusal common after c.search.ensures.crew c.in-Err.why (subst (λ (m : NoRoom). All (HasEndedSo m) after) not_alone c.search.ensures.ended) first in
     let told = refused_too g.row.LEVELS (sizes_of c.args.threads c.args.k) c.args.refill c.in-Err.why (subst (λ (m : Sizes). IsLeastRefusal g.row.LEVELS m c.in-Err.why) c.in_ok-board.ensures.sizes least) in
     subst (λ (why : SolveError). RefusesWithRefill g.row.LEVELS c.args.threads c.args.k c.args.refill why) (sym c.error.ensures)
     (refuses g.row.LEVELS c.args.threads c.args.k c.args.refill c.in-Err.why c.in_ok-board.ensures.in_range told)
 
 pub finish-requires : goal.finish-requires
 finish-requires g c =
-    let common : Common g.row.LEVELS = record { board = c.in_ok-board.board; incumbent = c.in-Ok.incumbent } in
+    let common : Common g.row.LEVELS = record { board = c.in_ok-board.board; incumbent = c.in-Ok.incumbent; no_room = c.args.no_room } in
     let after : List (Worker g.row.LEVELS) = c.search.new.crew in
     let as_long : c.in-Ok-recruit.crew.len ≡ length after = search rules in
     let is : take c.in-Ok-recruit.crew.len (after ++ drop (length after) c.in-Ok-recruit.crew.items) ≡ after = whole c.in-Ok-recruit.crew.len after (drop (length after) c.in-Ok-recruit.crew.items) as_long in
@@ -77,7 +78,7 @@ finish-requires g c =
 pub returns-clause-best : goal.returns-clause-best
 returns-clause-best g c =
     let p = c.args.instance.now in
-    let common : Common g.row.LEVELS = record { board = c.in_ok-board.board; incumbent = c.in-Ok.incumbent } in
+    let common : Common g.row.LEVELS = record { board = c.in_ok-board.board; incumbent = c.in-Ok.incumbent; no_room = c.args.no_room } in
     let after : List (Worker g.row.LEVELS) = c.search.new.crew in
     let as_long : c.in-Ok-recruit.crew.len ≡ length after = search rules in
     let is : take c.in-Ok-recruit.crew.len (after ++ drop (length after) c.in-Ok-recruit.crew.items) ≡ after = whole c.in-Ok-recruit.crew.len after (drop (length after) c.in-Ok-recruit.crew.items) as_long in
@@ -150,7 +151,7 @@ pub drop-requires-room-S-Destruct : goal.drop-requires-room-S-Destruct
 drop-requires-room-S-Destruct g c κs = shared_fits _ c.requires.levels
 
 pub returns-in_default-clause-refused : goal.returns-in_default-clause-refused
-returns-in_default-clause-refused g c = c.in_ok-board.ensures.in_range
+returns-in_default-clause-refused g c = λ not_alone. c.in_ok-board.ensures.in_range
 
 pub returns-in_default-clause-bad_threads : goal.returns-in_default-clause-bad_threads
 returns-in_default-clause-bad_threads g c = good_threads _ _ memory_is_not_threads c.in_ok-board.ensures.in_range
@@ -162,7 +163,7 @@ pub returns-in_default-clause-bad_refill : goal.returns-in_default-clause-bad_re
 returns-in_default-clause-bad_refill g c = good_refill _ _ _ memory_is_not_refill c.in_ok-board.ensures.refill
 
 pub returns-in_default-with_capacity-clause-refused : goal.returns-in_default-with_capacity-clause-refused
-returns-in_default-with_capacity-clause-refused g c = c.in_ok-board.ensures.in_range
+returns-in_default-with_capacity-clause-refused g c = λ not_alone. c.in_ok-board.ensures.in_range
 
 pub returns-in_default-with_capacity-clause-bad_threads : goal.returns-in_default-with_capacity-clause-bad_threads
 returns-in_default-with_capacity-clause-bad_threads g c = good_threads _ _ memory_is_not_threads c.in_ok-board.ensures.in_range
@@ -174,7 +175,7 @@ pub returns-in_default-with_capacity-clause-bad_refill : goal.returns-in_default
 returns-in_default-with_capacity-clause-bad_refill g c = good_refill _ _ _ memory_is_not_refill c.in_ok-board.ensures.refill
 
 pub returns-in_default-recruit-clause-refused : goal.returns-in_default-recruit-clause-refused
-returns-in_default-recruit-clause-refused g c = c.in_ok-board.ensures.in_range
+returns-in_default-recruit-clause-refused g c = λ not_alone. c.in_ok-board.ensures.in_range
 
 pub returns-in_default-recruit-clause-bad_threads : goal.returns-in_default-recruit-clause-bad_threads
 returns-in_default-recruit-clause-bad_threads g c = good_threads _ _ memory_is_not_threads c.in_ok-board.ensures.in_range
@@ -186,7 +187,7 @@ pub returns-in_default-recruit-clause-bad_refill : goal.returns-in_default-recru
 returns-in_default-recruit-clause-bad_refill g c = good_refill _ _ _ memory_is_not_refill c.in_ok-board.ensures.refill
 
 pub returns-in_default-finish-clause-refused : goal.returns-in_default-finish-clause-refused
-returns-in_default-finish-clause-refused g c = c.in_ok-board.ensures.in_range
+returns-in_default-finish-clause-refused g c = λ not_alone. c.in_ok-board.ensures.in_range
 
 pub returns-in_default-finish-clause-bad_threads : goal.returns-in_default-finish-clause-bad_threads
 returns-in_default-finish-clause-bad_threads g c = good_threads _ _ memory_is_not_threads c.in_ok-board.ensures.in_range
