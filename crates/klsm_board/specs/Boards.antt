@@ -10,13 +10,23 @@ use Rattle.klsm_board.specs.declared.board.Board.{Board}
 use Rattle.klsm_board.specs.declared.board.Member.{Member}
 use Rattle.klsm_board.specs.declared.board.Held.{Held}
 use Rattle.klsm_board.specs.declared.errors.HoldError.{HoldError}
+use Rattle.klsm_board.specs.declared.rule.Own.{Own}
 use Rattle.klsm_board.specs.declared.errors.HoldError.TheVariants.{NoSuchLock, Busy}
-use Rattle.klsm_board.specs.Steps.{mine}
+use Rattle.klsm_board.specs.Steps.{mine, rest_of}
+
+-- a list has these insertions and deletions more than another
+pub record Gains (before after : List Entry) (inserts deletes : List Item) : Type 0 where
+  pub inserted_are : inserted after ≡ inserted before ++ inserts
+  pub deleted_are : deleted after ≡ deleted before ++ deletes
 
 module _ {CAP LEVELS : ℕ} where
   -- the member's own steps
   abbrev pub own_steps : Member CAP LEVELS → List Entry
   own_steps member = mine member.seat.me.0
+
+  -- and what its seat knows of other threads' lists, which is nothing unless it acts for all members
+  abbrev pub known_of_others : Member CAP LEVELS → List Own
+  known_of_others member = rest_of member.seat.me.0
 
   -- and those of a member that holds a part, with the content of that part
   abbrev pub held_steps : Held CAP LEVELS → List Entry
@@ -47,9 +57,8 @@ module _ {CAP LEVELS : ℕ} where
   IsHeldOf held board = (held.seat.table_id ≡ board.table.shared.table_id) × (held.sizes ≡ board.sizes)
 
   -- its list has these insertions and deletions more
-  pub record Adds (before after : Member CAP LEVELS) (inserts deletes : List Item) : Type 0 where
-    pub inserted_are : inserted (own_steps after) ≡ inserted (own_steps before) ++ inserts
-    pub deleted_are : deleted (own_steps after) ≡ deleted (own_steps before) ++ deletes
+  abbrev pub Adds : Member CAP LEVELS → Member CAP LEVELS → List Item → List Item → Type 0
+  Adds before after inserts deletes = Gains (own_steps before) (own_steps after) inserts deletes
 
   -- members 0, 1, .., which have made no step
   abbrev pub IsCrew : List (Member CAP LEVELS) → Type 0

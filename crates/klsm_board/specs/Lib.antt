@@ -4,8 +4,12 @@ pub mod Entries  -- what stands in a list where parts are acquired
 pub mod Inserting  -- what an insertion adds to its member's list
 pub mod Choosing  -- how a deletion chooses
 pub mod Deleting  -- what a deletion adds
+pub mod Effects  -- where a deletion takes effect, and in which world
 pub mod Boards  -- boards, their members, and what a member holds
 pub mod Finishing  -- how a board ends
+pub mod Turning  -- lists of several threads, of which one comes to the front
+pub mod Knowing  -- what a seat knows that has the lists of several threads
+pub mod Together  -- all members of a board in one hand
 pub mod Steps  -- what a step on a lock tells
 pub mod Seats  -- what a seat has between two steps
 pub mod Slots  -- the parts as slots have them

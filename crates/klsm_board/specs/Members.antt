@@ -7,8 +7,7 @@ use Rattle.klsm_world.specs.OwnSteps.{content_in, hand_of, inserted, deleted}
 use Rattle.klsm_board.specs.declared.sizes.Sizes.{Sizes}
 use Rattle.klsm_board.specs.declared.rule.View.{View}
 use Rattle.klsm_board.specs.declared.slot.Slot.{Slot}
-use Rattle.klsm_board.specs.Rule.{IsReached}
-use Rattle.klsm_board.specs.Steps.{mine, IsMine}
+use Rattle.klsm_board.specs.Steps.{mine, IsMine, AreReached}
 use Rattle.klsm_board.specs.Seats.{contents, AreSuited}
 use Rattle.klsm_board.specs.Slots.{slot_content, IsSlotOf}
 
@@ -35,7 +34,7 @@ pub record AreSizes (capacity : ℕ) (m : Sizes) : Type 0 where
 -- the seat has no part, and its list has so many insertions and deletions, within the quota and
 -- within what all members may insert
 pub record IsResting (m : Sizes) (number insertions deletions : ℕ) (me : Me (Slot PartState PartState) View) : Type 0 where
-  pub alone : IsMine me.0 number
+  pub acts : IsMine me.0 number
   pub carries_none : me.1 ≡ []
   pub hand_is : hand_of number (mine me.0) ≡ []
   pub insertions_are : length (inserted (mine me.0)) ≡ insertions
@@ -43,17 +42,17 @@ pub record IsResting (m : Sizes) (number insertions deletions : ℕ) (me : Me (S
   pub within : insertions ≤ m.quota
   pub few : deletions ≤ most_deletions
   pub thread : number < m.threads
-  pub reached : ∥ IsReached m number (mine me.0) ∥₁
+  pub reached : ∥ AreReached m number me.0 ∥₁
 
 -- the seat has one part, which has so many items and this least one
 pub record IsHolding (m : Sizes) (number insertions deletions lock count : ℕ) (least : Option Item) (me : Me (Slot PartState PartState) View) : Type 0 where
-  pub alone : IsMine me.0 number
+  pub acts : IsMine me.0 number
   pub contents_are : contents slot_content IsSlotOf m number me.1 ≡ hand_of number (mine me.0)
   pub suited : ∥ AreSuited slot_content IsSlotOf m number me.1 ∥₁
   pub hand_is : hand_of number (mine me.0) ≡ (lock, content_in (hand_of number (mine me.0)) lock) ∷ []
   pub insertions_are : length (inserted (mine me.0)) ≡ insertions
   pub deletions_are : length (deleted (mine me.0)) ≡ deletions
-  pub reached : ∥ IsReached m number (mine me.0) ∥₁
+  pub reached : ∥ AreReached m number me.0 ∥₁
   pub thread : number < m.threads
   pub lock_is : lock ≤ m.threads
   pub count_is : count ≡ length (content_in (hand_of number (mine me.0)) lock)

@@ -11,8 +11,8 @@ use Rattle.klsm_world.specs.OwnSteps.{Hand, own_part, shared_part, content_in, h
 use Rattle.klsm_world.specs.LegalSteps.{MayCommit}
 use Rattle.klsm_board.specs.declared.sizes.Sizes.{Sizes}
 use Rattle.klsm_board.specs.declared.rule.View.{View}
-use Rattle.klsm_board.specs.Rule.{IsReached, IsSized}
-use Rattle.klsm_board.specs.Steps.{mine, IsMine}
+use Rattle.klsm_board.specs.Rule.{IsSized}
+use Rattle.klsm_board.specs.Steps.{mine, IsMine, AreReached}
 
 -- hands with the own part, with the shared part too, and with a victim's as well
 abbrev pub own_in_hand : ℕ → List Item → Hand
@@ -41,7 +41,7 @@ module _ {S : Type 0} (content : S → List Item) (suits : ℕ → ℕ → S →
 
   -- the seat is thread t's, and carries these parts, the last acquired first
   pub record Carries (hand : Hand) (me : Me S View) : Type 0 where
-    pub alone : IsMine me.0 t
+    pub acts : IsMine me.0 t
     pub contents_are : contents me.1 ≡ hand
     pub suited : AreSuited me.1
 
@@ -50,11 +50,11 @@ module _ {S : Type 0} (content : S → List Item) (suits : ℕ → ℕ → S →
     pub carries : Carries hand me
     pub hand_is : hand_of t (mine me.0) ≡ hand
 
-  -- and the list is that of the thread in some world to which a schedule leads
+  -- and the lists that it knows are those of their threads in some world to which a schedule leads
   pub record Has (hand : Hand) (me : Me S View) : Type 0 where
     pub carries : Carries hand me
     pub hand_is : hand_of t (mine me.0) ≡ hand
-    pub reached : IsReached m t (mine me.0)
+    pub reached : AreReached m t me.0
 
   -- thread t may commit the event, and has carried it out in the parts
   pub record CarriedOut (event : Event) (hand : Hand) (me : Me S View) : Type 0 where
@@ -65,7 +65,7 @@ module _ {S : Type 0} (content : S → List Item) (suits : ℕ → ℕ → S →
 module _ {S : Type 0} (content : S → List Item) (suits : ℕ → ℕ → S → Type 0) (is_vacant : S → Type 0) (m : Sizes) (t : ℕ) where
   -- the seat carries thread t's own part, and a vacant slot in place of the shared one
   pub record LendsShared (own : List Item) (me : Me S View) : Type 0 where
-    pub alone : IsMine me.0 t
+    pub acts : IsMine me.0 t
     pub slot : S
     pub vacant : S
     pub slots_are : me.1 ≡ (own_part t, slot) ∷ (shared_part, vacant) ∷ []

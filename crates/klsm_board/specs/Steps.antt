@@ -1,15 +1,22 @@
 -- What each step on a lock or on the front tells.
-use Rattle.std.specs.Prelude.{◌≡◌, ℕ, ◌-◌, ◌≤◌, ◌==◌, ltb, List, [], ◌∷◌, ◌++◌, MatchBool}
+use Rattle.std.specs.Prelude.{◌≡◌, ℕ, ◌-◌, ◌<◌, ◌≤◌, ◌==◌, ltb, List, [], ◌∷◌, ◌++◌, MatchBool}
+use mathlib.Core.Option.{some}
+use lib.ListN.{get_elem?}
 use Rattle.atomic_table.specs.Table.{Me, Step, step, rest}
 use Rattle.klsm_run.specs.declared.item.Item.{Item}
 use Rattle.klsm_world.specs.declared.step.Event.{Event}
 use Rattle.klsm_world.specs.declared.step.Event.TheVariants.{Early}
 use Rattle.klsm_world.specs.declared.step.Entry.{Entry}
 use Rattle.klsm_world.specs.declared.step.Entry.TheVariants.{Acquired, Committed, Released, Missed}
+use Rattle.klsm_world.specs.declared.step.Step.{Step as WorldStep}
+use Rattle.klsm_world.specs.Laws.{IsWithinQuota}
+use Rattle.klsm_world.specs.Worlds.{World, steps_of}
+use Rattle.klsm_world.specs.Schedules.{Leads}
 use Rattle.klsm_board.specs.declared.sizes.Sizes.{Sizes}
 use Rattle.klsm_board.specs.declared.rule.Own.{Own}
 use Rattle.klsm_board.specs.declared.rule.View.{View}
-use Rattle.klsm_board.specs.Rule.{own, view, place, IsReached, SeesFront}
+use Rattle.klsm_board.specs.Rule.{own, view, place, world_limits, SeesFront}
+use Rattle.klsm_board.specs.Turning.{turned}
 
 -- the first list gains an entry
 abbrev pub gained : List Own → Entry → List Own
@@ -27,9 +34,34 @@ mine_or (o ∷ os) = o.steps
 abbrev pub mine : View → List Entry
 mine v = mine_or v.lists
 
--- a seat is thread t's and has its list alone
+-- the lists behind the first, and the first alone
+abbrev pub others : List Own → List Own
+others [] = []
+others (o ∷ os) = os
+
+abbrev pub first_of_all : List Own → List Own
+first_of_all [] = []
+first_of_all (o ∷ os) = o ∷ []
+
+-- what a view has behind its first list
+abbrev pub rest_of : View → List Own
+rest_of v = others v.lists
+
+-- a seat acts for thread t: it knows its list, and behind it perhaps those of other threads
 abbrev pub IsMine : View → ℕ → Type 0
-IsMine v t = v.lists ≡ own t (mine v) ∷ []
+IsMine v t = v.lists ≡ own t (mine v) ∷ rest_of v
+
+-- The first list is thread t's, and each list is that of its thread, in one world to which some schedule
+-- of legal steps leads, and in which no thread made more insertions than the quota.
+pub record AreReached (m : Sizes) (t : ℕ) (v : View) : Type 0 where
+  pub world : World
+  pub schedule : List WorldStep
+  pub leads : Leads (world_limits m) schedule world
+  pub within : IsWithinQuota (world_limits m) m.quota world
+  pub list_is : steps_of world t ≡ mine v
+  pub thread : t < m.threads
+  pub has : (i : ℕ) (o : Own) → get_elem? v.lists i ≡ some o
+      → get_elem? world.lists o.thread ≡ some o.steps
 
 module _ {S : Type 0} where
   -- what a step on the lock word of a part tells, with the part in place of the word
@@ -37,9 +69,9 @@ module _ {S : Type 0} where
   on_part then st me n me' = (p : ℕ) → place p ≡ st.word
       → then (step st.slots p st.first st.second st.said) me n me'
 
-  -- the list is that of the thread in a world to which a schedule leads
+  -- the lists are those of their threads in a world to which a schedule leads
   abbrev pub is_reached : Sizes → ℕ → Me S View → Type 0
-  is_reached m t me' = IsReached m t (mine me'.0)
+  is_reached m t me' = AreReached m t me'.0
 
   -- the part was free, and came to the seat; or another thread held it
   abbrev pub attempted : (S → List Item) → (ℕ → ℕ → S → Type 0) → Sizes → ℕ → Step S → Me S View → ℕ → Me S View → Type 0
@@ -65,22 +97,18 @@ module _ {S : Type 0} where
   abbrev pub set_front : (Event → Type 0) → Sizes → ℕ → Step S → Me S View → ℕ → Me S View → Type 0
   set_front fits m t st me n me' = (e : Event) × fits e × (me' ≡ (gain me.0 (Committed e), me.1)) × is_reached m t me'
 
-  -- the front was loaded: an item whose key is below it was deleted by it
+  -- the front was loaded: an item whose key is below it was deleted by it, out of a world of that front
   abbrev pub looked : Item → Sizes → ℕ → Step S → Me S View → ℕ → Me S View → Type 0
   looked x m t st me n me' =
       MatchBool (ltb x.key n)
-      ((me' ≡ (gain me.0 (Committed (Early x n)), me.1)) × is_reached m t me')
+      ((me' ≡ (gain me.0 (Committed (Early x n)), me.1)) × is_reached m t me'
+      × ((before : AreReached m t me.0) × (before.world.front ≡ n)))
       (me' ≡ me)
 
   -- the front was loaded, and nothing else happened
   abbrev pub glanced : Sizes → ℕ → Step S → Me S View → ℕ → Me S View → Type 0
   glanced m t st me n me' = (me' ≡ me) × SeesFront m t (mine me.0) n
 
--- the first list, and the others
-abbrev pub others : List Own → List Own
-others [] = []
-others (o ∷ os) = os
-
-abbrev pub first_of_all : List Own → List Own
-first_of_all [] = []
-first_of_all (o ∷ os) = o ∷ []
+  -- thread t's list came to the front of those that the seat knows, and they are of one world
+  abbrev pub turned_to : Sizes → ℕ → Step S → Me S View → ℕ → Me S View → Type 0
+  turned_to m t st me n me' = (me' ≡ (view (turned t me.0.lists), me.1)) × is_reached m t me'

@@ -3,7 +3,7 @@ ghost use Rattle.std.specs.Prelude.{◌≡◌, ◌≤◌, ◌++◌, ℕ, [], ◌
 ghost use Rattle.klsm_run.specs.declared.item.Item.{Item};
 ghost use Rattle.klsm_world.specs.declared.step.Entry.TheVariants.{Acquired, Missed};
 ghost use Rattle.klsm_world.specs.OwnSteps.{Hand, found_in};
-ghost use Rattle.klsm_board.specs.Steps.{mine};
+ghost use Rattle.klsm_board.specs.Steps.{mine, rest_of};
 ghost use Rattle.klsm_board.specs.Seats.{Stands, Has, IsSeatOf};
 ghost use Rattle.klsm_board.specs.Entries.{missed};
 
@@ -38,6 +38,7 @@ pub(crate) fn try_acquire<S: Holding>(
     requires has { (hand : Hand) × Stands S.content S.suits table.now.key thread hand seat.old.me
         × (found_in hand part ≡ None) }
     ensures same { seat.new.table_id ≡ seat.old.table_id }
+    ensures others { rest_of seat.new.me.0 ≡ rest_of seat.old.me.0 }
     ensures ok { OnOk result ((hand : Hand)
         → Stands S.content S.suits table.now.key thread hand seat.old.me
         → (found : List Item)
@@ -74,6 +75,7 @@ pub(crate) fn acquire_waiting<S: Holding>(
     requires has { (hand : Hand) × Stands S.content S.suits table.now.key thread hand seat.old.me
         × (found_in hand part ≡ None) }
     ensures same { seat.new.table_id ≡ seat.old.table_id }
+    ensures others { rest_of seat.new.me.0 ≡ rest_of seat.old.me.0 }
     ensures acquired { (hand : Hand) → Stands S.content S.suits table.now.key thread hand seat.old.me
         → (bys : List ℕ) × (found : List Item)
         × Has S.content S.suits table.now.key thread ((part, found) ∷ hand) seat.new.me
@@ -101,6 +103,7 @@ fn acquire_missed<S: Holding>(
     requires has { (hand : Hand) × Stands S.content S.suits table.now.key thread hand seat.old.me
         × (found_in hand part ≡ None) }
     ensures same { seat.new.table_id ≡ seat.old.table_id }
+    ensures others { rest_of seat.new.me.0 ≡ rest_of seat.old.me.0 }
     ensures acquired { (hand : Hand) → Stands S.content S.suits table.now.key thread hand seat.old.me
         → (bys : List ℕ) × (found : List Item)
         × Has S.content S.suits table.now.key thread ((part, found) ∷ hand) seat.new.me

@@ -10,10 +10,11 @@ ghost use Rattle.klsm_world.specs.declared.step.Entry.TheVariants.{Committed};
 ghost use Rattle.klsm_world.specs.OwnSteps.{shared_part, hand_of};
 ghost use Rattle.klsm_world.specs.OwnListLaws.{SkipsFew, KeepsOwnOrder};
 ghost use Rattle.klsm_board.specs.Rule.{world_limits};
-ghost use Rattle.klsm_board.specs.Steps.{mine};
+ghost use Rattle.klsm_board.specs.Steps.{mine, rest_of};
 ghost use Rattle.klsm_board.specs.Seats.{Carries, Stands, Has, CarriedOut, QuotaAllows, LeavesShared, SetsFront, IsSeatOf, both_in_hand};
 ghost use Rattle.klsm_board.specs.Entries.{both_released};
 ghost use Rattle.klsm_board.specs.Choosing.{Chooses};
+ghost use Rattle.klsm_board.specs.Effects.{TakesEffect};
 ghost use Rattle.klsm_board.specs.Deleting.{AnswersDeletion, Deletes, FindsNothing, MissesDeletion, refilled, refilled_after};
 
 use crate::acquiring::{acquire_waiting, try_acquire};
@@ -46,9 +47,12 @@ pub(crate) fn delete_now<S: PartSlot, P: Picker>(
     requires refill { refill ≡ table.now.key.refill }
     requires stands { Stands S.content S.suits table.now.key thread [] seat.old.me }
     ensures same { seat.new.table_id ≡ seat.old.table_id }
+    ensures others { rest_of seat.new.me.0 ≡ rest_of seat.old.me.0 }
     ensures has { Has S.content S.suits table.now.key thread [] seat.new.me }
     ensures ok { IfOk result (λ answer. AnswersDeletion P.may_pick picker.old picker.new
         table.now.key thread [] [] (mine seat.old.me.0) (mine seat.new.me.0) answer) }
+    ensures effect { IfOk result (TakesEffect table.now.key thread (rest_of seat.old.me.0)
+        (mine seat.old.me.0) (mine seat.new.me.0)) }
     ensures busy { IfErr result (λ busy. (picker.new ≡ picker.old)
         × MissesDeletion thread (mine seat.old.me.0) (mine seat.new.me.0) busy) }
 {
@@ -79,10 +83,13 @@ pub(crate) fn delete_waiting<S: PartSlot, P: Picker>(
     requires refill { refill ≡ table.now.key.refill }
     requires stands { Stands S.content S.suits table.now.key thread [] seat.old.me }
     ensures same { seat.new.table_id ≡ seat.old.table_id }
+    ensures others { rest_of seat.new.me.0 ≡ rest_of seat.old.me.0 }
     ensures has { Has S.content S.suits table.now.key thread [] seat.new.me }
     ensures ok { (own_misses : List ℕ) × (shared_misses : List ℕ)
         × AnswersDeletion P.may_pick picker.old picker.new table.now.key thread own_misses
         shared_misses (mine seat.old.me.0) (mine seat.new.me.0) result }
+    ensures effect { TakesEffect table.now.key thread (rest_of seat.old.me.0)
+        (mine seat.old.me.0) (mine seat.new.me.0) result }
 {
     acquire_waiting(rt, table, seat, thread + 1, thread);
     if let Some(item) = delete_early(table, seat, thread, threads) {
@@ -109,6 +116,7 @@ fn delete_under_both<S: PartSlot, P: Picker>(
     requires has { (own : List Item) × (shared : List Item)
         × Has S.content S.suits table.now.key thread (both_in_hand thread own shared) seat.old.me }
     ensures same { seat.new.table_id ≡ seat.old.table_id }
+    ensures others { rest_of seat.new.me.0 ≡ rest_of seat.old.me.0 }
     ensures has { Has S.content S.suits table.now.key thread [] seat.new.me }
     ensures done { (own : List Item) → (shared : List Item)
         → Has S.content S.suits table.now.key thread (both_in_hand thread own shared) seat.old.me
@@ -117,6 +125,8 @@ fn delete_under_both<S: PartSlot, P: Picker>(
         × (picker.new ≡ picker.old))
         (Deletes P.may_pick picker.old picker.new table.now.key thread own shared
         (mine seat.old.me.0) (mine seat.new.me.0)) }
+    ensures effect { TakesEffect table.now.key thread (rest_of seat.old.me.0)
+        (mine seat.old.me.0) (mine seat.new.me.0) result }
 {
     if let Some(item) = take_both_out(table, seat, thread, threads, refill, picker) {
         return Some(item);
@@ -145,6 +155,7 @@ fn take_both_out<S: PartSlot, P: Picker>(
     requires has { (own : List Item) × (shared : List Item)
         × Has S.content S.suits table.now.key thread (both_in_hand thread own shared) seat.old.me }
     ensures same { seat.new.table_id ≡ seat.old.table_id }
+    ensures others { rest_of seat.new.me.0 ≡ rest_of seat.old.me.0 }
     ensures done { (own : List Item) → (shared : List Item)
         → Has S.content S.suits table.now.key thread (both_in_hand thread own shared) seat.old.me
         → MatchOption result
@@ -188,6 +199,7 @@ fn release_by_front<S: PartSlot>(
         × CarriedOut S.content S.suits table.now.key thread (Take item)
         (both_in_hand thread own shared) seat.old.me }
     ensures same { seat.new.table_id ≡ seat.old.table_id }
+    ensures others { rest_of seat.new.me.0 ≡ rest_of seat.old.me.0 }
     ensures has { Has S.content S.suits table.now.key thread [] seat.new.me }
     ensures list { (own : List Item) → (shared : List Item)
         → CarriedOut S.content S.suits table.now.key thread (Take item)
@@ -215,6 +227,7 @@ fn refill_own<S: PartSlot>(
     requires has { (own : List Item) × (shared : List Item)
         × Has S.content S.suits table.now.key thread (both_in_hand thread own shared) seat.old.me }
     ensures same { seat.new.table_id ≡ seat.old.table_id }
+    ensures others { rest_of seat.new.me.0 ≡ rest_of seat.old.me.0 }
     ensures has { (own : List Item) × (shared : List Item)
         × Has S.content S.suits table.now.key thread (both_in_hand thread own shared) seat.new.me }
     ensures list { (own : List Item) → (shared : List Item)
@@ -282,6 +295,7 @@ fn release_committed<S: PartSlot>(
         × CarriedOut S.content S.suits table.now.key thread event.now
         (both_in_hand thread own shared) seat.old.me }
     ensures same { seat.new.table_id ≡ seat.old.table_id }
+    ensures others { rest_of seat.new.me.0 ≡ rest_of seat.old.me.0 }
     ensures has { Has S.content S.suits table.now.key thread [] seat.new.me }
     ensures list { mine seat.new.me.0
         ≡ mine seat.old.me.0 ++ Committed event.now ∷ both_released thread }

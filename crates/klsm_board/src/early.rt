@@ -1,10 +1,11 @@
 //! The deletion from an own part alone, by the front of the shared part.
-ghost use Rattle.std.specs.Prelude.{◌≡◌, List, [], MatchOption, IfSome};
+ghost use Rattle.std.specs.Prelude.{◌≡◌, List, [], MatchOption, IfSome, Some};
 ghost use Rattle.klsm_run.specs.declared.item.Item.{Item};
 ghost use Rattle.klsm_parts.specs.Least.{IsLeast};
-ghost use Rattle.klsm_board.specs.Steps.{mine};
+ghost use Rattle.klsm_board.specs.Steps.{mine, rest_of};
 ghost use Rattle.klsm_board.specs.Seats.{Has, IsSeatOf, own_in_hand};
 ghost use Rattle.klsm_board.specs.Deleting.{TakesEarly};
+ghost use Rattle.klsm_board.specs.Effects.{TakesEffect};
 
 use crate::rule::{Locks, MemberSeat};
 use crate::slot::PartSlot;
@@ -24,6 +25,7 @@ pub(crate) fn delete_early<S: PartSlot>(
     requires has { (own : List Item)
         × Has S.content S.suits table.now.key thread (own_in_hand thread own) seat.old.me }
     ensures same { seat.new.table_id ≡ seat.old.table_id }
+    ensures others { rest_of seat.new.me.0 ≡ rest_of seat.old.me.0 }
     ensures done { (own : List Item)
         → Has S.content S.suits table.now.key thread (own_in_hand thread own) seat.old.me
         → MatchOption result
@@ -31,6 +33,8 @@ pub(crate) fn delete_early<S: PartSlot>(
         × (mine seat.new.me.0 ≡ mine seat.old.me.0))
         (λ item. Has S.content S.suits table.now.key thread [] seat.new.me
         × TakesEarly table.now.key thread own (mine seat.old.me.0) (mine seat.new.me.0) item) }
+    ensures effect { IfSome result (λ item. TakesEffect table.now.key thread
+        (rest_of seat.old.me.0) (mine seat.old.me.0) (mine seat.new.me.0) (Some item)) }
 {
     let least = least_own(table, seat, thread)?;
     if least.key >= look_at_front(table, seat, threads, thread, least) {

@@ -128,7 +128,7 @@ impl<const CAP: usize, const LEVELS: usize> Board<CAP, LEVELS> {
     // Ends the board, whose members are all there and have these totals, and lists what is left.
     fn close(
         self,
-        members: Vec<Member<CAP, LEVELS>>,
+        mut members: Vec<Member<CAP, LEVELS>>,
         totals: Totals,
         mut left: Vec<Item>,
     ) -> Account
@@ -151,7 +151,7 @@ impl<const CAP: usize, const LEVELS: usize> Board<CAP, LEVELS> {
         ensures each_once { AreEachOnce (lists_of self.entry.sizes.threads members.entry.items) }
     {
         let Board { table, sizes } = self;
-        let seat = join_all(&table.shared, members);
+        let seat = join_all(&table.shared, &mut members);
         let mut closed = table.close_with(seat);
         list_parts(&mut closed, sizes.threads + 1, &mut left);
         closed.free();
@@ -164,11 +164,11 @@ impl<const CAP: usize, const LEVELS: usize> Board<CAP, LEVELS> {
     }
 }
 
-// How many items all members inserted and deleted.
+/// How many items some members inserted and deleted.
 #[derive(Drop)]
-struct Totals {
-    inserted: u64,
-    deleted: u64,
+pub(crate) struct Totals {
+    pub(crate) inserted: u64,
+    pub(crate) deleted: u64,
 }
 
 // The sums over members 0 to `threads - 1`, or the least of these numbers that no member has.
@@ -196,8 +196,8 @@ fn totals_of<const CAP: usize, const LEVELS: usize>(
     Ok(totals)
 }
 
-// How many items the first member with this number inserted and deleted.
-fn counts_of<const CAP: usize, const LEVELS: usize>(
+/// How many items the first member with this number inserted and deleted.
+pub(crate) fn counts_of<const CAP: usize, const LEVELS: usize>(
     members: &[Member<CAP, LEVELS>],
     number: u32,
 ) -> Option<Totals>
@@ -230,17 +230,20 @@ impl Join<View> for Gather {
     ghost spent = { view [] };
 }
 
-// One seat that knows the lists of all these members.
-fn join_all<const CAP: usize, const LEVELS: usize>(
+/// One seat that knows the lists of all these members, which leave their list.
+pub(crate) fn join_all<const CAP: usize, const LEVELS: usize>(
     table: &Locks<BoardSlot<CAP, LEVELS>>,
-    mut members: Vec<Member<CAP, LEVELS>>,
+    members: &mut Vec<Member<CAP, LEVELS>>,
 ) -> MemberSeat<BoardSlot<CAP, LEVELS>>
-    requires of { (i : ℕ) (member : Member CAP LEVELS) → get_elem? members.items i ≡ some member
+    requires of { (i : ℕ) (member : Member CAP LEVELS) → get_elem? members.old.items i ≡ some member
         → member.seat.table_id ≡ table.now.table_id }
     requires words { 0 < table.now.table_id.words }
-    requires some { 0 < length members.items }
+    requires some { 0 < length members.old.items }
+    ensures empty { members.new.items ≡ [] }
+    ensures room { vec_capacity members.new ≡ vec_capacity members.old }
     ensures table { result.table_id ≡ table.now.table_id }
-    ensures knows { (i : ℕ) (member : Member CAP LEVELS) → get_elem? members.entry.items i ≡ some member
+    ensures none { result.me.1 ≡ [] }
+    ensures knows { (i : ℕ) (member : Member CAP LEVELS) → get_elem? members.old.items i ≡ some member
         → Knows result.me.0 member }
 {
     let Some(Member { mut seat, .. }) = members.pop() else {

@@ -11,7 +11,7 @@ ghost use Rattle.klsm_world.specs.declared.step.Event.TheVariants.{Put, Flush};
 ghost use Rattle.klsm_world.specs.declared.step.Entry.TheVariants.{Committed, Released};
 ghost use Rattle.klsm_world.specs.OwnSteps.{own_part, inserted, deleted};
 ghost use Rattle.klsm_world.specs.LegalSteps.{BearsStamp};
-ghost use Rattle.klsm_board.specs.Steps.{mine};
+ghost use Rattle.klsm_board.specs.Steps.{mine, rest_of};
 ghost use Rattle.klsm_board.specs.Seats.{Carries, Stands, Has, CarriedOut, IsSeatOf, own_in_hand, both_in_hand};
 ghost use Rattle.klsm_board.specs.Entries.{both_released};
 ghost use Rattle.klsm_board.specs.Inserting.{Inserts, LacksRoom, IsBelowLimit, RefusesInsert, RefusesInsertWaiting};
@@ -42,6 +42,7 @@ pub(crate) fn insert_now<S: PartSlot>(
     requires room { length (inserted (mine seat.old.me.0)) < table.now.key.quota }
     requires stands { Stands S.content S.suits table.now.key thread [] seat.old.me }
     ensures same { seat.new.table_id ≡ seat.old.table_id }
+    ensures others { rest_of seat.new.me.0 ≡ rest_of seat.old.me.0 }
     ensures has { Has S.content S.suits table.now.key thread [] seat.new.me }
     ensures ok { OnOk result (Inserts S.levels table.now.key.k thread [] [] (mine seat.old.me.0)
         (mine seat.new.me.0) item) }
@@ -81,6 +82,7 @@ pub(crate) fn insert_waiting<S: PartSlot>(
     requires room { length (inserted (mine seat.old.me.0)) < table.now.key.quota }
     requires stands { Stands S.content S.suits table.now.key thread [] seat.old.me }
     ensures same { seat.new.table_id ≡ seat.old.table_id }
+    ensures others { rest_of seat.new.me.0 ≡ rest_of seat.old.me.0 }
     ensures has { Has S.content S.suits table.now.key thread [] seat.new.me }
     ensures ok { OnOk result ((own_misses : List ℕ) × (shared_misses : List ℕ)
         × Inserts S.levels table.now.key.k thread own_misses shared_misses (mine seat.old.me.0)
@@ -114,6 +116,7 @@ fn put_own<S: PartSlot>(
     requires has { (own : List Item)
         × Has S.content S.suits table.now.key thread (own_in_hand thread own) seat.old.me }
     ensures same { seat.new.table_id ≡ seat.old.table_id }
+    ensures others { rest_of seat.new.me.0 ≡ rest_of seat.old.me.0 }
     ensures done { (own : List Item)
         → Has S.content S.suits table.now.key thread (own_in_hand thread own) seat.old.me
         → MatchBool result
@@ -175,6 +178,7 @@ fn flush_both<S: PartSlot>(
         × Has S.content S.suits table.now.key thread (both_in_hand thread own shared) seat.old.me
         × (length own ≡ table.now.key.k) }
     ensures same { seat.new.table_id ≡ seat.old.table_id }
+    ensures others { rest_of seat.new.me.0 ≡ rest_of seat.old.me.0 }
     ensures has { Has S.content S.suits table.now.key thread [] seat.new.me }
     ensures done { OnOk result ((own : List Item) → (shared : List Item)
         → Has S.content S.suits table.now.key thread (both_in_hand thread own shared) seat.old.me

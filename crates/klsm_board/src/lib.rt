@@ -50,6 +50,11 @@
 //!   and `Member::delete_min`.
 //! - **A member's own order is kept.** No deletion skips an item that its member inserted and that lies
 //!   in its own part or in the shared one: `keeps` of the same records.
+//! - **All members in one hand** (`Board::gather`, `AllMembers`) are of one world: `AllMembers::threads`, clause
+//!   `rule`. What is left is then what the calls made it, and no deletion skips more than T·k of that, nor more
+//!   than (T-1)·k where it went by the front, nor any where T is 1: clauses `left` and `few` of
+//!   `AllMembers::delete_min`. An insertion is full only where all inserted as many as the shared part has room
+//!   for: clause `full` of `AllMembers::insert`. `spread` gives the members back, as they were.
 //! - **Nothing is lost.** Once all members are back, `finish` tells how many items were inserted and
 //!   deleted, and which are left: each item inserted is one of these two, once (`each_once`).
 //! - **Each answer is an event.** An item is answered where its `Take` or `Early` was committed, and a
@@ -66,10 +71,12 @@
 //! The files, from the atomic steps up: `rule` and `plays` (what always holds, and what a step tells),
 //! `steps` (acquire, release, the two commits, the look at the front), `slot` (what is done to the parts),
 //! `lending`, `acquiring` (one try, or as many as it needs), `inserting`, `spying`, `early` (deletions by the
-//! front), `deleting`, and the public calls in `making`, `member`, `held` and `finishing`. `gate` is for programs that run members in threads.
+//! front), `deleting`, and the public calls in `making`, `member`, `held`, `together` and `finishing`. `tally` has the
+//! counts of members that are in one hand. `gate` is for programs that run members in threads.
 #![tactic(auto)]
 
 mod acquiring;
+mod all_members;
 mod board;
 mod boxed;
 mod deleting;
@@ -88,7 +95,10 @@ mod sizes;
 mod slot;
 mod spying;
 mod steps;
+mod tally;
+mod together;
 
+pub use all_members::{AllMembers, GatherRefused};
 pub use board::{Board, Held, HoldRefused, Member};
 pub use errors::{Busy, FinishError, HoldError, InsertError, MakeError, TryInsertError};
 pub use finishing::{Account, FinishRefused};

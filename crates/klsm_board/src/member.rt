@@ -5,7 +5,8 @@ ghost use Rattle.klsm_run.specs.declared.item.Item.{Item};
 ghost use Rattle.klsm_world.specs.OwnSteps.{inserted, deleted};
 ghost use Rattle.klsm_board.specs.Rule.{IsReached, SeesFront};
 ghost use Rattle.klsm_board.specs.Members.{most_deletions};
-ghost use Rattle.klsm_board.specs.Boards.{Adds, IsOf, IsSame, own_steps};
+ghost use Rattle.klsm_board.specs.Boards.{Adds, IsOf, IsSame, known_of_others, own_steps};
+ghost use Rattle.klsm_board.specs.Effects.{TakesEffect};
 ghost use Rattle.klsm_board.specs.Inserting.{Inserts, RefusesInsert, RefusesInsertWaiting, stamp_of, stamped};
 ghost use Rattle.klsm_board.specs.Deleting.{AnswersDeletion, MissesDeletion};
 
@@ -54,6 +55,7 @@ impl<const CAP: usize, const LEVELS: usize> Member<CAP, LEVELS> {
     pub fn front(&mut self, board: &Board<CAP, LEVELS>) -> u64
         requires { IsOf self.old board.now }
         ensures same { IsSame self.old self.new }
+        ensures others { known_of_others self.new ≡ known_of_others self.old }
         ensures steps { own_steps self.new ≡ own_steps self.old }
         ensures seen { SeesFront self.old.sizes self.old.number (own_steps self.old) result }
     {
@@ -91,6 +93,7 @@ impl<const CAP: usize, const LEVELS: usize> Member<CAP, LEVELS> {
     ) -> Result<Stamp, TryInsertError>
         requires { IsOf self.old board.now }
         ensures same { IsSame self.old self.new }
+        ensures others { known_of_others self.new ≡ known_of_others self.old }
         ensures stamp { IfOk result (λ stamp.
             stamp ≡ stamp_of self.old.number (length (inserted (own_steps self.old)))) }
         ensures ok { IfOk result (λ stamp. Inserts LEVELS self.old.sizes.k self.old.number [] []
@@ -127,6 +130,7 @@ impl<const CAP: usize, const LEVELS: usize> Member<CAP, LEVELS> {
     ) -> Result<Stamp, InsertError>
         requires { IsOf self.old board.now }
         ensures same { IsSame self.old self.new }
+        ensures others { known_of_others self.new ≡ known_of_others self.old }
         ensures stamp { IfOk result (λ stamp.
             stamp ≡ stamp_of self.old.number (length (inserted (own_steps self.old)))) }
         ensures ok { IfOk result (λ stamp. (own_misses : List ℕ) × (shared_misses : List ℕ)
@@ -176,8 +180,11 @@ impl<const CAP: usize, const LEVELS: usize> Member<CAP, LEVELS> {
     ) -> Result<Option<Item>, Busy>
         requires { IsOf self.old board.now }
         ensures same { IsSame self.old self.new }
+        ensures others { known_of_others self.new ≡ known_of_others self.old }
         ensures ok { IfOk result (λ answer. AnswersDeletion P.may_pick picker.old picker.new
             self.old.sizes self.old.number [] [] (own_steps self.old) (own_steps self.new) answer) }
+        ensures effect { IfOk result (TakesEffect self.old.sizes self.old.number
+            (known_of_others self.old) (own_steps self.old) (own_steps self.new)) }
         ensures adds { IfOk result (λ answer. Adds self.old self.new [] (option_to_list answer)) }
         ensures busy { IfErr result (λ busy. Adds self.old self.new [] []
             × (picker.new ≡ picker.old)
@@ -204,9 +211,12 @@ impl<const CAP: usize, const LEVELS: usize> Member<CAP, LEVELS> {
     ) -> Option<Item>
         requires { IsOf self.old board.now }
         ensures same { IsSame self.old self.new }
+        ensures others { known_of_others self.new ≡ known_of_others self.old }
         ensures ok { (own_misses : List ℕ) × (shared_misses : List ℕ)
             × AnswersDeletion P.may_pick picker.old picker.new self.old.sizes self.old.number
             own_misses shared_misses (own_steps self.old) (own_steps self.new) result }
+        ensures effect { TakesEffect self.old.sizes self.old.number (known_of_others self.old)
+            (own_steps self.old) (own_steps self.new) result }
         ensures adds { Adds self.old self.new [] (option_to_list result) }
     {
         let thread = self.number as usize;

@@ -97,3 +97,14 @@ impl<S: Holding, D: Told> Play<S, View> for Glance<D> {
 
     ghost then = { glanced D.sizes D.thread };
 }
+
+/// A thread's list comes to the front of those that the seat knows.
+pub(crate) struct Turn<D> {
+    of: PhantomData<D>,
+}
+
+impl<S: Holding, D: Told> Play<S, View> for Turn<D> {
+    ghost use Rattle.klsm_board.specs.Steps.{turned_to};
+
+    ghost then = { turned_to D.sizes D.thread };
+}

@@ -6,7 +6,7 @@ ghost use Rattle.klsm_world.specs.declared.step.Event.TheVariants.{Spy};
 ghost use Rattle.klsm_world.specs.declared.step.Entry.{Entry};
 ghost use Rattle.klsm_world.specs.declared.step.Entry.TheVariants.{Acquired, Committed, Released};
 ghost use Rattle.klsm_world.specs.OwnSteps.{own_part};
-ghost use Rattle.klsm_board.specs.Steps.{mine};
+ghost use Rattle.klsm_board.specs.Steps.{mine, rest_of};
 ghost use Rattle.klsm_board.specs.Seats.{Carries, Has, IsSeatOf, both_in_hand, three_in_hand};
 ghost use Rattle.klsm_board.specs.Deleting.{Passes, PassesBy, Spies, SpiesAfter, victim_of};
 
@@ -28,6 +28,7 @@ pub(crate) fn search_victims<S: PartSlot>(
     requires has { (shared : List Item)
         × Has S.content S.suits table.now.key thread (both_in_hand thread [] shared) seat.old.me }
     ensures same { seat.new.table_id ≡ seat.old.table_id }
+    ensures others { rest_of seat.new.me.0 ≡ rest_of seat.old.me.0 }
     ensures done { (shared : List Item)
         → Has S.content S.suits table.now.key thread (both_in_hand thread [] shared) seat.old.me
         → MatchBool result
@@ -73,6 +74,7 @@ fn try_victim<S: PartSlot>(
     requires has { (shared : List Item)
         × Has S.content S.suits table.now.key thread (both_in_hand thread [] shared) seat.old.me }
     ensures same { seat.new.table_id ≡ seat.old.table_id }
+    ensures others { rest_of seat.new.me.0 ≡ rest_of seat.old.me.0 }
     ensures done { (shared : List Item)
         → Has S.content S.suits table.now.key thread (both_in_hand thread [] shared) seat.old.me
         → MatchBool result

@@ -7,13 +7,14 @@ ghost use Rattle.klsm_world.specs.declared.step.Event.{Event};
 ghost use Rattle.klsm_world.specs.declared.step.Entry.TheVariants.{Acquired, Committed, Released, Missed};
 ghost use Rattle.klsm_world.specs.OwnSteps.{Hand, Holds, own_part, found_in, after_event, hand_of, inserted};
 ghost use Rattle.klsm_parts.specs.Least.{IsLeast};
-ghost use Rattle.klsm_board.specs.Rule.{place, SeesFront};
+ghost use Rattle.klsm_board.specs.Rule.{place, view, SeesFront};
+ghost use Rattle.klsm_board.specs.Turning.{turned, HasList};
 ghost use Rattle.klsm_world.specs.LegalSteps.{MayCommit};
-ghost use Rattle.klsm_board.specs.Steps.{mine, IsMine, attempted, released, committed, looked, glanced, set_front};
+ghost use Rattle.klsm_board.specs.Steps.{mine, rest_of, IsMine, AreReached, attempted, released, committed, looked, glanced, set_front, turned_to};
 ghost use Rattle.klsm_board.specs.Seats.{Carries, Stands, Has, CarriedOut, QuotaAllows, LeavesShared, SetsFront, IsSeatOf, own_in_hand, both_in_hand};
 ghost use Rattle.klsm_board.specs.Entries.{both_released};
 
-use crate::plays::{Acquire, Commit, Glance, Look, Release, SetFront, Told};
+use crate::plays::{Acquire, Commit, Glance, Look, Release, SetFront, Told, Turn};
 use crate::rule::{Holding, Locks, MemberSeat, STRIDE};
 use klsm_run::Item;
 use klsm_world::Event;
@@ -169,6 +170,24 @@ fn load_front_alone<S: Holding, D: Told>(
     table.load::<Glance<D>>(seat, (threads + 1) * STRIDE)
 }
 
+// Loads a word, and brings the thread's list to the front.
+fn load_turning<S: Holding, D: Told>(
+    table: &Locks<S>,
+    seat: &mut MemberSeat<S>,
+    thread: usize,
+) -> u64
+    requires told { (D.sizes ≡ table.now.key) × (D.thread ≡ thread) }
+    requires seat { IsSeatOf seat.old.table_id table.now.table_id table.now.key thread }
+    requires has { HasList seat.old.me.0.lists thread }
+    ensures same { (seat.new.table_id ≡ seat.old.table_id) × (seat.new.id ≡ seat.old.id) }
+    ensures told { turned_to table.now.key thread (step table.now.table_id.slots 0 0 0 none)
+        seat.old.me result seat.new.me }
+{
+    // For the proof: the contract alone names the thread.
+    let _ = thread;
+    table.load::<Turn<D>>(seat, 0)
+}
+
 /// A try to acquire a part. The word found is 0 where it came to the seat, and else names its holder.
 pub(crate) fn acquire_part<S: Holding>(
     table: &Locks<S>,
@@ -181,6 +200,7 @@ pub(crate) fn acquire_part<S: Holding>(
     requires has { (hand : Hand) × Stands S.content S.suits table.now.key thread hand seat.old.me
         × (found_in hand part ≡ None) }
     ensures same { (seat.new.table_id ≡ seat.old.table_id) × (seat.new.id ≡ seat.old.id) }
+    ensures others { rest_of seat.new.me.0 ≡ rest_of seat.old.me.0 }
     ensures told { (hand : Hand) → Stands S.content S.suits table.now.key thread hand seat.old.me
         → MatchBool (result == 0)
         ((found : List Item)
@@ -206,6 +226,7 @@ pub(crate) fn release_part<S: Holding>(
         × Stands S.content S.suits table.now.key thread ((part, found) ∷ hand) seat.old.me
         × (found_in hand part ≡ None) }
     ensures same { (seat.new.table_id ≡ seat.old.table_id) × (seat.new.id ≡ seat.old.id) }
+    ensures others { rest_of seat.new.me.0 ≡ rest_of seat.old.me.0 }
     ensures released { (found : List Item) → (hand : Hand)
         → Stands S.content S.suits table.now.key thread ((part, found) ∷ hand) seat.old.me
         → found_in hand part ≡ None
@@ -222,6 +243,7 @@ pub(crate) fn release_both<S: Holding>(table: &Locks<S>, seat: &mut MemberSeat<S
         × Stands S.content S.suits table.now.key thread (both_in_hand thread own shared)
         seat.old.me }
     ensures same { (seat.new.table_id ≡ seat.old.table_id) × (seat.new.id ≡ seat.old.id) }
+    ensures others { rest_of seat.new.me.0 ≡ rest_of seat.old.me.0 }
     ensures has { Has S.content S.suits table.now.key thread [] seat.new.me }
     ensures list { mine seat.new.me.0 ≡ mine seat.old.me.0 ++ both_released thread }
 {
@@ -247,6 +269,7 @@ pub(crate) fn commit_event<S: Holding>(
         seat.old.me
         × (found_in hand part ≡ None) }
     ensures same { (seat.new.table_id ≡ seat.old.table_id) × (seat.new.id ≡ seat.old.id) }
+    ensures others { rest_of seat.new.me.0 ≡ rest_of seat.old.me.0 }
     ensures released { (left : List Item) → (hand : Hand)
         → Carries S.content S.suits table.now.key thread ((part, left) ∷ hand) seat.old.me
         → found_in hand part ≡ None
@@ -310,6 +333,7 @@ pub(crate) fn commit_moving<S: Holding, T: Moving>(
         ((part, left) ∷ hand) seat.old.me
         × (found_in hand part ≡ None) }
     ensures same { (seat.new.table_id ≡ seat.old.table_id) × (seat.new.id ≡ seat.old.id) }
+    ensures others { rest_of seat.new.me.0 ≡ rest_of seat.old.me.0 }
     ensures released { (left : List Item) → (hand : Hand)
         → Carries S.content S.suits table.now.key thread ((part, left) ∷ hand) seat.old.me
         → found_in hand part ≡ None
@@ -342,6 +366,7 @@ pub(crate) fn commit_by_front<S: Holding>(
     requires out { (hand : Hand)
         × CarriedOut S.content S.suits table.now.key thread event.now hand seat.old.me }
     ensures same { (seat.new.table_id ≡ seat.old.table_id) × (seat.new.id ≡ seat.old.id) }
+    ensures others { rest_of seat.new.me.0 ≡ rest_of seat.old.me.0 }
     ensures has { (hand : Hand) → Carries S.content S.suits table.now.key thread hand seat.old.me
         → Has S.content S.suits table.now.key thread hand seat.new.me }
     ensures list { mine seat.new.me.0 ≡ mine seat.old.me.0 ++ Committed event.now ∷ [] }
@@ -368,6 +393,7 @@ pub(crate) fn commit_moving_by_front<S: Holding, T: Moving>(
         seat.old.me
         × SetsFront thread (hand_of thread (mine seat.old.me.0)) (T.event about.now moved) front }
     ensures same { (seat.new.table_id ≡ seat.old.table_id) × (seat.new.id ≡ seat.old.id) }
+    ensures others { rest_of seat.new.me.0 ≡ rest_of seat.old.me.0 }
     ensures has { (hand : Hand) → Carries S.content S.suits table.now.key thread hand seat.old.me
         → Has S.content S.suits table.now.key thread hand seat.new.me }
     ensures list { (hand : Hand) → Carries S.content S.suits table.now.key thread hand seat.old.me
@@ -395,6 +421,7 @@ pub(crate) fn look_at_front<S: Holding>(
         × Has S.content S.suits table.now.key thread (own_in_hand thread own) seat.old.me
         × IsLeast least own }
     ensures same { (seat.new.table_id ≡ seat.old.table_id) × (seat.new.id ≡ seat.old.id) }
+    ensures others { rest_of seat.new.me.0 ≡ rest_of seat.old.me.0 }
     ensures looked { looked least table.now.key thread
         (step table.now.table_id.slots (place (threads + 1)) 0 0 none) seat.old.me result
         seat.new.me }
@@ -417,4 +444,16 @@ pub(crate) fn see_front<S: Holding>(
     ensures seen { SeesFront table.now.key thread (mine seat.old.me.0) result }
 {
     load_front_alone::<S, Brand>(table, seat, threads, thread)
+}
+
+/// Brings the thread's list to the front of those that the seat knows, and tells that they all are of one
+/// world.
+pub(crate) fn turn_to<S: Holding>(table: &Locks<S>, seat: &mut MemberSeat<S>, thread: usize)
+    requires seat { IsSeatOf seat.old.table_id table.now.table_id table.now.key thread }
+    requires has { HasList seat.old.me.0.lists thread }
+    ensures same { (seat.new.table_id ≡ seat.old.table_id) × (seat.new.id ≡ seat.old.id) }
+    ensures turned { seat.new.me ≡ (view (turned thread seat.old.me.0.lists), seat.old.me.1) }
+    ensures reached { AreReached table.now.key thread seat.new.me.0 }
+{
+    load_turning::<S, Brand>(table, seat, thread);
 }

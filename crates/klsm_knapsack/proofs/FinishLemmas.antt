@@ -15,6 +15,7 @@ use Rattle.klsm_world.proofs.lemmas.counts.EventCountLemmas.{times_contained, co
 use Rattle.klsm_board.specs.declared.board.Member.{Member}
 use Rattle.klsm_board.specs.declared.sizes.Sizes.{Sizes}
 use Rattle.klsm_board.specs.Rule.{IsReached}
+use Rattle.klsm_board.proofs.lemmas.hands.PossibleLemmas.{each_reached}
 use Rattle.klsm_board.specs.Boards.{IsCrew, IsOf, own_steps}
 use Rattle.klsm_board.specs.Finishing.{AreAll, AreEachOnce, lists_of}
 use Rattle.klsm_board.proofs.lemmas.ending.EndLemmas.{are_lists, each_of}
@@ -148,7 +149,7 @@ module _ {LEVELS : ℕ} where
     reached_by : (t : ℕ) (w : Worker LEVELS) → get_elem? crew t ≡ some w → ∥ IsReached common.board.sizes t (own_steps w.member) ∥₁
     reached_by t w there =
         subst (λ (m : Sizes). ∥ IsReached m t (own_steps w.member) ∥₁) (worker_at t w there).member.1
-        (subst (λ (n : ℕ). ∥ IsReached w.member.sizes n (own_steps w.member) ∥₁) (is.numbered t w there) w.member.rests.reached)
+        (subst (λ (n : ℕ). ∥ IsReached w.member.sizes n (own_steps w.member) ∥₁) (is.numbered t w there) (each_reached w.member.sizes w.member.number w.member.seat.me.0 w.member.rests.reached))
 
     ended_by : (t : ℕ) (w : Worker LEVELS) → get_elem? crew t ≡ some w → HasEndedSo Refuses w → HasEnded LEVELS common.board.sizes.k t (own_steps w.member) w.refused
     ended_by t w there ended =

@@ -10,4 +10,5 @@ mod script;
 mod sixteen;
 mod skips;
 mod threads;
+mod together;
 mod worked;

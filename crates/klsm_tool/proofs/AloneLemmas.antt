@@ -1,53 +1,109 @@
 -- A replay over a board of its own.
-use Rattle.std.proofs.Common.{◌≡◌, ◌≢◌, ℕ, zero, suc, List, [], replicate, Option, inl, inr, sym, refl, ap, subst, ◌∙◌, arith, codes}
-use Rattle.std.proofs.lemmas.List.{length-map}
-use Rattle.std.proofs.lemmas.List.{length-replicate}
+use Rattle.std.proofs.Common.{◌≡◌, ◌≢◌, ℕ, zero, suc, List, [], ◌++◌, replicate, length, Option, inl, inr, refl, ap, sym, subst, ◌∙◌, arith, codes}
+use Rattle.std.specs.List.{All, flat_map}
+use mathlib.Core.Option.{some}
+use lib.ListN.{get_elem?}
+use Rattle.klsm_run.specs.declared.item.Item.{Item}
+use Rattle.klsm_run.specs.Content.{sorted}
+use Rattle.klsm_parts.specs.Events.{minus}
+use Rattle.klsm_world.specs.declared.step.Entry.{Entry}
+use Rattle.klsm_world.specs.OwnSteps.{deleted, inserted}
+use Rattle.klsm_world.specs.Worlds.{first_world}
+use Rattle.klsm_world.proofs.lemmas.theorems.OwnEventLemmas.{lists_have_events}
+use Rattle.klsm_board.specs.declared.all_members.AllMembers.{AllMembers}
 use Rattle.klsm_board.specs.declared.board.Board.{Board}
 use Rattle.klsm_board.specs.declared.board.Member.{Member}
 use Rattle.klsm_board.specs.declared.sizes.Sizes.{Sizes}
-use Rattle.klsm_board.specs.Boards.{own_steps}
-use Rattle.klsm_board.specs.Rule.{IsReached}
+use Rattle.klsm_board.specs.Boards.{IsOf, own_steps}
 use Rattle.klsm_board.specs.Finishing.{AreListsAtEnd, lists_of}
-use Rattle.klsm_board.proofs.lemmas.table.MakeLemmas.{fresh_is_reached}
+use Rattle.klsm_board.specs.Rule.{world_limits}
+use Rattle.klsm_board.specs.Together.{all_lists, sizes_of_all, steps_for}
+use Rattle.klsm_board.proofs.lemmas.ending.EndLemmas.{are_lists, each_of, place_within}
+use Rattle.klsm_board.proofs.lemmas.ending.WholeLemmas.{known_at, so_many_known}
 use Rattle.klsm_text.specs.declared.report.End.{End}
 use Rattle.klsm_text.specs.declared.report.End.TheVariants as end
 use Rattle.klsm_text.specs.declared.report.Report.{Report}
+use Rattle.klsm_text.specs.Reports.{GoesOrFails}
 use Rattle.klsm_tool.specs.Crews.{AreMembers, lists_in, steps_in}
 use Rattle.klsm_tool.specs.Shown.{shown_in}
-use Rattle.klsm_text.specs.Reports.{GoesOrFails}
-use Rattle.klsm_tool.specs.Replay.{ReplaysAlone, ReplaysToTheEnd}
+use Rattle.klsm_tool.specs.Replay.{Replays, ReplaysAlone, ReplaysToTheEnd}
+use Rattle.klsm_tool.proofs.AllLemmas.{rule_of_all}
+use Rattle.klsm_tool.proofs.CrewLemmas.{crew_lists, one_at}
 use Rattle.klsm_tool.proofs.ClosingLemmas.{replays_nothing}
-use Rattle.klsm_tool.proofs.CrewLemmas.{crew_lists, crew_reached}
-
--- want of memory is not the end of all rows
-pub not_done : (before after : Option (List ℕ)) (text : List ℕ) (written written' : ℕ) (result : End) → GoesOrFails before after text written written' end.NoMemory result → result ≢ end.Done
-not_done before after text written written' result (inl whole) done = let bad = sym whole.0 ∙ done in cc
-not_done before after text written written' result (inr cut) done = let bad = sym cut.0 ∙ done in cc
 
 empty_at : (n t : ℕ) → steps_in (replicate n []) t ≡ []
 empty_at zero t = refl
 empty_at (suc n) zero = refl
 empty_at (suc n) (suc t) = empty_at n t
 
+empty_in : (f : List Entry → List Item) → f [] ≡ [] → (n : ℕ) → flat_map f (replicate n []) ≡ []
+empty_in f none zero = refl
+empty_in f none (suc n) = λ i. none i ++ empty_in f none n i
+
+-- empty lists are those of the first world
+first_lists : (m : Sizes) → AreListsAtEnd m (replicate m.threads [])
+first_lists m = record {
+  world = first_world (world_limits m);
+  schedule = [];
+  leads = refl;
+  within = λ u below. let none : ◌≡◌ {A = ℕ} (length (inserted (steps_in (replicate m.threads []) u))) 0 = ap (λ es. length (inserted es)) (empty_at m.threads u) in omega (arith, none);
+  lists_are = refl;
+  in_order = λ t below. lists_have_events (world_limits m) [] (first_world (world_limits m)) t refl below;
+  run = tt;
+}
+
+-- want of memory is not the end of all rows
+pub not_done : (before after : Option (List ℕ)) (text : List ℕ) (written written' : ℕ) (result : End) → GoesOrFails before after text written written' end.NoMemory result → result ≢ end.Done
+not_done before after text written written' result (inl whole) done = let bad = sym whole.0 ∙ done in cc
+not_done before after text written written' result (inr cut) done = let bad = sym cut.0 ∙ done in cc
+
+module _ (board : Board 64 21) (all : AllMembers 64 21) (members : List (Member 64 21)) (of : All (λ member. IsOf member board) members) (many : length members ≡ (sizes_of_all all).threads)
+    (sizes : sizes_of_all all ≡ board.sizes) (each : (i : ℕ) (member : Member 64 21) → get_elem? members i ≡ some member → (member.number ≡ i) × (own_steps member ≡ steps_for all i)) where
+  -- members that were in one hand are those of the board
+  pub spread_crew : AreMembers board members
+  spread_crew = record {
+    of = λ i member there. each_of (λ z. IsOf z board) members of i member there;
+    many = many ∙ ap (λ (z : Sizes). z.threads) sizes;
+    numbered = λ i member there. (each i member there).0;
+  }
+
+  -- and have the lists that they had there
+  pub spread_lists_of : all_lists all ≡ lists_of board.sizes.threads members
+  spread_lists_of = are_lists (all_lists all) board.sizes.threads members (so_many_known (sizes_of_all all).threads all.acting.seat.me.0.lists ∙ ap (λ (z : Sizes). z.threads) sizes)
+      (λ t below. let one = one_at members t (omega (arith, below, spread_crew.many)) in (t, one.0, one.1, spread_crew.numbered t one.0 one.1))
+      (λ i member there.
+      let inside = place_within members i member there in
+      subst (λ n. get_elem? (all_lists all) n ≡ some (own_steps member)) (sym (spread_crew.numbered i member there))
+      (known_at (sizes_of_all all).threads all.acting.seat.me.0.lists i (omega (arith, inside, many)) ∙ ap some (sym (each i member there).1)))
+
+  pub spread_lists : all_lists all ≡ lists_in members
+  spread_lists = spread_lists_of ∙ sym (crew_lists board members spread_crew)
+
+-- and what is told of one is told of the other
+pub replays_by : {threads k : ℕ} {lists lists' : List (List Entry)} {input before after : Option (List ℕ)} {report : Report} → lists ≡ lists' → Replays threads k lists input before after report
+    → Replays threads k lists' input before after report
+replays_by {threads} {k} {lists} {lists'} {input} {before} {after} {report} same = subst (λ (z : List (List Entry)). Replays threads k z input before after report) same
+
 module _ (m : Sizes) (input before after : Option (List ℕ)) (report : Report) where
   -- the lists are those of the members
-  pub alone : (board : Board 64 21) (members : List (Member 64 21)) → AreMembers board members → board.sizes ≡ m → ReplaysToTheEnd m.threads m.k (lists_in members) input before after report
-      → (report.end ≡ end.Done → AreListsAtEnd board.sizes (lists_of board.sizes.threads members)) → ReplaysAlone m input before after report
-  alone board members crew sizes replays at_end =
-      let threads_are = ap (λ z. z.threads) sizes in record {
-        lists = lists_in members;
-        many = length-map members own_steps ∙ (crew.many ∙ threads_are);
-        reached = λ t below. subst (λ z. ∥ IsReached z t (steps_in (lists_in members) t) ∥₁) sizes (crew_reached board members crew t (omega (arith, below, threads_are)));
-        replays = replays;
-        at_end = λ done. subst (λ z. AreListsAtEnd z (lists_in members)) sizes (subst (λ ls. AreListsAtEnd board.sizes ls) (sym (crew_lists board members crew)) (at_end done));
-      }
+  pub alone : (all : AllMembers 64 21) → sizes_of_all all ≡ m → ReplaysToTheEnd m.threads m.k (all_lists all) input before after report
+      → (report.end ≡ end.Done → AreListsAtEnd m (all_lists all)) → ReplaysAlone m input before after report
+  alone all sizes replays at_end = record {
+    lists = all_lists all;
+    run = subst (λ (z : Sizes). ∥ AreListsAtEnd z (all_lists all) ∥₁) sizes (rule_of_all all);
+    replays = replays;
+    at_end = at_end;
+  }
 
   -- where there was no memory for a board, they are empty
   pub alone_without : GoesOrFails before after (codes "no memory\n") 0 report.written end.NoMemory report.end → ReplaysAlone m input before after report
   alone_without goes = record {
     lists = replicate m.threads [];
-    many = length-replicate m.threads [];
-    reached = λ t below. subst (λ es. ∥ IsReached m t es ∥₁) (sym (empty_at m.threads t)) ∣ fresh_is_reached m t below ∣₁;
-    replays = inl (replays_nothing m.threads m.k (replicate m.threads []) input before after report (λ t below. ap shown_in (sym (empty_at m.threads t))) goes);
+    run = ∣ first_lists m ∣₁;
+    replays = inl (replays_nothing m.threads m.k (replicate m.threads []) input before after report (record {
+      answers = λ t below. ap shown_in (sym (empty_at m.threads t));
+      left_is = λ i. minus (sorted (empty_in inserted refl m.threads i)) (empty_in deleted refl m.threads i);
+      few = tt;
+    }) goes);
     at_end = λ done. absurd (not_done before after (codes "no memory\n") 0 report.written report.end goes done);
   }

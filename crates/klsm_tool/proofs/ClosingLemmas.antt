@@ -1,5 +1,5 @@
 -- What the last line makes of a replay that has stopped.
-use Rattle.std.proofs.Common.{◌≡◌, ◌≢◌, ℕ, Bool, true, ◌+◌, ◌*◌, ◌<◌, inl, inr, List, [], ◌∷◌, ◌++◌, length, take, Option, Some, None, refl, sym, ap, ◌∙◌, subst, arith, codes, reverse}
+use Rattle.std.proofs.Common.{◌≡◌, ◌≢◌, ℕ, Bool, true, ◌+◌, ◌*◌, ◌<◌, ◌≤◌, max, inl, inr, List, [], ◌∷◌, ◌++◌, length, take, Option, Some, None, refl, sym, ap, ◌∙◌, subst, arith, codes, reverse}
 use Rattle.std.specs.Io.KnownBytes.{Appends, Keeps}
 use Rattle.std.proofs.lemmas.List.{append-nil, append_assoc, take_all, reverse-append}
 use Rattle.csv.specs.declared.parser.State.{State}
@@ -16,13 +16,23 @@ use Rattle.klsm_text.specs.declared.stop.Closing.{Closing}
 use Rattle.klsm_text.specs.declared.stop.Stop.{Stop}
 use Rattle.klsm_text.specs.declared.stop.Stop.TheVariants as stop
 use Rattle.klsm_rows.specs.Rows.{Row, AreFirstRows, AreAllRows}
-use Rattle.klsm_text.specs.AnswerText.{closing_text, greatest_skip, lines_text}
+use Rattle.klsm_text.specs.AnswerText.{closing_text, greatest_skip, lines_text, live_by, skip_of}
 use Rattle.klsm_text.specs.Output.{Closes, pending}
 use Rattle.klsm_tool.specs.Progress.{HasStopped, IsCutOff, IsTold, IsToldUntil}
-use Rattle.klsm_tool.specs.Shown.{AreShown}
+use Rattle.klsm_tool.specs.Shown.{IsFew, Show, SkipFew}
 use Rattle.klsm_tool.specs.Replay.{Answered, GoesOut, Replays, Stopped}
 use Rattle.klsm_text.specs.Reports.{GoesOrFails, end_of}
 use Rattle.klsm_text.proofs.OutputLemmas.{appends_more, appends_none, goes_after}
+
+-- of several skips that are few the greatest is
+greatest_few : (threads k : ℕ) (lines : List Line) → SkipFew threads k lines → IsFew threads k (greatest_skip lines)
+greatest_few threads k [] few = (omega arith, λ one. refl)
+greatest_few threads k (line ∷ earlier) few =
+    let rest = greatest_few threads k earlier few.1 in let n : ℕ = threads * k in
+    let a : ℕ = greatest_skip earlier in let b : ℕ = skip_of (live_by earlier) line.answer in
+    let a_few : a ≤ n = rest.0 in let b_few : b ≤ n = few.0.0 in
+    let both : max a b ≤ n = omega (arith, a_few, b_few) in
+    (both, λ one. let a_none : a ≡ 0 = rest.1 one in let b_none : b ≡ 0 = few.0.1 one in omega (arith, a_none, b_none))
 
 reached_front : (config : Config) (from after : State) (text rest : List ℕ) (rows : List Row) (row : Row) → Reached config from text (rows ++ row ∷ []) after rest → (between : State) × (left : List ℕ) × Reached config from text rows between left
 unfolding Reached
@@ -49,13 +59,13 @@ all_are_first None rows all = tt
 all_are_first (Some text) rows all = (all.0, all.1, all.2)
 
 -- whatever the reason, the rows that were answered are the first ones
-stopped_first : (threads k : ℕ) (lists : List (List Entry)) (input : Option (List ℕ)) (rows : List Row) (why : Stop) → Stopped threads k lists input rows why → AreFirstRows input rows
-stopped_first threads k lists input rows stop.AtEnd h = all_are_first input rows h
-stopped_first threads k lists input rows (stop.Refused why) h = fewer_rows input rows h.0 h.1
-stopped_first threads k lists input rows stop.Full h = fewer_rows input rows h.0 h.2
-stopped_first threads k lists input rows stop.NoMemory h = h
-stopped_first threads k lists input rows stop.ReadFault h = h
-stopped_first threads k lists input rows stop.WriteFault h = h
+stopped_first : (threads : ℕ) (input : Option (List ℕ)) (rows : List Row) (why : Stop) → Stopped threads input rows why → AreFirstRows input rows
+stopped_first threads input rows stop.AtEnd h = all_are_first input rows h
+stopped_first threads input rows (stop.Refused why) h = fewer_rows input rows h.0 h.1
+stopped_first threads input rows stop.Full h = absurd h
+stopped_first threads input rows stop.NoMemory h = h
+stopped_first threads input rows stop.ReadFault h = h
+stopped_first threads input rows stop.WriteFault h = h
 
 told_in_full : (why : Stop) (before now : Option (List ℕ)) (lines : List Line) (output : Output) → why ≢ stop.WriteFault → IsToldUntil why before now lines output → IsTold before now lines output
 told_in_full stop.AtEnd before now lines output other told = told
@@ -104,7 +114,7 @@ closing_same stop.WriteFault row number most greatest bound same is = refl
 
 -- a replay that stopped for another reason than the writer, with its last line
 replays_with : (threads k number most : ℕ) (lists : List (List Entry)) (input before now after : Option (List ℕ)) (output : Output) (why : Stop) (report : Report) (rows : List Row) (lines : List Line)
-    → Answered threads rows lines → AreShown threads lists lines → Stopped threads k lists input rows why → why ≢ stop.WriteFault → (why ≡ stop.AtEnd → most ≡ greatest_skip lines) → number ≡ length lines + 1 → IsTold before now lines output
+    → Answered threads rows lines → Show threads k lists lines → Stopped threads input rows why → why ≢ stop.WriteFault → (why ≡ stop.AtEnd → most ≡ greatest_skip lines) → number ≡ length lines + 1 → IsTold before now lines output
     → GoesOrFails now after (pending output ++ closing_text number most (threads * k) why) output.written report.written (end_of why) report.end → Replays threads k lists input before after report
 replays_with threads k number most lists input before now after output why report rows lines answered shown stopped other most_is number_is told goes = record {
   rows = rows;
@@ -112,6 +122,7 @@ replays_with threads k number most lists input before now after output why repor
   why = why;
   answered = answered;
   shown = shown;
+  greatest = greatest_few threads k lines shown.few;
   stopped = stopped;
   goes_out =
       let last = closing_text number most (threads * k) why in
@@ -124,7 +135,7 @@ replays_with threads k number most lists input before now after output why repor
 
 -- a replay that was cut off, to which nothing is added
 replays_cut : (threads k : ℕ) (lists : List (List Entry)) (input before now after : Option (List ℕ)) (output : Output) (report : Report) (rows : List Row) (lines : List Line)
-    → Answered threads rows lines → AreShown threads lists lines → AreFirstRows input rows → IsCutOff before now lines output.written → report.end ≡ end.WriteFault → Keeps now after → report.written ≡ output.written → Replays threads k lists input before after report
+    → Answered threads rows lines → Show threads k lists lines → AreFirstRows input rows → IsCutOff before now lines output.written → report.end ≡ end.WriteFault → Keeps now after → report.written ≡ output.written → Replays threads k lists input before after report
 replays_cut threads k lists input before now after output report rows lines answered shown first cut failed keeps same =
     let text : lines_text lines ++ [] ≡ lines_text lines = append-nil (lines_text lines) in
     let short : report.written < length (lines_text lines ++ []) = rw text (omega (arith, same, cut.short)) in
@@ -134,6 +145,7 @@ replays_cut threads k lists input before now after output report rows lines answ
       why = stop.WriteFault;
       answered = answered;
       shown = shown;
+      greatest = greatest_few threads k lines shown.few;
       stopped = first;
       goes_out = record {
         appended = rw (text, same) (subst (Appends before after) (append-nil (take output.written (lines_text lines))) (appends_more before now after (take output.written (lines_text lines)) [] cut.appended (appends_none now after keeps)));
@@ -148,7 +160,7 @@ pub replays : (failed : Bool) (threads k : ℕ) (lists : List (List Entry)) (inp
     → HasStopped failed threads k lists input before now closing.row closing.most output closing.stop → closing.bound ≡ threads * k → Closes now after closing output report → Replays threads k lists input before after report
 replays failed threads k lists input before now after closing output report stopped bound_is (inl broken) =
     let cut : IsCutOff before now stopped.lines output.written = subst (λ (why : Stop). IsToldUntil why before now stopped.lines output) broken.0 stopped.told in
-    let first : AreFirstRows input stopped.rows = stopped_first threads k lists input stopped.rows closing.stop stopped.stopped in
+    let first : AreFirstRows input stopped.rows = stopped_first threads input stopped.rows closing.stop stopped.stopped in
     replays_cut threads k lists input before now after output report stopped.rows stopped.lines stopped.answered stopped.shown first cut broken.1 broken.2 broken.3
 replays failed threads k lists input before now after closing output report stopped bound_is (inr goes) =
     let told : IsTold before now stopped.lines output = told_in_full closing.stop before now stopped.lines output goes.0 stopped.told in
@@ -157,13 +169,14 @@ replays failed threads k lists input before now after closing output report stop
     replays_with threads k closing.row closing.most lists input before now after output closing.stop report stopped.rows stopped.lines stopped.answered stopped.shown stopped.stopped goes.0 stopped.most_is (stopped.number_is goes.0) told out
 
 -- a replay for which there was no memory at all
-pub replays_nothing : (threads k : ℕ) (lists : List (List Entry)) (input before after : Option (List ℕ)) (report : Report) → AreShown threads lists [] → GoesOrFails before after (codes "no memory\n") 0 report.written end.NoMemory report.end → Replays threads k lists input before after report
+pub replays_nothing : (threads k : ℕ) (lists : List (List Entry)) (input before after : Option (List ℕ)) (report : Report) → Show threads k lists [] → GoesOrFails before after (codes "no memory\n") 0 report.written end.NoMemory report.end → Replays threads k lists input before after report
 replays_nothing threads k lists input before after report shown goes = record {
   rows = [];
   lines = [];
   why = stop.NoMemory;
   answered = tt;
   shown = shown;
+  greatest = greatest_few threads k [] tt;
   stopped = no_rows input;
   goes_out = whole_or_cut before after (codes "no memory\n") stop.NoMemory report (λ e. cc) goes;
 }

@@ -10,6 +10,7 @@ use Rattle.klsm_board.specs.declared.board.Member.{Member}
 use Rattle.klsm_board.specs.declared.sizes.Sizes.{Sizes}
 use Rattle.klsm_board.specs.Boards.{IsCrew, IsOf, own_steps}
 use Rattle.klsm_board.specs.Rule.{IsReached}
+use Rattle.klsm_board.proofs.lemmas.hands.PossibleLemmas.{each_reached}
 use Rattle.klsm_board.proofs.lemmas.ending.EndLemmas.{each_of}
 use Rattle.klsm_text.specs.declared.request.Refusal.{Refusal}
 use Rattle.klsm_text.specs.declared.stop.Stop.{Stop}
@@ -160,7 +161,7 @@ reached_at : (board : Board 64 21) (t : ℕ) (asked : List Asked) (place : Optio
 reached_at board t asked None ran = absurd ran
 reached_at board t asked (Some worker) ran =
     subst (λ n. ∥ IsReached board.sizes n (own_steps worker.member) ∥₁) ran.number
-    (subst (λ m. ∥ IsReached m worker.member.number (own_steps worker.member) ∥₁) ran.of.1 worker.member.rests.reached)
+    (subst (λ m. ∥ IsReached m worker.member.number (own_steps worker.member) ∥₁) ran.of.1 (each_reached worker.member.sizes worker.member.number worker.member.seat.me.0 worker.member.rests.reached))
 
 gives_up_at : (board : Board 64 21) (t : ℕ) (asked : List Asked) (place : Option Worker) (gave_up : GaveUp) → HasRunAt board t asked place → gave_up_at place ≡ Some gave_up → GaveUpAt board.sizes.k t asked (steps_at place) gave_up.row gave_up.stop
 gives_up_at board t asked None gave_up ran is = absurd ran

@@ -1,5 +1,5 @@
 -- What one row does to a replay.
-use Rattle.std.proofs.Common.{◌≡◌, ◌≢◌, ℕ, ◌+◌, ◌<◌, ◌≤◌, Bool, true, List, [], ◌∷◌, ◌++◌, length, length-append, append-nil, max, Option, Result, Ok, Err, IfOk, IfErr, refl, sym, ap, ◌∙◌, subst, arith, eqb}
+use Rattle.std.proofs.Common.{◌≡◌, ◌≢◌, ℕ, ◌+◌, ◌<◌, ◌≤◌, Bool, true, List, [], ◌∷◌, ◌++◌, length, append-nil, max, Option, Result, Ok, Err, IfOk, IfErr, refl, sym, ap, ◌∙◌, subst, arith, eqb}
 use Rattle.std.proofs.lemmas.Bool.Decides.{nat_tests}
 use Rattle.std.specs.List.{count_by}
 use Rattle.std.specs.Result.{MatchResult}
@@ -8,9 +8,11 @@ use native.Mathlib.Decide.{ℕ_discrete}
 use Rattle.klsm_run.specs.declared.item.Item.{Item}
 use Rattle.klsm_run.specs.ItemOrder.{is_smaller}
 use Rattle.klsm_run.specs.Content.{placed, sorted, without}
+use Rattle.klsm_run.proofs.ContentLemmas.{sorted_itself}
 use Rattle.klsm_run.proofs.RankLemmas.{count_sorted}
 use Rattle.klsm_run.proofs.WithoutLemmas.{sorted_without}
 use Rattle.klsm_world.specs.declared.step.Entry.{Entry}
+use Rattle.klsm_world.specs.Account.{account}
 use Rattle.klsm_world.proofs.lemmas.hands.HandLemmas.{choice_hit, choice_miss}
 use Rattle.klsm_text.specs.declared.answer.Line.{Line}
 use Rattle.klsm_text.specs.declared.answer.Printed.{Printed}
@@ -26,9 +28,8 @@ use Rattle.klsm_rows.specs.Rows.{Row}
 use Rattle.klsm_text.specs.Script.{request_of, request_after, row_limit}
 use Rattle.klsm_text.specs.AnswerText.{greatest_skip, live_by, live_after, skip_of}
 use Rattle.klsm_tool.specs.Answering.{Answers}
-use Rattle.klsm_tool.specs.Crews.{AreFew, Goes, steps_in}
-use Rattle.klsm_tool.specs.Shown.{AreShown, answers_of, shown_in}
-use Rattle.klsm_tool.specs.Turns.{StopsInsertion}
+use Rattle.klsm_tool.specs.Crews.{AreFew, Goes, content_after, steps_in}
+use Rattle.klsm_tool.specs.Shown.{AreShown, IsFew, Show, answers_of, shown_in}
 use Rattle.klsm_tool.specs.Replay.{Answered, Stopped}
 use Rattle.klsm_text.specs.Reading.{HasReadScript, ReadStops, reader_failed}
 use Rattle.klsm_text.specs.ThreadRows.{AreAccepted, StandsAtRefusal}
@@ -36,13 +37,13 @@ use Rattle.klsm_tool.specs.Progress.{StandsAfter, StopsBefore}
 use Rattle.klsm_text.proofs.ScriptLemmas.{first_read, judged}
 
 -- where no row could be read, no further row is answered
-pub read_stops : (failed : Bool) (threads k : ℕ) (lists : List (List Entry)) (input : Option (List ℕ)) (rows : List Row) (why : Stop) → ReadStops failed input rows why → Stopped threads k lists input rows why × (why ≢ stop.WriteFault) × (why ≡ stop.ReadFault → failed ≡ true)
-read_stops failed threads k lists input rows stop.AtEnd h = (h, λ e. cc, λ e. absurd (let bad : stop.AtEnd ≡ stop.ReadFault = e in cc))
-read_stops failed threads k lists input rows (stop.Refused why) h = absurd h
-read_stops failed threads k lists input rows stop.Full h = absurd h
-read_stops failed threads k lists input rows stop.NoMemory h = (h.0, λ e. cc, λ e. h.1)
-read_stops failed threads k lists input rows stop.ReadFault h = (h.0, λ e. cc, λ e. h.1)
-read_stops failed threads k lists input rows stop.WriteFault h = absurd h
+pub read_stops : (failed : Bool) (threads : ℕ) (input : Option (List ℕ)) (rows : List Row) (why : Stop) → ReadStops failed input rows why → Stopped threads input rows why × (why ≢ stop.WriteFault) × (why ≡ stop.ReadFault → failed ≡ true)
+read_stops failed threads input rows stop.AtEnd h = (h, λ e. cc, λ e. absurd (let bad : stop.AtEnd ≡ stop.ReadFault = e in cc))
+read_stops failed threads input rows (stop.Refused why) h = absurd h
+read_stops failed threads input rows stop.Full h = absurd h
+read_stops failed threads input rows stop.NoMemory h = (h.0, λ e. cc, λ e. h.1)
+read_stops failed threads input rows stop.ReadFault h = (h.0, λ e. cc, λ e. h.1)
+read_stops failed threads input rows stop.WriteFault h = absurd h
 
 -- an answer does the same to contents of one ascending list
 live_alike : (c d : List Item) (answer : Answer) → sorted c ≡ sorted d → sorted (live_after c answer) ≡ sorted (live_after d answer)
@@ -73,29 +74,46 @@ shown_same threads t lists lists' lines shown goes u below = dite (ℕ_discrete 
     (λ here. shown u below ∙ sym (subst (λ v. shown_in (steps_in lists' v) ≡ shown_in (steps_in lists v)) (sym here) (goes.here ∙ append-nil (shown_in (steps_in lists t)))))
     (λ other. shown u below ∙ ap shown_in (sym (goes.else u other)))
 
--- a list that goes on shows at most so many answers more
-pub few_next : (threads t n : ℕ) (lists lists' : List (List Entry)) (answers : List Answer) → length answers ≤ 1 → AreFew threads n lists → Goes t lists lists' answers → AreFew threads (n + 1) lists'
-few_next threads t n lists lists' answers one few goes u below = dite (ℕ_discrete u t)
-    (λ here.
-    let more : length (shown_in (steps_in lists' u)) ≡ length (shown_in (steps_in lists u)) + length answers =
-    subst (λ v. length (shown_in (steps_in lists' v)) ≡ length (shown_in (steps_in lists v)) + length answers) (sym here) (ap (λ (z : List Answer). length z) goes.here ∙ length-append (shown_in (steps_in lists t)) answers) in
-    omega (arith, more, one, few u below))
-    (λ other. let same = ap (λ z. length (shown_in z)) (goes.else u other) in omega (arith, same, few u below))
+-- what is left goes on as the live items do
+content_alike : (live : List Item) (answer : Answer) → content_after (sorted live) answer ≡ sorted (live_after live answer)
+content_alike live (Inserted x) = ap (placed x) (sorted_itself live)
+content_alike live (Deleted x) = sym (sorted_without x live)
+content_alike live Nothing = refl
 
-pub few_same : (threads n : ℕ) (lists : List (List Entry)) → AreFew threads n lists → AreFew threads (n + 1) lists
-few_same threads n lists few u below = omega (arith, few u below)
+-- so the lines show all that they do, with one more
+pub show_next : (threads k : ℕ) (lists lists' : List (List Entry)) (lines : List Line) (line : Line) → Show threads k lists lines → Goes line.thread lists lists' (line.answer ∷ []) → IsFew threads k (skip_of (account lists).left line.answer)
+    → Show threads k lists' (line ∷ lines)
+show_next threads k lists lists' lines line show goes few = record {
+  answers = shown_next threads lists lists' lines line show.answers goes;
+  left_is = goes.left_is ∙ (ap (λ c. content_after c line.answer) show.left_is ∙ content_alike (live_by lines) line.answer);
+  few = (
+    subst (IsFew threads k) (ap (λ c. skip_of c line.answer) show.left_is ∙ skip_alike (sorted (live_by lines)) (live_by lines) line.answer (sorted_itself (live_by lines))) few,
+    show.few,
+  );
+}
+
+pub show_same : (threads k t : ℕ) (lists lists' : List (List Entry)) (lines : List Line) → Show threads k lists lines → Goes t lists lists' [] → Show threads k lists' lines
+show_same threads k t lists lists' lines show goes = record {
+  answers = shown_same threads t lists lists' lines show.answers goes;
+  left_is = goes.left_is ∙ show.left_is;
+  few = show.few;
+}
+
+-- no more items are inserted than there are answers
+pub few_next : (t n : ℕ) (lists lists' : List (List Entry)) (answers : List Answer) → length answers ≤ 1 → AreFew n lists → Goes t lists lists' answers → AreFew (n + 1) lists'
+few_next t n lists lists' answers one few goes = let more = goes.inserted_are in omega (arith, more, one, few)
 
 -- a row that was read and answered
-pub next_stands : {R : Type 0} (rem : R → Option (List ℕ)) (threads : ℕ) (lists lists' : List (List Entry)) (input : Option (List ℕ)) (rows : List Row) (lines : List Line) (a b : Script R) (items items' : List Item) (most most' : ℕ) (row : Row) (request : Request) (printed : Printed)
-    → StandsAfter rem threads lists input rows lines a items most → length rows < row_limit → HasReadScript rem input (row ∷ rows) b → request_of threads row ≡ Ok request
-    → Answers request lists lists' items items' most most' printed
-    → (row : Row) × StandsAfter rem threads lists' input (row ∷ rows) (printed.line ∷ lines) b items' most' × (printed.skip ≡ skip_of (live_by lines) printed.line.answer)
-next_stands rem threads lists lists' input rows lines a b items items' most most' row request printed now below read asks answers =
+pub next_stands : {R : Type 0} (rem : R → Option (List ℕ)) (threads k : ℕ) (lists lists' : List (List Entry)) (input : Option (List ℕ)) (rows : List Row) (lines : List Line) (a b : Script R) (items items' : List Item) (most most' : ℕ) (row : Row) (request : Request) (printed : Printed)
+    → StandsAfter rem threads k lists input rows lines a items most → length rows < row_limit → HasReadScript rem input (row ∷ rows) b → request_of threads row ≡ Ok request
+    → Answers threads k request lists lists' items items' most most' printed
+    → (row : Row) × StandsAfter rem threads k lists' input (row ∷ rows) (printed.line ∷ lines) b items' most' × (printed.skip ≡ skip_of (live_by lines) printed.line.answer)
+next_stands rem threads k lists lists' input rows lines a b items items' most most' row request printed now below read asks answers =
     let skip = answers.skip ∙ skip_alike items (live_by lines) printed.line.answer now.items_are in (
       row,
       record {
         answered = ((request, judged threads rows row below ∙ asks, answers.thread, answers.answer), now.answered);
-        shown = shown_next threads lists lists' lines printed.line now.shown (subst (λ t. Goes t lists lists' (printed.line.answer ∷ [])) (sym answers.thread) answers.goes);
+        shown = show_next threads k lists lists' lines printed.line now.shown (subst (λ t. Goes t lists lists' (printed.line.answer ∷ [])) (sym answers.thread) answers.goes) answers.few;
         read = read;
         items_are = answers.live_is ∙ live_alike items (live_by lines) printed.line.answer now.items_are;
         most_is = answers.most_is ∙ (ap (λ n. max n printed.skip) now.most_is ∙ ap (max (greatest_skip lines)) skip);
@@ -105,7 +123,7 @@ next_stands rem threads lists lists' input rows lines a b items items' most most
 
 -- a row that was read and refused
 pub refused : {R : Type 0} (rem : R → Option (List ℕ)) (threads k : ℕ) (lists : List (List Entry)) (input : Option (List ℕ)) (rows : List Row) (lines : List Line) (a b : Script R) (items : List Item) (most : ℕ) (row : Row) (why : Refusal)
-    → StandsAfter rem threads lists input rows lines a items most → length rows < row_limit → HasReadScript rem input (row ∷ rows) b → request_of threads row ≡ Err why → StopsBefore (reader_failed b) threads k lists input rows lines most (stop.Refused why)
+    → StandsAfter rem threads k lists input rows lines a items most → length rows < row_limit → HasReadScript rem input (row ∷ rows) b → request_of threads row ≡ Err why → StopsBefore (reader_failed b) threads k lists input rows lines most (stop.Refused why)
 refused rem threads k lists input rows lines a b items most row why now below read asks = record {
   stopped = (row, first_read rem input (row ∷ rows) b read, judged threads rows row below ∙ asks);
   shown = now.shown;
@@ -114,54 +132,45 @@ refused rem threads k lists input rows lines a b items most row why now below re
   fault = λ e. absurd (let bad : stop.Refused why ≡ stop.ReadFault = e in cc);
 }
 
--- a row that was read and is not answered
-pub given_up : {R : Type 0} (rem : R → Option (List ℕ)) (threads k : ℕ) (lists lists' : List (List Entry)) (input : Option (List ℕ)) (rows : List Row) (lines : List Line) (a b : Script R) (items : List Item) (most most' : ℕ) (row : Row) (request : Request) (why : Stop)
-    → StandsAfter rem threads lists input rows lines a items most → length rows < row_limit → HasReadScript rem input (row ∷ rows) b → request_of threads row ≡ Ok request
-    → Goes request.thread lists lists' [] → most' ≡ most → StopsInsertion 21 k request.thread (steps_in lists' request.thread) why → StopsBefore (reader_failed b) threads k lists' input rows lines most' why
-given_up rem threads k lists lists' input rows lines a b items most most' row request why now below read asks goes same gives = record {
-  stopped = by_cause why gives;
-  shown = shown_same threads request.thread lists lists' lines now.shown goes;
+-- a row that was read and for whose item memory is wanted
+pub given_up : {R : Type 0} (rem : R → Option (List ℕ)) (threads k : ℕ) (lists lists' : List (List Entry)) (input : Option (List ℕ)) (rows : List Row) (lines : List Line) (a b : Script R) (items : List Item) (most most' : ℕ) (request : Request) (why : Stop)
+    → StandsAfter rem threads k lists input rows lines a items most → why ≡ stop.NoMemory → Goes request.thread lists lists' [] → most' ≡ most → StopsBefore (reader_failed b) threads k lists' input rows lines most' why
+given_up rem threads k lists lists' input rows lines a b items most most' request why now memory goes same = subst (StopsBefore (reader_failed b) threads k lists' input rows lines most') (sym memory) (record {
+  stopped = first_read rem input rows a now.read;
+  shown = show_same threads k request.thread lists lists' lines now.shown goes;
   most_is = same ∙ now.most_is;
-  other = λ e. subst (StopsInsertion 21 k request.thread (steps_in lists' request.thread)) e gives;
-  fault = λ e. absurd (subst (StopsInsertion 21 k request.thread (steps_in lists' request.thread)) e gives);
-}
-  where
-    by_cause : (why : Stop) → StopsInsertion 21 k request.thread (steps_in lists' request.thread) why → Stopped threads k lists' input rows why
-    by_cause stop.AtEnd h = absurd h
-    by_cause (stop.Refused refusal) h = absurd h
-    by_cause stop.Full h = (row, request, first_read rem input (row ∷ rows) b read, judged threads rows row below ∙ asks, h)
-    by_cause stop.NoMemory h = first_read rem input rows a now.read
-    by_cause stop.ReadFault h = absurd h
-    by_cause stop.WriteFault h = absurd h
+  other = λ e. cc;
+  fault = λ e. absurd (let bad : stop.NoMemory ≡ stop.ReadFault = e in cc);
+})
 
 -- a row that was read, by how its thread's member answers
 pub row_after : {R : Type 0} (rem : R → Option (List ℕ)) (threads k : ℕ) (lists lists' : List (List Entry)) (input : Option (List ℕ)) (rows : List Row) (lines : List Line) (a b : Script R) (items items' : List Item) (most most' : ℕ) (row : Row) (request : Request) (result : Result Printed Stop)
-    → StandsAfter rem threads lists input rows lines a items most → length rows < row_limit → HasReadScript rem input (row ∷ rows) b → request_of threads row ≡ Ok request
-    → IfOk result (Answers request lists lists' items items' most most') → IfErr result (λ why. Goes request.thread lists lists' [] × (most' ≡ most) × StopsInsertion 21 k request.thread (steps_in lists' request.thread) why)
-    → MatchResult result (λ printed. (row : Row) × StandsAfter rem threads lists' input (row ∷ rows) (printed.line ∷ lines) b items' most' × (printed.skip ≡ skip_of (live_by lines) printed.line.answer)) (StopsBefore (reader_failed b) threads k lists' input rows lines most')
+    → StandsAfter rem threads k lists input rows lines a items most → length rows < row_limit → HasReadScript rem input (row ∷ rows) b → request_of threads row ≡ Ok request
+    → IfOk result (Answers threads k request lists lists' items items' most most') → IfErr result (λ why. (why ≡ stop.NoMemory) × Goes request.thread lists lists' [] × (most' ≡ most))
+    → MatchResult result (λ printed. (row : Row) × StandsAfter rem threads k lists' input (row ∷ rows) (printed.line ∷ lines) b items' most' × (printed.skip ≡ skip_of (live_by lines) printed.line.answer)) (StopsBefore (reader_failed b) threads k lists' input rows lines most')
 row_after rem threads k lists lists' input rows lines a b items items' most most' row request (Ok printed) now below read asks ok err =
-    next_stands rem threads lists lists' input rows lines a b items items' most most' row request printed now below read asks ok
+    next_stands rem threads k lists lists' input rows lines a b items items' most most' row request printed now below read asks ok
 row_after rem threads k lists lists' input rows lines a b items items' most most' row request (Err why) now below read asks ok err =
-    given_up rem threads k lists lists' input rows lines a b items most most' row request why now below read asks err.0 err.1 err.2
+    given_up rem threads k lists lists' input rows lines a b items most most' request why now err.0 err.1 err.2
 
--- and the lists show at most one answer more
-pub few_after : (threads k n : ℕ) (lists lists' : List (List Entry)) (items items' : List Item) (most most' : ℕ) (request : Request) (result : Result Printed Stop) → AreFew threads n lists
-    → IfOk result (Answers request lists lists' items items' most most') → IfErr result (λ why. Goes request.thread lists lists' [] × (most' ≡ most) × StopsInsertion 21 k request.thread (steps_in lists' request.thread) why)
-    → AreFew threads (n + 1) lists'
-few_after threads k n lists lists' items items' most most' request (Ok printed) few ok err = few_next threads request.thread n lists lists' (printed.line.answer ∷ []) (omega arith) few ok.goes
-few_after threads k n lists lists' items items' most most' request (Err why) few ok err = few_next threads request.thread n lists lists' [] (omega arith) few err.0
+-- and all inserted at most one item more
+pub few_after : (threads k n : ℕ) (lists lists' : List (List Entry)) (items items' : List Item) (most most' : ℕ) (request : Request) (result : Result Printed Stop) → AreFew n lists
+    → IfOk result (Answers threads k request lists lists' items items' most most') → IfErr result (λ why. (why ≡ stop.NoMemory) × Goes request.thread lists lists' [] × (most' ≡ most))
+    → AreFew (n + 1) lists'
+few_after threads k n lists lists' items items' most most' request (Ok printed) few ok err = few_next request.thread n lists lists' (printed.line.answer ∷ []) (omega arith) few ok.goes
+few_after threads k n lists lists' items items' most most' request (Err why) few ok err = few_next request.thread n lists lists' [] (omega arith) few err.1
 
 -- a row beyond the limit is refused for that
-pub too_many : {R : Type 0} (rem : R → Option (List ℕ)) (threads k : ℕ) (lists : List (List Entry)) (input : Option (List ℕ)) (rows : List Row) (b : Script R) (row : Row)
-    → length rows ≡ row_limit → HasReadScript rem input (row ∷ rows) b → Stopped threads k lists input rows (stop.Refused refusal.Rows) × (stop.Refused refusal.Rows ≢ stop.WriteFault)
-too_many rem threads k lists input rows b row all read =
+pub too_many : {R : Type 0} (rem : R → Option (List ℕ)) (threads : ℕ) (input : Option (List ℕ)) (rows : List Row) (b : Script R) (row : Row)
+    → length rows ≡ row_limit → HasReadScript rem input (row ∷ rows) b → Stopped threads input rows (stop.Refused refusal.Rows) × (stop.Refused refusal.Rows ≢ stop.WriteFault)
+too_many rem threads input rows b row all read =
     let beyond : eqb (length rows) row_limit ≡ true = grind (arith, nat_tests) in
     let asks : request_after threads rows row ≡ Err refusal.Rows = rw beyond refl in
     ((row, first_read rem input (row ∷ rows) b read, asks), λ e. cc)
 
 -- a replay that begins
-pub first_stands : {R : Type 0} (rem : R → Option (List ℕ)) (threads : ℕ) (lists : List (List Entry)) (input : Option (List ℕ)) (script : Script R) (items : List Item) (most : ℕ) → AreShown threads lists [] → HasReadScript rem input [] script → items ≡ [] → most ≡ 0 → StandsAfter rem threads lists input [] [] script items most
-first_stands rem threads lists input script items most shown read none least = record { answered = tt; shown = shown; read = read; items_are = ap sorted none; most_is = least }
+pub first_stands : {R : Type 0} (rem : R → Option (List ℕ)) (threads k : ℕ) (lists : List (List Entry)) (input : Option (List ℕ)) (script : Script R) (items : List Item) (most : ℕ) → Show threads k lists [] → HasReadScript rem input [] script → items ≡ [] → most ≡ 0 → StandsAfter rem threads k lists input [] [] script items most
+first_stands rem threads k lists input script items most shown read none least = record { answered = tt; shown = shown; read = read; items_are = ap sorted none; most_is = least }
 
 -- rows that are answered are accepted
 pub accepted_rows : (threads : ℕ) (rows : List Row) (lines : List Line) → Answered threads rows lines → AreAccepted threads rows
@@ -169,10 +178,10 @@ accepted_rows threads [] lines answered = tt
 accepted_rows threads (row ∷ rows) [] answered = absurd answered
 accepted_rows threads (row ∷ rows) (line ∷ lines) answered = ((answered.0.0, answered.0.1), accepted_rows threads rows lines answered.1)
 
--- a row that its member does not answer is not refused
-pub unanswered_stands : {R : Type 0} (rem : R → Option (List ℕ)) (threads k t : ℕ) (input : Option (List ℕ)) (script : Script R) (es : List Entry) (A B : Type 0) (result : Result Printed Stop) → IfErr result (λ why. A × B × StopsInsertion 21 k t es why) → IfErr result (StandsAtRefusal rem threads input script)
-unanswered_stands rem threads k t input script es A B (Ok printed) told = tt
-unanswered_stands rem threads k t input script es A B (Err why) told = λ refusal is. absurd (subst (StopsInsertion 21 k t es) is told.2)
+-- a row for whose item memory is wanted is not refused
+pub unanswered_stands : {R : Type 0} (rem : R → Option (List ℕ)) (threads : ℕ) (input : Option (List ℕ)) (script : Script R) (A B : Type 0) (result : Result Printed Stop) → IfErr result (λ why. (why ≡ stop.NoMemory) × A × B) → IfErr result (StandsAtRefusal rem threads input script)
+unanswered_stands rem threads input script A B (Ok printed) told = tt
+unanswered_stands rem threads input script A B (Err why) told = λ refusal is. absurd (let bad : stop.NoMemory ≡ stop.Refused refusal = sym told.0 ∙ is in cc)
 
 -- nor is one where the writer failed
 pub cut_stands : {R : Type 0} (rem : R → Option (List ℕ)) (threads : ℕ) (input : Option (List ℕ)) (script : Script R) (why : Stop) → why ≡ stop.WriteFault → StandsAtRefusal rem threads input script why

@@ -13,7 +13,7 @@ use Rattle.klsm_text.specs.declared.stop.Stop.TheVariants as stop
 use Rattle.klsm_text.specs.declared.script.Script.{Script}
 use Rattle.klsm_rows.specs.Rows.{Row}
 use Rattle.klsm_text.specs.AnswerText.{answer_text, lines_text, live_by, skip_of}
-use Rattle.klsm_tool.specs.Shown.{AreShown}
+use Rattle.klsm_tool.specs.Shown.{Show}
 use Rattle.klsm_text.specs.Output.{AddsText, FlushesText, PutsText, pending}
 use Rattle.klsm_text.specs.Reading.{HasReadScript}
 use Rattle.klsm_text.specs.ThreadRows.{StandsAtRefusal}
@@ -65,7 +65,7 @@ stops_told failed threads k lists input before now rows lines most output why an
 
 -- no further row is answered, since the lines were cut off
 pub stops_cut : {R : Type 0} (rem : R → Option (List ℕ)) (failed : Bool) (threads k : ℕ) (lists : List (List Entry)) (input before now : Option (List ℕ)) (rows : List Row) (lines : List Line) (reader : Script R) (number most : ℕ) (output : Output)
-    → Answered threads rows lines → AreShown threads lists lines → HasReadScript rem input rows reader → IsCutOff before now lines output.written → HasStopped failed threads k lists input before now number most output stop.WriteFault
+    → Answered threads rows lines → Show threads k lists lines → HasReadScript rem input rows reader → IsCutOff before now lines output.written → HasStopped failed threads k lists input before now number most output stop.WriteFault
 stops_cut rem failed threads k lists input before now rows lines reader number most output answered shown read cut = record {
   rows = rows;
   lines = lines;
@@ -111,9 +111,9 @@ told_flushed before now after lines output output' (Err why) told failed =
 
 -- the line of a row that was answered is put
 pub line_put : {R : Type 0} (rem : R → Option (List ℕ)) (failed : Bool) (threads k : ℕ) (lists lists' : List (List Entry)) (input before now after : Option (List ℕ)) (rows : List Row) (lines : List Line) (a b : Script R) (items items' : List Item) (most most' : ℕ) (output output' : Output) (row : Row) (printed : Printed) (result : Result (Unit {0}) Stop)
-    → StandsAfter rem threads lists input rows lines a items most → StandsAfter rem threads lists' input (row ∷ rows) (printed.line ∷ lines) b items' most' → printed.skip ≡ skip_of (live_by lines) printed.line.answer → IsTold before now lines output
+    → StandsAfter rem threads k lists input rows lines a items most → StandsAfter rem threads k lists' input (row ∷ rows) (printed.line ∷ lines) b items' most' → printed.skip ≡ skip_of (live_by lines) printed.line.answer → IsTold before now lines output
     → PutsText now after (answer_text printed.line.thread printed.line.answer printed.skip) output output' result
-    → MatchResult result (λ _. (row : Row) × (line : Line) × StandsAfter rem threads lists' input (row ∷ rows) (line ∷ lines) b items' most' × IsTold before after (line ∷ lines) output')
+    → MatchResult result (λ _. (row : Row) × (line : Line) × StandsAfter rem threads k lists' input (row ∷ rows) (line ∷ lines) b items' most' × IsTold before after (line ∷ lines) output')
     (λ why. HasStopped failed threads k lists' input before after (length rows + 1) most' output' why)
 line_put rem failed threads k lists lists' input before now after rows lines a b items items' most most' output output' row printed (Ok done) was is skip told puts =
     (row, printed.line, is, told_next before now after lines (printed.line ∷ lines) _ output output' (next_text printed lines skip) told puts)

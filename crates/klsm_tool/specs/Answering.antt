@@ -3,6 +3,7 @@ use Rattle.std.specs.Prelude.{ℕ, ◌≡◌, List, [], ◌∷◌, length, max}
 use Rattle.klsm_run.specs.declared.item.Item.{Item}
 use Rattle.klsm_run.specs.Content.{sorted}
 use Rattle.klsm_world.specs.declared.step.Entry.{Entry}
+use Rattle.klsm_world.specs.Account.{account}
 use Rattle.klsm_text.specs.declared.answer.Printed.{Printed}
 use Rattle.klsm_tool.specs.declared.beside.Beside.{Beside}
 use Rattle.klsm_tool.specs.declared.picking.ThreadPicker.{ThreadPicker}
@@ -10,6 +11,7 @@ use Rattle.klsm_text.specs.declared.request.Request.{Request}
 use Rattle.klsm_text.specs.AnswerText.{live_after, skip_of}
 use Rattle.klsm_tool.specs.Crews.{Goes}
 use Rattle.klsm_tool.specs.LiveItems.{live_content}
+use Rattle.klsm_tool.specs.Shown.{IsFew}
 use Rattle.klsm_tool.specs.Turns.{IsAnswerTo}
 
 -- the pickers
@@ -24,13 +26,14 @@ picker_count beside = length (pickers_beside beside)
 abbrev pub live_beside : Beside → List Item
 live_beside beside = live_content beside.live
 
--- the answer is one to the row, the member's list has it, the live items are those after it, and
--- its skip is counted
-pub record Answers (request : Request) (lists lists' : List (List Entry)) (live live' : List Item)
-    (most most' : ℕ) (printed : Printed) : Type 0 where
+-- the answer is one to the row, the member's list has it, the live items are those after it, its skip is
+-- counted, and it skips few of what the account left
+pub record Answers (threads k : ℕ) (request : Request) (lists lists' : List (List Entry))
+    (live live' : List Item) (most most' : ℕ) (printed : Printed) : Type 0 where
   pub thread : printed.line.thread ≡ request.thread
   pub answer : IsAnswerTo request.operation printed.line.answer
   pub goes : Goes request.thread lists lists' (printed.line.answer ∷ [])
   pub live_is : sorted live' ≡ sorted (live_after live printed.line.answer)
   pub skip : printed.skip ≡ skip_of live printed.line.answer
+  pub few : IsFew threads k (skip_of (account lists).left printed.line.answer)
   pub most_is : most' ≡ max most printed.skip

@@ -13,7 +13,7 @@ use Rattle.klsm_rows.specs.Rows.{Row}
 use Rattle.klsm_text.specs.Reading.{HasReadScript}
 use Rattle.klsm_text.specs.AnswerText.{live_by, lines_text, greatest_skip}
 use Rattle.klsm_tool.specs.Replay.{Answered, Stopped}
-use Rattle.klsm_tool.specs.Shown.{AreShown}
+use Rattle.klsm_tool.specs.Shown.{Show}
 use Rattle.klsm_text.specs.Output.{pending}
 
 -- all lines went out, but for what is pending
@@ -29,11 +29,11 @@ pub record IsCutOff (before now : Option (List ℕ)) (lines : List Line) (writte
   pub short : written < length (lines_text lines)
 
 -- the rows that were read are answered, and what is kept beside the board is that of their lines
-pub record StandsAfter {R : Type 0} (rem : R → Option (List ℕ)) (threads : ℕ)
+pub record StandsAfter {R : Type 0} (rem : R → Option (List ℕ)) (threads k : ℕ)
     (lists : List (List Entry)) (input : Option (List ℕ)) (rows : List Row) (lines : List Line)
     (script : Script R) (items : List Item) (most : ℕ) : Type 0 where
   pub answered : Answered threads rows lines
-  pub shown : AreShown threads lists lines
+  pub shown : Show threads k lists lines
   pub read : HasReadScript rem input rows script
   pub items_are : sorted items ≡ sorted (live_by lines)
   pub most_is : most ≡ greatest_skip lines
@@ -51,8 +51,8 @@ IsToldUntil stop.ReadFault before now lines output = IsTold before now lines out
 -- below whether the reader has
 pub record StopsBefore (failed : Bool) (threads k : ℕ) (lists : List (List Entry))
     (input : Option (List ℕ)) (rows : List Row) (lines : List Line) (most : ℕ) (why : Stop) : Type 0 where
-  pub stopped : Stopped threads k lists input rows why
-  pub shown : AreShown threads lists lines
+  pub stopped : Stopped threads input rows why
+  pub shown : Show threads k lists lines
   pub most_is : most ≡ greatest_skip lines
   pub other : why ≢ stop.WriteFault
   pub fault : why ≡ stop.ReadFault → failed ≡ true
@@ -64,8 +64,8 @@ pub record HasStopped (failed : Bool) (threads k : ℕ) (lists : List (List Entr
   pub rows : List Row
   pub lines : List Line
   pub answered : Answered threads rows lines
-  pub shown : AreShown threads lists lines
-  pub stopped : Stopped threads k lists input rows why
+  pub shown : Show threads k lists lines
+  pub stopped : Stopped threads input rows why
   pub told : IsToldUntil why before now lines output
   pub number_is : why ≢ stop.WriteFault → number ≡ length lines + 1
   pub most_is : why ≡ stop.AtEnd → most ≡ greatest_skip lines

@@ -4,7 +4,6 @@ use Rattle.std.specs.Prelude.{Ok, Err, codes}
 use Rattle.std.specs.Io.KnownBytes.{Appends}
 use Rattle.klsm_world.specs.declared.step.Entry.{Entry}
 use Rattle.klsm_board.specs.declared.sizes.Sizes.{Sizes}
-use Rattle.klsm_board.specs.Rule.{IsReached}
 use Rattle.klsm_board.specs.Finishing.{AreListsAtEnd}
 use Rattle.klsm_text.specs.declared.answer.Line.{Line}
 use Rattle.klsm_text.specs.declared.request.Request.{Request}
@@ -15,10 +14,9 @@ use Rattle.klsm_text.specs.declared.stop.Stop.TheVariants as stop
 use Rattle.klsm_rows.specs.Rows.{Row, AreFirstRows, AreAllRows}
 use Rattle.klsm_text.specs.Script.{request_after}
 use Rattle.klsm_text.specs.Reports.{GoesOrFails, end_of}
-use Rattle.klsm_text.specs.AnswerText.{text_of}
-use Rattle.klsm_tool.specs.Shown.{AreShown}
-use Rattle.klsm_tool.specs.Crews.{steps_in}
-use Rattle.klsm_tool.specs.Turns.{EndsFull, IsAnswerTo}
+use Rattle.klsm_text.specs.AnswerText.{greatest_skip, text_of}
+use Rattle.klsm_tool.specs.Shown.{IsFew, Show}
+use Rattle.klsm_tool.specs.Turns.{IsAnswerTo}
 
 -- each row is answered by its line: rows and lines, the latest first
 abbrev pub Answered : ℕ → List Row → List Line → Type 0
@@ -30,19 +28,15 @@ Answered threads (row ∷ rows) (line ∷ lines) =
     × (line.thread ≡ request.thread) × IsAnswerTo request.operation line.answer)
     × Answered threads rows lines
 
--- why no further row of the input is answered. Where there was no room for an item, the list of the
--- row's thread ends with that
-abbrev pub Stopped : ℕ → ℕ → List (List Entry) → Option (List ℕ) → List Row → Stop → Type 0
-Stopped threads k lists input rows stop.AtEnd = AreAllRows input rows
-Stopped threads k lists input rows (stop.Refused why) =
+-- why no further row of the input is answered. The shared part always has room for an item
+abbrev pub Stopped : ℕ → Option (List ℕ) → List Row → Stop → Type 0
+Stopped threads input rows stop.AtEnd = AreAllRows input rows
+Stopped threads input rows (stop.Refused why) =
     (row : Row) × AreFirstRows input (row ∷ rows) × (request_after threads rows row ≡ Err why)
-Stopped threads k lists input rows stop.Full =
-    (row : Row) × (request : Request) × AreFirstRows input (row ∷ rows)
-    × (request_after threads rows row ≡ Ok request)
-    × EndsFull 21 k request.thread (steps_in lists request.thread)
-Stopped threads k lists input rows stop.NoMemory = AreFirstRows input rows
-Stopped threads k lists input rows stop.ReadFault = AreFirstRows input rows
-Stopped threads k lists input rows stop.WriteFault = AreFirstRows input rows
+Stopped threads input rows stop.Full = ⊥
+Stopped threads input rows stop.NoMemory = AreFirstRows input rows
+Stopped threads input rows stop.ReadFault = AreFirstRows input rows
+Stopped threads input rows stop.WriteFault = AreFirstRows input rows
 
 -- the first `written` bytes of a text went out, and all of it unless the writer failed
 pub record GoesOut (before after : Option (List ℕ)) (text : List ℕ) (why : Stop) (report : Report)
@@ -53,15 +47,17 @@ pub record GoesOut (before after : Option (List ℕ)) (text : List ℕ) (why : S
   pub whole : report.end ≢ end.WriteFault
       → (report.written ≡ length text) × (report.end ≡ end_of why)
 
--- the answer text of the rows that were read goes out, and its answers are those of these lists
+-- The answer text of the rows that were read goes out, and its answers are those of these lists. Each number
+-- behind `skip` is few, and so is the greatest.
 pub record Replays (threads k : ℕ) (lists : List (List Entry)) (input before after : Option (List ℕ))
     (report : Report) : Type 0 where
   pub rows : List Row
   pub lines : List Line
   pub why : Stop
   pub answered : Answered threads rows lines
-  pub shown : AreShown threads lists lines
-  pub stopped : Stopped threads k lists input rows why
+  pub shown : Show threads k lists lines
+  pub greatest : IsFew threads k (greatest_skip lines)
+  pub stopped : Stopped threads input rows why
   pub goes_out : GoesOut before after (text_of (threads * k) lines why) why report
 
 -- the same, and then, where all rows are answered and a growth was refused in the end, one line more
@@ -74,12 +70,11 @@ ReplaysToTheEnd threads k lists input before after report =
     × GoesOrFails middle after (codes "no memory\n") done.written report.written end.NoMemory
     report.end)
 
--- the lists are those of a board of its own, of these sizes: each is that of a world to which a
--- schedule leads, and where all is done they are so together
+-- the lists are those of a board of its own, of these sizes: all of them are those of one schedule of
+-- legal steps, and where all is done the board has ended with them
 pub record ReplaysAlone (m : Sizes) (input before after : Option (List ℕ)) (report : Report)
     : Type 0 where
   pub lists : List (List Entry)
-  pub many : length lists ≡ m.threads
-  pub reached : (t : ℕ) → t < m.threads → ∥ IsReached m t (steps_in lists t) ∥₁
+  pub run : ∥ AreListsAtEnd m lists ∥₁
   pub replays : ReplaysToTheEnd m.threads m.k lists input before after report
   pub at_end : report.end ≡ end.Done → AreListsAtEnd m lists

@@ -4,7 +4,7 @@ ghost use Rattle.klsm_tool.specs.Picking.{ArePlaced};
 use crate::live_items::LiveItems;
 use crate::picking::{ThreadPicker, pickers_of};
 use crate::turns::{delete_by, insert_by};
-use klsm_board::{Board, Member};
+use klsm_board::{AllMembers, Board};
 use klsm_run::Item;
 use klsm_text::{Answer, Line, Operation, Printed, Request, Stop};
 use klsm_words::Settings;
@@ -21,14 +21,17 @@ pub(crate) struct Beside {
 }
 
 impl Beside {
-    ghost use Rattle.std.specs.Prelude.{◌≡◌, ◌<◌, [], ◌∷◌, length, max, IfOk, IfErr};
+    ghost use Rattle.std.specs.Prelude.{◌≡◌, ◌<◌, [], ◌∷◌, max, IfOk, IfErr};
     ghost use Rattle.klsm_run.specs.Content.{sorted};
-    ghost use Rattle.klsm_world.specs.OwnSteps.{inserted};
+    ghost use Rattle.klsm_world.specs.Account.{account};
     ghost use Rattle.klsm_text.specs.AnswerText.{live_after, skip_of};
-    ghost use Rattle.klsm_tool.specs.Crews.{AreMembers, Goes, lists_in, steps_in};
+    ghost use Rattle.klsm_tool.specs.Crews.{Goes};
     ghost use Rattle.klsm_tool.specs.Answering.{Answers, picker_count, pickers_beside, live_beside};
     ghost use Rattle.klsm_tool.specs.Picking.{ArePickers};
-    ghost use Rattle.klsm_tool.specs.Turns.{StopsInsertion, IsDeletion};
+    ghost use Rattle.klsm_tool.specs.Turns.{IsDeletion};
+    ghost use Rattle.klsm_board.specs.Together.{AreOf, all_lists};
+    ghost use Rattle.klsm_text.specs.Script.{row_limit};
+    ghost use Rattle.klsm_text.specs.declared.stop.Stop.TheVariants as stop;
     ghost use Rattle.klsm_text.specs.declared.answer.Answer.TheVariants.{Inserted};
 
     pub(crate) fn new(alloc: Global, settings: &Settings) -> Result<Self, AllocError>
@@ -50,29 +53,27 @@ impl Beside {
         &mut self,
         rt: &impl Wait,
         board: &Board<64, 21>,
-        members: &mut [Member<64, 21>],
+        all: &mut AllMembers<64, 21>,
         request: Request,
     ) -> Result<Printed, Stop>
-        requires members { AreMembers board.now members.old }
+        requires of { AreOf all.old board.now }
         requires pickers { picker_count self.old ≡ board.now.sizes.threads }
         requires thread { request.thread < board.now.sizes.threads }
-        requires room { length (inserted (steps_in (lists_in members.old) request.thread))
-            < board.now.sizes.quota }
-        ensures members { AreMembers board.now members.new }
+        requires quota { row_limit < board.now.sizes.quota }
+        requires few { (account (all_lists all.old)).inserted < row_limit }
+        ensures of { AreOf all.new board.now }
         ensures pickers { picker_count self.new ≡ board.now.sizes.threads }
-        ensures ok { IfOk result (λ printed. Answers request (lists_in members.old)
-            (lists_in members.new) (live_beside self.old) (live_beside self.new) self.old.most
-            self.new.most printed) }
-        ensures refused { IfErr result (λ why.
-            Goes request.thread (lists_in members.old) (lists_in members.new) []
-            × (self.new.most ≡ self.old.most)
-            × StopsInsertion 21 board.now.sizes.k request.thread
-            (steps_in (lists_in members.new) request.thread) why) }
+        ensures ok { IfOk result (Answers board.now.sizes.threads board.now.sizes.k request
+            (all_lists all.old) (all_lists all.new) (live_beside self.old) (live_beside self.new)
+            self.old.most self.new.most) }
+        ensures refused { IfErr result (λ why. (why ≡ stop.NoMemory)
+            × Goes request.thread (all_lists all.old) (all_lists all.new) []
+            × (self.new.most ≡ self.old.most)) }
     {
         let Request { thread, operation } = request;
         match operation {
             Operation::Insert { key, load } => {
-                let item = self.insert(rt, board, members, thread, key, load)?;
+                let item = self.insert(rt, board, all, thread, key, load)?;
                 let answer = Answer::Inserted(item);
                 Ok(Printed {
                     line: Line { thread, answer },
@@ -81,7 +82,7 @@ impl Beside {
             }
             Operation::Delete => {
                 let picker = &mut self.pickers[thread as usize];
-                let answer = delete_by(rt, board, members, thread, picker);
+                let answer = delete_by(rt, board, all, thread, picker);
                 let skip = self.take_out(answer);
                 Ok(Printed {
                     line: Line { thread, answer },
@@ -95,31 +96,30 @@ impl Beside {
         &mut self,
         rt: &impl Wait,
         board: &Board<64, 21>,
-        members: &mut [Member<64, 21>],
+        all: &mut AllMembers<64, 21>,
         thread: u32,
         key: u64,
         load: u64,
     ) -> Result<Item, Stop>
-        requires members { AreMembers board.now members.old }
+        requires of { AreOf all.old board.now }
         requires thread { thread < board.now.sizes.threads }
-        requires room { length (inserted (steps_in (lists_in members.old) thread))
-            < board.now.sizes.quota }
-        ensures members { AreMembers board.now members.new }
+        requires quota { row_limit < board.now.sizes.quota }
+        requires few { (account (all_lists all.old)).inserted < row_limit }
+        ensures of { AreOf all.new board.now }
         ensures pickers { picker_count self.new ≡ picker_count self.old }
         ensures most { self.new.most ≡ self.old.most }
         ensures item { IfOk result (λ x. (x.key ≡ key) × (x.load ≡ load)) }
         ensures goes { IfOk result (λ x.
-            Goes thread (lists_in members.old) (lists_in members.new) (Inserted x ∷ [])) }
+            Goes thread (all_lists all.old) (all_lists all.new) (Inserted x ∷ [])) }
         ensures live { IfOk result (λ x. sorted (live_beside self.new)
             ≡ sorted (x ∷ live_beside self.old)) }
-        ensures refused { IfErr result (λ why.
-            Goes thread (lists_in members.old) (lists_in members.new) []
-            × StopsInsertion 21 board.now.sizes.k thread (steps_in (lists_in members.new) thread) why) }
+        ensures refused { IfErr result (λ why. (why ≡ stop.NoMemory)
+            × Goes thread (all_lists all.old) (all_lists all.new) []) }
     {
         if self.live.reserve().is_err() {
             return Err(Stop::NoMemory);
         }
-        let item = insert_by(rt, board, members, thread, key, load)?;
+        let item = insert_by(rt, board, all, thread, key, load)?;
         self.live.insert(item);
         Ok(item)
     }

@@ -12,9 +12,10 @@
 //! // report.end is End::Done, and the text ends with "max skip 0 bound 64"
 //! ```
 //!
-//! A board of the caller's own, and its members, go to `replay_on`. `live_over` runs a script's rows in
-//! threads, `live_told` tells of a long run while it lasts, and `knapsack_over` solves an instance. A
-//! caller that keeps its script takes `replay_script` and `live_script`.
+//! A board of the caller's own, and its members, go to `replay_on`; where they are in one hand, and the
+//! caller keeps its script, to `replay_script`. `live_over` runs a script's rows in threads, `live_told`
+//! tells of a long run while it lasts, and `live_script` leaves the caller its script. `knapsack_over`
+//! solves an instance.
 //!
 //! Rows are read and judged by `klsm_text`, which also makes the lines and sends them. `replay` reads
 //! a row, `beside` lets the member of its thread answer and counts the skip among `live_items`, and
@@ -35,6 +36,10 @@
 //! - **The answers are those of the board's members**: the members' lists have these and no others.
 //!   A row is refused for the first reason that holds: the same clause. The board of `replay_over`
 //!   is its own, and finished: `ReplaysAlone`.
+//! - **A printed skip is at most threads times k**, and so is the greatest, and both are 0 where there is
+//!   one thread or k is 0: all calls are made in one thread, so the members' lists are at all times those
+//!   of one schedule. And the shared part always has room for one item more: `Replays` too, by `shown`,
+//!   `greatest` and `stopped`.
 //! - **The totals of rows that threads run are those of some schedule**, which answers each thread's
 //!   rows in their order: `Lives`, the clause of `live_over` and `live_told`.
 //! - **The selection that is written is a best one**: `Solves`, the clause of `knapsack_over`.
@@ -43,8 +48,7 @@
 //! - **The process ends with that status.** Nothing outside this crate makes a `Status`, and
 //!   `Status::report` says that the process ends with its number.
 //! - **What no contract says**: that the process's words are those that the system gave, what
-//!   standard input and output carried, how a replay picks, and that each printed skip is at most
-//!   the printed bound.
+//!   standard input and output carried, and how a replay picks.
 #![tactic(auto)]
 
 mod beside;

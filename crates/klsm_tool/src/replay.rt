@@ -5,13 +5,15 @@ ghost use Rattle.std.specs.List.{All};
 ghost use Rattle.klsm_run.specs.declared.item.Item.{Item};
 ghost use Rattle.klsm_world.specs.declared.step.Entry.{Entry};
 ghost use Rattle.klsm_board.specs.Boards.{IsCrew, IsOf};
+ghost use Rattle.klsm_board.specs.Together.{AreOf, all_lists};
+ghost use Rattle.klsm_world.specs.Account.{account};
 ghost use Rattle.klsm_text.specs.Output.{pending, put_count};
 ghost use Rattle.klsm_text.specs.AnswerText.{live_by, skip_of};
 ghost use Rattle.klsm_text.specs.declared.answer.Line.{Line};
 ghost use Rattle.klsm_text.specs.declared.stop.Stop.TheVariants as stop;
 ghost use Rattle.klsm_rows.specs.Rows.{Row};
 ghost use Rattle.klsm_text.specs.Script.{row_limit};
-ghost use Rattle.klsm_tool.specs.Crews.{AreFew, AreMembers, board_sizes, lists_in};
+ghost use Rattle.klsm_tool.specs.Crews.{AreFew, AreMembers, HaveNoSteps, board_sizes, lists_in};
 ghost use Rattle.klsm_tool.specs.Answering.{live_beside, picker_count, pickers_beside};
 ghost use Rattle.klsm_tool.specs.Picking.{ArePickers};
 ghost use Rattle.klsm_text.specs.Reading.{HasReadScript, reader_failed};
@@ -23,7 +25,7 @@ ghost use Rattle.klsm_tool.specs.Replay.{Replays, ReplaysAlone};
 
 use crate::beside::Beside;
 use crate::making::board_for;
-use klsm_board::{Board, Member};
+use klsm_board::{AllMembers, Board, Member};
 use klsm_progress::{Counted, Pace, Progress, Silent};
 use klsm_text::{
     Closing, End, NO_MEMORY, Output, Printed, ROW_LIMIT, Refusal, Report, Script, Stop, request_of,
@@ -32,6 +34,7 @@ use klsm_text::{
 use klsm_words::Settings;
 use std::alloc::{AllocError, Global};
 use std::io::{Read, Write};
+use std::mem;
 use std::sync::Wait;
 
 /// Answers the rows of a script over a board of its own, which is finished where all are answered.
@@ -66,8 +69,12 @@ pub fn replay_told<P: AllocGlobal + Wait, R: Read + Drop, W: Write>(
     ensures { ReplaysAlone (board_sizes settings.now) (R.remaining reader)
         (W.contents writer.old) (W.contents writer.new) result }
 {
-    let Ok((board, mut members)) = board_for(rt.alloc(), settings) else {
+    let Ok((board, members)) = board_for(rt.alloc(), settings) else {
         return write_last(writer, NO_MEMORY, 0, End::NoMemory);
+    };
+    // No member is missing.
+    let Ok(mut all) = board.gather(members) else {
+        unreachable!();
     };
     let mut script = Script::new(rt.alloc(), reader);
     let report = replay_script(
@@ -76,15 +83,16 @@ pub fn replay_told<P: AllocGlobal + Wait, R: Read + Drop, W: Write>(
         writer,
         settings,
         &board,
-        &mut members,
+        &mut all,
         progress,
     );
     if report.end != End::Done {
         return report;
     }
+    let members = all.spread(&board);
     match board.finish(rt.alloc(), members) {
         Ok(_) => report,
-        // All members are back, so it is memory that is wanted.
+        // All members are there, so it is memory that is wanted.
         Err(_) => write_last(writer, NO_MEMORY, report.written, End::NoMemory),
     }
 }
@@ -98,19 +106,25 @@ pub fn replay_on<P: AllocGlobal + Wait, R: Read + Drop, W: Write>(
     writer: &mut W,
     settings: &Settings,
     board: &Board<64, 21>,
-    members: &mut [Member<64, 21>],
+    members: &mut Vec<Member<64, 21>>,
 ) -> Report
     requires sizes { board.now.sizes ≡ board_sizes settings.now }
-    requires of { All (λ member. IsOf member board.now) members.old }
-    requires count { length members.old ≡ settings.now.threads }
-    requires crew { IsCrew members.old }
-    ensures members { AreMembers board.now members.new }
+    requires of { All (λ member. IsOf member board.now) members.old.items }
+    requires count { length members.old.items ≡ settings.now.threads }
+    requires crew { IsCrew members.old.items }
+    ensures members { AreMembers board.now members.new.items }
     ensures written { result.written < 2 ^ 63 }
-    ensures replays { Replays settings.now.threads settings.now.k (lists_in members.new)
+    ensures replays { Replays settings.now.threads settings.now.k (lists_in members.new.items)
         (R.remaining reader) (W.contents writer.old) (W.contents writer.new) result }
 {
+    // No member is missing.
+    let Ok(mut all) = board.gather(mem::replace(members, Vec::new(rt.alloc()))) else {
+        unreachable!();
+    };
     let mut script = Script::new(rt.alloc(), reader);
-    replay_script(rt, &mut script, writer, settings, board, members, &Silent)
+    let report = replay_script(rt, &mut script, writer, settings, board, &mut all, &Silent);
+    *members = all.spread(board);
+    report
 }
 
 /// The same over a script of the caller's, of which no row was read yet; and it tells of a long run
@@ -122,17 +136,16 @@ pub fn replay_script<P: AllocGlobal + Wait, R: Read + Drop, W: Write>(
     writer: &mut W,
     settings: &Settings,
     board: &Board<64, 21>,
-    members: &mut [Member<64, 21>],
+    all: &mut AllMembers<64, 21>,
     progress: &impl Progress,
 ) -> Report
     requires sizes { board.now.sizes ≡ board_sizes settings.now }
-    requires of { All (λ member. IsOf member board.now) members.old }
-    requires count { length members.old ≡ settings.now.threads }
-    requires crew { IsCrew members.old }
-    ensures members { AreMembers board.now members.new }
+    requires of { AreOf all.old board.now }
+    requires fresh { HaveNoSteps all.old }
+    ensures of { AreOf all.new board.now }
     ensures written { result.written < 2 ^ 63 }
     ensures replays { (input : Option (List ℕ)) → HasReadScript R.remaining input [] script.old
-        → Replays settings.now.threads settings.now.k (lists_in members.new) input
+        → Replays settings.now.threads settings.now.k (all_lists all.new) input
         (W.contents writer.old) (W.contents writer.new) result }
     ensures fault { (input : Option (List ℕ)) → HasReadScript R.remaining input [] script.old
         → result.end ≡ End.ReadFault → reader_failed script.new ≡ true }
@@ -144,7 +157,7 @@ pub fn replay_script<P: AllocGlobal + Wait, R: Read + Drop, W: Write>(
         return write_last(writer, NO_MEMORY, 0, End::NoMemory);
     };
     progress.begins(None);
-    let closing = replay.answer_rows(rt, script, writer, board, members, settings, progress);
+    let closing = replay.answer_rows(rt, script, writer, board, all, settings, progress);
     progress.ended();
     replay.output.close(writer, closing)
 }
@@ -179,29 +192,29 @@ impl Replay {
         script: &mut Script<R>,
         writer: &mut W,
         board: &Board<64, 21>,
-        members: &mut [Member<64, 21>],
+        all: &mut AllMembers<64, 21>,
         settings: &Settings,
         progress: &impl Progress,
     ) -> Closing
         requires sizes { board.now.sizes ≡ board_sizes settings.now }
-        requires members { AreMembers board.now members.old }
+        requires of { AreOf all.old board.now }
         requires pickers { picker_count self.old.beside ≡ board.now.sizes.threads }
         requires choices { ArePickers settings.now (pickers_beside self.old.beside) }
-        requires few { AreFew board.now.sizes.threads 0 (lists_in members.old) }
+        requires few { AreFew 0 (all_lists all.old) }
         requires put { put_count self.old.output ≡ 0 }
-        ensures members { AreMembers board.now members.new }
+        ensures of { AreOf all.new board.now }
         ensures put { put_count self.new.output ≤ 160 * row_limit }
         ensures row { result.row ≤ row_limit + 1 }
         ensures bound { result.bound ≡ settings.now.threads * settings.now.k }
         ensures stops { (input before : Option (List ℕ)) →
-            StandsAfter R.remaining settings.now.threads (lists_in members.old) input [] []
+            StandsAfter R.remaining settings.now.threads settings.now.k (all_lists all.old) input [] []
             script.old (live_beside self.old.beside) self.old.beside.most
             → IsTold before (W.contents writer.old) [] self.old.output
             → HasStopped (reader_failed script.new) settings.now.threads settings.now.k
-            (lists_in members.new) input before (W.contents writer.new) result.row result.most
+            (all_lists all.new) input before (W.contents writer.new) result.row result.most
             self.new.output result.stop }
         ensures refused { (input before : Option (List ℕ)) →
-            StandsAfter R.remaining settings.now.threads (lists_in members.old) input [] []
+            StandsAfter R.remaining settings.now.threads settings.now.k (all_lists all.old) input [] []
             script.old (live_beside self.old.beside) self.old.beside.most
             → IsTold before (W.contents writer.old) [] self.old.output
             → StandsAtRefusal R.remaining settings.now.threads input script.new result.stop }
@@ -209,7 +222,7 @@ impl Replay {
         let bound = settings.threads * settings.k;
         let mut pace = Pace::new(Counted::RowsAnswered);
         for answered in 0..ROW_LIMIT {
-            if let Err(stop) = self.answer_row(rt, script, writer, board, members) {
+            if let Err(stop) = self.answer_row(rt, script, writer, board, all) {
                 return Closing {
                     stop,
                     row: answered + 1,
@@ -234,30 +247,30 @@ impl Replay {
         script: &mut Script<R>,
         writer: &mut W,
         board: &Board<64, 21>,
-        members: &mut [Member<64, 21>],
+        all: &mut AllMembers<64, 21>,
     ) -> Result<(), Stop>
-        requires members { AreMembers board.now members.old }
+        requires of { AreOf all.old board.now }
         requires quota { row_limit < board.now.sizes.quota }
-        requires few { AreFew board.now.sizes.threads row_limit (lists_in members.old) }
+        requires few { (account (all_lists all.old)).inserted < row_limit }
         requires pickers { picker_count self.old.beside ≡ board.now.sizes.threads }
         requires put { put_count self.old.output < 2 ^ 63 }
-        ensures members { AreMembers board.now members.new }
+        ensures of { AreOf all.new board.now }
         ensures pickers { picker_count self.new.beside ≡ board.now.sizes.threads }
-        ensures few { (n : ℕ) → AreFew board.now.sizes.threads n (lists_in members.old)
-            → AreFew board.now.sizes.threads (n + 1) (lists_in members.new) }
+        ensures few { (n : ℕ) → AreFew n (all_lists all.old)
+            → AreFew (n + 1) (all_lists all.new) }
         ensures put { put_count self.new.output ≤ put_count self.old.output + 160 }
         ensures step { (input before : Option (List ℕ)) (rows : List Row) (lines : List Line) →
-            StandsAfter R.remaining board.now.sizes.threads (lists_in members.old) input rows lines
+            StandsAfter R.remaining board.now.sizes.threads board.now.sizes.k (all_lists all.old) input rows lines
             script.old (live_beside self.old.beside) self.old.beside.most
             → length rows < row_limit
             → IsTold before (W.contents writer.old) lines self.old.output
             → MatchResult result
             (λ _. (row : Row) × (line : Line)
-            × StandsAfter R.remaining board.now.sizes.threads (lists_in members.new) input (row ∷ rows)
+            × StandsAfter R.remaining board.now.sizes.threads board.now.sizes.k (all_lists all.new) input (row ∷ rows)
             (line ∷ lines) script.new (live_beside self.new.beside) self.new.beside.most
             × IsTold before (W.contents writer.new) (line ∷ lines) self.new.output)
             (λ why. HasStopped (reader_failed script.new) board.now.sizes.threads
-            board.now.sizes.k (lists_in members.new) input before (W.contents writer.new)
+            board.now.sizes.k (all_lists all.new) input before (W.contents writer.new)
             (length rows + 1) self.new.beside.most self.new.output why) }
         ensures refused { (input : Option (List ℕ)) (rows : List Row)
             → HasReadScript R.remaining input rows script.old
@@ -265,7 +278,7 @@ impl Replay {
             → IfErr result (StandsAtRefusal R.remaining board.now.sizes.threads input script.new) }
     {
         send_before_wait(script, &mut self.output, writer)?;
-        let line = next_line(rt, script, &self.output, &mut self.beside, board, members)?;
+        let line = next_line(rt, script, &self.output, &mut self.beside, board, all)?;
         self.output.put(writer, line.text().as_bytes())
     }
 }
@@ -301,28 +314,28 @@ fn next_line<R: Read + Drop>(
     output: &Output,
     beside: &mut Beside,
     board: &Board<64, 21>,
-    members: &mut [Member<64, 21>],
+    all: &mut AllMembers<64, 21>,
 ) -> Result<Printed, Stop>
     requires sent { HasSentBefore script.old output.now }
-    requires members { AreMembers board.now members.old }
+    requires of { AreOf all.old board.now }
     requires pickers { picker_count beside.old ≡ board.now.sizes.threads }
     requires quota { row_limit < board.now.sizes.quota }
-    requires few { AreFew board.now.sizes.threads row_limit (lists_in members.old) }
-    ensures members { AreMembers board.now members.new }
+    requires few { (account (all_lists all.old)).inserted < row_limit }
+    ensures of { AreOf all.new board.now }
     ensures pickers { picker_count beside.new ≡ board.now.sizes.threads }
-    ensures few { (n : ℕ) → AreFew board.now.sizes.threads n (lists_in members.old)
-        → AreFew board.now.sizes.threads (n + 1) (lists_in members.new) }
+    ensures few { (n : ℕ) → AreFew n (all_lists all.old)
+        → AreFew (n + 1) (all_lists all.new) }
     ensures step { (input : Option (List ℕ)) (rows : List Row) (lines : List Line) →
-        StandsAfter R.remaining board.now.sizes.threads (lists_in members.old) input rows lines
+        StandsAfter R.remaining board.now.sizes.threads board.now.sizes.k (all_lists all.old) input rows lines
         script.old (live_beside beside.old) beside.old.most
         → length rows < row_limit
         → MatchResult result
         (λ printed. (row : Row)
-        × StandsAfter R.remaining board.now.sizes.threads (lists_in members.new) input (row ∷ rows)
+        × StandsAfter R.remaining board.now.sizes.threads board.now.sizes.k (all_lists all.new) input (row ∷ rows)
         (printed.line ∷ lines) script.new (live_beside beside.new) beside.new.most
         × (printed.skip ≡ skip_of (live_by lines) printed.line.answer))
         (StopsBefore (reader_failed script.new) board.now.sizes.threads board.now.sizes.k
-        (lists_in members.new) input rows lines beside.new.most) }
+        (all_lists all.new) input rows lines beside.new.most) }
     ensures refused { (input : Option (List ℕ)) (rows : List Row)
         → HasReadScript R.remaining input rows script.old
         → AreAccepted board.now.sizes.threads rows → length rows < row_limit
@@ -330,7 +343,7 @@ fn next_line<R: Read + Drop>(
 {
     script.advance(output)?;
     match request_of(&script.row, board.threads()) {
-        Ok(request) => beside.answer(rt, board, members, request),
+        Ok(request) => beside.answer(rt, board, all, request),
         Err(why) => Err(Stop::Refused(why)),
     }
 }
@@ -345,7 +358,7 @@ fn stop_behind<R: Read + Drop, W: Write>(
     ensures put { put_count output.new ≤ put_count output.old }
     ensures stops { (threads k : ℕ) (lists : List (List Entry)) (input before : Option (List ℕ))
         (rows : List Row) (lines : List Line) (items : List Item) (most : ℕ) →
-        StandsAfter R.remaining threads lists input rows lines script.old items most
+        StandsAfter R.remaining threads k lists input rows lines script.old items most
         → length rows ≡ row_limit → IsTold before (W.contents writer.old) lines output.old
         → HasStopped (reader_failed script.new) threads k lists input before
         (W.contents writer.new) (length rows + 1) most output.new result }

@@ -1,15 +1,20 @@
 //! What the members of a board do for a row.
 ghost use Rattle.std.specs.Prelude.{◌≡◌, ◌<◌, ◌++◌, ◌∷◌, [], length, IfOk, IfErr};
 ghost use Rattle.klsm_run.specs.declared.item.Item.{Item};
+ghost use Rattle.klsm_world.specs.Account.{account};
 ghost use Rattle.klsm_world.specs.OwnSteps.{inserted};
 ghost use Rattle.klsm_board.specs.Boards.{IsOf, IsSame, own_steps};
 ghost use Rattle.klsm_text.specs.declared.answer.Answer.TheVariants.{Inserted};
-ghost use Rattle.klsm_tool.specs.Crews.{AreMembers, Goes, lists_in, steps_in};
-ghost use Rattle.klsm_tool.specs.Shown.{shown_in};
+ghost use Rattle.klsm_board.specs.Together.{AreOf, all_lists, left_of};
+ghost use Rattle.klsm_text.specs.AnswerText.{skip_of};
+ghost use Rattle.klsm_text.specs.Script.{row_limit};
+ghost use Rattle.klsm_text.specs.declared.stop.Stop.TheVariants as stop;
+ghost use Rattle.klsm_tool.specs.Crews.{Goes};
+ghost use Rattle.klsm_tool.specs.Shown.{IsFew, shown_in};
 ghost use Rattle.klsm_tool.specs.Turns.{StopsInsertion, IsDeletion};
 
 use crate::picking::ThreadPicker;
-use klsm_board::{Board, InsertError, Member};
+use klsm_board::{AllMembers, Board, InsertError, Member};
 use klsm_run::Item;
 use klsm_text::{Answer, Stop};
 use std::sync::Wait;
@@ -61,45 +66,55 @@ pub(crate) fn delete<const CAP: usize, const LEVELS: usize>(
     }
 }
 
-/// An insertion by the member of this number.
-pub(crate) fn insert_by<const CAP: usize, const LEVELS: usize>(
+/// An insertion by the member of this number, of all that have inserted fewer items than a script can have rows.
+pub(crate) fn insert_by(
     rt: &impl Wait,
-    board: &Board<CAP, LEVELS>,
-    members: &mut [Member<CAP, LEVELS>],
+    board: &Board<64, 21>,
+    all: &mut AllMembers<64, 21>,
     thread: u32,
     key: u64,
     load: u64,
 ) -> Result<Item, Stop>
-    requires members { AreMembers board.now members.old }
+    requires of { AreOf all.old board.now }
     requires thread { thread < board.now.sizes.threads }
-    requires room { length (inserted (steps_in (lists_in members.old) thread))
-        < board.now.sizes.quota }
-    ensures members { AreMembers board.now members.new }
+    requires quota { row_limit < board.now.sizes.quota }
+    requires few { (account (all_lists all.old)).inserted < row_limit }
+    ensures of { AreOf all.new board.now }
     ensures item { IfOk result (λ x. (x.key ≡ key) × (x.load ≡ load)) }
     ensures goes { IfOk result (λ x.
-        Goes thread (lists_in members.old) (lists_in members.new) (Inserted x ∷ [])) }
-    ensures refused { IfErr result (λ why.
-        Goes thread (lists_in members.old) (lists_in members.new) []
-        × StopsInsertion LEVELS board.now.sizes.k thread (steps_in (lists_in members.new) thread) why) }
+        Goes thread (all_lists all.old) (all_lists all.new) (Inserted x ∷ [])) }
+    ensures refused { IfErr result (λ why. (why ≡ stop.NoMemory)
+        × Goes thread (all_lists all.old) (all_lists all.new) []) }
 {
-    insert(rt, board, &mut members[thread as usize], key, load)
+    match all.insert(rt, board, thread, key, load) {
+        Ok(stamp) => Ok(Item { key, stamp, load }),
+        Err(InsertError::Spent) => unreachable!(),
+        // The shared part has room for more items than a script has rows.
+        Err(InsertError::Full) => unreachable!(),
+        Err(InsertError::NoMemory) => Err(Stop::NoMemory),
+    }
 }
 
 /// A deletion by the member of this number, and by its thread's picker.
-pub(crate) fn delete_by<const CAP: usize, const LEVELS: usize>(
+pub(crate) fn delete_by(
     rt: &impl Wait,
-    board: &Board<CAP, LEVELS>,
-    members: &mut [Member<CAP, LEVELS>],
+    board: &Board<64, 21>,
+    all: &mut AllMembers<64, 21>,
     thread: u32,
     picker: &mut ThreadPicker,
 ) -> Answer
-    requires members { AreMembers board.now members.old }
+    requires of { AreOf all.old board.now }
     requires thread { thread < board.now.sizes.threads }
     requires picks { picker.old.thread ≡ thread }
     ensures picker { picker.new.thread ≡ picker.old.thread }
-    ensures members { AreMembers board.now members.new }
+    ensures of { AreOf all.new board.now }
     ensures answer { IsDeletion result }
-    ensures goes { Goes thread (lists_in members.old) (lists_in members.new) (result ∷ []) }
+    ensures goes { Goes thread (all_lists all.old) (all_lists all.new) (result ∷ []) }
+    ensures few { IsFew board.now.sizes.threads board.now.sizes.k
+        (skip_of (left_of all.old) result) }
 {
-    delete(rt, board, &mut members[thread as usize], picker)
+    match all.delete_min(rt, board, thread, picker) {
+        Some(item) => Answer::Deleted(item),
+        None => Answer::Nothing,
+    }
 }

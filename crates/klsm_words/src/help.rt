@@ -26,14 +26,13 @@ Answers:
 
 A STAMP is the inserting thread, a dot, and how many items that thread had
 inserted before.
-SKIP is at most THREADS times K; that is tested, and not promised.
+SKIP is at most THREADS times K, and 0 where THREADS is 1; that is proved.
 
 The last line, and the status of the program:
   max skip SKIP bound BOUND  0  All rows are answered; the greatest SKIP, and
                                 THREADS times K
   refused row ROW: WHAT      1  The row is refused; WHAT is rows, fields,
                                 thread, operation, key or load
-  full row ROW               3  The row's insertion finds no room
   no memory                  3  A growth of memory was refused
   read fault                 4  Reading failed
   (nothing more)             4  Writing failed

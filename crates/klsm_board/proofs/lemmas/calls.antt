@@ -7,5 +7,7 @@ pub mod AddLemmas  -- what the calls insert and delete
 pub mod AddedLemmas  -- the events of each call
 pub mod RefillLemmas  -- what a refill adds
 pub mod DeletedLemmas  -- those of a deletion
+pub mod LoneLemmas  -- with one thread a deletion skips nothing
+pub mod EffectLemmas  -- where a deletion takes effect
 pub mod EarlyLemmas  -- the deletion by the front, from the own part in hand
 pub mod FullLemmas  -- an insertion that found its own part full

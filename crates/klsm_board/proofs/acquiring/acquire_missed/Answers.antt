@@ -10,6 +10,7 @@ loop-preserved g c =
     let inv = c.loop.invariant in let busy = c.in-Err.ensures.busy in
     record {
       same = c.try_acquire.ensures.same ∙ inv.same;
+      others = c.try_acquire.ensures.others ∙ inv.others;
       stands = λ hand stood. stands (busy.1 hand (inv.stands hand stood));
       misses = missed_more c.args.part _ (mine c.args.seat.now.me.0) (mine c.loop.seat.me.0) (mine c.try_acquire.new.seat.me.0) inv.misses busy.2;
     }
@@ -25,3 +26,6 @@ returns-in-Ok-clause-acquired g c hand stood =
 
 pub unreachable-unreachable : goal.unreachable-unreachable
 unreachable-unreachable g c = c.unreachable.type_inv
+
+pub returns-in-Ok-clause-others : goal.returns-in-Ok-clause-others
+returns-in-Ok-clause-others g c = let inv = c.loop.invariant in c.try_acquire.ensures.others ∙ inv.others

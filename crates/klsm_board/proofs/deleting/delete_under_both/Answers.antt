@@ -2,13 +2,19 @@ use Rattle.std.proofs.Common.{◌≡◌, ◌-◌, ◌∷◌, ◌++◌, ◌∙◌
 use Rattle.klsm_run.specs.declared.item.Item.{Item}
 use Rattle.klsm_world.specs.declared.step.Entry.TheVariants.{Committed}
 use Rattle.klsm_world.specs.declared.step.Event.TheVariants.{Take, Nothing}
+use Rattle.std.specs.Prelude.{Some, None}
+use Rattle.std.specs.List.{flat_map}
+use Rattle.klsm_world.specs.OwnSteps.{inserted, inserted_by, deleted, deleted_by}
 use Rattle.klsm_world.specs.OwnListLaws.{LeavesFew}
 use Rattle.klsm_board.specs.Rule.{world_limits}
-use Rattle.klsm_board.specs.Steps.{mine}
+use Rattle.klsm_board.specs.Steps.{mine, rest_of}
 use Rattle.klsm_board.specs.Entries.{both_released}
 use Rattle.klsm_board.specs.Seats.{Has, both_in_hand}
 use Rattle.klsm_board.specs.Deleting.{Passes, SpiesAfter, refilled_after}
 use Rattle.klsm_board.proofs.lemmas.hands.PossibleLemmas.{nothing_leaves_few}
+use Rattle.klsm_board.proofs.lemmas.calls.EventLemmas.{events, same_events}
+use Rattle.klsm_board.proofs.lemmas.calls.DeletedLemmas.{passes_are_quiet, spies_same}
+use Rattle.klsm_board.proofs.lemmas.calls.EffectLemmas.{alone_skips_none, effect_at, effect_of_some, lawful_there}
 use Rattle.klsm_board.proofs.lemmas.calls.TakeLemmas.{least_alone}
 use Rattle.klsm_board.proofs.lemmas.calls.RefillLemmas.{none_refilled_alone}
 use Rattle.klsm_board.proofs.lemmas.calls.TestLemmas.{either_option, where_some}
@@ -96,3 +102,39 @@ returns-in-Some-clause-done g c own shared has_both =
       },
       took.2,
     )
+
+pub returns-in-Some-clause-effect : goal.returns-in-Some-clause-effect
+returns-in-Some-clause-effect g c =
+    let m = c.args.table.now.key in let t = c.args.thread in let me = c.args.seat.now.me in let item = c.in-Some.item in
+    let k = c.requires.has in let has = k.2 in let reached = has.reached in let carries = has.carries in
+    let took = c.in-Some.ensures.done k.0 k.1 k.2 in
+    effect_at m t me.0 (rest_of me.0) (mine me.0) (mine c.take_both_out.new.seat.me.0) (refilled_after c.args.refill m.k k.0 k.1 item ++ both_released t) (Take item) (Some item) carries.acts refl reached
+    (took.3 reached.world (lawful_there m t me.0 reached) reached.list_is, alone_skips_none m t me.0 item reached (took.4 reached.world (lawful_there m t me.0 reached) reached.list_is)) took.5 refl refl refl
+
+pub returns-then-search_victims-clause-effect : goal.returns-then-search_victims-clause-effect
+returns-then-search_victims-clause-effect g c =
+    let content = g.S.Holding.content in let suits = g.S.Holding.suits in
+    let m = c.args.table.now.key in let t = c.args.thread in let k = c.requires.has in let me = c.args.seat.now.me in let me1 = c.take_both_out.new.seat.me in let me2 = c.search_victims.new.seat.me in
+    let none = c.in_default.ensures.done k.0 k.1 k.2 in let empty = none.0 in
+    let has : Has content suits m t (both_in_hand t [] []) me1 = subst (λ (z : List Item × List Item). Has content suits m t (both_in_hand t z.0 z.1) me1) (λ i. (empty.own_empty i, empty.shared_empty i)) none.1 in
+    let spied = c.if-search_victims.ensures.done [] has in
+    let second = c.take_both_out-then-search_victims in let spies = spied.2.spies in
+    let has2 = spied.1 in let reached = has2.reached in let carries = has2.carries in
+    let counts = spies_same c.args.threads t (mine me1.0) (mine me2.0) spied.0 spied.2 in
+    let es' = mine second.new.seat.me.0 in
+    effect_of_some m t (rest_of me.0) (mine me.0) es' second.result _ _ (second.ensures.done spied.0 [] spied.1)
+    (λ nothing. spies.may.some nothing.0.own_empty)
+    (λ item took. effect_at m t me2.0 (rest_of me.0) (mine me.0) es' (refilled_after c.args.refill m.k spied.0 [] item ++ both_released t) (Take item) (Some item) carries.acts (c.search_victims.ensures.others ∙ c.take_both_out.ensures.others) reached
+    (took.3 reached.world (lawful_there m t me2.0 reached) reached.list_is, alone_skips_none m t me2.0 item reached (took.4 reached.world (lawful_there m t me2.0 reached) reached.list_is)) took.5 refl (counts.0 ∙ ap inserted none.2) (counts.1 ∙ ap deleted none.2))
+
+pub returns-clause-effect : goal.returns-clause-effect
+returns-clause-effect g c =
+    let content = g.S.Holding.content in let suits = g.S.Holding.suits in
+    let m = c.args.table.now.key in let t = c.args.thread in let k = c.requires.has in let me = c.args.seat.now.me in let me1 = c.take_both_out.new.seat.me in let me2 = c.search_victims.new.seat.me in
+    let none = c.in_default.ensures.done k.0 k.1 k.2 in let empty = none.0 in
+    let has : Has content suits m t (both_in_hand t [] []) me1 = subst (λ (z : List Item × List Item). Has content suits m t (both_in_hand t z.0 z.1) me1) (λ i. (empty.own_empty i, empty.shared_empty i)) none.1 in
+    let passed = c.if-search_victims.ensures.done [] has in let has2 = passed.0 in let reached = has2.reached in let carries = has2.carries in
+    let quiet : events (mine me2.0) ≡ events (mine me1.0) = same_events (mine me1.0) passed.1.0 (mine me2.0) passed.1.2 (passes_are_quiet c.args.threads t (c.args.threads - 1) passed.1.0 passed.1.1) in
+    effect_at m t me2.0 (rest_of me.0) (mine me.0) (mine c.release_committed.new.seat.me.0) (both_released t) Nothing None carries.acts (c.search_victims.ensures.others ∙ c.take_both_out.ensures.others) reached
+    (nothing_leaves_few content suits m t [] [] me2 has2 (record { own_empty = refl; shared_empty = refl }) reached.world (lawful_there m t me2.0 reached) reached.list_is)
+    c.release_committed.ensures.list refl (ap (flat_map inserted_by) quiet ∙ ap inserted none.2) (ap (flat_map deleted_by) quiet ∙ ap deleted none.2)

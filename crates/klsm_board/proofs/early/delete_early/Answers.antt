@@ -2,11 +2,14 @@ use Rattle.std.proofs.Common.{◌≡◌, ◌<◌, ◌∙◌, [], ap, arith, refl
 use Rattle.std.proofs.lemmas.Option.{same_Some}
 use Rattle.klsm_parts.specs.Least.{IsLeast}
 use Rattle.klsm_parts.specs.Events.{own_after_early}
-use Rattle.klsm_board.specs.Steps.{mine}
+use Rattle.klsm_board.specs.Steps.{mine, rest_of}
 use Rattle.klsm_board.specs.Seats.{Has, own_in_hand}
+use Rattle.std.specs.Prelude.{Some}
+use Rattle.klsm_board.specs.declared.rule.View.{View}
 use Rattle.klsm_board.specs.Deleting.{TakesEarly}
+use Rattle.klsm_board.specs.Effects.{TakesEffect}
 use Rattle.klsm_board.proofs.lemmas.seats.StandLemmas.{stands}
-use Rattle.klsm_board.proofs.lemmas.calls.EarlyLemmas.{looked_only, early_out, takes_early, slot_there, slot_is}
+use Rattle.klsm_board.proofs.lemmas.calls.EarlyLemmas.{looked_only, early_out, takes_early, early_effect, slot_there, slot_is}
 use Rattle.klsm_board.proofs.early.delete_early.Goals as goal
 
 pub look_at_front-requires-clause-has : goal.look_at_front-requires-clause-has
@@ -73,3 +76,15 @@ returns-clause-done g c own has =
       subst (λ z. TakesEarly m t own z (mine c.release_part.new.seat.me.0) item) (ap mine c.least_own.ensures.same.2)
           (subst (λ z. TakesEarly m t own (mine c.least_own.new.seat.me.0) (mine c.release_part.new.seat.me.0) z) (sym same) did_take),
     )
+
+pub returns-clause-effect : goal.returns-clause-effect
+returns-clause-effect g c =
+    let content = g.S.Holding.content in let suits = g.S.Holding.suits in let m = c.args.table.now.key in let t = c.args.thread in
+    let k = c.requires.has in let did = c.in_ok-least.ensures.looked k.0 k.1 in
+    let x = c.in_ok-least.least in let item = c.take_least-item.result in let es' = mine c.release_part.new.seat.me.0 in
+    let below : x.key < c.look_at_front.result = omega (arith, c.if-least-look_at_front.false) in
+    let is = slot_is content suits m t k.0 x c.look_at_front.result c.least_own.new.seat.me c.look_at_front.new.seat.me did.0 did.1 below c.look_at_front.ensures.looked c.slot_mut.result.now c.slot_mut.ensures.value in
+    let same : item ≡ x = same_Some item x (sym (subst (λ z. IsLeast item z) is.0 c.take_least-item.ensures.least) ∙ did.1) in
+    subst (λ (v : View). TakesEffect m t (rest_of v) (mine v) es' (Some item)) c.least_own.ensures.same.2
+    (subst (λ z. TakesEffect m t (rest_of c.least_own.new.seat.me.0) (mine c.least_own.new.seat.me.0) es' (Some z)) (sym same)
+    (early_effect content suits m t k.0 x c.look_at_front.result c.least_own.new.seat.me c.look_at_front.new.seat.me did.0 did.1 below c.look_at_front.ensures.looked es' c.release_part.ensures.list))

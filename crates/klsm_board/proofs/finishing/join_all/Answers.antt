@@ -9,15 +9,17 @@ use Rattle.klsm_board.proofs.finishing.join_all.Goals as goal
 
 pub loop-member-init : goal.loop-member-init
 loop-member-init g c =
-    let whole = c.args.members.items in let left = c.pop.new.self.items in let member = c.in-Some.field-0 in (
+    let whole = c.args.members.now.items in let left = c.pop.new.self.items in let member = c.in-Some.field-0 in (
       c.requires.of (length left) member (last_of_whole whole whole left member [] (sym (append-nil whole)) c.in-Some.ensures.items),
-      joins_one whole left member member.seat.me.0 c.in-Some.ensures.items member.rests.alone,
+      member.rests.carries_none,
+      c.pop.ensures.capacity,
+      joins_one whole left member member.seat.me.0 c.in-Some.ensures.items member.rests.acts,
     )
 
 pub join_seat-requires : goal.join_seat-requires
 join_seat-requires g c =
-    let whole = c.args.members.items in let left = c.loop-member.members.items in let next = c.pop-in-loop-member.new.self.items in let member = c.in-Some-pop.member in
-    let joined = c.loop-member.invariant.1 in let seat = c.loop-member.seat in (
+    let whole = c.args.members.now.items in let left = c.loop-member.members.items in let next = c.pop-in-loop-member.new.self.items in let member = c.in-Some-pop.member in
+    let joined = c.loop-member.invariant.3 in let seat = c.loop-member.seat in (
       c.loop-member.invariant.0,
       c.requires.of (length next) member (last_of_whole whole left next member joined.gone joined.whole_is c.in-Some-pop.ensures.items),
       member.rests.carries_none,
@@ -27,16 +29,18 @@ join_seat-requires g c =
 
 pub loop-member-preserved : goal.loop-member-preserved
 loop-member-preserved g c =
-    let whole = c.args.members.items in let left = c.loop-member.members.items in let next = c.pop-in-loop-member.new.self.items in let member = c.in-Some-pop.member in
+    let whole = c.args.members.now.items in let left = c.loop-member.members.items in let next = c.pop-in-loop-member.new.self.items in let member = c.in-Some-pop.member in
     let seat = c.loop-member.seat in let told = c.join_seat.ensures in (
       told.0 ∙ c.loop-member.invariant.0,
-      subst (AreJoined whole next) (sym (ap (λ z. z.0) told.2)) (join_last whole left next member seat.me.0 member.seat.me.0 c.loop-member.invariant.1 c.in-Some-pop.ensures.items member.rests.alone),
+      ap (λ z. z.1) told.2 ∙ c.loop-member.invariant.1,
+      c.pop-in-loop-member.ensures.capacity ∙ c.loop-member.invariant.2,
+      subst (AreJoined whole next) (sym (ap (λ z. z.0) told.2)) (join_last whole left next member seat.me.0 member.seat.me.0 c.loop-member.invariant.3 c.in-Some-pop.ensures.items member.rests.acts),
     )
 
 pub returns-clause-knows : goal.returns-clause-knows
 returns-clause-knows g c =
     let left = c.loop-member.members in
-    joined_all c.args.members.items left.items c.loop-member.seat.me.0 c.loop-member.invariant.1
+    joined_all c.args.members.now.items left.items c.loop-member.seat.me.0 c.loop-member.invariant.3
     (nil_from_length left.items (sym left.ok.0 ∙ c.in_default-pop.ensures.cases.0))
 
 pub join_seat-requires-room-P-TableRule : goal.join_seat-requires-room-P-TableRule
@@ -45,11 +49,20 @@ join_seat-requires-room-P-TableRule g c κs = local_fits _ c.in-Some-pop.member.
 pub join_seat-requires-room-P-TableRule-2 : goal.join_seat-requires-room-P-TableRule-2
 join_seat-requires-room-P-TableRule-2 g c κs = shared_fits _ c.in-Some-pop.member.levels
 
+pub returns-clause-empty : goal.returns-clause-empty
+returns-clause-empty g c = let left = c.loop-member.members in nil_from_length c.pop-in-loop-member.new.self.items (sym c.pop-in-loop-member.new.self.ok.0 ∙ c.in_default-pop.ensures.cases.1)
+
+pub returns-clause-room : goal.returns-clause-room
+returns-clause-room g c = c.pop-in-loop-member.ensures.capacity ∙ c.loop-member.invariant.2
+
 pub returns-clause-table : goal.returns-clause-table
 returns-clause-table g c = c.loop-member.invariant.0
 
+pub returns-clause-none : goal.returns-clause-none
+returns-clause-none g c = c.loop-member.invariant.1
+
 pub unreachable-requires : goal.unreachable-requires
-unreachable-requires g c = omega (arith, c.requires.some, c.args.members.ok.0, c.in_default.ensures.cases.0)
+unreachable-requires g c = omega (arith, c.requires.some, c.args.members.now.ok.0, c.in_default.ensures.cases.0)
 
 pub loop-member-smaller : goal.loop-member-smaller
 loop-member-smaller g c =

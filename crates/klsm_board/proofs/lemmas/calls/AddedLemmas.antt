@@ -12,15 +12,11 @@ use Rattle.klsm_board.specs.declared.errors.TryInsertError.{TryInsertError}
 use Rattle.klsm_board.specs.declared.errors.TryInsertError.TheVariants as try_insert
 use Rattle.klsm_board.specs.declared.errors.InsertError.{InsertError}
 use Rattle.klsm_board.specs.declared.errors.InsertError.TheVariants as insert
+use Rattle.klsm_board.specs.Boards.{Gains}
 use Rattle.klsm_board.specs.Entries.{own_acquired, both_acquired, both_released}
 use Rattle.klsm_board.specs.Inserting.{Puts, Flushes, GivesUp, Inserts, LacksRoom, IsBelowLimit, RefusesInsert, RefusesInsertWaiting}
 use Rattle.klsm_board.proofs.lemmas.calls.EventLemmas.{events, IsQuiet, same_events}
 use Rattle.klsm_board.proofs.lemmas.calls.AddLemmas.{goes_on, inserts, deletes, own_quiet, both_quiet}
-
--- what a list inserts and deletes more than another
-pub record Gains (es es' : List Entry) (ins dels : List Item) : Type 0 where
-  pub inserted_are : inserted es' ≡ inserted es ++ ins
-  pub deleted_are : deleted es' ≡ deleted es ++ dels
 
 -- an insertion
 pub puts_events : (k t : ℕ) (misses : List ℕ) (es es' : List Entry) (x : Item) → Puts k t misses es es' x → events es' ≡ events es ++ Put x ∷ []

@@ -10,14 +10,15 @@ use Rattle.klsm_world.specs.declared.step.Event.{Event}
 use Rattle.klsm_world.specs.declared.step.Event.TheVariants.{Take, Early, Nothing, Spy}
 use Rattle.klsm_world.specs.declared.step.Entry.{Entry}
 use Rattle.klsm_world.specs.declared.step.Entry.TheVariants.{Acquired, Committed, Released, Missed}
-use Rattle.klsm_world.specs.OwnSteps.{own_part, event_at, inserted_by, deleted_by}
+use Rattle.klsm_world.specs.OwnSteps.{own_part, event_at, inserted, inserted_by, deleted, deleted_by}
 use Rattle.klsm_board.specs.declared.sizes.Sizes.{Sizes}
 use Rattle.klsm_board.specs.declared.errors.Busy.{Busy}
 use Rattle.klsm_board.specs.Entries.{own_acquired, both_acquired, both_released}
-use Rattle.klsm_board.specs.Deleting.{Passes, PassesBy, TakesOut, TakesEarly, TakesSpied, FindsNothing, Deletes, AnswersDeletion, MissesDeletion, victim_of, refilled, refilled_after}
+use Rattle.klsm_board.specs.Deleting.{Passes, PassesBy, SpiesAfter, TakesOut, TakesEarly, TakesSpied, FindsNothing, Deletes, AnswersDeletion, MissesDeletion, victim_of, refilled, refilled_after}
 use Rattle.klsm_board.proofs.lemmas.calls.EventLemmas.{events, IsQuiet, events_append, quiet_append, same_events}
 use Rattle.klsm_board.proofs.lemmas.calls.AddLemmas.{goes_on, inserts, deletes, own_quiet, both_quiet}
-use Rattle.klsm_board.proofs.lemmas.calls.AddedLemmas.{Gains, quiet_gains}
+use Rattle.klsm_board.specs.Boards.{Gains}
+use Rattle.klsm_board.proofs.lemmas.calls.AddedLemmas.{quiet_gains}
 use Rattle.klsm_board.proofs.lemmas.calls.RefillLemmas.{is_refilled}
 
 -- victims that were passed by
@@ -25,10 +26,22 @@ pass_is_quiet : (victim : ℕ) (added : List Entry) → PassesBy victim added �
 pass_is_quiet victim added (inl miss) = ap events miss.1
 pass_is_quiet victim added (inr empty) = ap events empty
 
-passes_are_quiet : (threads t n : ℕ) (added : List Entry) → Passes threads t n added → IsQuiet added
+pub passes_are_quiet : (threads t n : ℕ) (added : List Entry) → Passes threads t n added → IsQuiet added
 passes_are_quiet threads t zero added none = ap events none
 passes_are_quiet threads t (suc n) added some =
     ap events some.4 ∙ quiet_append some.0 some.1 (passes_are_quiet threads t n some.0 some.2) (pass_is_quiet (victim_of threads t (suc n)) some.1 some.3)
+
+-- items that were spied are neither inserted nor deleted
+pub spies_events : (threads t : ℕ) (es es' : List Entry) (moved : List Item) → (s : SpiesAfter threads t es es' moved) → events es' ≡ events es ++ Spy (victim_of threads t (suc s.passed)) moved ∷ []
+spies_events threads t es es' moved spies =
+    let one = spies.spies in let v : ℕ = victim_of threads t (suc spies.passed) in
+    goes_on es (es ++ spies.added) (Acquired (own_part v) one.found ∷ Committed (Spy v moved) ∷ Released (own_part v) ∷ []) es' (same_events es spies.added (es ++ spies.added) refl (passes_are_quiet threads t spies.passed spies.added spies.passes)) one.steps
+
+pub spies_same : (threads t : ℕ) (es es' : List Entry) (moved : List Item) → SpiesAfter threads t es es' moved → (inserted es' ≡ inserted es) × (deleted es' ≡ deleted es)
+spies_same threads t es es' moved spies =
+    let added : List Event = Spy (victim_of threads t (suc spies.passed)) moved ∷ [] in
+    let e = spies_events threads t es es' moved spies in
+    (inserts es es' added e ∙ append-nil (inserted es), deletes es es' added e ∙ append-nil (deleted es))
 
 -- a list that gained these events
 gained : (es es' : List Entry) (added : List Event) (ins dels : List Item) → events es' ≡ events es ++ added → (ins ≡ Rattle.std.specs.List.flat_map Rattle.klsm_world.specs.OwnSteps.inserted_by added) → (dels ≡ Rattle.std.specs.List.flat_map Rattle.klsm_world.specs.OwnSteps.deleted_by added) → Gains es es' ins dels
@@ -58,11 +71,9 @@ module _ (m : Sizes) (t : ℕ) (own shared : List Item) (es acquired es' : List 
 
   pub spied_events : (x : Item) → (takes : TakesSpied m t own shared acquired es' x) → events es' ≡ events es ++ Spy (victim_of m.threads t (suc takes.spies.passed)) takes.moved ∷ Take x ∷ []
   spied_events x takes =
-      let spies = takes.spies in let one = spies.spies in
+      let spies = takes.spies in
       let v : ℕ = victim_of m.threads t (suc spies.passed) in
-      let passed : events (acquired ++ spies.added) ≡ events es = same_events acquired spies.added (acquired ++ spies.added) refl (passes_are_quiet m.threads t spies.passed spies.added spies.passes) ∙ quiet in
-      let spied : events takes.spied ≡ events es ++ Spy v takes.moved ∷ [] =
-      goes_on es (acquired ++ spies.added) (Acquired (own_part v) one.found ∷ Committed (Spy v takes.moved) ∷ Released (own_part v) ∷ []) takes.spied passed one.steps in
+      let spied : events takes.spied ≡ events es ++ Spy v takes.moved ∷ [] = spies_events m.threads t acquired takes.spied takes.moved spies ∙ ap (λ z. z ++ Spy v takes.moved ∷ []) quiet in
       ap events takes.steps ∙ (events_append takes.spied (Committed (Take x) ∷ both_released t) ∙ (ap (λ z. z ++ Take x ∷ []) spied ∙ append_assoc (events es) (Spy v takes.moved ∷ []) (Take x ∷ [])))
 
   spied_gain : (x : Item) → TakesSpied m t own shared acquired es' x → Gains es es' [] (x ∷ [])

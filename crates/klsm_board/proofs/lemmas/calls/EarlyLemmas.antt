@@ -1,6 +1,6 @@
 -- The deletion by the front, from the own part in hand.
-use Rattle.std.proofs.Common.{◌≡◌, ℕ, ◌<◌, ◌≤◌, List, [], ◌∷◌, ◌++◌, refl, sym, ap, ◌∙◌, subst, append_assoc}
-use Rattle.std.specs.Prelude.{MatchBool, ltb}
+use Rattle.std.proofs.Common.{◌≡◌, ℕ, Bool, true, false, ◌<◌, ◌≤◌, List, [], ◌∷◌, ◌++◌, refl, sym, ap, ◌∙◌, subst, append_assoc}
+use Rattle.std.specs.Prelude.{MatchBool, ltb, Some}
 use Rattle.std.proofs.lemmas.Bool.{lt-ltb, le-ltb}
 use Rattle.atomic_table.specs.Table.{Me, rest}
 use Rattle.klsm_run.specs.declared.item.Item.{Item}
@@ -12,30 +12,43 @@ use Rattle.klsm_world.specs.declared.step.Entry.TheVariants.{Committed, Released
 use Rattle.klsm_world.specs.OwnSteps.{own_part}
 use Rattle.klsm_board.specs.declared.sizes.Sizes.{Sizes}
 use Rattle.klsm_board.specs.declared.rule.View.{View}
-use Rattle.klsm_board.specs.Rule.{IsReached}
-use Rattle.klsm_board.specs.Steps.{gain, mine}
+use Rattle.klsm_board.specs.Steps.{gain, mine, rest_of, AreReached}
 use Rattle.klsm_board.specs.Seats.{Has, own_in_hand}
 use Rattle.klsm_board.specs.Deleting.{TakesEarly}
+use Rattle.klsm_board.specs.Effects.{TakesEffect}
+use Rattle.klsm_board.proofs.lemmas.calls.EffectLemmas.{alone_skips_none, effect_at, lawful_there}
 use Rattle.klsm_board.proofs.lemmas.seats.CarryLemmas.{first_of, first_here, first_changed}
 use Rattle.klsm_board.proofs.lemmas.seats.TurnLemmas.{as_rest}
 use Rattle.klsm_board.proofs.lemmas.hands.CommitLemmas.{early_done}
 use Rattle.klsm_board.proofs.lemmas.hands.PossibleLemmas.{early_skips_few, early_keeps_order}
-use Rattle.klsm_board.proofs.lemmas.table.SeatLemmas.{has_set, mine_set}
+use Rattle.klsm_board.proofs.lemmas.table.SeatLemmas.{has_set, mine_set, set_others}
 
 module _ {S : Type 0} (content : S → List Item) (suits : ℕ → ℕ → S → Type 0) (m : Sizes) (t : ℕ) where
+  -- what a look at the front tells that deletes an item
+  abbrev Deleted : Item → ℕ → Me S View → Me S View → Type 0
+  Deleted x n me me' = (me' ≡ (gain me.0 (Committed (Early x n)), me.1)) × AreReached m t me'.0 × ((before : AreReached m t me.0) × (before.world.front ≡ n))
+
   -- what a look at the front tells
   abbrev LooksAt : Item → ℕ → Me S View → Me S View → Type 0
-  LooksAt x n me me' = MatchBool (ltb x.key n) ((me' ≡ (gain me.0 (Committed (Early x n)), me.1)) × IsReached m t (mine me'.0)) (me' ≡ me)
+  LooksAt x n me me' = MatchBool (ltb x.key n) (Deleted x n me me') (me' ≡ me)
 
   -- where the front is not above the least own key, the look leaves all as it is
   pub looked_only : (x : Item) (n : ℕ) (me me' : Me S View) → n ≤ x.key → LooksAt x n me me' → me' ≡ me
   looked_only x n me me' above told =
-      subst (λ b. MatchBool b ((me' ≡ (gain me.0 (Committed (Early x n)), me.1)) × IsReached m t (mine me'.0)) (me' ≡ me)) (le-ltb x.key n above) told
+      subst (λ b. MatchBool b (Deleted x n me me') (me' ≡ me)) (le-ltb x.key n above) told
 
   -- and else it commits an Early
-  pub looked_below : (x : Item) (n : ℕ) (me me' : Me S View) → x.key < n → LooksAt x n me me' → (me' ≡ (gain me.0 (Committed (Early x n)), me.1)) × IsReached m t (mine me'.0)
+  pub looked_below : (x : Item) (n : ℕ) (me me' : Me S View) → x.key < n → LooksAt x n me me' → Deleted x n me me'
   looked_below x n me me' below told =
-      subst (λ b. MatchBool b ((me' ≡ (gain me.0 (Committed (Early x n)), me.1)) × IsReached m t (mine me'.0)) (me' ≡ me)) (lt-ltb x.key n below) told
+      subst (λ b. MatchBool b (Deleted x n me me') (me' ≡ me)) (lt-ltb x.key n below) told
+
+  -- in both cases the lists behind the first stay
+  pub looked_others : (x : Item) (n : ℕ) (me me' : Me S View) → LooksAt x n me me' → rest_of me'.0 ≡ rest_of me.0
+  looked_others x n me me' told = by_test (ltb x.key n) told
+    where
+      by_test : (b : Bool) → MatchBool b (Deleted x n me me') (me' ≡ me) → rest_of me'.0 ≡ rest_of me.0
+      by_test true took = set_others content suits m t (Early x n) me me' took.0
+      by_test false same = ap (λ (z : Me S View). rest_of z.0) same
 
   module _ (own : List Item) (x : Item) (n : ℕ) (me me' : Me S View) (has : Has content suits m t (own_in_hand t own) me) (least : IsLeast x own) (below : x.key < n) (told : LooksAt x n me me') where
     -- what the seat has, once the item is out of the part
@@ -51,14 +64,25 @@ module _ {S : Type 0} (content : S → List Item) (suits : ℕ → ℕ → S →
 
     -- and what the deletion adds to the list
     pub takes_early : (es' : List Entry) → es' ≡ mine me'.0 ++ Released (own_part t) ∷ [] → TakesEarly m t own (mine me.0) es' x
-    takes_early es' released = let may : MayTakeEarly own x n = record { least = least; below = below } in let alone = has.carries.alone in record {
+    takes_early es' released = let may : MayTakeEarly own x n = record { least = least; below = below } in let acts = has.carries.acts in record {
       front = n;
       may = may;
       skips = early_skips_few content suits m t own me x n has may;
       keeps = early_keeps_order content suits m t own me x n has may;
-      steps = released ∙ (ap (λ z. z ++ Released (own_part t) ∷ []) (mine_set content suits m t (Early x n) me me' alone (looked_below x n me me' below told).0)
+      steps = released ∙ (ap (λ z. z ++ Released (own_part t) ∷ []) (mine_set content suits m t (Early x n) me me' acts (looked_below x n me me' below told).0)
           ∙ append_assoc (mine me.0) (Committed (Early x n) ∷ []) (Released (own_part t) ∷ []));
     }
+
+    -- and where it takes effect
+    pub early_effect : (es' : List Entry) → es' ≡ mine me'.0 ++ Released (own_part t) ∷ [] → TakesEffect m t (rest_of me.0) (mine me.0) es' (Some x)
+    unfolding takes_early
+    early_effect es' released =
+        let took = looked_below x n me me' below told in
+        let before = took.2.0 in
+        let skips = early_skips_few content suits m t own me x n has (record { least = least; below = below }) in
+        let keeps = early_keeps_order content suits m t own me x n has (record { least = least; below = below }) in
+        let takes = takes_early es' released in
+        effect_at m t me.0 (rest_of me.0) (mine me.0) es' (Released (own_part t) ∷ []) (Early x n) (Some x) has.carries.acts refl before (skips before.world (lawful_there m t me.0 before) before.list_is took.2.1, alone_skips_none m t me.0 x before (keeps before.world (lawful_there m t me.0 before) before.list_is took.2.1)) takes.steps refl refl refl
 
     slots_same : me'.1 ≡ me.1
     slots_same = ap (λ (z : Me S View). z.1) (looked_below x n me me' below told).0

@@ -15,7 +15,7 @@ use Rattle.klsm_board.proofs.lemmas.ending.ListLemmas.{got}
 use Rattle.klsm_world.proofs.lemmas.hands.HandLemmas.{choice_hit, choice_miss}
 
 -- two lists of one length are the same where what stands in one stands in the other
-same_lists : {A : Type 0} (xs ys : List A) → length xs ≡ length ys → ((i : ℕ) (a : A) → get_elem? ys i ≡ some a → get_elem? xs i ≡ some a) → xs ≡ ys
+pub same_lists : {A : Type 0} (xs ys : List A) → length xs ≡ length ys → ((i : ℕ) (a : A) → get_elem? ys i ≡ some a → get_elem? xs i ≡ some a) → xs ≡ ys
 same_lists [] [] same each = refl
 same_lists [] (y ∷ ys) same each = absurd (omega (arith, same))
 same_lists (x ∷ xs) [] same each = absurd (omega (arith, same))

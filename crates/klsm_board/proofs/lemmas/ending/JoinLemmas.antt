@@ -7,6 +7,7 @@ use Rattle.klsm_board.specs.declared.rule.Own.{Own}
 use Rattle.klsm_board.specs.declared.rule.View.{View}
 use Rattle.klsm_board.specs.Rule.{own, view}
 use Rattle.klsm_board.specs.Boards.{own_steps}
+use Rattle.klsm_board.specs.Steps.{rest_of}
 use Rattle.klsm_board.specs.Finishing.{Knows}
 
 -- what stands in a list also stands there with others behind it
@@ -34,7 +35,7 @@ module _ {CAP LEVELS : ℕ} where
       ap (λ z. get_elem? z (length left')) (whole_is ∙ (ap (λ z. z ++ gone) last ∙ append_assoc left' (member ∷ []) gone)) ∙ at_end left' member gone
 
   -- the last member is joined to a seat that knows those behind it
-  pub join_last : (whole left left' : List (Member CAP LEVELS)) (member : Member CAP LEVELS) (v w : View) → AreJoined whole left v → left ≡ left' ++ member ∷ [] → w.lists ≡ own member.number (own_steps member) ∷ []
+  pub join_last : (whole left left' : List (Member CAP LEVELS)) (member : Member CAP LEVELS) (v w : View) → AreJoined whole left v → left ≡ left' ++ member ∷ [] → w.lists ≡ own member.number (own_steps member) ∷ rest_of w
       → AreJoined whole left' (view (v.lists ++ w.lists))
   join_last whole left left' member v w joined last mine = record {
     gone = member ∷ joined.gone;
@@ -44,11 +45,11 @@ module _ {CAP LEVELS : ℕ} where
     where
       each : (i : ℕ) (z : Member CAP LEVELS) → get_elem? (member ∷ joined.gone) i ≡ some z → Knows (view (v.lists ++ w.lists)) z
       each zero z there = subst (λ x. Knows (view (v.lists ++ w.lists)) x) (some-injective member z there)
-          (length v.lists, ap (λ (l : List Own). get_elem? (v.lists ++ l) (length v.lists)) mine ∙ at_end v.lists (own member.number (own_steps member)) [])
+          (length v.lists, ap (λ (l : List Own). get_elem? (v.lists ++ l) (length v.lists)) mine ∙ at_end v.lists (own member.number (own_steps member)) (rest_of w))
       each (suc i) z there = let k = joined.knows i z there in (k.0, at_front v.lists w.lists k.0 (own z.number (own_steps z)) k.1)
 
   -- the first seat knows its own member
-  pub joins_one : (whole left : List (Member CAP LEVELS)) (member : Member CAP LEVELS) (v : View) → whole ≡ left ++ member ∷ [] → v.lists ≡ own member.number (own_steps member) ∷ [] → AreJoined whole left v
+  pub joins_one : (whole left : List (Member CAP LEVELS)) (member : Member CAP LEVELS) (v : View) → whole ≡ left ++ member ∷ [] → v.lists ≡ own member.number (own_steps member) ∷ rest_of v → AreJoined whole left v
   joins_one whole left member v last mine = record { gone = member ∷ []; whole_is = last; knows = only }
     where
       only : (i : ℕ) (z : Member CAP LEVELS) → get_elem? (member ∷ []) i ≡ some z → Knows v z

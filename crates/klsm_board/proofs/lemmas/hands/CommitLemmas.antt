@@ -15,8 +15,7 @@ use Rattle.std.specs.Prelude.{unwrap_or}
 use Rattle.std.proofs.lemmas.Option.{same_Some}
 use Rattle.klsm_board.specs.declared.sizes.Sizes.{Sizes}
 use Rattle.klsm_board.specs.declared.rule.View.{View}
-use Rattle.klsm_board.specs.Rule.{IsReached}
-use Rattle.klsm_board.specs.Steps.{mine}
+use Rattle.klsm_board.specs.Steps.{mine, AreReached}
 use Rattle.klsm_board.specs.Seats.{Carries, Has, CarriedOut, LeavesShared, SetsFront, own_in_hand, both_in_hand, three_in_hand}
 use Rattle.klsm_board.proofs.lemmas.hands.EventLemmas.{own_in_one, own_in_both, shared_in_both, own_in_three, victim_in_three, put_leaves, flush_leaves, take_leaves, early_leaves, spy_leaves, refill_leaves}
 
@@ -46,7 +45,7 @@ module _ {S : Type 0} (content : S → List Item) (suits : ℕ → ℕ → S →
   has_still hand me me' has same carries = record {
     carries = carries;
     hand_is = still hand me me' has same;
-    reached = subst (λ v. IsReached m t (mine v)) (sym same) has.reached;
+    reached = subst (λ v. AreReached m t v) (sym same) has.reached;
   }
 
   holds_still : (hand : Hand) (me me' : Me S View) (p : ℕ) (c : List Item) → Has content suits m t hand me → me'.0 ≡ me.0 → Holds hand p c → Holds (hand_of t (mine me'.0)) p c

@@ -1,5 +1,6 @@
 -- What a member knows of the parts in its hand, as its list is that of a possible world.
 use Rattle.std.proofs.Common.{◌≢◌, ℕ, ◌+◌, List, length, ap, ◌∙◌}
+use Rattle.std.proofs.Math.Logic.{∥∥₁_map}
 use Rattle.std.specs.List.{Contains}
 use Rattle.atomic_table.specs.Table.{Me}
 use Rattle.klsm_run.specs.declared.item.Item.{Item}
@@ -14,7 +15,7 @@ use Rattle.klsm_world.proofs.lemmas.theorems.RunLemmas.{schedules_keep_lawful}
 use Rattle.klsm_board.specs.declared.sizes.Sizes.{Sizes}
 use Rattle.klsm_board.specs.declared.rule.View.{View}
 use Rattle.klsm_board.specs.Rule.{world_limits, IsReached}
-use Rattle.klsm_board.specs.Steps.{mine}
+use Rattle.klsm_board.specs.Steps.{mine, AreReached}
 use Rattle.klsm_board.specs.Seats.{Has, own_in_hand, both_in_hand}
 use Rattle.klsm_board.proofs.lemmas.hands.EventLemmas.{own_in_one, own_in_both, shared_in_both}
 
@@ -27,19 +28,36 @@ possible m t es reached = record {
   same = reached.list_is;
 }
 
+-- what is known of several lists is known of the first
+pub alone_reached : (m : Sizes) (t : ℕ) (v : View) → AreReached m t v → IsReached m t (mine v)
+alone_reached m t v reached = record {
+  world = reached.world;
+  schedule = reached.schedule;
+  leads = reached.leads;
+  within = reached.within;
+  list_is = reached.list_is;
+  thread = reached.thread;
+}
+
+pub each_reached : (m : Sizes) (t : ℕ) (v : View) → ∥ AreReached m t v ∥₁ → ∥ IsReached m t (mine v) ∥₁
+each_reached m t v some = ∥∥₁_map some (λ r. alone_reached m t v r)
+
+pub possible_of : (m : Sizes) (t : ℕ) (v : View) → AreReached m t v → IsPossible (world_limits m) m.quota t (mine v)
+possible_of m t v reached = possible m t (mine v) (alone_reached m t v reached)
+
 module _ {S : Type 0} (content : S → List Item) (suits : ℕ → ℕ → S → Type 0) (m : Sizes) (t : ℕ) where
   -- two parts in hand share no item
   pub apart_in_hand : (hand : Hand) (me : Me S View) (p q : ℕ) (c d : List Item) → Has content suits m t hand me → p ≢ q → Holds hand p c → Holds hand q d → ShareNone c d
   apart_in_hand hand me p q c d has apart holds holds' =
       let reached = has.reached in
-      hands_are_apart (world_limits m) m.quota t (mine me.0) p q c d (possible m t (mine me.0) reached) reached.thread apart
+      hands_are_apart (world_limits m) m.quota t (mine me.0) p q c d (possible_of m t me.0 reached) reached.thread apart
       (ap (λ h. found_in h p) has.hand_is ∙ holds) (ap (λ h. found_in h q) has.hand_is ∙ holds')
 
   -- and the next item is in none of them
   pub new_in_hand : (hand : Hand) (me : Me S View) (p : ℕ) (c : List Item) (x : Item) → Has content suits m t hand me → BearsStamp t (length (inserted (mine me.0))) x → Holds hand p c → Contains c x → ⊥
   new_in_hand hand me p c x has bears holds =
       let reached = has.reached in
-      next_is_new_in_hand (world_limits m) m.quota t (mine me.0) p c x (possible m t (mine me.0) reached) reached.thread bears
+      next_is_new_in_hand (world_limits m) m.quota t (mine me.0) p c x (possible_of m t me.0 reached) reached.thread bears
       (ap (λ h. found_in h p) has.hand_is ∙ holds)
 
   -- a deletion from both parts in hand skips few items

@@ -60,7 +60,7 @@ module _ {S : Type 0} (content : S → List Item) (suits : ℕ → ℕ → S →
       let f = first_of p c hand me.1 carries.contents_are carries.suited in
       let same : rest me.1 ≡ f.behind = ap (λ (z : List (ℕ × S)). rest z) f.slots_are in
       record {
-        alone = carries.alone;
+        acts = carries.acts;
         contents_are = λ i. (p, is i) ∷ (ap (contents content suits m t) same ∙ f.behind_are) i;
         suited = (suit, subst (AreSuited content suits m t) (sym same) f.behind_suited);
       }
@@ -93,7 +93,7 @@ module _ {S : Type 0} (content : S → List Item) (suits : ℕ → ℕ → S →
   pub two_carried : (p q : ℕ) (c d : List Item) (me me' : Me S View) (y z : S) → IsMine me.0 t → me'.0 ≡ me.0 → me'.1 ≡ (p, y) ∷ (q, z) ∷ [] → content y ≡ c → content z ≡ d → suits m.k p y → suits m.k q z
       → Carries content suits m t ((p, c) ∷ (q, d) ∷ []) me'
   two_carried p q c d me me' y z alone same slots y_is z_is y_suits z_suits = record {
-    alone = subst (λ v. IsMine v t) (sym same) alone;
+    acts = subst (λ v. IsMine v t) (sym same) alone;
     contents_are = ap (contents content suits m t) slots ∙ λ i. (p, y_is i) ∷ (q, z_is i) ∷ [];
     suited = subst (AreSuited content suits m t) (sym slots) (y_suits, (z_suits, tt));
   }

@@ -23,7 +23,7 @@ module _ {S : Type 0} (content : S → List Item) (suits : ℕ → ℕ → S →
   lends own shared me exchanged after vacant is_so carries exchange turn same =
       let two = two_of content suits m t shared_part (own_part t) shared own me.1 carries.contents_are carries.suited in
       record {
-        alone = subst (λ v. IsMine v t) (sym same) carries.alone;
+        acts = subst (λ v. IsMine v t) (sym same) carries.acts;
         slot = two.second;
         vacant = vacant;
         slots_are = behind me.1 exchanged.1 after.1 (shared_part, two.first) (own_part t, two.second) (shared_part, vacant) two.slots_are exchange turn;
@@ -46,7 +46,7 @@ module _ {S : Type 0} (content : S → List Item) (suits : ℕ → ℕ → S →
     -- the own part is changed
     pub lends_changed : (own' : List Item) (changed : S) → content changed ≡ own' → suits m.k (own_part t) changed → LendsShared content suits is_vacant m t own' (me.0, (own_part t, changed) ∷ rest me.1)
     lends_changed own' changed is suit = record {
-      alone = k.alone;
+      acts = k.acts;
       slot = changed;
       vacant = k.vacant;
       slots_are = ap (λ (z : List (ℕ × S)). (own_part t, changed) ∷ rest z) k.slots_are;
@@ -65,4 +65,4 @@ module _ {S : Type 0} (content : S → List Item) (suits : ℕ → ℕ → S →
     returned turned_me after shared turn exchange same suit =
         let slots : after.1 ≡ (shared_part, shared) ∷ (own_part t, k.slot) ∷ [] =
         exchange ∙ ap (λ (z : List (ℕ × S)). (shared_part, shared) ∷ rest z) (turn ∙ ap (λ (z : List (ℕ × S)). turned z) k.slots_are) in
-        two_carried content suits m t shared_part (own_part t) (content shared) own me after shared k.slot k.alone same slots (λ i. content shared) k.content_is suit k.suits_there
+        two_carried content suits m t shared_part (own_part t) (content shared) own me after shared k.slot k.acts same slots (λ i. content shared) k.content_is suit k.suits_there

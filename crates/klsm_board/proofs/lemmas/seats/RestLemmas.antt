@@ -20,7 +20,7 @@ use Rattle.klsm_board.specs.Steps.{mine}
 use Rattle.klsm_board.specs.Seats.{AreSuited, Has, Stands, contents}
 use Rattle.klsm_board.specs.Slots.{slot_content, IsSlotOf}
 use Rattle.klsm_board.specs.Members.{AreSizes, IsHolding, IsResting, most_deletions}
-use Rattle.klsm_board.proofs.lemmas.hands.PossibleLemmas.{possible}
+use Rattle.klsm_board.proofs.lemmas.hands.PossibleLemmas.{possible_of}
 use Rattle.klsm_board.proofs.lemmas.seats.CarryLemmas.{none_behind}
 
 -- what a hand with one part has of it
@@ -42,7 +42,7 @@ module _ (capacity : ℕ) (m : Sizes) (sizes : AreSizes capacity m) (t : ℕ) wh
   pub stands_at_rest : (i d : ℕ) (me : Me (Slot PartState PartState) View) → IsResting m t i d me → Stands slot_content IsSlotOf m t [] me
   stands_at_rest i d me rests = record {
     carries = record {
-      alone = rests.alone;
+      acts = rests.acts;
       contents_are = ap (contents slot_content IsSlotOf m t) rests.carries_none;
       suited = subst (AreSuited slot_content IsSlotOf m t) (sym rests.carries_none) tt;
     };
@@ -55,12 +55,12 @@ module _ (capacity : ℕ) (m : Sizes) (sizes : AreSizes capacity m) (t : ℕ) wh
       let carries = has.carries in let reached = has.reached in
       let room : length (inserted (mine me.0)) ≤ m.quota = subst (λ es. length (inserted es) ≤ m.quota) reached.list_is (reached.within t reached.thread) in
       let most : ℕ = m.threads * m.quota in
-      let few : length (deleted (mine me.0)) ≤ most = own_deletions_are_few (world_limits m) m.quota t (mine me.0) (possible m t (mine me.0) reached) reached.thread in
+      let few : length (deleted (mine me.0)) ≤ most = own_deletions_are_few (world_limits m) m.quota t (mine me.0) (possible_of m t me.0 reached) reached.thread in
       let more : ℕ = 16 * m.quota in
       let a : most ≤ more = mul-le-mul_right m.quota sizes.threads in
       let b : more ≤ most_deletions = mul-le-mul_left 16 sizes.quota in
       record {
-        alone = carries.alone;
+        acts = carries.acts;
         carries_none = none_behind slot_content IsSlotOf m t me.1 carries.contents_are;
         hand_is = has.hand_is;
         insertions_are = counts;
@@ -79,7 +79,7 @@ module _ (capacity : ℕ) (m : Sizes) (sizes : AreSizes capacity m) (t : ℕ) wh
       let carries = has.carries in let reached = has.reached in
       let same : content_in (hand_of t (mine me.0)) lock ≡ found = content_held lock found (hand_of t (mine me.0)) has.hand_is in
       record {
-        alone = carries.alone;
+        acts = carries.acts;
         contents_are = carries.contents_are ∙ sym has.hand_is;
         suited = ∣ carries.suited ∣₁;
         hand_is = has.hand_is ∙ ap (λ c. (lock, c) ∷ []) (sym same);
@@ -97,7 +97,7 @@ module _ (capacity : ℕ) (m : Sizes) (sizes : AreSizes capacity m) (t : ℕ) wh
       → Stands slot_content IsSlotOf m t ((lock, content_in (hand_of t (mine me.0)) lock) ∷ []) me
   stands_holding i d lock count least me holds = record {
     carries = record {
-      alone = holds.alone;
+      acts = holds.acts;
       contents_are = holds.contents_are ∙ holds.hand_is;
       suited = ∥∥₁_elim holds.suited (suited-prop m t me.1) (λ x. x);
     };

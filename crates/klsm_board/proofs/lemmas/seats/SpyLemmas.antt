@@ -59,7 +59,7 @@ module _ {S : Type 0} (content : S → List Item) (suits : ℕ → ℕ → S →
   three_left c' d' me me3 me4 me5 vacant changed back_in carries here turns exchanged same c_is c_suits d_is d_suits =
       let slots = back_two me3.1 me4.1 me5.1 (q, here.third) (p, vacant) (r, here.second) (q, changed) (p, back_in) here.slots_are turns exchanged in
       record {
-        alone = subst (λ v. IsMine v t) (sym same) carries.alone;
+        acts = subst (λ v. IsMine v t) (sym same) carries.acts;
         contents_are = ap (contents content suits m t) slots ∙ λ i. (p, c_is i) ∷ (r, here.second_is i) ∷ (q, d_is i) ∷ [];
         suited = subst (AreSuited content suits m t) (sym slots) (c_suits, (here.second_suits, (d_suits, tt)));
       }

@@ -18,20 +18,21 @@ use Rattle.klsm_world.specs.Worlds.{World, steps_of, home_of}
 use Rattle.klsm_world.specs.Schedules.{Leads}
 use Rattle.std.specs.Prelude.{unwrap_or}
 use Rattle.klsm_board.specs.declared.sizes.Sizes.{Sizes}
+use Rattle.klsm_board.specs.declared.rule.Own.{Own}
 use Rattle.klsm_board.specs.declared.rule.View.{View}
-use Rattle.klsm_board.specs.Rule.{place, lock_words, front_word, world_limits, content_at, board_world, Ruled, IsReached}
-use Rattle.klsm_board.specs.Steps.{on_part, gain, attempted}
+use Rattle.klsm_board.specs.Rule.{place, lock_words, front_word, world_limits, content_at, board_world, Ruled}
+use Rattle.klsm_board.specs.Steps.{AreReached, on_part, gain, attempted}
 use Rattle.klsm_board.proofs.lemmas.table.PlaceLemmas.{at_place, front_stays}
-use Rattle.klsm_board.proofs.lemmas.table.KeepLemmas.{Goes, world, alone, home_back, keeps_rule, keeps_reached, agrees, same_steps, inside, few_more, word_is, word_set, stays}
+use Rattle.klsm_board.proofs.lemmas.table.KeepLemmas.{Goes, world, acting, home_back, keeps_rule, keeps_reached, agrees, same_steps, inside, few_more, word_is, word_set, stays}
 
 module _ {S : Type 0} (content : S → List Item) (suits : ℕ → ℕ → S → Type 0) (m : Sizes) where
-  module _ (s : State S View) (r : Ruled content suits m s) (id t : ℕ) (xs : List Entry) (at : get_elem? s.views id ≡ some (alone content suits m t xs)) (lt : t < m.threads)
+  module _ (s : State S View) (r : Ruled content suits m s) (id t : ℕ) (xs : List Entry) (behind : List Own) (at : get_elem? s.views id ≡ some (acting content suits m t xs behind)) (lt : t < m.threads)
       (slots p : ℕ) (cs : List (ℕ × S)) (le : p ≤ m.threads) (away : found_in (hand_of t xs) p ≡ None) where
     abbrev w0 : World
     w0 = world content suits m s r.lists
 
     abbrev me0 : Me S View
-    me0 = (alone content suits m t xs, cs)
+    me0 = (acting content suits m t xs behind, cs)
 
     abbrev Told : ℕ → Me S View → Type 0
     Told = on_part (attempted content suits m t) (step slots (place p) 0 (t + 1) none) me0
@@ -39,9 +40,9 @@ module _ {S : Type 0} (content : S → List Item) (suits : ℕ → ℕ → S →
     -- the part is free, and comes to the seat
     wins : get_or s.words (place p) 0 ≡ 0 → Goes content suits m s id p cs Told (t + 1)
     wins e =
-        let a = agrees content suits m s r id t xs at lt in
-        let same = same_steps content suits m s r id t xs at lt in
-        let free : get_or (lock_words m s.words) p 0 ≡ 0 = word_is content suits m s r id t xs at lt p le ∙ e in
+        let a = agrees content suits m s r id t xs behind at lt in
+        let same = same_steps content suits m s r id t xs behind at lt in
+        let free : get_or (lock_words m s.words) p 0 ≡ 0 = word_is content suits m s r id t xs behind at lt p le ∙ e in
         let f = a.free p le free in
         let b = home_back content suits m s.homes p f.0 f.1 in
         let y : S = b.0 in
@@ -54,20 +55,20 @@ module _ {S : Type 0} (content : S → List Item) (suits : ℕ → ℕ → S →
           before = w0;
           led = r.leads;
           legal = record { thread = lt; part = le; free = free };
-          after = λ i. record { words = word_set content suits m s r id t xs at lt p (t + 1) le i; front = front_stays m s.words p (t + 1) le i; homes = map-set (content_at content) s.homes p none i; lists = set r.lists t (sym same i ++ Acquired p (hc i) ∷ []) };
+          after = λ i. record { words = word_set content suits m s r id t xs behind at lt p (t + 1) le i; front = front_stays m s.words p (t + 1) le i; homes = map-set (content_at content) s.homes p none i; lists = set r.lists t (sym same i ++ Acquired p (hc i) ∷ []) };
         } in
         let old_suits = r.suited in
-        let stands : get_elem? ls t ≡ some es = set_here r.lists t es (inside content suits m s r id t xs at lt) in
+        let stands : get_elem? ls t ≡ some es = set_here r.lists t es (inside content suits m s r id t xs behind at lt) in
         let else : (u : ℕ) → u ≢ t → get_elem? ls u ≡ get_elem? r.lists u = (λ u n. set_else r.lists t u es n) in
-        let few = few_more content suits m s r id t xs at lt (Acquired p (content y)) refl in
-        let reached : IsReached m t es = keeps_reached content suits m s r t es lt ws (set s.homes p none) ls ms led stands else few in
-        let now : Me S View = (alone content suits m t es, (p, y) ∷ cs) in
+        let few = few_more content suits m s r id t xs behind at lt (Acquired p (content y)) refl in
+        let reached : AreReached m t (acting content suits m t es behind) = keeps_reached content suits m s r id t xs es behind at lt ws (set s.homes p none) ls ms led stands else few in
+        let now : Me S View = (acting content suits m t es behind, (p, y) ∷ cs) in
         let lost : Me S View = (gain me0.0 (Missed p (get_or s.words (place p) 0 - 1)), cs) in
         let won : S → Me S View = (λ z. (gain me0.0 (Acquired p (content z)), (p, z) ∷ cs)) in (
-          alone content suits m t es,
+          acting content suits m t es behind,
           takes p y,
           b.1,
-          keeps_rule content suits m s r id t xs es at lt ws (set s.homes p none) ls ms (stays content suits m s r id t xs at lt p (t + 1)) led stands else
+          keeps_rule content suits m s r id t xs es behind at lt ws (set s.homes p none) ls ms (stays content suits m s r id t xs behind at lt p (t + 1)) led stands else
               (λ q z h. ⊎_elim (λ (k : (q ≡ p) × (none ≡ some z)). absurd (some-ne-none z (sym k.1))) (λ (k : (q ≢ p) × (get_elem? s.homes q ≡ some (some z))). old_suits q z k.1) (at_set s.homes p q none (some z) h))
               few,
           at_place (λ q. attempted content suits m t (step slots q 0 (t + 1) none) me0 (get_or s.words (place p) 0) now) p (
@@ -81,10 +82,10 @@ module _ {S : Type 0} (content : S → List Item) (suits : ℕ → ℕ → S →
     -- another thread holds it
     loses : get_or s.words (place p) 0 ≢ 0 → Goes content suits m s id p cs Told (get_or s.words (place p) 0)
     loses ne =
-        let a = agrees content suits m s r id t xs at lt in
-        let same = same_steps content suits m s r id t xs at lt in
+        let a = agrees content suits m s r id t xs behind at lt in
+        let same = same_steps content suits m s r id t xs behind at lt in
         let n : ℕ = get_or s.words (place p) 0 in
-        let same_word : get_or (lock_words m s.words) p 0 ≡ n = word_is content suits m s r id t xs at lt p le in
+        let same_word : get_or (lock_words m s.words) p 0 ≡ n = word_is content suits m s r id t xs behind at lt p le in
         let ne' : get_or (lock_words m s.words) p 0 ≢ 0 = (λ z. ne (sym same_word ∙ z)) in
         let k = a.held p le ne' in
         let some_of = k.held in
@@ -102,17 +103,17 @@ module _ {S : Type 0} (content : S → List Item) (suits : ℕ → ℕ → S →
           legal = record { thread = lt; part = le; taken = ne'; by_another = λ e. other (sym same_word ∙ e) };
           after = λ i. record { words = lock_words m (set-get_or s.words (place p) 0 i); front = front_word m (set-get_or s.words (place p) 0 i); homes = map (content_at content) s.homes; lists = set r.lists t (sym same i ++ Missed p (sym same_word i - 1) ∷ []) };
         } in
-        let stands : get_elem? ls t ≡ some es = set_here r.lists t es (inside content suits m s r id t xs at lt) in
+        let stands : get_elem? ls t ≡ some es = set_here r.lists t es (inside content suits m s r id t xs behind at lt) in
         let else : (u : ℕ) → u ≢ t → get_elem? ls u ≡ get_elem? r.lists u = (λ u d. set_else r.lists t u es d) in
-        let few = few_more content suits m s r id t xs at lt (Missed p (n - 1)) refl in
-        let reached : IsReached m t es = keeps_reached content suits m s r t es lt ws s.homes ls ms led stands else few in
-        let now : Me S View = (alone content suits m t es, cs) in
+        let few = few_more content suits m s r id t xs behind at lt (Missed p (n - 1)) refl in
+        let reached : AreReached m t (acting content suits m t es behind) = keeps_reached content suits m s r id t xs es behind at lt ws s.homes ls ms led stands else few in
+        let now : Me S View = (acting content suits m t es behind, cs) in
         let lost : Me S View = (gain me0.0 (Missed p (n - 1)), cs) in
         let won : S → Me S View = (λ z. (gain me0.0 (Acquired p (content z)), (p, z) ∷ cs)) in (
-          alone content suits m t es,
+          acting content suits m t es behind,
           keeps,
           tt,
-          keeps_rule content suits m s r id t xs es at lt ws s.homes ls ms (stays content suits m s r id t xs at lt p n) led stands else r.suited few,
+          keeps_rule content suits m s r id t xs es behind at lt ws s.homes ls ms (stays content suits m s r id t xs behind at lt p n) led stands else r.suited few,
           at_place (λ q. attempted content suits m t (step slots q 0 (t + 1) none) me0 n now) p (
             subst (λ b'. MatchBool b' ((z : S) × suits m.k p z × (now ≡ won z)) ((now ≡ lost) × (n ≤ m.threads)))
                 (sym (ne_eqb n 0 ne)) (refl, small),
@@ -121,6 +122,6 @@ module _ {S : Type 0} (content : S → List Item) (suits : ℕ → ℕ → S →
         )
 
   -- a try to acquire a part that is not in the thread's hand
-  pub acquire_allows : (slots id p t : ℕ) (xs : List Entry) (cs : List (ℕ × S)) → t < m.threads → p ≤ m.threads → found_in (hand_of t xs) p ≡ None
-      → Allows (Ruled content suits m) slots id (alone content suits m t xs, cs) (place p) (λ n. either (n == 0) (t + 1) n) (on_part (attempted content suits m t) (step slots (place p) 0 (t + 1) none) (alone content suits m t xs, cs))
-  acquire_allows slots id p t xs cs lt le away s r deep at small = exchanged (get_or s.words (place p) 0) 0 (t + 1) (Goes content suits m s id p cs (on_part (attempted content suits m t) (step slots (place p) 0 (t + 1) none) (alone content suits m t xs, cs))) (wins s r id t xs at lt slots p cs le away) (loses s r id t xs at lt slots p cs le away)
+  pub acquire_allows : (slots id p t : ℕ) (xs : List Entry) (behind : List Own) (cs : List (ℕ × S)) → t < m.threads → p ≤ m.threads → found_in (hand_of t xs) p ≡ None
+      → Allows (Ruled content suits m) slots id (acting content suits m t xs behind, cs) (place p) (λ n. either (n == 0) (t + 1) n) (on_part (attempted content suits m t) (step slots (place p) 0 (t + 1) none) (acting content suits m t xs behind, cs))
+  acquire_allows slots id p t xs behind cs lt le away s r deep at small = exchanged (get_or s.words (place p) 0) 0 (t + 1) (Goes content suits m s id p cs (on_part (attempted content suits m t) (step slots (place p) 0 (t + 1) none) (acting content suits m t xs behind, cs))) (wins s r id t xs behind at lt slots p cs le away) (loses s r id t xs behind at lt slots p cs le away)

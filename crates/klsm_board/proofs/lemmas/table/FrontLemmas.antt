@@ -24,12 +24,13 @@ use Rattle.klsm_world.specs.Schedules.{NamesFront, MayStep, front_after, Leads}
 use Rattle.klsm_world.proofs.lemmas.hands.PartContentLemmas.{content_held}
 use Rattle.klsm_world.proofs.lemmas.theorems.RunLemmas.{schedules_keep_lawful}
 use Rattle.klsm_board.specs.declared.sizes.Sizes.{Sizes}
+use Rattle.klsm_board.specs.declared.rule.Own.{Own}
 use Rattle.klsm_board.specs.declared.rule.View.{View}
-use Rattle.klsm_board.specs.Rule.{place, lock_words, front_word, world_limits, content_at, board_world, Ruled, IsReached}
-use Rattle.klsm_board.specs.Steps.{gain, glanced, looked, set_front}
+use Rattle.klsm_board.specs.Rule.{place, lock_words, front_word, world_limits, content_at, board_world, Ruled}
+use Rattle.klsm_board.specs.Steps.{AreReached, gain, glanced, looked, set_front}
 use Rattle.klsm_board.specs.Seats.{QuotaAllows, LeavesShared, SetsFront}
 use Rattle.klsm_board.proofs.lemmas.table.PlaceLemmas.{locks_stay, front_set_at}
-use Rattle.klsm_board.proofs.lemmas.table.KeepLemmas.{Goes, world, alone, keeps_rule, keeps_reached, here, same_steps, inside, few_now, few_more, room_for, stays, each_within}
+use Rattle.klsm_board.proofs.lemmas.table.KeepLemmas.{Goes, world, acting, reached_now, keeps_rule, keeps_reached, here, same_steps, inside, few_now, few_more, room_for, stays, each_within}
 
 -- an event that leaves the shared part names no front
 pub no_front : (word t : ℕ) (hand : Hand) (event : Event) → LeavesShared t hand event → NamesFront word event
@@ -75,16 +76,16 @@ front_is_set word t hand (Spy victim moved) front sets = absurd sets
 front_is_set word t hand (Refill moved) front sets = sets
 
 module _ {S : Type 0} (content : S → List Item) (suits : ℕ → ℕ → S → Type 0) (m : Sizes) where
-  module _ (s : State S View) (r : Ruled content suits m s) (id t : ℕ) (xs : List Entry) (at : get_elem? s.views id ≡ some (alone content suits m t xs)) (lt : t < m.threads)
+  module _ (s : State S View) (r : Ruled content suits m s) (id t : ℕ) (xs : List Entry) (behind : List Own) (at : get_elem? s.views id ≡ some (acting content suits m t xs behind)) (lt : t < m.threads)
       (slots : ℕ) (cs : List (ℕ × S)) where
     abbrev w0 : World
     w0 = world content suits m s r.lists
 
     -- the front is set, and some event that fits is committed by it
     sets : (fits : Event → Type 0) (e : Event) (front : ℕ) → fits e → MayCommit m.k t (hand_of t xs) (length (inserted xs)) e → QuotaAllows m.quota xs e → SetsFront t (hand_of t xs) e front
-        → Goes content suits m s id (m.threads + 1) cs (λ _. set_front fits m t (step slots (place (m.threads + 1)) front 0 none) (alone content suits m t xs, cs) front) front
+        → Goes content suits m s id (m.threads + 1) cs (λ _. set_front fits m t (step slots (place (m.threads + 1)) front 0 none) (acting content suits m t xs behind, cs) front) front
     sets fits e front fit may room set_by =
-        let same : steps_of w0 t ≡ xs = same_steps content suits m s r id t xs at lt in
+        let same : steps_of w0 t ≡ xs = same_steps content suits m s r id t xs behind at lt in
         let es : List Entry = xs ++ Committed e ∷ [] in
         let ls : List (List Entry) = set r.lists t es in
         let ms : List WorldStep = Commit t e ∷ r.schedule in
@@ -97,23 +98,23 @@ module _ {S : Type 0} (content : S → List Item) (suits : ℕ → ℕ → S →
           legal = record { thread = lt; commit = may'; front = front_named w0.front t (hand_of t xs) e front set_by };
           after = λ i. record { words = locks_stay m s.words front i; front = (front_set_at m s.words front r.wide ∙ front_is_set w0.front t (hand_of t (steps_of w0 t)) e front set') i; homes = map (content_at content) s.homes; lists = set r.lists t (sym same i ++ Committed e ∷ []) };
         } in
-        let stands : get_elem? ls t ≡ some es = set_here r.lists t es (inside content suits m s r id t xs at lt) in
+        let stands : get_elem? ls t ≡ some es = set_here r.lists t es (inside content suits m s r id t xs behind at lt) in
         let else : (u : ℕ) → u ≢ t → get_elem? ls u ≡ get_elem? r.lists u = (λ u d. set_else r.lists t u es d) in
-        let few : length (inserted es) ≤ m.quota = room_for m.quota xs e room (few_now content suits m s r id t xs at lt) in (
-          alone content suits m t es,
+        let few : length (inserted es) ≤ m.quota = room_for m.quota xs e room (few_now content suits m s r id t xs behind at lt) in (
+          acting content suits m t es behind,
           keeps,
           tt,
-          keeps_rule content suits m s r id t xs es at lt ws s.homes ls ms (stays content suits m s r id t xs at lt (m.threads + 1) front) led stands else r.suited few,
-          (e, fit, refl, keeps_reached content suits m s r t es lt ws s.homes ls ms led stands else few),
+          keeps_rule content suits m s r id t xs es behind at lt ws s.homes ls ms (stays content suits m s r id t xs behind at lt (m.threads + 1) front) led stands else r.suited few,
+          (e, fit, refl, keeps_reached content suits m s r id t xs es behind at lt ws s.homes ls ms led stands else few),
         )
 
     -- the front is loaded, and the least item of the own part is deleted where its key is below it
     looks_below : (own : List Item) (x : Item) → Holds (hand_of t xs) (own_part t) own → IsLeast x own → ltb x.key (front_word m s.words) ≡ true
-        → Goes content suits m s id (m.threads + 1) cs (looked x m t (step slots (place (m.threads + 1)) 0 0 none) (alone content suits m t xs, cs)) (front_word m s.words)
+        → Goes content suits m s id (m.threads + 1) cs (looked x m t (step slots (place (m.threads + 1)) 0 0 none) (acting content suits m t xs behind, cs)) (front_word m s.words)
     looks_below own x holds least below =
         let n : ℕ = front_word m s.words in
         let e : Event = Early x n in
-        let same : steps_of w0 t ≡ xs = same_steps content suits m s r id t xs at lt in
+        let same : steps_of w0 t ≡ xs = same_steps content suits m s r id t xs behind at lt in
         let es : List Entry = xs ++ Committed e ∷ [] in
         let ls : List (List Entry) = set r.lists t es in
         let ms : List WorldStep = Commit t e ∷ r.schedule in
@@ -125,69 +126,68 @@ module _ {S : Type 0} (content : S → List Item) (suits : ℕ → ℕ → S →
           legal = record { thread = lt; commit = record { own = own; holds_own = holds'; fits = record { least = least; below = ltb-true x.key n below } }; front = refl };
           after = λ i. record { words = lock_words m (set-get_or s.words (place (m.threads + 1)) 0 i); front = front_word m (set-get_or s.words (place (m.threads + 1)) 0 i); homes = map (content_at content) s.homes; lists = set r.lists t (sym same i ++ Committed e ∷ []) };
         } in
-        let stands : get_elem? ls t ≡ some es = set_here r.lists t es (inside content suits m s r id t xs at lt) in
+        let stands : get_elem? ls t ≡ some es = set_here r.lists t es (inside content suits m s r id t xs behind at lt) in
         let else : (u : ℕ) → u ≢ t → get_elem? ls u ≡ get_elem? r.lists u = (λ u d. set_else r.lists t u es d) in
-        let few = few_more content suits m s r id t xs at lt (Committed e) refl in
-        let now : Me S View = (alone content suits m t es, cs) in
-        let before : Me S View = (alone content suits m t xs, cs) in
-        let Took : Type 0 = (now ≡ (gain (before.0) (Committed e), cs)) × IsReached m t es in (
-          alone content suits m t es,
+        let few = few_more content suits m s r id t xs behind at lt (Committed e) refl in
+        let now : Me S View = (acting content suits m t es behind, cs) in
+        let before : Me S View = (acting content suits m t xs behind, cs) in
+        let seen = reached_now content suits m s r id t xs behind at lt in
+        let Took : Type 0 = (now ≡ (gain (before.0) (Committed e), cs)) × AreReached m t now.0 × ((z : AreReached m t before.0) × (z.world.front ≡ n)) in (
+          acting content suits m t es behind,
           keeps,
           tt,
-          keeps_rule content suits m s r id t xs es at lt ws s.homes ls ms (stays content suits m s r id t xs at lt (m.threads + 1) n) led stands else r.suited few,
-          subst (λ b. MatchBool b Took (now ≡ before)) (sym below) (refl, keeps_reached content suits m s r t es lt ws s.homes ls ms led stands else few),
+          keeps_rule content suits m s r id t xs es behind at lt ws s.homes ls ms (stays content suits m s r id t xs behind at lt (m.threads + 1) n) led stands else r.suited few,
+          subst (λ b. MatchBool b Took (now ≡ before)) (sym below) (refl, keeps_reached content suits m s r id t xs es behind at lt ws s.homes ls ms led stands else few, (seen.0, ap (λ (w : World). w.front) seen.1)),
         )
 
-    -- or all stays as it is
-    looks_only : (x : Item) → ltb x.key (front_word m s.words) ≡ false
-        → Goes content suits m s id (m.threads + 1) cs (looked x m t (step slots (place (m.threads + 1)) 0 0 none) (alone content suits m t xs, cs)) (front_word m s.words)
-    looks_only x above =
-        let n : ℕ = front_word m s.words in
-        let ws : List ℕ = set s.words (place (m.threads + 1)) n in
-        let now : Me S View = (alone content suits m t xs, cs) in
-        let Took : Type 0 = (now ≡ (gain (now.0) (Committed (Early x n)), cs)) × IsReached m t xs in
-        let led : Leads (world_limits m) r.schedule (board_world content (lock_words m ws) (front_word m ws) s.homes r.lists) =
-        subst (λ z. Leads (world_limits m) r.schedule (board_world content (lock_words m z) (front_word m z) s.homes r.lists)) (sym (set-get_or s.words (place (m.threads + 1)) 0)) r.leads in (
-          alone content suits m t xs,
-          keeps,
-          tt,
-          keeps_rule content suits m s r id t xs xs at lt ws s.homes r.lists r.schedule (stays content suits m s r id t xs at lt (m.threads + 1) n) led (here content suits m s r id t xs at lt) (λ u d. refl) r.suited (few_now content suits m s r id t xs at lt),
-          subst (λ b. MatchBool b Took (now ≡ now)) (sym above) refl,
-        )
-
-    -- the front is loaded, and all stays as it is
-    glances : Goes content suits m s id (m.threads + 1) cs (glanced m t (step slots (place (m.threads + 1)) 0 0 none) (alone content suits m t xs, cs)) (front_word m s.words)
-    glances =
+    -- a load of the front that changes nothing keeps the rule
+    unchanged : Ruled content suits m (record { words = set s.words (place (m.threads + 1)) (front_word m s.words); homes = s.homes; views = set s.views id (acting content suits m t xs behind) })
+    unchanged =
         let n : ℕ = front_word m s.words in
         let ws : List ℕ = set s.words (place (m.threads + 1)) n in
         let led : Leads (world_limits m) r.schedule (board_world content (lock_words m ws) (front_word m ws) s.homes r.lists) =
         subst (λ z. Leads (world_limits m) r.schedule (board_world content (lock_words m z) (front_word m z) s.homes r.lists)) (sym (set-get_or s.words (place (m.threads + 1)) 0)) r.leads in
+        keeps_rule content suits m s r id t xs xs behind at lt ws s.homes r.lists r.schedule (stays content suits m s r id t xs behind at lt (m.threads + 1) n) led (here content suits m s r id t xs behind at lt) (λ u d. refl) r.suited (few_now content suits m s r id t xs behind at lt)
+
+    -- or all stays as it is
+    looks_only : (x : Item) → ltb x.key (front_word m s.words) ≡ false
+        → Goes content suits m s id (m.threads + 1) cs (looked x m t (step slots (place (m.threads + 1)) 0 0 none) (acting content suits m t xs behind, cs)) (front_word m s.words)
+    looks_only x above =
+        let n : ℕ = front_word m s.words in
+        let now : Me S View = (acting content suits m t xs behind, cs) in
+        let gained_one : View = gain now.0 (Committed (Early x n)) in
+        let Took : Type 0 = (now ≡ (gained_one, cs)) × AreReached m t now.0 × ((z : AreReached m t now.0) × (z.world.front ≡ n)) in
+        (acting content suits m t xs behind, keeps, tt, unchanged, subst (λ b. MatchBool b Took (now ≡ now)) (sym above) refl)
+
+    -- the front is loaded, and all stays as it is
+    glances : Goes content suits m s id (m.threads + 1) cs (glanced m t (step slots (place (m.threads + 1)) 0 0 none) (acting content suits m t xs behind, cs)) (front_word m s.words)
+    glances =
         let lawful : IsLawful (world_limits m) w0 = schedules_keep_lawful (world_limits m) r.schedule w0 r.leads in
         let few = r.within in (
-          alone content suits m t xs,
+          acting content suits m t xs behind,
           keeps,
           tt,
-          keeps_rule content suits m s r id t xs xs at lt ws s.homes r.lists r.schedule (stays content suits m s r id t xs at lt (m.threads + 1) n) led (here content suits m s r id t xs at lt) (λ u d. refl) r.suited (few_now content suits m s r id t xs at lt),
-          (refl, record { world = w0; schedule = r.schedule; leads = r.leads; within = λ u ltu. each_within m.quota r.lists few u; list_is = same_steps content suits m s r id t xs at lt; front_is = lawful.front_is }),
+          unchanged,
+          (refl, record { world = w0; schedule = r.schedule; leads = r.leads; within = λ u ltu. each_within m.quota r.lists few u; list_is = same_steps content suits m s r id t xs behind at lt; front_is = lawful.front_is }),
         )
 
   -- an event that sets the front is committed by the store of it
-  pub set_allows : (fits : Event → Type 0) (slots id t : ℕ) (xs : List Entry) (cs : List (ℕ × S)) (e : Event) (front : ℕ) → fits e → t < m.threads → MayCommit m.k t (hand_of t xs) (length (inserted xs)) e
+  pub set_allows : (fits : Event → Type 0) (slots id t : ℕ) (xs : List Entry) (behind : List Own) (cs : List (ℕ × S)) (e : Event) (front : ℕ) → fits e → t < m.threads → MayCommit m.k t (hand_of t xs) (length (inserted xs)) e
       → QuotaAllows m.quota xs e → SetsFront t (hand_of t xs) e front
-      → Allows (Ruled content suits m) slots id (alone content suits m t xs, cs) (place (m.threads + 1)) (λ _. front) (λ _. set_front fits m t (step slots (place (m.threads + 1)) front 0 none) (alone content suits m t xs, cs) front)
-  set_allows fits slots id t xs cs e front fit lt may room set_by s r deep at small = sets s r id t xs at lt slots cs fits e front fit may room set_by
+      → Allows (Ruled content suits m) slots id (acting content suits m t xs behind, cs) (place (m.threads + 1)) (λ _. front) (λ _. set_front fits m t (step slots (place (m.threads + 1)) front 0 none) (acting content suits m t xs behind, cs) front)
+  set_allows fits slots id t xs behind cs e front fit lt may room set_by s r deep at small = sets s r id t xs behind at lt slots cs fits e front fit may room set_by
 
   -- the least item of the own part is deleted by a load of the front, where its key is below it
-  pub look_allows : (slots id t : ℕ) (xs : List Entry) (cs : List (ℕ × S)) (own : List Item) (x : Item) → t < m.threads → Holds (hand_of t xs) (own_part t) own → IsLeast x own
-      → Allows (Ruled content suits m) slots id (alone content suits m t xs, cs) (place (m.threads + 1)) (λ n. n) (looked x m t (step slots (place (m.threads + 1)) 0 0 none) (alone content suits m t xs, cs))
-  look_allows slots id t xs cs own x lt holds least s r deep at small = by_test (ltb x.key (front_word m s.words)) refl
+  pub look_allows : (slots id t : ℕ) (xs : List Entry) (behind : List Own) (cs : List (ℕ × S)) (own : List Item) (x : Item) → t < m.threads → Holds (hand_of t xs) (own_part t) own → IsLeast x own
+      → Allows (Ruled content suits m) slots id (acting content suits m t xs behind, cs) (place (m.threads + 1)) (λ n. n) (looked x m t (step slots (place (m.threads + 1)) 0 0 none) (acting content suits m t xs behind, cs))
+  look_allows slots id t xs behind cs own x lt holds least s r deep at small = by_test (ltb x.key (front_word m s.words)) refl
     where
       by_test : (b : Bool) → ltb x.key (front_word m s.words) ≡ b
-          → Goes content suits m s id (m.threads + 1) cs (looked x m t (step slots (place (m.threads + 1)) 0 0 none) (alone content suits m t xs, cs)) (front_word m s.words)
-      by_test true is = looks_below s r id t xs at lt slots cs own x holds least is
-      by_test false is = looks_only s r id t xs at lt slots cs x is
+          → Goes content suits m s id (m.threads + 1) cs (looked x m t (step slots (place (m.threads + 1)) 0 0 none) (acting content suits m t xs behind, cs)) (front_word m s.words)
+      by_test true is = looks_below s r id t xs behind at lt slots cs own x holds least is
+      by_test false is = looks_only s r id t xs behind at lt slots cs x is
 
   -- a load of the front alone
-  pub glance_allows : (slots id t : ℕ) (xs : List Entry) (cs : List (ℕ × S)) → t < m.threads
-      → Allows (Ruled content suits m) slots id (alone content suits m t xs, cs) (place (m.threads + 1)) (λ n. n) (glanced m t (step slots (place (m.threads + 1)) 0 0 none) (alone content suits m t xs, cs))
-  glance_allows slots id t xs cs lt s r deep at small = glances s r id t xs at lt slots cs
+  pub glance_allows : (slots id t : ℕ) (xs : List Entry) (behind : List Own) (cs : List (ℕ × S)) → t < m.threads
+      → Allows (Ruled content suits m) slots id (acting content suits m t xs behind, cs) (place (m.threads + 1)) (λ n. n) (glanced m t (step slots (place (m.threads + 1)) 0 0 none) (acting content suits m t xs behind, cs))
+  glance_allows slots id t xs behind cs lt s r deep at small = glances s r id t xs behind at lt slots cs

@@ -24,7 +24,9 @@ use Rattle.klsm_world.proofs.lemmas.counts.ItemGrowthLemmas.{items_grow}
 use Rattle.klsm_world.proofs.lemmas.theorems.RunLemmas.{schedules_keep_lawful}
 use Rattle.klsm_board.specs.declared.sizes.Sizes.{Sizes}
 use Rattle.klsm_board.specs.declared.rule.View.{View}
-use Rattle.klsm_board.specs.Rule.{own, view, place, lock_words, front_word, world_limits, content_at, board_world, Ruled, IsReached}
+use Rattle.klsm_board.specs.Rule.{own, view, place, lock_words, front_word, world_limits, content_at, board_world, Ruled}
+use Rattle.klsm_board.specs.declared.rule.Own.{Own}
+use Rattle.klsm_board.specs.Steps.{AreReached}
 use Rattle.klsm_board.specs.Seats.{QuotaAllows}
 use Rattle.klsm_board.proofs.lemmas.table.PlaceLemmas.{StayBetween, others_stay, word_at, word_set_at}
 use Rattle.klsm_board.proofs.lemmas.table.DealtLemmas.{my_list, deals_on, once_on}
@@ -65,8 +67,9 @@ module _ {S : Type 0} (content : S → List Item) (suits : ℕ → ℕ → S →
   abbrev pub world : St → List (List Entry) → World
   world s ls = board_world content (lock_words m s.words) (front_word m s.words) s.homes ls
 
-  abbrev pub alone : ℕ → List Entry → View
-  alone t es = view (own t es ∷ [])
+  -- what a seat knows that acts for thread t
+  abbrev pub acting : ℕ → List Entry → List Own → View
+  acting t es behind = view (own t es ∷ behind)
 
   -- a content at home is that of a slot
   pub home_back : (os : List (Maybe S)) (p : ℕ) (c : List Item) → get_or (map (content_at content) os) p None ≡ Some c → (y : S) × (get_elem? os p ≡ some (some y)) × (content y ≡ c)
@@ -83,48 +86,54 @@ module _ {S : Type 0} (content : S → List Item) (suits : ℕ → ℕ → S →
       (λ is. subst (λ z. length (inserted z) ≤ m.quota) (some-injective es fs (sym here ∙ (ap (λ z. get_elem? ls z) (sym is) ∙ e))) few)
       (λ n. within u fs (sym (else u n) ∙ e))
 
-  -- a member's seat goes on with its list, and the schedule with it
-  pub keeps_rule : (s : St) (r : Rule s) (id t : ℕ) (xs es : List Entry) → get_elem? s.views id ≡ some (alone t xs) → t < m.threads → (ws : List ℕ) (os : List (Maybe S)) (ls : List (List Entry)) (ms : List WorldStep)
+  -- a seat goes on with its list, and the schedule with it
+  pub keeps_rule : (s : St) (r : Rule s) (id t : ℕ) (xs es : List Entry) (behind : List Own) → get_elem? s.views id ≡ some (acting t xs behind) → t < m.threads → (ws : List ℕ) (os : List (Maybe S)) (ls : List (List Entry)) (ms : List WorldStep)
       → StayBetween s.words ws → Leads (world_limits m) ms (board_world content (lock_words m ws) (front_word m ws) os ls) → get_elem? ls t ≡ some es → ((u : ℕ) → u ≢ t → get_elem? ls u ≡ get_elem? r.lists u) → ((p : ℕ) (y : S) → get_elem? os p ≡ some (some y) → suits m.k p y)
       → length (inserted es) ≤ m.quota
-      → Rule record { words = ws; homes = os; views = set s.views id (alone t es) }
-  keeps_rule s r id t xs es at lt ws os ls ms stay leads here else suited few = record {
+      → Rule record { words = ws; homes = os; views = set s.views id (acting t es behind) }
+  keeps_rule s r id t xs es behind at lt ws os ls ms stay leads here else suited few = record {
     lists = ls;
     schedule = ms;
     wide = stay.as_many ∙ r.wide;
     between = λ i none. stay.same i none ∙ r.between i none;
     leads = leads;
-    dealt = deals_on m.threads r.lists s.views id (alone t xs) t xs r.dealt at refl es (r.once t lt) ls here else;
-    once = λ u ltu. once_on m.threads r.lists s.views id (alone t xs) t xs r.dealt at refl es u (r.once u ltu);
+    dealt = deals_on m.threads r.lists s.views id (acting t xs behind) t xs behind r.dealt at refl es (r.once t lt) ls here else;
+    once = λ u ltu. once_on m.threads r.lists s.views id (acting t xs behind) t xs behind r.dealt at refl es u (r.once u ltu);
     suited = suited;
     within = within_on t es r.lists ls here else few r.within;
   }
 
-  -- its list is then one of a world to which the schedule leads
-  pub keeps_reached : (s : St) (r : Rule s) (t : ℕ) (es : List Entry) → t < m.threads → (ws : List ℕ) (os : List (Maybe S)) (ls : List (List Entry)) (ms : List WorldStep)
+  -- the lists that it knows are then those of a world to which the schedule leads
+  pub keeps_reached : (s : St) (r : Rule s) (id t : ℕ) (xs es : List Entry) (behind : List Own) → get_elem? s.views id ≡ some (acting t xs behind) → t < m.threads → (ws : List ℕ) (os : List (Maybe S)) (ls : List (List Entry)) (ms : List WorldStep)
       → Leads (world_limits m) ms (board_world content (lock_words m ws) (front_word m ws) os ls) → get_elem? ls t ≡ some es → ((u : ℕ) → u ≢ t → get_elem? ls u ≡ get_elem? r.lists u)
       → length (inserted es) ≤ m.quota
-      → IsReached m t es
-  keeps_reached s r t es lt ws os ls ms leads here else few = record {
+      → AreReached m t (acting t es behind)
+  keeps_reached s r id t xs es behind at lt ws os ls ms leads here else few = record {
     world = board_world content (lock_words m ws) (front_word m ws) os ls;
     schedule = ms;
     leads = leads;
     within = λ u ltu. each_within m.quota ls (within_on t es r.lists ls here else few r.within) u;
     list_is = list_at ls t es here;
     thread = lt;
+    has = λ i o there. deals_on m.threads r.lists s.views id (acting t xs behind) t xs behind r.dealt at refl es (r.once t lt) ls here else id (acting t es behind) (at_place_set s.views id (acting t xs behind) (acting t es behind) at) i o there;
   }
+    where
+      at_place_set : (vs : List View) (i : ℕ) (v w : View) → get_elem? vs i ≡ some v → get_elem? (set vs i w) i ≡ some w
+      at_place_set [] i v w there = absurd (some-ne-none v (sym there))
+      at_place_set (x ∷ vs) zero v w there = refl
+      at_place_set (x ∷ vs) (suc i) v w there = at_place_set vs i v w there
 
   -- what a step on the lock of a part has to show
   abbrev pub Goes : St → ℕ → ℕ → List (ℕ × S) → (ℕ → Me S View → Type 0) → ℕ → Type 0
   Goes s id p cs then z = (w : View) × (a : Act S) × Valid s.homes cs a × Rule (stepped s (place p) z id cs w a) × then (get_or s.words (place p) 0) (w, carried_after cs a)
 
-  -- where the rule holds, and a seat has thread t's list alone
-  module _ (s : St) (r : Rule s) (id t : ℕ) (xs : List Entry) (at : get_elem? s.views id ≡ some (alone t xs)) (lt : t < m.threads) where
+  -- where the rule holds, and a seat acts for thread t
+  module _ (s : St) (r : Rule s) (id t : ℕ) (xs : List Entry) (behind : List Own) (at : get_elem? s.views id ≡ some (acting t xs behind)) (lt : t < m.threads) where
     pub agrees : AreAgreed (world_limits m) (world s r.lists)
     agrees = let l : IsLawful (world_limits m) (world s r.lists) = schedules_keep_lawful (world_limits m) r.schedule (world s r.lists) r.leads in l.agreed
 
     pub here : get_elem? r.lists t ≡ some xs
-    here = my_list m.threads r.lists s.views id (alone t xs) t xs r.dealt at refl
+    here = my_list m.threads r.lists s.views id (acting t xs behind) t xs behind r.dealt at refl
 
     pub same_steps : steps_of (world s r.lists) t ≡ xs
     same_steps = list_at r.lists t xs here
@@ -138,6 +147,11 @@ module _ {S : Type 0} (content : S → List Item) (suits : ℕ → ℕ → S →
 
     pub few_more : (e : Entry) → length (flat_map inserted_by (event_at e)) ≡ 0 → length (inserted (xs ++ e ∷ [])) ≤ m.quota
     few_more e adds = let a = insertions_more xs e in let b = few_now in omega (arith, a, b, adds)
+
+    -- what it knows is of the world that there is
+    pub reached_now : (z : AreReached m t (acting t xs behind)) × (z.world ≡ world s r.lists)
+    unfolding keeps_reached
+    reached_now = (keeps_reached s r id t xs xs behind at lt s.words s.homes r.lists r.schedule r.leads here (λ u d. refl) few_now, refl)
 
     -- the word of the part, as the world has it
     pub word_is : (p : ℕ) → p ≤ m.threads → get_or (lock_words m s.words) p 0 ≡ get_or s.words (place p) 0

@@ -1,6 +1,7 @@
 -- The slots and the members of a new board.
 use Rattle.std.proofs.Common.{◌≢◌, ◌≡◌, ℕ, zero, suc, replicate, ◌+◌, ◌<◌, List, [], ◌∷◌, ◌++◌, length, get_or, slice_index_or, sym, refl, ap, ◌∙◌, subst, arith}
 use mathlib.Core.Option.{some, some-injective, some-ne-none}
+use mathlib.Core.Option.{Option as Maybe}
 use lib.ListN.{get_elem?}
 use Rattle.atomic_table.specs.Table.{Me}
 use Rattle.klsm_parts.specs.Parts.{PartState}
@@ -9,7 +10,9 @@ use Rattle.klsm_world.specs.OwnSteps.{inserted}
 use Rattle.klsm_world.specs.Worlds.{first_world}
 use Rattle.klsm_board.specs.declared.errors.MakeError.TheVariants.{BadThreads, BadK, BadQuota, BadRefill, NoMemory}
 use Rattle.klsm_board.specs.declared.sizes.Sizes.{Sizes}
+use Rattle.klsm_board.specs.declared.rule.Own.{Own as Listed}
 use Rattle.klsm_board.specs.declared.rule.View.{View}
+use Rattle.klsm_board.specs.Steps.{AreReached}
 use Rattle.klsm_board.specs.declared.slot.Slot.{Slot}
 use Rattle.klsm_board.specs.declared.slot.Slot.TheVariants.{Own, Common}
 use Rattle.klsm_board.specs.Rule.{own, fresh, view, world_limits, IsReached}
@@ -55,6 +58,30 @@ fresh_is_reached m t thread = record {
   thread = thread;
 }
 
+-- and alone in a view
+fresh_alone : (m : Sizes) (t : ℕ) → t < m.threads → AreReached m t (view (own t [] ∷ []))
+unfolding fresh_is_reached
+fresh_alone m t thread =
+    let fresh = fresh_is_reached m t thread in
+    record {
+      world = fresh.world;
+      schedule = fresh.schedule;
+      leads = fresh.leads;
+      within = fresh.within;
+      list_is = fresh.list_is;
+      thread = thread;
+      has = only;
+    }
+  where
+    there : (n i : ℕ) → i < n → ◌≡◌ {A = Maybe (List Entry)} (get_elem? (replicate n []) i) (some [])
+    there zero i less = absurd (omega (arith, less))
+    there (suc n) zero less = refl
+    there (suc n) (suc i) less = there n i (omega (arith, less))
+
+    only : (i : ℕ) (o : Listed) → get_elem? (own t [] ∷ []) i ≡ some o → get_elem? (replicate m.threads []) o.thread ≡ some o.steps
+    only zero o at = subst (λ (z : Listed). get_elem? (replicate m.threads []) z.thread ≡ some z.steps) (some-injective (own t []) o at) (there m.threads t thread)
+    only (suc i) o at = absurd (some-ne-none o (sym at))
+
 -- a list without elements has none at any place
 pub none_at_start : {A : Type 0} (xs : List A) → xs ≡ [] → (i : ℕ) (a : A) → get_elem? xs i ≡ some a → ⊥
 none_at_start xs none i a at = some-ne-none a (sym (ap (λ z. get_elem? z i) (sym none) ∙ at))
@@ -75,7 +102,7 @@ found_at (x ∷ xs) (suc k) d h = found_at xs k d (omega (arith, h))
 -- a member without steps
 pub rests_at_first : (m : Sizes) (t : ℕ) (me : Me (Slot PartState PartState) View) → t < m.threads → me ≡ (view (own t [] ∷ []), []) → IsResting m t 0 0 me
 rests_at_first m t me thread is = subst (λ (z : Me (Slot PartState PartState) View). IsResting m t 0 0 z) (sym is) (record {
-  alone = refl;
+  acts = refl;
   carries_none = refl;
   hand_is = refl;
   insertions_are = refl;
@@ -83,7 +110,7 @@ rests_at_first m t me thread is = subst (λ (z : Me (Slot PartState PartState) V
   within = omega arith;
   few = omega arith;
   thread = thread;
-  reached = ∣ fresh_is_reached m t thread ∣₁;
+  reached = ∣ fresh_alone m t thread ∣₁;
 })
 
 -- want of memory is no other cause

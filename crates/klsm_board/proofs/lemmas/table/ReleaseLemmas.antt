@@ -20,16 +20,17 @@ use Rattle.klsm_world.proofs.lemmas.theorems.RunLemmas.{schedules_keep_lawful}
 use Rattle.klsm_world.proofs.lemmas.hands.NotedLemmas.{hand_of_more}
 use Rattle.std.specs.Prelude.{unwrap_or}
 use Rattle.klsm_board.specs.declared.sizes.Sizes.{Sizes}
+use Rattle.klsm_board.specs.declared.rule.Own.{Own}
 use Rattle.klsm_board.specs.declared.rule.View.{View}
 use Rattle.klsm_board.specs.Rule.{place, lock_words, front_word, world_limits, content_at, board_world, Ruled}
 use Rattle.klsm_board.specs.Steps.{on_part, released, committed}
 use Rattle.klsm_board.specs.Seats.{QuotaAllows, LeavesShared}
 use Rattle.klsm_board.proofs.lemmas.table.PlaceLemmas.{at_place, front_stays}
 use Rattle.klsm_board.proofs.lemmas.table.FrontLemmas.{no_front, front_left}
-use Rattle.klsm_board.proofs.lemmas.table.KeepLemmas.{Goes, world, alone, list_at, insertions_more, room_for, keeps_rule, keeps_reached, here, same_steps, inside, few_now, few_more, word_set, stays}
+use Rattle.klsm_board.proofs.lemmas.table.KeepLemmas.{Goes, world, acting, list_at, insertions_more, room_for, keeps_rule, keeps_reached, here, same_steps, inside, few_now, few_more, word_set, stays}
 
 module _ {S : Type 0} (content : S → List Item) (suits : ℕ → ℕ → S → Type 0) (m : Sizes) where
-  module _ (s : State S View) (r : Ruled content suits m s) (id t : ℕ) (xs : List Entry) (at : get_elem? s.views id ≡ some (alone content suits m t xs)) (lt : t < m.threads)
+  module _ (s : State S View) (r : Ruled content suits m s) (id t : ℕ) (xs : List Entry) (behind : List Own) (at : get_elem? s.views id ≡ some (acting content suits m t xs behind)) (lt : t < m.threads)
       (slots p : ℕ) (y : S) (cs : List (ℕ × S)) (le : p ≤ m.threads) (suit : suits m.k p y) where
     -- the words and the homes when the part is at home again
     abbrev ws : List ℕ
@@ -47,36 +48,36 @@ module _ {S : Type 0} (content : S → List Item) (suits : ℕ → ℕ → S →
           before = w1;
           led = led;
           legal = record { thread = lt; held = record { content = content y; holds = has' } };
-          after = λ i. record { words = word_set content suits m s r id t xs at lt p 0 le i; front = front_stays m s.words p 0 le i; homes = (map-set (content_at content) s.homes p (some y) ∙ ap (λ z. set (map (content_at content) s.homes) p (Some z)) (sym back)) i; lists = set ls t (sym st i ++ Released p ∷ []) };
+          after = λ i. record { words = word_set content suits m s r id t xs behind at lt p 0 le i; front = front_stays m s.words p 0 le i; homes = (map-set (content_at content) s.homes p (some y) ∙ ap (λ z. set (map (content_at content) s.homes) p (Some z)) (sym back)) i; lists = set ls t (sym st i ++ Released p ∷ []) };
         }
 
     still_suited : (q : ℕ) (z : S) → get_elem? (set s.homes p (some y)) q ≡ some (some z) → suits m.k q z
     still_suited q z h = let old_suits = r.suited in ⊎_elim (λ (k : (q ≡ p) × (some y ≡ some z)). subst (λ (x : ℕ × S). suits m.k x.0 x.1) (λ i. (sym k.0 i, some-injective y z k.1 i)) suit)
         (λ (k : (q ≢ p) × (get_elem? s.homes q ≡ some (some z))). old_suits q z k.1) (at_set s.homes p q (some y) (some z) h)
 
-    releases : Holds (hand_of t xs) p (content y) → Goes content suits m s id p ((p, y) ∷ cs) (λ _. on_part (released m t) (step slots (place p) 0 0 none) (alone content suits m t xs, (p, y) ∷ cs) 0) 0
+    releases : Holds (hand_of t xs) p (content y) → Goes content suits m s id p ((p, y) ∷ cs) (λ _. on_part (released m t) (step slots (place p) 0 0 none) (acting content suits m t xs behind, (p, y) ∷ cs) 0) 0
     releases has =
         let es : List Entry = xs ++ Released p ∷ [] in
         let ls : List (List Entry) = set r.lists t es in
         let ms : List WorldStep = Release t p ∷ r.schedule in
-        let led = frees xs r.lists r.schedule r.leads (here content suits m s r id t xs at lt) has in
-        let stands : get_elem? ls t ≡ some es = set_here r.lists t es (inside content suits m s r id t xs at lt) in
+        let led = frees xs r.lists r.schedule r.leads (here content suits m s r id t xs behind at lt) has in
+        let stands : get_elem? ls t ≡ some es = set_here r.lists t es (inside content suits m s r id t xs behind at lt) in
         let else : (u : ℕ) → u ≢ t → get_elem? ls u ≡ get_elem? r.lists u = (λ u d. set_else r.lists t u es d) in
-        let few = few_more content suits m s r id t xs at lt (Released p) refl in (
-          alone content suits m t es,
+        let few = few_more content suits m s r id t xs behind at lt (Released p) refl in (
+          acting content suits m t es behind,
           gives,
           tt,
-          keeps_rule content suits m s r id t xs es at lt ws (set s.homes p (some y)) ls ms (stays content suits m s r id t xs at lt p 0) led stands else still_suited few,
-          at_place (λ q. released m t (step slots q 0 0 none) (alone content suits m t xs, (p, y) ∷ cs) 0 (alone content suits m t es, cs)) p
-              (refl, keeps_reached content suits m s r t es lt ws (set s.homes p (some y)) ls ms led stands else few),
+          keeps_rule content suits m s r id t xs es behind at lt ws (set s.homes p (some y)) ls ms (stays content suits m s r id t xs behind at lt p 0) led stands else still_suited few,
+          at_place (λ q. released m t (step slots q 0 0 none) (acting content suits m t xs behind, (p, y) ∷ cs) 0 (acting content suits m t es behind, cs)) p
+              (refl, keeps_reached content suits m s r id t xs es behind at lt ws (set s.homes p (some y)) ls ms led stands else few),
         )
 
     commits : (fits : Event → Type 0) (e : Event) → fits e → MayCommit m.k t (hand_of t xs) (length (inserted xs)) e → QuotaAllows m.quota xs e → LeavesShared t (hand_of t xs) e → Holds (after_event t (hand_of t xs) e) p (content y)
-        → Goes content suits m s id p ((p, y) ∷ cs) (λ _. on_part (committed fits m t) (step slots (place p) 0 0 none) (alone content suits m t xs, (p, y) ∷ cs) 0) 0
+        → Goes content suits m s id p ((p, y) ∷ cs) (λ _. on_part (committed fits m t) (step slots (place p) 0 0 none) (acting content suits m t xs behind, (p, y) ∷ cs) 0) 0
     commits fits e fit may room leaves has =
         let w0 : World = world content suits m s r.lists in
-        let same : steps_of w0 t ≡ xs = same_steps content suits m s r id t xs at lt in
-        let within : t < length r.lists = inside content suits m s r id t xs at lt in
+        let same : steps_of w0 t ≡ xs = same_steps content suits m s r id t xs behind at lt in
+        let within : t < length r.lists = inside content suits m s r id t xs behind at lt in
         let es1 : List Entry = xs ++ Committed e ∷ [] in
         let es : List Entry = es1 ++ Released p ∷ [] in
         let ls1 : List (List Entry) = set r.lists t es1 in
@@ -97,22 +98,22 @@ module _ {S : Type 0} (content : S → List Item) (suits : ℕ → ℕ → S →
         let led = frees es1 ls1 ms1 led1 here1 has1 in
         let stands : get_elem? ls t ≡ some es = set_here ls1 t es (let k : length ls1 ≡ length r.lists = length-set r.lists t es1 in omega (arith, k, within)) in
         let else : (u : ℕ) → u ≢ t → get_elem? ls u ≡ get_elem? r.lists u = (λ u d. set_else ls1 t u es d ∙ set_else r.lists t u es1 d) in
-        let few : length (inserted es) ≤ m.quota = (let a : length (inserted es1) ≤ m.quota = room_for m.quota xs e room (few_now content suits m s r id t xs at lt) in let b : length (inserted es) ≡ length (inserted es1) + 0 = insertions_more es1 (Released p) in omega (arith, a, b)) in (
-          alone content suits m t es,
+        let few : length (inserted es) ≤ m.quota = (let a : length (inserted es1) ≤ m.quota = room_for m.quota xs e room (few_now content suits m s r id t xs behind at lt) in let b : length (inserted es) ≡ length (inserted es1) + 0 = insertions_more es1 (Released p) in omega (arith, a, b)) in (
+          acting content suits m t es behind,
           gives,
           tt,
-          keeps_rule content suits m s r id t xs es at lt ws (set s.homes p (some y)) ls (Release t p ∷ ms1) (stays content suits m s r id t xs at lt p 0) led stands else still_suited few,
-          at_place (λ q. committed fits m t (step slots q 0 0 none) (alone content suits m t xs, (p, y) ∷ cs) 0 (alone content suits m t es, cs)) p
-              (e, fit, refl, keeps_reached content suits m s r t es lt ws (set s.homes p (some y)) ls (Release t p ∷ ms1) led stands else few),
+          keeps_rule content suits m s r id t xs es behind at lt ws (set s.homes p (some y)) ls (Release t p ∷ ms1) (stays content suits m s r id t xs behind at lt p 0) led stands else still_suited few,
+          at_place (λ q. committed fits m t (step slots q 0 0 none) (acting content suits m t xs behind, (p, y) ∷ cs) 0 (acting content suits m t es behind, cs)) p
+              (e, fit, refl, keeps_reached content suits m s r id t xs es behind at lt ws (set s.homes p (some y)) ls (Release t p ∷ ms1) led stands else few),
         )
 
   -- a part that the thread holds is released
-  pub release_allows : (slots id p t : ℕ) (xs : List Entry) (y : S) (cs : List (ℕ × S)) → t < m.threads → p ≤ m.threads → suits m.k p y → Holds (hand_of t xs) p (content y)
-      → Allows (Ruled content suits m) slots id (alone content suits m t xs, (p, y) ∷ cs) (place p) (λ _. 0) (λ _. on_part (released m t) (step slots (place p) 0 0 none) (alone content suits m t xs, (p, y) ∷ cs) 0)
-  release_allows slots id p t xs y cs lt le suit has s r deep at small = releases s r id t xs at lt slots p y cs le suit has
+  pub release_allows : (slots id p t : ℕ) (xs : List Entry) (behind : List Own) (y : S) (cs : List (ℕ × S)) → t < m.threads → p ≤ m.threads → suits m.k p y → Holds (hand_of t xs) p (content y)
+      → Allows (Ruled content suits m) slots id (acting content suits m t xs behind, (p, y) ∷ cs) (place p) (λ _. 0) (λ _. on_part (released m t) (step slots (place p) 0 0 none) (acting content suits m t xs behind, (p, y) ∷ cs) 0)
+  release_allows slots id p t xs behind y cs lt le suit has s r deep at small = releases s r id t xs behind at lt slots p y cs le suit has
 
   -- an event that fits is committed, and a part that the thread holds is released
-  pub commit_allows : (fits : Event → Type 0) (slots id p t : ℕ) (xs : List Entry) (y : S) (cs : List (ℕ × S)) (e : Event) → fits e → t < m.threads → p ≤ m.threads → suits m.k p y → MayCommit m.k t (hand_of t xs) (length (inserted xs)) e
+  pub commit_allows : (fits : Event → Type 0) (slots id p t : ℕ) (xs : List Entry) (behind : List Own) (y : S) (cs : List (ℕ × S)) (e : Event) → fits e → t < m.threads → p ≤ m.threads → suits m.k p y → MayCommit m.k t (hand_of t xs) (length (inserted xs)) e
       → QuotaAllows m.quota xs e → LeavesShared t (hand_of t xs) e → Holds (after_event t (hand_of t xs) e) p (content y)
-      → Allows (Ruled content suits m) slots id (alone content suits m t xs, (p, y) ∷ cs) (place p) (λ _. 0) (λ _. on_part (committed fits m t) (step slots (place p) 0 0 none) (alone content suits m t xs, (p, y) ∷ cs) 0)
-  commit_allows fits slots id p t xs y cs e fit lt le suit may room leaves has s r deep at small = commits s r id t xs at lt slots p y cs le suit fits e fit may room leaves has
+      → Allows (Ruled content suits m) slots id (acting content suits m t xs behind, (p, y) ∷ cs) (place p) (λ _. 0) (λ _. on_part (committed fits m t) (step slots (place p) 0 0 none) (acting content suits m t xs behind, (p, y) ∷ cs) 0)
+  commit_allows fits slots id p t xs behind y cs e fit lt le suit may room leaves has s r deep at small = commits s r id t xs behind at lt slots p y cs le suit fits e fit may room leaves has

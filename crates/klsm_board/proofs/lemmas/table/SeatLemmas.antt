@@ -15,17 +15,26 @@ use Rattle.klsm_world.specs.OwnSteps.{Hand, Holds, hand_of, after_entry, after_e
 use Rattle.klsm_world.proofs.lemmas.hands.HandLemmas.{choice_hit, choice_miss, found_first}
 use Rattle.klsm_world.proofs.lemmas.hands.NotedLemmas.{hand_of_more}
 use Rattle.klsm_board.specs.declared.sizes.Sizes.{Sizes}
+use Rattle.klsm_board.specs.declared.rule.Own.{Own}
 use Rattle.klsm_board.specs.declared.rule.View.{View}
-use Rattle.klsm_board.specs.Rule.{own, IsReached}
-use Rattle.klsm_board.specs.Steps.{mine, mine_or, IsMine, gained, gain, attempted}
+use Rattle.klsm_board.specs.Rule.{own}
+use Rattle.klsm_board.specs.Steps.{mine, mine_or, others, rest_of, IsMine, AreReached, gained, gain, attempted}
 use Rattle.klsm_board.proofs.lemmas.calls.TestLemmas.{where_zero, where_not_zero}
 use Rattle.klsm_board.specs.Seats.{Stands, contents, AreSuited, Carries, Has, CarriedOut}
 
 gain_mine : (v : View) (t : ℕ) (e : Entry) → IsMine v t → IsMine (gain v e) t
-gain_mine v t e is = let l : gained v.lists e ≡ own t (mine v ++ e ∷ []) ∷ [] = ap (λ z. gained z e) is in l ∙ ap (λ z. own t (mine_or z) ∷ []) (sym l)
+gain_mine v t e is = let l : gained v.lists e ≡ own t (mine v ++ e ∷ []) ∷ rest_of v = ap (λ z. gained z e) is in l ∙ ap (λ z. own t (mine_or z) ∷ others z) (sym l)
 
 mine_gain : (v : View) (t : ℕ) (e : Entry) → IsMine v t → mine (gain v e) ≡ mine v ++ e ∷ []
 mine_gain v t e is = ap (λ z. mine_or (gained z e)) is
+
+-- the lists behind the first stay
+pub others_gain : (v : View) (e : Entry) → rest_of (gain v e) ≡ rest_of v
+others_gain v e = by_lists v.lists
+  where
+    by_lists : (l : List Own) → others (gained l e) ≡ others l
+    by_lists [] = refl
+    by_lists (o ∷ os) = refl
 
 -- a part that is not there is not taken away
 absent_stays : (h : Hand) (p : ℕ) → found_in h p ≡ None → without_part h p ≡ h
@@ -52,32 +61,32 @@ module _ {S : Type 0} (content : S → List Item) (suits : ℕ → ℕ → S →
 
   -- a part was acquired
   has_won : (p : ℕ) (y : S) (hand : Hand) (me me' : Me S View) → Stands content suits m t hand me → suits m.k p y
-      → me' ≡ (gain me.0 (Acquired p (content y)), (p, y) ∷ me.1) → IsReached m t (mine me'.0) → Has content suits m t ((p, content y) ∷ hand) me'
+      → me' ≡ (gain me.0 (Acquired p (content y)), (p, y) ∷ me.1) → AreReached m t me'.0 → Has content suits m t ((p, content y) ∷ hand) me'
   has_won p y hand me me' has suit is reached =
       let old = has.carries in
       subst (Has content suits m t ((p, content y) ∷ hand)) (sym is) (record {
         carries = record {
-          alone = gain_mine me.0 t (Acquired p (content y)) old.alone;
+          acts = gain_mine me.0 t (Acquired p (content y)) old.acts;
           contents_are = ap (λ (h : Hand). (p, content y) ∷ h) old.contents_are;
           suited = (suit, old.suited);
         };
-        hand_is = hand_gain me.0 (Acquired p (content y)) old.alone ∙ ap (λ (h : Hand). (p, content y) ∷ h) has.hand_is;
-        reached = subst (λ (z : Me S View). IsReached m t (mine z.0)) is reached;
+        hand_is = hand_gain me.0 (Acquired p (content y)) old.acts ∙ ap (λ (h : Hand). (p, content y) ∷ h) has.hand_is;
+        reached = subst (λ (z : Me S View). AreReached m t z.0) is reached;
       })
 
   -- a part was tried in vain
   has_lost : (p by : ℕ) (hand : Hand) (me me' : Me S View) → Stands content suits m t hand me
-      → me' ≡ (gain me.0 (Missed p by), me.1) → IsReached m t (mine me'.0) → Has content suits m t hand me'
+      → me' ≡ (gain me.0 (Missed p by), me.1) → AreReached m t me'.0 → Has content suits m t hand me'
   has_lost p by hand me me' has is reached =
       let old = has.carries in
       subst (Has content suits m t hand) (sym is) (record {
         carries = record {
-          alone = gain_mine me.0 t (Missed p by) old.alone;
+          acts = gain_mine me.0 t (Missed p by) old.acts;
           contents_are = old.contents_are;
           suited = old.suited;
         };
-        hand_is = hand_gain me.0 (Missed p by) old.alone ∙ has.hand_is;
-        reached = subst (λ (z : Me S View). IsReached m t (mine z.0)) is reached;
+        hand_is = hand_gain me.0 (Missed p by) old.acts ∙ has.hand_is;
+        reached = subst (λ (z : Me S View). AreReached m t z.0) is reached;
       })
 
   -- a seat that carries a part has a slot for it
@@ -103,61 +112,61 @@ module _ {S : Type 0} (content : S → List Item) (suits : ℕ → ℕ → S →
 
   -- the part acquired last was released
   pub has_released : (p : ℕ) (c : List Item) (hand : Hand) (me me' : Me S View) → Stands content suits m t ((p, c) ∷ hand) me → found_in hand p ≡ None
-      → me' ≡ (gain me.0 (Released p), rest me.1) → IsReached m t (mine me'.0) → Has content suits m t hand me'
+      → me' ≡ (gain me.0 (Released p), rest me.1) → AreReached m t me'.0 → Has content suits m t hand me'
   has_released p c hand me me' has away is reached =
       let old = has.carries in let first = first_carried p c hand me old in
       subst (Has content suits m t hand) (sym is) (record {
         carries = record {
-          alone = gain_mine me.0 t (Released p) old.alone;
+          acts = gain_mine me.0 t (Released p) old.acts;
           contents_are = first.4;
           suited = first.5;
         };
-        hand_is = hand_gain me.0 (Released p) old.alone ∙ (ap (λ h. without_part h p) has.hand_is ∙ first_goes p c hand away);
-        reached = subst (λ (z : Me S View). IsReached m t (mine z.0)) is reached;
+        hand_is = hand_gain me.0 (Released p) old.acts ∙ (ap (λ h. without_part h p) has.hand_is ∙ first_goes p c hand away);
+        reached = subst (λ (z : Me S View). AreReached m t z.0) is reached;
       })
 
   -- an event was committed, and the part acquired last released
   pub has_committed : (p : ℕ) (c : List Item) (event : Event) (hand : Hand) (me me' : Me S View) → CarriedOut content suits m t event ((p, c) ∷ hand) me → found_in hand p ≡ None
-      → me' ≡ (gain (gain me.0 (Committed event)) (Released p), rest me.1) → IsReached m t (mine me'.0) → Has content suits m t hand me'
+      → me' ≡ (gain (gain me.0 (Committed event)) (Released p), rest me.1) → AreReached m t me'.0 → Has content suits m t hand me'
   has_committed p c event hand me me' out away is reached =
       let old = out.carries in let first = first_carried p c hand me old in
-      let mid = gain_mine me.0 t (Committed event) old.alone in
+      let mid = gain_mine me.0 t (Committed event) old.acts in
       subst (Has content suits m t hand) (sym is) (record {
         carries = record {
-          alone = gain_mine (gain me.0 (Committed event)) t (Released p) mid;
+          acts = gain_mine (gain me.0 (Committed event)) t (Released p) mid;
           contents_are = first.4;
           suited = first.5;
         };
         hand_is = hand_gain (gain me.0 (Committed event)) (Released p) mid
-            ∙ (ap (λ h. without_part h p) (hand_gain me.0 (Committed event) old.alone ∙ out.done) ∙ first_goes p c hand away);
-        reached = subst (λ (z : Me S View). IsReached m t (mine z.0)) is reached;
+            ∙ (ap (λ h. without_part h p) (hand_gain me.0 (Committed event) old.acts ∙ out.done) ∙ first_goes p c hand away);
+        reached = subst (λ (z : Me S View). AreReached m t z.0) is reached;
       })
 
   -- the list then
   pub mine_committed : (p : ℕ) (event : Event) (me me' : Me S View) → IsMine me.0 t → me' ≡ (gain (gain me.0 (Committed event)) (Released p), rest me.1) → mine me'.0 ≡ mine me.0 ++ Committed event ∷ Released p ∷ []
-  mine_committed p event me me' alone is =
-      let mid = gain_mine me.0 t (Committed event) alone in
+  mine_committed p event me me' acts is =
+      let mid = gain_mine me.0 t (Committed event) acts in
       ap (λ (z : Me S View). mine z.0) is
       ∙ (mine_gain (gain me.0 (Committed event)) t (Released p) mid
-      ∙ (ap (λ z. z ++ Released p ∷ []) (mine_gain me.0 t (Committed event) alone) ∙ append_assoc (mine me.0) (Committed event ∷ []) (Released p ∷ [])))
+      ∙ (ap (λ z. z ++ Released p ∷ []) (mine_gain me.0 t (Committed event) acts) ∙ append_assoc (mine me.0) (Committed event ∷ []) (Released p ∷ [])))
 
   -- an event was committed, and no part released
   pub has_set : (event : Event) (hand : Hand) (me me' : Me S View) → CarriedOut content suits m t event hand me
-      → me' ≡ (gain me.0 (Committed event), me.1) → IsReached m t (mine me'.0) → Has content suits m t hand me'
+      → me' ≡ (gain me.0 (Committed event), me.1) → AreReached m t me'.0 → Has content suits m t hand me'
   has_set event hand me me' out is reached =
       let old = out.carries in
       subst (Has content suits m t hand) (sym is) (record {
         carries = record {
-          alone = gain_mine me.0 t (Committed event) old.alone;
+          acts = gain_mine me.0 t (Committed event) old.acts;
           contents_are = old.contents_are;
           suited = old.suited;
         };
-        hand_is = hand_gain me.0 (Committed event) old.alone ∙ out.done;
-        reached = subst (λ (z : Me S View). IsReached m t (mine z.0)) is reached;
+        hand_is = hand_gain me.0 (Committed event) old.acts ∙ out.done;
+        reached = subst (λ (z : Me S View). AreReached m t z.0) is reached;
       })
 
   pub mine_set : (event : Event) (me me' : Me S View) → IsMine me.0 t → me' ≡ (gain me.0 (Committed event), me.1) → mine me'.0 ≡ mine me.0 ++ Committed event ∷ []
-  mine_set event me me' alone is = ap (λ (z : Me S View). mine z.0) is ∙ mine_gain me.0 t (Committed event) alone
+  mine_set event me me' acts is = ap (λ (z : Me S View). mine z.0) is ∙ mine_gain me.0 t (Committed event) acts
 
   -- a part that a seat has can be released
   pub can_release : (p : ℕ) (c : List Item) (hand : Hand) (me : Me S View) → Stands content suits m t ((p, c) ∷ hand) me
@@ -175,7 +184,7 @@ module _ {S : Type 0} (content : S → List Item) (suits : ℕ → ℕ → S →
 
   -- the list after a release
   pub mine_released : (p : ℕ) (me me' : Me S View) → IsMine me.0 t → me' ≡ (gain me.0 (Released p), rest me.1) → mine me'.0 ≡ mine me.0 ++ Released p ∷ []
-  mine_released p me me' alone is = ap (λ (z : Me S View). mine z.0) is ∙ mine_gain me.0 t (Released p) alone
+  mine_released p me me' acts is = ap (λ (z : Me S View). mine z.0) is ∙ mine_gain me.0 t (Released p) acts
 
   -- an event is carried out in whatever contents the seat carries
   pub out_of : (event : Event) (hand hand' : Hand) (me : Me S View) → CarriedOut content suits m t event hand me → Carries content suits m t hand' me → CarriedOut content suits m t event hand' me
@@ -187,7 +196,7 @@ module _ {S : Type 0} (content : S → List Item) (suits : ℕ → ℕ → S →
 
   -- the same carried contents, named by the slots
   pub as_carried : (hand : Hand) (me : Me S View) → Carries content suits m t hand me → Carries content suits m t (contents content suits m t me.1) me
-  as_carried hand me carries = record { alone = carries.alone; contents_are = refl; suited = carries.suited }
+  as_carried hand me carries = record { acts = carries.acts; contents_are = refl; suited = carries.suited }
 
   -- what a seat has after a try to acquire a part
   pub tried : (p slots n : ℕ) (hand : Hand) (me me' : Me S View) → Stands content suits m t hand me → attempted content suits m t (step slots p 0 (t + 1) none) me n me'
@@ -204,6 +213,28 @@ module _ {S : Type 0} (content : S → List Item) (suits : ℕ → ℕ → S →
       let Misses : Type 0 = Has content suits m t hand me' × (mine me'.0 ≡ mine me.0 ++ Missed p (n - 1) ∷ []) × (n ≤ m.threads) in
       dite (ℕ_discrete n 0)
       (λ e. let k : Won = where_zero Won Lost n e told.0 in subst (λ b. MatchBool b Hits Misses) (sym (eq-eqb n 0 e))
-      (content k.0, has_won p k.0 hand me me' has k.1 k.2 told.1, ap (λ (z : Me S View). mine z.0) k.2 ∙ mine_gain me.0 t (Acquired p (content k.0)) old.alone))
+      (content k.0, has_won p k.0 hand me me' has k.1 k.2 told.1, ap (λ (z : Me S View). mine z.0) k.2 ∙ mine_gain me.0 t (Acquired p (content k.0)) old.acts))
       (λ e. let k : Lost = where_not_zero Won Lost n e told.0 in subst (λ b. MatchBool b Hits Misses) (sym (ne_eqb n 0 e))
-      (has_lost p (n - 1) hand me me' has k.0 told.1, ap (λ (z : Me S View). mine z.0) k.0 ∙ mine_gain me.0 t (Missed p (n - 1)) old.alone, k.1))
+      (has_lost p (n - 1) hand me me' has k.0 told.1, ap (λ (z : Me S View). mine z.0) k.0 ∙ mine_gain me.0 t (Missed p (n - 1)) old.acts, k.1))
+
+  -- it leaves the lists behind the first as they were
+  pub tried_others : (p slots n : ℕ) (me me' : Me S View) → attempted content suits m t (step slots p 0 (t + 1) none) me n me' → rest_of me'.0 ≡ rest_of me.0
+  tried_others p slots n me me' told =
+      let won : S → Me S View = (λ y. (gain me.0 (Acquired p (content y)), (p, y) ∷ me.1)) in
+      let lost : Me S View = (gain me.0 (Missed p (n - 1)), me.1) in
+      let Won : Type 0 = (y : S) × suits m.k p y × (me' ≡ won y) in
+      let Lost : Type 0 = (me' ≡ lost) × (n ≤ m.threads) in
+      dite (ℕ_discrete n 0)
+      (λ e. let k : Won = where_zero Won Lost n e told.0 in ap (λ (z : Me S View). rest_of z.0) k.2 ∙ others_gain me.0 (Acquired p (content k.0)))
+      (λ e. let k : Lost = where_not_zero Won Lost n e told.0 in ap (λ (z : Me S View). rest_of z.0) k.0 ∙ others_gain me.0 (Missed p (n - 1)))
+
+  -- so do a release, a commit and the release behind it, and a commit alone
+  pub released_others : (p : ℕ) (me me' : Me S View) → me' ≡ (gain me.0 (Released p), rest me.1) → rest_of me'.0 ≡ rest_of me.0
+  released_others p me me' is = ap (λ (z : Me S View). rest_of z.0) is ∙ others_gain me.0 (Released p)
+
+  pub committed_others : (p : ℕ) (event : Event) (me me' : Me S View) → me' ≡ (gain (gain me.0 (Committed event)) (Released p), rest me.1) → rest_of me'.0 ≡ rest_of me.0
+  committed_others p event me me' is =
+      ap (λ (z : Me S View). rest_of z.0) is ∙ (others_gain (gain me.0 (Committed event)) (Released p) ∙ others_gain me.0 (Committed event))
+
+  pub set_others : (event : Event) (me me' : Me S View) → me' ≡ (gain me.0 (Committed event), me.1) → rest_of me'.0 ≡ rest_of me.0
+  set_others event me me' is = ap (λ (z : Me S View). rest_of z.0) is ∙ others_gain me.0 (Committed event)

@@ -36,6 +36,7 @@ loop-step-preserved g c =
     let pos : 0 < n = search rules in let on : suc (n - 1) ≡ (n + 1) - 1 = omega (arith, pos) in
     record {
       same = c.try_victim.ensures.same ∙ inv.same;
+      others = c.try_victim.ensures.others ∙ inv.others;
       still = λ shared has.
           let so_far = inv.still shared has in
           let passed = (let h = c.try_victim.ensures.done shared so_far.0 in rw c.if-try_victim.false at h) in (
@@ -57,3 +58,9 @@ returns-clause-done g c shared has =
 
 pub loop-step-init : goal.loop-step-init
 loop-step-init g c = search rules
+
+pub returns-then-try_victim-clause-others : goal.returns-then-try_victim-clause-others
+returns-then-try_victim-clause-others g c = let inv = c.loop-step.invariant in c.try_victim.ensures.others ∙ inv.others
+
+pub returns-clause-others : goal.returns-clause-others
+returns-clause-others g c = let inv = c.loop-step.invariant in inv.others

@@ -5,7 +5,7 @@ use Rattle.atomic_table.specs.Table.{Allows, step}
 use Rattle.klsm_board.specs.declared.sizes.Sizes.{Sizes}
 use Rattle.klsm_board.specs.declared.rule.Own.{Own}
 use Rattle.klsm_board.specs.Rule.{view, place, Ruled}
-use Rattle.klsm_board.specs.Steps.{on_part, mine, attempted}
+use Rattle.klsm_board.specs.Steps.{on_part, mine, rest_of, attempted}
 use Rattle.klsm_board.proofs.lemmas.table.PlaceLemmas.{inside}
 use Rattle.klsm_board.proofs.lemmas.table.AcquireLemmas.{acquire_allows}
 use Rattle.klsm_board.proofs.steps.acquire.Goals as goal
@@ -22,7 +22,7 @@ compare_exchange-requires g c =
           (λ i. (sym told.0 i, sym told.1 i))
           (subst (λ (os : List Own). Allows (Ruled content suits m) slots c.args.seat.now.id (view os, me.1) (place p) (λ n. either (n == 0) (t + 1) n) (on_part (attempted content suits m t) (step slots (place p) 0 (t + 1) none) (view os, me.1)))
           (sym c.requires.view)
-          (acquire_allows content suits m slots c.args.seat.now.id p t (mine me.0) me.1 seat.2 le c.requires.away)),
+          (acquire_allows content suits m slots c.args.seat.now.id p t (mine me.0) (rest_of me.0) me.1 seat.2 le c.requires.away)),
     )
 
 pub returns-clause-told : goal.returns-clause-told

@@ -1,14 +1,14 @@
 use Rattle.std.proofs.Common.{ap, ◌∙◌, refl}
 use Rattle.klsm_world.specs.declared.step.Entry.TheVariants.{Committed}
 use Rattle.klsm_board.specs.Steps.{gain}
-use Rattle.klsm_board.proofs.lemmas.table.SeatLemmas.{out_of, has_set, mine_set}
+use Rattle.klsm_board.proofs.lemmas.table.SeatLemmas.{out_of, has_set, mine_set, set_others}
 use Rattle.klsm_board.proofs.steps.commit_by_front.Goals as goal
 
 pub store_front-requires-clause-told : goal.store_front-requires-clause-told
 store_front-requires-clause-told g c = (refl, refl)
 
 pub store_front-requires-clause-view : goal.store_front-requires-clause-view
-store_front-requires-clause-view g c = let out = c.requires.out.1 in let carries = out.carries in carries.alone
+store_front-requires-clause-view g c = let out = c.requires.out.1 in let carries = out.carries in carries.acts
 
 pub store_front-requires-clause-event : goal.store_front-requires-clause-event
 store_front-requires-clause-event g c = let out = c.requires.out.1 in (c.args.event.now, refl, out.may, c.requires.room, c.requires.sets)
@@ -24,4 +24,7 @@ pub returns-clause-list : goal.returns-clause-list
 returns-clause-list g c =
     let me = c.args.seat.now.me in let me' = c.store_front.new.seat.me in
     let told = c.store_front.ensures.told in let out = c.requires.out.1 in let carries = out.carries in
-    mine_set g.S.Holding.content g.S.Holding.suits c.args.table.now.key c.args.thread c.args.event.now me me' carries.alone (told.2 ∙ ap (λ z. (gain me.0 (Committed z), me.1)) told.1)
+    mine_set g.S.Holding.content g.S.Holding.suits c.args.table.now.key c.args.thread c.args.event.now me me' carries.acts (told.2 ∙ ap (λ z. (gain me.0 (Committed z), me.1)) told.1)
+
+pub returns-clause-others : goal.returns-clause-others
+returns-clause-others g c = let told = c.store_front.ensures.told in set_others g.S.Holding.content g.S.Holding.suits c.args.table.now.key c.args.thread told.0 c.args.seat.now.me c.store_front.new.seat.me told.2

@@ -2,14 +2,14 @@ use Rattle.std.proofs.Common.{◌∷◌, ap, ◌∙◌, refl}
 use Rattle.atomic_table.specs.Table.{rest}
 use Rattle.klsm_world.specs.declared.step.Entry.TheVariants.{Committed, Released}
 use Rattle.klsm_board.specs.Steps.{gain}
-use Rattle.klsm_board.proofs.lemmas.table.SeatLemmas.{can_commit, out_of, has_committed, mine_committed}
+use Rattle.klsm_board.proofs.lemmas.table.SeatLemmas.{can_commit, out_of, has_committed, mine_committed, committed_others}
 use Rattle.klsm_board.proofs.steps.commit_event.Goals as goal
 
 pub commit-requires-clause-told : goal.commit-requires-clause-told
 commit-requires-clause-told g c = (refl, refl)
 
 pub commit-requires-clause-view : goal.commit-requires-clause-view
-commit-requires-clause-view g c = let out = c.requires.out.2 in let carries = out.carries in carries.alone
+commit-requires-clause-view g c = let out = c.requires.out.2 in let carries = out.carries in carries.acts
 
 pub commit-requires-clause-event : goal.commit-requires-clause-event
 commit-requires-clause-event g c =
@@ -27,4 +27,7 @@ pub returns-clause-list : goal.returns-clause-list
 returns-clause-list g c =
     let me = c.args.seat.now.me in let me' = c.commit.new.seat.me in let p = c.args.part in
     let told = c.commit.ensures.told in let out = c.requires.out.2 in let carries = out.carries in
-    mine_committed g.S.Holding.content g.S.Holding.suits c.args.table.now.key c.args.thread p c.args.event.now me me' carries.alone (told.2 ∙ ap (λ z. (gain (gain me.0 (Committed z)) (Released p), rest me.1)) told.1)
+    mine_committed g.S.Holding.content g.S.Holding.suits c.args.table.now.key c.args.thread p c.args.event.now me me' carries.acts (told.2 ∙ ap (λ z. (gain (gain me.0 (Committed z)) (Released p), rest me.1)) told.1)
+
+pub returns-clause-others : goal.returns-clause-others
+returns-clause-others g c = let told = c.commit.ensures.told in committed_others g.S.Holding.content g.S.Holding.suits c.args.table.now.key c.args.thread c.args.part told.0 c.args.seat.now.me c.commit.new.seat.me told.2

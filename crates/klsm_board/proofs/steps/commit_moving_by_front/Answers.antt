@@ -2,14 +2,14 @@ use Rattle.std.proofs.Common.{ap, ◌∙◌, refl}
 use Rattle.klsm_world.specs.declared.step.Entry.TheVariants.{Committed}
 use Rattle.klsm_board.specs.Steps.{gain}
 use Rattle.klsm_board.specs.Seats.{contents}
-use Rattle.klsm_board.proofs.lemmas.table.SeatLemmas.{out_of, as_carried, has_set, mine_set}
+use Rattle.klsm_board.proofs.lemmas.table.SeatLemmas.{out_of, as_carried, has_set, mine_set, set_others}
 use Rattle.klsm_board.proofs.steps.commit_moving_by_front.Goals as goal
 
 pub store_front-requires-clause-told : goal.store_front-requires-clause-told
 store_front-requires-clause-told g c = (refl, refl)
 
 pub store_front-requires-clause-view : goal.store_front-requires-clause-view
-store_front-requires-clause-view g c = let out = c.requires.out.2 in let carries = out.carries in carries.alone
+store_front-requires-clause-view g c = let out = c.requires.out.2 in let carries = out.carries in carries.acts
 
 pub store_front-requires-clause-event : goal.store_front-requires-clause-event
 store_front-requires-clause-event g c =
@@ -32,5 +32,8 @@ returns-clause-list g c = λ hand carries.
     let told = c.store_front.ensures.told in let q = told.1 in let e = g.T.Moving.event c.args.about.now q.0 in (
       q.0,
       out_of g.S.Holding.content g.S.Holding.suits m t e (contents g.S.Holding.content g.S.Holding.suits m t me.1) hand me q.2 carries,
-      mine_set g.S.Holding.content g.S.Holding.suits m t e me me' carries.alone (told.2 ∙ ap (λ z. (gain me.0 (Committed z), me.1)) q.1),
+      mine_set g.S.Holding.content g.S.Holding.suits m t e me me' carries.acts (told.2 ∙ ap (λ z. (gain me.0 (Committed z), me.1)) q.1),
     )
+
+pub returns-clause-others : goal.returns-clause-others
+returns-clause-others g c = let told = c.store_front.ensures.told in set_others g.S.Holding.content g.S.Holding.suits c.args.table.now.key c.args.thread told.0 c.args.seat.now.me c.store_front.new.seat.me told.2

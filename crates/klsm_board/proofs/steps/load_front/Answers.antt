@@ -5,7 +5,7 @@ use Rattle.klsm_run.specs.declared.item.Item.{Item}
 use Rattle.klsm_board.specs.declared.sizes.Sizes.{Sizes}
 use Rattle.klsm_board.specs.declared.rule.Own.{Own}
 use Rattle.klsm_board.specs.Rule.{view, place, Ruled}
-use Rattle.klsm_board.specs.Steps.{mine, looked}
+use Rattle.klsm_board.specs.Steps.{mine, rest_of, looked}
 use Rattle.klsm_board.proofs.lemmas.table.PlaceLemmas.{front_inside}
 use Rattle.klsm_board.proofs.lemmas.table.FrontLemmas.{look_allows}
 use Rattle.klsm_board.proofs.steps.load_front.Goals as goal
@@ -22,7 +22,7 @@ load-requires g c =
           (λ i. (sym told.0 i, sym told.1 i, sym told.2 i, sym c.requires.threads i))
           (subst (λ (os : List Own). Allows (Ruled content suits m) slots c.args.seat.now.id (view os, me.1) (place (m.threads + 1)) (λ n. n) (looked x m t (step slots (place (m.threads + 1)) 0 0 none) (view os, me.1)))
           (sym c.requires.view)
-          (look_allows content suits m slots c.args.seat.now.id t (mine me.0) me.1 least.0 x seat.2 least.1 least.2)),
+          (look_allows content suits m slots c.args.seat.now.id t (mine me.0) (rest_of me.0) me.1 least.0 x seat.2 least.1 least.2)),
     )
 
 pub returns-clause-told : goal.returns-clause-told

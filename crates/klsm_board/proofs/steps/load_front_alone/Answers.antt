@@ -4,7 +4,7 @@ use Rattle.atomic_table.specs.Table.{Allows, step}
 use Rattle.klsm_board.specs.declared.sizes.Sizes.{Sizes}
 use Rattle.klsm_board.specs.declared.rule.Own.{Own}
 use Rattle.klsm_board.specs.Rule.{view, place, Ruled}
-use Rattle.klsm_board.specs.Steps.{mine, glanced}
+use Rattle.klsm_board.specs.Steps.{mine, rest_of, glanced}
 use Rattle.klsm_board.proofs.lemmas.table.PlaceLemmas.{front_inside}
 use Rattle.klsm_board.proofs.lemmas.table.FrontLemmas.{glance_allows}
 use Rattle.klsm_board.proofs.steps.load_front_alone.Goals as goal
@@ -21,7 +21,7 @@ load-requires g c =
           (λ i. (sym told.0 i, sym told.1 i, sym c.requires.threads i))
           (subst (λ (os : List Own). Allows (Ruled content suits m) slots c.args.seat.now.id (view os, me.1) (place (m.threads + 1)) (λ n. n) (glanced m t (step slots (place (m.threads + 1)) 0 0 none) (view os, me.1)))
           (sym c.requires.view)
-          (glance_allows content suits m slots c.args.seat.now.id t (mine me.0) me.1 seat.2)),
+          (glance_allows content suits m slots c.args.seat.now.id t (mine me.0) (rest_of me.0) me.1 seat.2)),
     )
 
 pub returns-clause-told : goal.returns-clause-told

@@ -4,7 +4,7 @@ use Rattle.atomic_table.specs.Table.{Allows, step, rest}
 use Rattle.klsm_board.specs.declared.sizes.Sizes.{Sizes}
 use Rattle.klsm_board.specs.declared.rule.Own.{Own}
 use Rattle.klsm_board.specs.Rule.{view, place, Ruled}
-use Rattle.klsm_board.specs.Steps.{on_part, mine, released}
+use Rattle.klsm_board.specs.Steps.{on_part, mine, rest_of, released}
 use Rattle.klsm_board.proofs.lemmas.table.PlaceLemmas.{inside}
 use Rattle.klsm_board.proofs.lemmas.table.ReleaseLemmas.{release_allows}
 use Rattle.klsm_board.proofs.steps.release.Goals as goal
@@ -21,7 +21,7 @@ store-requires g c =
           (λ i. (sym told.0 i, sym told.1 i))
           (subst (λ (z : List Own × List (ℕ × g.row.S.Denot)). Allows (Ruled content suits m) slots c.args.seat.now.id (view z.0, z.1) (place p) (λ _. 0) (λ _. on_part (released m t) (step slots (place p) 0 0 none) (view z.0, z.1) 0))
           (λ i. (sym c.requires.view i, sym k.1 i))
-          (release_allows content suits m slots c.args.seat.now.id p t (mine me.0) k.0 (rest me.1) seat.2 le k.2 k.3)),
+          (release_allows content suits m slots c.args.seat.now.id p t (mine me.0) (rest_of me.0) k.0 (rest me.1) seat.2 le k.2 k.3)),
     )
 
 pub returns-clause-told : goal.returns-clause-told

@@ -11,12 +11,12 @@ returns-in-Err-clause-stops g c threads k lists input before rows lines items mo
 
 pub returns-in-Ok-clause-stops : goal.returns-in-Ok-clause-stops
 returns-in-Ok-clause-stops g c threads k lists input before rows lines items most now all told =
-    let h = too_many g.R.Read.remaining threads k lists input rows c.advance.new.self (fields_of c.advance.new.self.row) all (c.in-Ok.ensures input rows now.read) in
+    let h = too_many g.R.Read.remaining threads input rows c.advance.new.self (fields_of c.advance.new.self.row) all (c.in-Ok.ensures input rows now.read) in
     stops_told _ threads k lists input before _ rows lines most _ _ now.answered (record { stopped = h.0; shown = now.shown; most_is = now.most_is; other = h.1; fault = λ e. cc }) (c.in_default.ensures.told before lines told)
 
 pub returns-in-Err-advance-clause-stops : goal.returns-in-Err-advance-clause-stops
 returns-in-Err-advance-clause-stops g c threads k lists input before rows lines items most now all told =
-    let h = read_stops _ threads k lists input rows _ (c.in-Err-advance.ensures input rows now.read) in
+    let h = read_stops _ threads input rows _ (c.in-Err-advance.ensures input rows now.read) in
     stops_told _ threads k lists input before _ rows lines most _ _ now.answered (record { stopped = h.0; shown = now.shown; most_is = now.most_is; other = h.1; fault = h.2 }) (c.in_default.ensures.told before lines told)
 
 pub returns-in-Err-clause-refused : goal.returns-in-Err-clause-refused

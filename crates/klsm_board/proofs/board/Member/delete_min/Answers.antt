@@ -6,7 +6,8 @@ use Rattle.klsm_board.specs.Steps.{mine}
 use Rattle.klsm_board.specs.Seats.{Has}
 use Rattle.klsm_board.specs.Slots.{slot_content, IsSlotOf}
 use Rattle.klsm_board.proofs.lemmas.seats.RestLemmas.{rests_after}
-use Rattle.klsm_board.proofs.lemmas.calls.AddedLemmas.{Gains, gained_counts}
+use Rattle.klsm_board.specs.Boards.{Gains}
+use Rattle.klsm_board.proofs.lemmas.calls.AddedLemmas.{gained_counts}
 use Rattle.klsm_board.proofs.lemmas.calls.DeletedLemmas.{answers_gain, some_is_one, none_is_zero}
 use Rattle.klsm_board.proofs.board.Member.delete_min.Goals as goal
 

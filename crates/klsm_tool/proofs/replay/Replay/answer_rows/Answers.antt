@@ -1,6 +1,7 @@
 use Rattle.std.proofs.Common.{◌≡◌, ℕ, ◌+◌, ◌<◌, [], ◌∷◌, refl, ap, sym, length, subst, arith}
 use Rattle.klsm_tool.specs.Answering.{live_beside}
-use Rattle.klsm_tool.specs.Crews.{lists_in}
+use Rattle.klsm_board.specs.Together.{all_lists}
+use Rattle.klsm_board.specs.declared.sizes.Sizes.{Sizes}
 use Rattle.klsm_text.specs.Script.{row_limit}
 use Rattle.klsm_text.specs.Reading.{reader_failed}
 use Rattle.klsm_text.specs.ThreadRows.{StandsAtRefusal}
@@ -12,19 +13,19 @@ pub answer_row-requires-clause-quota : goal.answer_row-requires-clause-quota
 answer_row-requires-clause-quota g c = let quota = ap (λ z. z.quota) c.requires.sizes in omega (arith, quota)
 
 pub answer_row-requires-clause-few : goal.answer_row-requires-clause-few
-answer_row-requires-clause-few g c t below = let few = c.loop-answered.invariant.few t below in let test = c.loop-answered-test.true in omega (arith, few, test)
+answer_row-requires-clause-few g c = let few = c.loop-answered.invariant.few in let test = c.loop-answered-test.true in omega (arith, few, test)
 
 pub returns-in-Err-clause-stops : goal.returns-in-Err-clause-stops
 returns-in-Err-clause-stops g c input before stands told =
     let k = c.loop-answered.invariant.stands input before stands told in
     let sizes = c.requires.sizes in
     let stopped = c.in-Err.ensures.step input before k.0 k.1 k.3 (let few : length k.0 < row_limit = omega (arith, k.2, c.loop-answered-test.true) in few) k.4 in
-    subst (λ (n : ℕ). HasStopped (reader_failed c.answer_row.new.script) c.args.settings.now.threads c.args.settings.now.k (lists_in c.answer_row.new.members) input before (g.W.Write.contents c.answer_row.new.writer) (n + 1) c.answer_row.new.self.beside.most c.answer_row.new.self.output c.in-Err.stop) k.2
-    (subst (λ z. HasStopped (reader_failed c.answer_row.new.script) z.threads z.k (lists_in c.answer_row.new.members) input before (g.W.Write.contents c.answer_row.new.writer) (length k.0 + 1) c.answer_row.new.self.beside.most c.answer_row.new.self.output c.in-Err.stop) sizes stopped)
+    subst (λ (n : ℕ). HasStopped (reader_failed c.answer_row.new.script) c.args.settings.now.threads c.args.settings.now.k (all_lists c.answer_row.new.all) input before (g.W.Write.contents c.answer_row.new.writer) (n + 1) c.answer_row.new.self.beside.most c.answer_row.new.self.output c.in-Err.stop) k.2
+    (subst (λ z. HasStopped (reader_failed c.answer_row.new.script) z.threads z.k (all_lists c.answer_row.new.all) input before (g.W.Write.contents c.answer_row.new.writer) (length k.0 + 1) c.answer_row.new.self.beside.most c.answer_row.new.self.output c.in-Err.stop) sizes stopped)
 
 pub loop-answered-preserved : goal.loop-answered-preserved
 loop-answered-preserved g c = record {
-  members = c.in_default.ensures.members;
+  of = c.in_default.ensures.of;
   pickers = c.in_default.ensures.pickers;
   few = c.in_default.ensures.few c.loop-answered.answered c.loop-answered.invariant.few;
   short = omega (arith, c.in_default.ensures.put, c.loop-answered.invariant.short);
@@ -36,23 +37,21 @@ loop-answered-preserved g c = record {
 
 pub loop-answered-init : goal.loop-answered-init
 loop-answered-init g c = record {
-  members = c.requires.members;
+  of = c.requires.of;
   pickers = c.requires.pickers;
   few = c.requires.few;
   short = omega (arith, c.requires.put);
   stands = λ input before stands told.
-      let threads = ap (λ z. z.threads) c.requires.sizes in
-      ([], [], refl, subst (λ n. StandsAfter g.R.Read.remaining n (lists_in c.args.members.now) input [] [] c.args.script.now (live_beside c.args.self.now.beside) c.args.self.now.beside.most) (sym threads) stands, told);
+      ([], [], refl, subst (λ (z : Sizes). StandsAfter g.R.Read.remaining z.threads z.k (all_lists c.args.all.now) input [] [] c.args.script.now (live_beside c.args.self.now.beside) c.args.self.now.beside.most) (sym c.requires.sizes) stands, told);
 }
 
 pub returns-clause-stops : goal.returns-clause-stops
 returns-clause-stops g c input before stands told =
     let k = c.loop-answered.invariant.stands input before stands told in
     let all : length k.0 ≡ row_limit = omega (arith, k.2, c.loop-answered-test.false) in
-    let threads = ap (λ z. z.threads) c.requires.sizes in
-    let now = subst (λ n. StandsAfter g.R.Read.remaining n (lists_in c.loop-answered.members) input k.0 k.1 c.loop-answered.script (live_beside c.loop-answered.self.beside) c.loop-answered.self.beside.most) threads k.3 in
-    let stops = c.stop_behind.ensures.stops c.args.settings.now.threads c.args.settings.now.k (lists_in c.loop-answered.members) input before k.0 k.1 _ _ now all k.4 in
-    subst (λ (n : ℕ). HasStopped (reader_failed c.stop_behind.new.script) c.args.settings.now.threads c.args.settings.now.k (lists_in c.loop-answered.members) input before (g.W.Write.contents c.stop_behind.new.writer) (n + 1) c.loop-answered.self.beside.most c.stop_behind.new.output c.stop_behind.result) all stops
+    let now = subst (λ (z : Sizes). StandsAfter g.R.Read.remaining z.threads z.k (all_lists c.loop-answered.all) input k.0 k.1 c.loop-answered.script (live_beside c.loop-answered.self.beside) c.loop-answered.self.beside.most) c.requires.sizes k.3 in
+    let stops = c.stop_behind.ensures.stops c.args.settings.now.threads c.args.settings.now.k (all_lists c.loop-answered.all) input before k.0 k.1 _ _ now all k.4 in
+    subst (λ (n : ℕ). HasStopped (reader_failed c.stop_behind.new.script) c.args.settings.now.threads c.args.settings.now.k (all_lists c.loop-answered.all) input before (g.W.Write.contents c.stop_behind.new.writer) (n + 1) c.loop-answered.self.beside.most c.stop_behind.new.output c.stop_behind.result) all stops
 
 pub returns-in-Err-clause-refused : goal.returns-in-Err-clause-refused
 returns-in-Err-clause-refused g c input before stands told =

@@ -1,7 +1,8 @@
 use Rattle.std.proofs.Common.{◌≡◌, ℕ, ◌*◌, ◌≤◌, List, [], length, Option}
 use Rattle.klsm_text.specs.declared.answer.Line.{Line}
 use Rattle.klsm_tool.specs.Answering.{live_beside, picker_count}
-use Rattle.klsm_tool.specs.Crews.{AreFew, AreMembers, lists_in}
+use Rattle.klsm_board.specs.Together.{AreOf, all_lists}
+use Rattle.klsm_tool.specs.Crews.{AreFew}
 use Rattle.klsm_rows.specs.Rows.{Row}
 use Rattle.klsm_text.specs.Output.{put_count}
 use Rattle.klsm_tool.specs.Progress.{IsTold, StandsAfter}
@@ -10,12 +11,12 @@ use Rattle.klsm_tool.proofs.replay.Replay.answer_rows.Given as goal
 -- so many rows are answered, and their lines are told
 abbrev pub invariant-loop-answered : goal.invariant-loop-answered
 invariant-loop-answered g l = record {
-  members : AreMembers l.board l.members;
+  of : AreOf l.all l.board;
   pickers : picker_count l.self.beside ≡ l.board.sizes.threads;
-  few : AreFew l.board.sizes.threads l.answered (lists_in l.members);
+  few : AreFew l.answered (all_lists l.all);
   short : put_count l.self.output ≤ 160 * l.answered;
-  stands : (input before : Option (List ℕ)) → StandsAfter g.R.Read.remaining l.settings.threads (lists_in l.initial.members) input [] [] l.initial.script (live_beside l.initial.self.beside) l.initial.self.beside.most
+  stands : (input before : Option (List ℕ)) → StandsAfter g.R.Read.remaining l.settings.threads l.settings.k (all_lists l.initial.all) input [] [] l.initial.script (live_beside l.initial.self.beside) l.initial.self.beside.most
       → IsTold before (g.W.Write.contents l.initial.writer) [] l.initial.self.output
-      → (rows : List Row) × (lines : List Line) × (length rows ≡ l.answered) × StandsAfter g.R.Read.remaining l.board.sizes.threads (lists_in l.members) input rows lines l.script (live_beside l.self.beside) l.self.beside.most
+      → (rows : List Row) × (lines : List Line) × (length rows ≡ l.answered) × StandsAfter g.R.Read.remaining l.board.sizes.threads l.board.sizes.k (all_lists l.all) input rows lines l.script (live_beside l.self.beside) l.self.beside.most
       × IsTold before (g.W.Write.contents l.writer) lines l.self.output;
 }

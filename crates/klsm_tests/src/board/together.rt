@@ -1,0 +1,109 @@
+//! All members of a board in one hand, who go by turns and come back as they were.
+ghost use Rattle.std.specs.Prelude.{All};
+ghost use Rattle.klsm_board.specs.Boards.{IsOf};
+ghost use Rattle.klsm_board.specs.Together.{AreOf};
+
+use klsm_board::{AllMembers, Board, GatherRefused, Member};
+use klsm_parts::First;
+use std::sync::Wait;
+
+// The most insertions of a member.
+const MANY: u64 = 1_000_000;
+
+// Whether the member of this number inserts a key.
+fn inserts(
+    rt: &impl Wait,
+    board: &Board<64, 21>,
+    all: &mut AllMembers<64, 21>,
+    number: u32,
+    key: u64,
+) -> bool
+    requires of { AreOf all.old board.now }
+    ensures of { AreOf all.new board.now }
+{
+    (number as usize) < all.threads() && all.insert(rt, board, number, key, 7).is_ok()
+}
+
+// Whether the member of this number deletes this key, or finds nothing.
+fn deletes(
+    rt: &impl Wait,
+    board: &Board<64, 21>,
+    all: &mut AllMembers<64, 21>,
+    number: u32,
+    key: Option<u64>,
+) -> bool
+    requires of { AreOf all.old board.now }
+    ensures of { AreOf all.new board.now }
+{
+    if number as usize >= all.threads() {
+        return false;
+    }
+    let found = all.delete_min(rt, board, number, &mut First);
+    found.map(|item| item.key) == key
+}
+
+// Whether two members who keep one item each go by turns: one deletes what the other inserted, and who has
+// nothing spies.
+fn go_by_turns(rt: &impl Wait, board: &Board<64, 21>, all: &mut AllMembers<64, 21>) -> bool
+    requires of { AreOf all.old board.now }
+    ensures of { AreOf all.new board.now }
+{
+    inserts(rt, board, all, 0, 5)
+        && inserts(rt, board, all, 0, 3)
+        && inserts(rt, board, all, 1, 9)
+        && deletes(rt, board, all, 1, Some(5))
+        && deletes(rt, board, all, 0, Some(3))
+        && deletes(rt, board, all, 0, Some(9))
+        && deletes(rt, board, all, 1, None)
+        && inserts(rt, board, all, 1, 4)
+}
+
+// Whether this member has this number and these counts.
+fn is(members: &[Member<64, 21>], number: u32, inserted: u64, deleted: u64) -> bool {
+    match members.get(number as usize) {
+        Some(member) => {
+            member.number() == number
+                && member.inserted_count() == inserted
+                && member.deleted_count() == deleted
+        }
+        None => false,
+    }
+}
+
+#[test]
+fn members_come_back_with_what_they_did(rt: HostRuntime) {
+    let Ok((board, members)) = Board::<64, 21>::new(rt.alloc(), 2, 1, MANY) else {
+        panic!(rt; "no memory");
+    };
+    let Ok(mut all) = board.gather(members) else {
+        panic!(rt; "a member is missing");
+    };
+    assert!(rt; all.threads() == 2);
+    assert!(rt; go_by_turns(&rt, &board, &mut all));
+    let members = all.spread(&board);
+    assert!(rt; members.len() == 2);
+    assert!(rt; is(members.as_slice(), 0, 2, 2));
+    assert!(rt; is(members.as_slice(), 1, 2, 1));
+}
+
+#[test]
+fn the_least_missing_member_is_named(rt: HostRuntime) {
+    let Ok((board, mut members)) = Board::<64, 21>::new(rt.alloc(), 3, 1, MANY) else {
+        panic!(rt; "no memory");
+    };
+    let Some(last) = members.pop() else {
+        panic!(rt; "no member");
+    };
+    let Err(
+        GatherRefused {
+            missing,
+            mut members,
+        },
+    ) = board.gather(members)
+    else {
+        panic!(rt; "a member is not missed");
+    };
+    assert!(rt; missing == 2 && members.len() == 2);
+    assert!(rt; members.push(last).is_ok());
+    assert!(rt; board.gather(members).is_ok());
+}
