@@ -1,7 +1,7 @@
 """Refuses each growth of memory of the program `klsm` in turn, and checks what it then writes.
 
     cc -O2 -shared -fPIC -o refuse.so refuse.c
-    python3 refusals.py ./refuse.so ../../klsm/out/klsm
+    python3 refusals.py ./refuse.so ../../crates/klsm/out/klsm
 
 The program has to stand built: `./klsm --help` at the root of the repository builds it. The text has to
 be some of the usual lines and then `no memory`, with status 3. It may be the usual text where the
@@ -15,7 +15,7 @@ import pathlib
 import subprocess
 import sys
 
-EXAMPLES = pathlib.Path(__file__).resolve().parents[3] / "examples"
+EXAMPLES = pathlib.Path(__file__).resolve().parents[2] / "examples"
 
 # Words, and the example that is read.
 RUNS = [

@@ -1,6 +1,6 @@
 """Checks the script `klsm` at the root of the repository, with a stand-in for `rt` that builds at once.
 
-    python3 launcher.py ../../../klsm
+    python3 launcher.py ../../klsm
 
 It says nothing and ends with status 0 where all is as it has to be: what the script passes on, when it
 builds, and status 70 where it cannot.

@@ -1,7 +1,7 @@
 """Runs a million rows by sixteen threads with `klsm live`, for k of 0, 1 and 64 and refills from 0 to k, and
 checks the totals.
 
-    python3 soak.py ../../klsm/out/klsm
+    python3 soak.py ../../crates/klsm/out/klsm
 
 The program has to stand built: `./klsm --help` at the root of the repository builds it. As many items have
 to be inserted as there are rows that insert, each of them is deleted or left, and no more are deleted than
