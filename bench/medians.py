@@ -1,4 +1,4 @@
-"""The medians of a CSV of bench/run."""
+"""The figures of a CSV of bench/run: medians, and between what the rounds lie."""
 
 import csv
 import os
@@ -11,20 +11,29 @@ class Medians:
 
     def __init__(self, path):
         self.values = {}
+        self.spreads = {}
         self.rounds = 0
         with open(path, encoding="utf-8") as file:
             for row in csv.DictReader(line for line in file if not line.startswith("#")):
                 self.add(row)
 
     def add(self, row):
+        key = tuple(int(row[name]) if name in ("threads", "items") else row[name] for name in PLACES)
+        value = float(row["value"])
         if row["round"] in ("median", "-"):
-            key = tuple(int(row[name]) if name in ("threads", "items") else row[name] for name in PLACES)
-            self.values[key] = float(row["value"])
+            self.values[key] = value
         else:
             self.rounds = max(self.rounds, int(row["round"]))
+            least, greatest = self.spreads.get(key, (value, value))
+            self.spreads[key] = min(least, value), max(greatest, value)
 
     def get(self, *key):
         return self.values.get(key)
+
+    def spread(self, *key):
+        """The least and the greatest of all rounds."""
+        value = self.values.get(key)
+        return self.spreads.get(key, (value, value))
 
     def all(self, *names, **given):
         """The different entries at these places of the keys, in the order of the file, where others are as given."""

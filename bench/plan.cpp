@@ -11,14 +11,15 @@ namespace {
 
 void make_short(plan &one) {
     one.rounds = 3;
+    one.seconds = 0.03;
     one.items = {1000, 10000};
-    one.pairs = 40000;
+    one.setting_items = 10000;
     one.work_items = {10000};
-    one.work_pairs = 20000;
-    one.rank_items = {10000};
-    one.rank_pairs = 20000;
-    one.things = 36; // 17,000 nodes
+    one.rank_calls = 40000;
+    one.things = 36;
+    one.search_nodes = 17000;
     one.knapsack_seed = 5;
+    one.graph_nodes = 20000;
 }
 
 // 1, 2, 4 and so on, and as many as there are processors.
@@ -31,10 +32,10 @@ std::vector<std::size_t> numbers_of_threads() {
     return numbers;
 }
 
-std::size_t number_of(const char *word) {
+double number_of(const char *word) {
     char *end;
-    const unsigned long number = std::strtoul(word, &end, 10);
-    if (*end != 0 || number == 0) stop("a number above 0 was expected");
+    const double number = std::strtod(word, &end);
+    if (*end != 0 || !(number > 0 && number < 1e6)) stop("a number above 0 was expected");
     return number;
 }
 
@@ -57,16 +58,20 @@ plan plan_of(int count, char **words) {
             one.command = value();
         else if (word == "--only")
             one.only = value();
+        else if (word == "--load")
+            one.load = value();
         else if (word == "--rounds")
-            one.rounds = number_of(value());
+            one.rounds = std::max<std::size_t>(1, std::size_t(number_of(value())));
+        else if (word == "--seconds")
+            one.seconds = number_of(value());
         else if (word == "--no-bind")
             one.is_bound = false;
         else if (word != "--quick")
             stop(("unknown word " + word).c_str());
     }
     if (one.csv.empty()) stop("--csv FILE is missing");
-    const std::vector<std::string> parts{"throughput", "work", "rank", "search"};
+    const std::vector<std::string> parts{"throughput", "work", "latency", "rank", "search", "paths"};
     if (!one.only.empty() && std::find(parts.begin(), parts.end(), one.only) == parts.end())
-        stop("--only wants throughput, work, rank or search");
+        stop("--only wants throughput, work, latency, rank, search or paths");
     return one;
 }

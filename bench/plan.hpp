@@ -9,28 +9,32 @@
 
 struct plan {
     std::string csv;     // the file that is written
-    std::string command; // for the comment in it
-    std::string only;    // "throughput", "work", "rank" or "search"; all where it is empty
+    std::string command; // for the comments in it
+    std::string load;    // of the machine, when bench/run began
+    std::string only;    // one of the parts; all where it is empty
     bool is_bound = true;
     std::size_t rounds = 5;
+    double seconds = 1; // for which a figure is measured, in all rounds together
     std::vector<std::size_t> threads;
-    std::vector<pattern> patterns{pattern::uniform, pattern::hold, pattern::ascending};
 
     std::vector<std::size_t> items{1000, 100000, 1000000};
-    std::size_t pairs = 400000; // of all threads together
+    std::size_t setting_items = 100000; // with which settings, rank errors and latencies are compared
 
     std::vector<std::size_t> work_items{1000, 100000};
     std::vector<double> work{0.3, 1, 3}; // microseconds between the two calls of a pair
-    std::size_t work_pairs = 100000;
 
-    std::vector<std::size_t> rank_items{100000};
-    std::size_t rank_pairs = 60000;
+    std::size_t rank_calls = 120000;
 
     std::size_t things = 48; // of a knapsack that takes 131,000 nodes
+    std::size_t search_nodes = 131000;
     std::uint64_t knapsack_seed = 7;
     std::vector<std::size_t> microseconds{0, 1, 10}; // the work of a node
 
+    std::size_t graph_nodes = 250000;
+
     bool has(const char *part) const { return only.empty() || only == part; }
+    std::size_t most_threads() const { return threads.back(); }
+    double seconds_of_a_round() const { return seconds / double(rounds); }
 };
 
 // From the words of the command line. Stops the program where one is not known.

@@ -57,29 +57,34 @@ rank_errors summary(std::vector<std::uint64_t> errors) {
     return {sum / double(errors.size()), errors[(errors.size() * 99 + 99) / 100 - 1], errors.back()};
 }
 
+bool was_inserted(const life &one) { return one.insertion.end != UINT64_MAX; }
+
 // An item of which the deletion began before the insertion ended was never certainly live.
 bool is_certain(const life &one) { return one.insertion.end < one.deletion.begin; }
 
 } // namespace
 
 std::vector<life> lives_of(const std::vector<call> &calls) {
-    std::size_t insertions = 0;
+    std::uint64_t greatest = 0;
     for (const call &one : calls)
-        insertions += one.is_insertion;
-    std::vector<life> lives(insertions);
+        greatest = std::max(greatest, one.load);
+    std::vector<life> lives(greatest + 1);
     for (const call &one : calls)
         if (one.is_insertion) {
-            if (one.load >= insertions || lives[one.load].insertion.end != UINT64_MAX)
-                stop("an item was inserted twice");
+            if (was_inserted(lives[one.load])) stop("an item was inserted twice");
             lives[one.load].key = one.key;
             lives[one.load].insertion = {one.begin, one.end};
         }
     for (const call &one : calls)
         if (!one.is_insertion) {
-            if (one.load >= insertions || lives[one.load].key != one.key) stop("an item came from nowhere");
-            if (lives[one.load].deletion.end != UINT64_MAX) stop("an item came twice");
-            lives[one.load].deletion = {one.begin, one.end};
+            life &of = lives[one.load];
+            if (!was_inserted(of) || of.key != one.key) stop("an item came from nowhere");
+            if (of.deletion.end != UINT64_MAX) stop("an item came twice");
+            of.deletion = {one.begin, one.end};
         }
+    // A deletion has a number and no item.
+    lives.erase(std::remove_if(lives.begin(), lives.end(), [](const life &one) { return !was_inserted(one); }),
+                lives.end());
     set_ranks(lives);
     return lives;
 }

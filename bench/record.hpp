@@ -7,6 +7,7 @@
 #include <atomic>
 #include <immintrin.h>
 #include <memory>
+#include <vector>
 
 struct call {
     std::uint64_t begin, end; // in a run by turns: the call's number, twice
@@ -64,23 +65,23 @@ private:
     std::vector<call> calls_;
 };
 
-// One thread makes the calls of all members by turns: the first half of each one's pair, then the second.
-template <class Queue> std::vector<call> record_by_turns(const workload &given, typename Queue::setting setting) {
+// One thread makes so many steps of all members by turns: the first half of each one's step, then the second.
+template <class Queue>
+std::vector<call> record_by_turns(const workload &given, std::size_t steps, typename Queue::setting setting) {
     using calls = recorded_calls<by_number>;
-    const workload_keys keys(given);
     std::uint64_t number = 0;
     Queue queue(given.threads, given.room(), setting);
     auto handles = handles_of(queue, given.threads);
     calls filling(by_number{&number});
-    fill(keys, handles, filling);
+    fill(given, handles, filling);
     std::vector<worker<typename Queue::handle, calls>> workers;
     for (std::size_t t = 0; t < given.threads; t++)
-        workers.emplace_back(given, keys, handles[t], calls(by_number{&number}));
-    for (std::size_t pair = 0; pair + given.threads <= given.pairs; pair += given.threads) {
+        workers.emplace_back(given, handles[t], calls(by_number{&number}));
+    for (std::size_t step = 0; step + given.threads <= steps; step += given.threads) {
         for (std::size_t t = 0; t < given.threads; t++)
-            workers[t].first_half(pair + t);
+            workers[t].first_half(step + t);
         for (std::size_t t = 0; t < given.threads; t++)
-            workers[t].second_half(pair + t);
+            workers[t].second_half(step + t);
     }
     std::vector<call> all = filling.all();
     for (auto &one : workers)
@@ -88,27 +89,30 @@ template <class Queue> std::vector<call> record_by_turns(const workload &given, 
     return all;
 }
 
+// Threads make so many steps together, as they take them up.
 template <class Queue>
-std::vector<call> record_in_threads(const workload &given, const placing &where, typename Queue::setting setting) {
-    using calls = recorded_calls<by_clock>;
-    using one_worker = worker<typename Queue::handle, calls>;
-    const workload_keys keys(given);
+std::vector<call> record_in_threads(const workload &given, std::size_t steps, const placing &where,
+                                    typename Queue::setting setting) {
+    using placed = placed_worker<Queue, recorded_calls<by_clock>>;
     Queue queue(given.threads, given.room(), setting);
     auto handles = handles_of(queue, given.threads);
-    calls filling;
-    fill(keys, handles, filling);
-    common_pairs pairs(0, given.pairs);
-    std::vector<std::unique_ptr<one_worker>> workers(given.threads);
+    recorded_calls<by_clock> filling;
+    fill(given, handles, filling);
+    common_steps common;
+    std::vector<std::unique_ptr<placed>> workers(given.threads);
     time_of(
         given.threads, where,
         [&](std::size_t t) {
-            workers[t] = std::make_unique<one_worker>(given, keys, handles[t]);
-            workers[t]->calls().reserve(2 * given.pairs);
+            workers[t].reset(new placed{{given, handles[t]}, own_steps(common)});
+            workers[t]->by.calls().reserve(2 * steps);
         },
-        [&](std::size_t t) { pairs.run(*workers[t]); });
+        [&](std::size_t t) {
+            for (std::uint64_t step; (step = workers[t]->steps.next()) < steps;)
+                workers[t]->by.run(step);
+        });
     std::vector<call> all = filling.all();
     for (auto &one : workers)
-        all.insert(all.end(), one->calls().all().begin(), one->calls().all().end());
+        all.insert(all.end(), one->by.calls().all().begin(), one->by.calls().all().end());
     return all;
 }
 

@@ -25,13 +25,6 @@ std::string field(const char *path, const std::string &name, char mark) {
     return "unknown";
 }
 
-std::string first_line(const char *path) {
-    std::ifstream file(path);
-    std::string line = "unknown";
-    std::getline(file, line);
-    return line;
-}
-
 } // namespace
 
 report::report(const std::string &path) : file_(std::fopen(path.c_str(), "w")) {
@@ -82,11 +75,10 @@ std::vector<std::string> surroundings() {
             "processors: " + std::to_string(processors().size()),
             "memory: " + field("/proc/meminfo", "MemTotal", ':'),
             "system: " + field("/etc/os-release", "PRETTY_NAME", '='),
-            "kernel: " + first_line("/proc/sys/kernel/osrelease"),
 #ifdef __clang__
-            std::string("compiler: ") + __VERSION__,
+            std::string("compiler: ") + __VERSION__
 #else
-            std::string("compiler: GCC ") + __VERSION__,
+            std::string("compiler: GCC ") + __VERSION__
 #endif
-            "load when it began: " + first_line("/proc/loadavg")};
+    };
 }

@@ -7,6 +7,7 @@
 
 #include "klsm.h"
 #include "knapsack.hpp"
+#include "open_items.hpp"
 #include "queues/item.hpp"
 #include "spin.hpp"
 #include "threads.hpp"
@@ -34,45 +35,45 @@ public:
     static constexpr std::size_t room = std::size_t(1) << 20;
 
     search(const search_task &task, typename Queue::setting setting)
-        : task_(task), given_(*task.given), queue_(task.threads, room, setting), top_(given_.bound(0, {0, 0})) {}
+        : task_(task), given_(*task.given), queue_(task.threads, room, setting), top_(given_.bound(0, {0, 0})),
+          open_(task.threads) {}
 
     search_result run(const placing &where) {
         std::vector<handle> handles;
         std::vector<std::uint64_t> nodes(task_.threads);
         for (std::size_t t = 0; t < task_.threads; t++)
             handles.push_back(queue_.handle_of(t));
+        open_.open(0, 1);
         handles[0].insert({klsm_key_of_bound(0, 0), node{0, 0}.load()});
         const double seconds = time_of(
-            task_.threads, where, [](std::size_t) {}, [&](std::size_t t) { nodes[t] = work(handles[t]); });
+            task_.threads, where, [](std::size_t) {}, [&](std::size_t t) { nodes[t] = work(t, handles[t]); });
         return {seconds, std::accumulate(nodes.begin(), nodes.end(), std::uint64_t(0)), best_};
     }
 
 private:
     // How many nodes this thread has examined. That no node is found is not the end: another thread may
     // be about to open some.
-    std::uint64_t work(handle by) {
+    std::uint64_t work(std::size_t t, handle by) {
         std::uint64_t examined = 0;
-        item next;
-        while (open_.load(std::memory_order_acquire) > 0) {
-            if (!by.delete_min(next))
-                pause();
-            else if (bound_of(next) <= best_.load(std::memory_order_relaxed))
-                open_.fetch_sub(1, std::memory_order_release);
-            else {
-                examined++;
-                examine(by, node::of(next.load), bound_of(next));
-            }
-        }
-        return examined;
+        for (item next;;)
+            if (by.delete_min(next)) {
+                if (bound_of(next) > best_.load(std::memory_order_relaxed)) {
+                    examined++;
+                    examine(t, by, node::of(next.load), bound_of(next));
+                }
+                open_.close(t);
+            } else if (open_.are_none())
+                return examined;
+            else
+                pause_for_items();
     }
 
     // Puts in the children that may still be better than the best.
-    void examine(handle &by, node at, std::uint64_t bounded) {
+    void examine(std::size_t t, handle &by, node at, std::uint64_t bounded) {
         spin(task_.steps);
         item children[2];
         const int count = at.level == given_.things.size() ? 0 : branch(at, bounded, children);
-        // The node itself leaves. Its children count before another thread can take them.
-        if (count != 1) open_.fetch_add(count - 1, std::memory_order_release);
+        open_.open(t, std::uint64_t(count));
         for (int i = 0; i < count; i++)
             by.insert(children[i]);
     }
@@ -104,17 +105,12 @@ private:
         }
     }
 
-    static void pause() {
-        for (int i = 0; i < 64; i++)
-            __builtin_ia32_pause();
-    }
-
     const search_task task_;
     const instance &given_;
     Queue queue_;
     const std::uint64_t top_; // the root's bound
     alignas(128) std::atomic<std::uint64_t> best_{0};
-    alignas(128) std::atomic<std::int64_t> open_{1}; // nodes in the queue or in a thread's hands
+    alignas(128) open_items open_;
 };
 
 #endif

@@ -1,4 +1,4 @@
-"""How the pictures look: which line each queue has, axes, labels, and the SVG that is written."""
+"""How the pictures look: which line each queue has, axes, names, and the SVG that is written."""
 
 import io
 import os
@@ -8,21 +8,17 @@ import matplotlib
 import matplotlib.pyplot as plt
 from matplotlib.ticker import FuncFormatter, NullFormatter, NullLocator
 
-WIDTH = 8.33  # inches: 800 px
+WIDTH = 5.2  # inches: 500 px, so that the text can be read where a page has 400
 GREY = "#555555"
+OURS = "#0b5394"
 
-# Colour, marker and dashes of each queue. No two have one marker, so that colour is not needed.
+# Colour, marker and dashes. No two have one marker, so that colour is not needed. Ours is the thick one.
 STYLES = {
-    "k-LSM first": ("#0b5394", "o", "-"),
-    "k-LSM random": ("#3d85c6", "s", (0, (5, 2))),
-    "k-LSM refill": ("#1c4587", "*", "-"),
-    "MultiQueue c=2": ("#b45f06", "^", (0, (6, 2, 1, 2))),
-    "MultiQueue c=4": ("#cc7a1f", "v", (0, (3, 2))),
-    "heap and mutex": ("#222222", "X", (0, (1, 1.5))),
-    "oneTBB": ("#38761d", "D", (0, (4, 1.5, 1, 1.5, 1, 1.5))),
-    "flat combining sleeps": ("#741b47", "P", (0, (8, 3))),
-    "flat combining pauses": ("#a64d79", "p", (0, (2, 1))),
-    "array heap": ("#666666", ">", (0, (2, 3))),
+    "k-LSM": (OURS, "o", "-"),
+    "MultiQueue": ("#b45f06", "^", (0, (6, 2, 1, 2))),
+    "Stealing MultiQueue": ("#674ea7", "v", (0, (3, 1.5))),
+    "skip list": ("#38761d", "D", (0, (4, 1.5, 1, 1.5, 1, 1.5))),
+    "best other exact": ("#222222", "X", (0, (1, 1.5))),
 }
 
 SETTINGS = {
@@ -30,7 +26,7 @@ SETTINGS = {
     "svg.hashsalt": "klsm",
     "font.family": "DejaVu Sans",
     "font.size": 8.5,
-    "axes.titlesize": 9.5,
+    "axes.titlesize": 9,
     "axes.titlelocation": "left",
     "axes.spines.top": False,
     "axes.spines.right": False,
@@ -38,8 +34,6 @@ SETTINGS = {
     "axes.grid": True,
     "grid.color": "#dddddd",
     "grid.linewidth": 0.6,
-    "lines.linewidth": 1.4,
-    "lines.markersize": 4.8,
     "figure.facecolor": "white",
 }
 
@@ -48,10 +42,40 @@ def set_up():
     matplotlib.rcParams.update(SETTINGS)
 
 
-def line_of(queue, has_line=True):
-    colour, marker, dashes = STYLES[queue]
-    dashes = dashes if has_line else "none"
-    return {"color": colour, "marker": marker, "linestyle": dashes, "markeredgecolor": "white", "markeredgewidth": 0.4}
+def line_of(name, has_line=True):
+    colour, marker, dashes = STYLES[name]
+    is_ours = name == "k-LSM"
+    return {
+        "color": colour,
+        "marker": marker,
+        "linestyle": dashes if has_line else "none",
+        "linewidth": 2.8 if is_ours else 1.2,
+        "markersize": 6.5 if is_ours else 5,
+        "markeredgecolor": "white",
+        "markeredgewidth": 0.5,
+        "zorder": 4 if is_ours else 3,
+    }
+
+
+def plot(axes, name, xs, ys, spreads, has_line=True):
+    """A line, and at each point a stroke from the least to the greatest round."""
+    axes.vlines(xs, [low for low, _ in spreads], [high for _, high in spreads], color=STYLES[name][0], linewidth=0.8)
+    axes.plot(xs, ys, **line_of(name, has_line))
+
+
+def two_panels(title, more, names):
+    """A figure of two panels, with a title, a line below it, and the names of the lines: name and what is written."""
+    figure, grid = plt.subplots(1, 2, figsize=(WIDTH, 3.5))
+    figure.subplots_adjust(left=0.09, right=0.985, top=0.645, bottom=0.125, wspace=0.17)
+    figure.text(0.015, 0.955, title, fontsize=10.5, fontweight="bold", va="center")
+    figure.text(0.015, 0.9, more, color=GREY, va="center")
+    for i, (name, written) in enumerate(names):
+        x, y = 0.015 + i % 3 * 0.335, 0.838 - i // 3 * 0.062
+        style = line_of(name) | {"markevery": [1]}
+        figure.add_artist(plt.Line2D([x, x + 0.03, x + 0.06], [y] * 3, transform=figure.transFigure, **style))
+        weight = "bold" if name == "k-LSM" else "normal"
+        figure.text(x + 0.07, y, written, color=STYLES[name][0], va="center", fontweight=weight)
+    return figure, grid
 
 
 def millions(value, _):
@@ -59,7 +83,7 @@ def millions(value, _):
 
 
 def plain(value, _):
-    return f"{value:g}"
+    return f"{value:,g}"
 
 
 def set_threads(axes, threads):
@@ -68,48 +92,60 @@ def set_threads(axes, threads):
     axes.xaxis.set_major_formatter(FuncFormatter(plain))
     axes.xaxis.set_minor_locator(NullLocator())
     axes.set_xlim(threads[0] * 0.88, threads[-1] * 1.14)
+    axes.set_xlabel("threads", labelpad=1)
 
 
-def set_ticks(axis, form, steps):
-    """Ticks at these multiples of the powers of ten."""
-    low, high = axis.get_view_interval()
-    ticks = [step * 10.0**power for power in range(-4, 11) for step in steps]
-    axis.set_ticks([tick for tick in ticks if low <= tick <= high])
-    axis.set_major_formatter(FuncFormatter(form))
-    axis.set_minor_locator(NullLocator())
-    axis.set_minor_formatter(NullFormatter())
+def set_from_zero(axes, form):
+    axes.set_ylim(bottom=0)
+    axes.yaxis.set_major_formatter(FuncFormatter(form))
+    axes.tick_params(axis="y", pad=1)
 
 
-def set_heading(figure, title, lines, y):
-    figure.suptitle(title, x=0.085, ha="left", y=0.975, fontsize=11.5, fontweight="bold")
-    figure.text(0.085, y, lines, color=GREY, va="top")
+def set_ranks(axes):
+    """0 and 1 at an even distance, and from 1 on as a logarithm."""
+    axes.set_xscale("symlog", linthresh=1, linscale=0.6)
+    highest = max(axes.get_xlim()[1], 500)
+    axes.set_xlim(-0.25, highest)
+    axes.set_xticks([0] + [10**power for power in range(7) if 10**power <= highest])
+    axes.xaxis.set_major_formatter(FuncFormatter(plain))
+    axes.xaxis.set_minor_locator(NullLocator())
+    axes.xaxis.set_minor_formatter(NullFormatter())
 
 
-def spread(wanted, least, low, high):
-    """Places near the wanted ones, ascending, at least so far apart."""
-    places = []
-    for place in wanted:
-        places.append(max(place, places[-1] + least if places else low))
-    if places and places[-1] > high:
-        places[-1] = high
-        for i in reversed(range(len(places) - 1)):
-            places[i] = min(places[i], places[i + 1] - least)
-    return places
+# Where a label may stand by its point: offsets in points, and how it is aligned.
+PLACES = [
+    (0, 6, "center", "bottom"),
+    (0, -6, "center", "top"),
+    (6, 0, "left", "center"),
+    (-6, 0, "right", "center"),
+    (5, 5, "left", "bottom"),
+    (-5, 5, "right", "bottom"),
+    (5, -5, "left", "top"),
+    (-5, -5, "right", "top"),
+    (0, 14, "center", "bottom"),
+    (0, -14, "center", "top"),
+]
 
 
-def label_ends(axes, lines, least):
-    """The names of lines at the right of the axes, near their ends, each with a sample of its line.
-
-    A line is its name, its queue, and the place of its last point.
-    """
-    to_axes = axes.transData + axes.transAxes.inverted()
-    ends = sorted((*reversed(to_axes.transform((x, y))), name, queue) for name, queue, x, y in lines)
-    places = spread([end for end, _, _, _ in ends], least, -0.05, 1.02)
-    outside = {"transform": axes.transAxes, "clip_on": False}
-    for place, (end, start, name, queue) in zip(places, ends):
-        axes.plot([start + 0.03, 1.07], [end, place], color="#aaaaaa", linewidth=0.5, **outside)
-        axes.plot([1.08, 1.15, 1.22], [place] * 3, markevery=[1], **line_of(queue), **outside)
-        axes.text(1.25, place, name, transform=axes.transAxes, va="center", color=STYLES[queue][0])
+def label(figure, axes, labels, points):
+    """Texts by points, each where it lies within the axes, and on no point and no other text, if there is such a
+    place. A label is a text, x, y and a colour."""
+    figure.canvas.draw()
+    renderer = figure.canvas.get_renderer()
+    frame = axes.get_window_extent(renderer)
+    taken = [text.get_window_extent(renderer) for text in axes.texts]
+    pixels = axes.transData.transform(points)
+    for written, x, y, colour in labels:
+        for dx, dy, ha, va in PLACES:
+            at = {"xytext": (dx, dy), "textcoords": "offset points", "ha": ha, "va": va}
+            text = axes.annotate(written, (x, y), fontsize=7.5, color=colour, zorder=6, **at)
+            box = text.get_window_extent(renderer)
+            is_within = frame.x0 <= box.x0 and box.x1 <= frame.x1 and frame.y0 <= box.y0 and box.y1 <= frame.y1 + 8
+            on_point = any(box.padded(2).contains(*pixel) for pixel in pixels)
+            if is_within and not on_point and not any(box.overlaps(other) for other in taken):
+                taken.append(box)
+                break
+            text.remove()
 
 
 def shorter(number):

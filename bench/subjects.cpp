@@ -3,6 +3,8 @@
 #include "queues/heap.hpp"
 #include "queues/klsm_board.hpp"
 #include "queues/multiqueue.hpp"
+#include "queues/skip_list.hpp"
+#include "queues/stealing_multiqueue.hpp"
 #if BENCH_TBB
 #include "queues/tbb.hpp"
 #include <tbb/version.h>
@@ -18,88 +20,117 @@
 namespace {
 
 template <class Queue>
-subject subject_of(std::string queue, std::string parameter, typename Queue::setting setting = {}) {
-    subject made{std::move(queue), std::move(parameter), false, false, false, 0, {}, {}, {}, {}};
-    made.throughput = [=](const workload &given, const placing &where) {
-        return operations_per_second<Queue>(given, where, setting);
+subject subject_of(part takes, std::string queue, std::string parameter, typename Queue::setting setting) {
+    subject made;
+    made.queue = std::move(queue);
+    made.parameter = std::move(parameter);
+    made.takes = takes;
+    made.throughput = [=](const workload &given, double seconds, const placing &where) {
+        return operations_per_second<Queue>(given, seconds, where, setting);
     };
-    made.by_turns = [=](const workload &given) { return record_by_turns<Queue>(given, setting); };
-    made.in_threads = [=](const workload &given, const placing &where) {
-        return record_in_threads<Queue>(given, where, setting);
+    made.latency = [=](const workload &given, double seconds, const placing &where) {
+        return timed_in_threads<Queue>(given, seconds, where, setting);
     };
+    made.by_turns = [=](const workload &given, std::size_t steps) {
+        return record_by_turns<Queue>(given, steps, setting);
+    };
+    made.in_threads = [=](const workload &given, std::size_t steps, const placing &where) {
+        return record_in_threads<Queue>(given, steps, where, setting);
+    };
+    // On the heap, since these have parts that are aligned to lines of the cache.
     made.search_for = [=](const search_task &task, const placing &where) {
-        // On the heap, since a search has parts that are aligned to lines of the cache.
         return std::make_unique<search<Queue>>(task, setting)->run(where);
+    };
+    made.find_paths = [=](const paths_task &task, const placing &where) {
+        return std::make_unique<paths<Queue>>(task, setting)->run(where);
     };
     return made;
 }
 
-subject board(std::string queue, std::string parameter, klsm_board::setting setting) {
-    subject made = subject_of<klsm_board>(std::move(queue), std::move(parameter), setting);
-    made.is_relaxed = true;
-    made.is_searched = setting.k == 64 && (setting.refill == 0 || setting.refill == 16);
+std::string named(const char *name, std::size_t value) { return name + std::to_string(value); }
+
+subject board(part takes, std::string queue, std::string parameter, klsm_board::setting setting) {
+    subject made = subject_of<klsm_board>(takes, std::move(queue), std::move(parameter), setting);
     made.k = setting.k;
     return made;
 }
 
-subject board_of(std::size_t k, klsm_pick pick) {
-    return board(pick == KLSM_FIRST ? "k-LSM first" : "k-LSM random", "k=" + std::to_string(k), {k, pick, 0});
+void add_boards(std::vector<subject> &all) {
+    for (std::size_t k : {4, 16, 64})
+        all.push_back(board(k == 64 ? part::everywhere : part::as_setting, "k-LSM first", named("k=", k),
+                            {k, KLSM_FIRST, 0}));
+    for (std::size_t k : {4, 16, 64})
+        all.push_back(board(k == 64 ? part::everywhere : part::as_setting, "k-LSM random", named("k=", k),
+                            {k, KLSM_RANDOM, 0}));
+    // With k = 64. A refill of 0 is the board with k = 64 above.
+    for (std::size_t refill : {1, 4, 16, 64})
+        all.push_back(board(refill == 16 ? part::everywhere : part::as_setting, "k-LSM refill",
+                            named("refill=", refill), {64, KLSM_FIRST, refill}));
 }
 
-// With k = 64. A refill of 0 is the board with k = 64 above.
-subject refilling_board(std::size_t refill) {
-    return board("k-LSM refill", "refill=" + std::to_string(refill), {64, KLSM_FIRST, refill});
+// Queues whose deletions may pass over any number of items.
+template <class Kept> void add_relaxed(std::vector<subject> &all, part as_shown, const std::string &width) {
+    const bool is_wide = as_shown == part::as_wide;
+    auto takes = [&](bool is_shown) { return is_shown ? as_shown : part::as_setting; };
+    for (std::size_t stickiness : {1, 4, 16, 64})
+        if (!is_wide || stickiness == 4)
+            all.push_back(subject_of<multiqueue<Kept>>(takes(stickiness == 4), "MultiQueue c=2" + width,
+                                                       named("s=", stickiness), {2, stickiness}));
+    for (std::size_t stickiness : {1, 16})
+        if (!is_wide)
+            all.push_back(subject_of<multiqueue<Kept>>(part::as_setting, "MultiQueue c=4" + width,
+                                                       named("s=", stickiness), {4, stickiness}));
+    for (std::size_t batch : {1, 4, 16, 64})
+        if (!is_wide || batch == 4)
+            all.push_back(subject_of<stealing_multiqueue<Kept>>(takes(batch == 4), "Stealing MultiQueue p=1/8" + width,
+                                                                named("b=", batch), {batch, 8}));
 }
 
-subject multi(std::size_t c, std::size_t stickiness) {
-    subject made = subject_of<multiqueue>("MultiQueue c=" + std::to_string(c), "s=" + std::to_string(stickiness),
-                                          {c, stickiness});
-    made.is_relaxed = true;
-    made.is_searched = c == 2 && stickiness == 4;
-    return made;
-}
-
-subject exact(subject made, bool is_searched) {
-    made.is_searched = is_searched;
-    return made;
-}
-
-subject alone(subject made) {
-    made.is_for_one_thread = true;
-    made.is_searched = true;
-    return made;
+// Queues that pass over no item. The calls of the array heap need not take effect at one moment, so that cannot be
+// checked of it.
+template <class Kept> void add_exact(std::vector<subject> &all, part takes, const std::string &width) {
+    const std::size_t first = all.size();
+    for (std::size_t offset : {8, 32, 128})
+        if (takes != part::as_wide || offset == 8)
+            all.push_back(subject_of<skip_list<Kept>>(offset == 8 ? takes : part::as_setting, "skip list" + width,
+                                                      named("o=", offset), {offset}));
+    all.push_back(subject_of<heap_and_mutex<Kept>>(takes, "heap and mutex" + width, "-", {}));
+#if BENCH_TBB
+    all.push_back(subject_of<tbb_queue<Kept>>(takes, "oneTBB" + width, "-", {}));
+#endif
+#if BENCH_CDS
+    all.push_back(subject_of<combining_and_pause<Kept>>(takes, "flat combining pauses" + width, "-", {}));
+    all.push_back(subject_of<combining_and_sleep<Kept>>(takes, "flat combining sleeps" + width, "-", {}));
+#endif
+    for (std::size_t i = first; i < all.size(); i++)
+        all[i].is_exact = true;
+#if BENCH_CDS
+    all.push_back(subject_of<array_heap<Kept>>(takes, "array heap" + width, "-", {}));
+    all.back().has_fixed_room = true;
+#endif
 }
 
 } // namespace
 
 std::vector<subject> subjects() {
     std::vector<subject> all;
-    for (std::size_t k : {4, 16, 64})
-        all.push_back(board_of(k, KLSM_FIRST));
-    for (std::size_t k : {4, 16, 64})
-        all.push_back(board_of(k, KLSM_RANDOM));
-    for (std::size_t refill : {1, 4, 16, 64})
-        all.push_back(refilling_board(refill));
-    for (std::size_t stickiness : {1, 4, 16, 64})
-        all.push_back(multi(2, stickiness));
-    for (std::size_t stickiness : {1, 16})
-        all.push_back(multi(4, stickiness));
-    all.push_back(exact(subject_of<heap_and_mutex>("heap and mutex", "-"), true));
-#if BENCH_TBB
-    all.push_back(exact(subject_of<tbb_queue>("oneTBB", "-"), true));
-#endif
-#if BENCH_CDS
-    all.push_back(exact(subject_of<combining_and_pause>("flat combining pauses", "-"), true));
-    all.push_back(exact(subject_of<combining_and_sleep>("flat combining sleeps", "-"), true));
-    all.push_back(exact(subject_of<array_heap>("array heap", "-"), false));
-#endif
-    all.push_back(alone(subject_of<heap_alone>("heap alone", "-")));
+    add_boards(all);
+    add_relaxed<item>(all, part::everywhere, "");
+    add_exact<item>(all, part::everywhere, "");
+    add_relaxed<wide_item>(all, part::as_wide, " 32 B");
+    add_exact<wide_item>(all, part::as_wide, " 32 B");
+    all.push_back(subject_of<heap_alone<item>>(part::everywhere, "heap alone", "-", {}));
+    all.back().is_for_one_thread = true;
+    all.back().is_exact = true;
     return all;
 }
 
 std::vector<std::string> versions() {
-    std::vector<std::string> lines{"k-LSM: this repository's library " KLSM_VERSION,
-                                   "MultiQueue: a re-implementation from the papers, queues/multiqueue.hpp"};
+    std::vector<std::string> lines{
+        "k-LSM: this repository's library " KLSM_VERSION,
+        "MultiQueue: a re-implementation from the papers, queues/multiqueue.hpp",
+        "Stealing MultiQueue: a re-implementation from the paper, queues/stealing_multiqueue.hpp",
+        "skip list: a re-implementation from the paper of Linden and Jonsson, queues/skip_list.hpp"};
 #if BENCH_TBB
     lines.push_back("oneTBB: " + std::to_string(TBB_VERSION_MAJOR) + "." + std::to_string(TBB_VERSION_MINOR));
 #else

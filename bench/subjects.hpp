@@ -2,6 +2,8 @@
 #ifndef BENCH_SUBJECTS_HPP
 #define BENCH_SUBJECTS_HPP
 
+#include "latency.hpp"
+#include "paths.hpp"
 #include "record.hpp"
 #include "search.hpp"
 #include "workloads.hpp"
@@ -10,18 +12,27 @@
 #include <string>
 #include <vector>
 
+// Where a queue takes part.
+enum class part {
+    everywhere,
+    as_setting, // another setting of a queue: only where settings are compared
+    as_wide     // a queue once more, with items of 32 bytes: only with the most threads
+};
+
 struct subject {
     std::string queue, parameter;
-    bool is_relaxed;
-    bool is_for_one_thread;
-    bool is_searched;                                                    // takes part in the branch-and-bound search
-    std::size_t k;                                                       // of our queue; 0 for the others
-    std::function<double(const workload &, const placing &)> throughput; // operations a second
-    std::function<std::vector<call>(const workload &)> by_turns;
-    std::function<std::vector<call>(const workload &, const placing &)> in_threads;
-    std::function<search_result(const search_task &, const placing &)> search_for;
+    part takes;
+    bool is_exact = false;          // passes over no item
+    bool is_for_one_thread = false; // has no lock
+    bool has_fixed_room = false;    // so it takes no part in searches
+    std::size_t k = 0;              // of our queue; 0 for the others
 
-    bool runs_with(std::size_t threads) const { return threads == 1 || !is_for_one_thread; }
+    std::function<double(const workload &, double seconds, const placing &)> throughput; // operations a second
+    std::function<timed_calls(const workload &, double seconds, const placing &)> latency;
+    std::function<std::vector<call>(const workload &, std::size_t steps)> by_turns;
+    std::function<std::vector<call>(const workload &, std::size_t steps, const placing &)> in_threads;
+    std::function<search_result(const search_task &, const placing &)> search_for;
+    std::function<paths_result(const paths_task &, const placing &)> find_paths;
 };
 
 std::vector<subject> subjects();

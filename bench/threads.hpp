@@ -7,6 +7,7 @@
 #include <chrono>
 #include <cstddef>
 #include <cstdint>
+#include <numeric>
 #include <pthread.h>
 #include <sched.h>
 #include <thread>
@@ -84,6 +85,50 @@ double time_of(std::size_t threads, const placing &where, Prepare prepare, Work 
         thread.join();
     const std::uint64_t begin = *std::min_element(begins.begin(), begins.end());
     return double(*std::max_element(ends.begin(), ends.end()) - begin) / 1e9;
+}
+
+// How much was done, and in which time.
+struct done {
+    std::uint64_t count;
+    double seconds;
+};
+
+// Runs prepare(t) and then, begun together, step(t) again and again in thread t, until so many seconds have passed. The
+// time before, a tenth of that, is not counted; then begin(t) is run. A step gives how much it did. Counted are whole
+// steps, in the time from the first thread's begin to the last one's end.
+template <class Prepare, class Begin, class Step>
+done repeat_for(double seconds, std::size_t threads, const placing &where, Prepare prepare, Begin begin, Step step) {
+    enum { warms_up, counts, ends };
+    alignas(128) std::atomic<int> phase{warms_up};
+    barrier start(threads + 1);
+    std::vector<std::uint64_t> begins(threads), finishes(threads), sums(threads);
+    std::vector<std::thread> crew;
+    for (std::size_t t = 0; t < threads; t++)
+        crew.emplace_back([&, t] {
+            where.bind(t);
+            prepare(t);
+            start.wait();
+            while (phase.load(std::memory_order_relaxed) == warms_up)
+                step(t);
+            begin(t);
+            const std::uint64_t from = now();
+            std::uint64_t sum = 0;
+            while (phase.load(std::memory_order_relaxed) != ends)
+                sum += step(t);
+            finishes[t] = now();
+            begins[t] = from;
+            sums[t] = sum;
+        });
+    start.wait();
+    std::this_thread::sleep_for(std::chrono::duration<double>(seconds / 10));
+    phase.store(counts);
+    std::this_thread::sleep_for(std::chrono::duration<double>(seconds));
+    phase.store(ends);
+    for (std::thread &thread : crew)
+        thread.join();
+    const std::uint64_t from = *std::min_element(begins.begin(), begins.end());
+    const std::uint64_t to = *std::max_element(finishes.begin(), finishes.end());
+    return {std::accumulate(sums.begin(), sums.end(), std::uint64_t(0)), double(to - from) / 1e9};
 }
 
 #endif

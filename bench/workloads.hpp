@@ -1,7 +1,8 @@
 // The workloads: which keys are inserted, and in which order threads insert and delete.
-// - uniform: an insertion of a random key, and a deletion, in turns.
+// - uniform: for each call a coin says whether it is an insertion of a random key or a deletion.
+// - pairs: an insertion of a random key, and a deletion, in turns.
 // - hold: a deletion, and an insertion of its key plus a random step, in turns.
-// - ascending: as uniform, with keys that are greater than those before.
+// - ascending: as pairs, with keys that are greater than those before.
 // - work: hold, with work of a known length between the deletion and the insertion.
 // Before these the queue is filled by one thread, which inserts by the handles of all in turns.
 #ifndef BENCH_WORKLOADS_HPP
@@ -20,80 +21,88 @@
 #include <string>
 #include <vector>
 
-enum class pattern { uniform, hold, ascending };
+enum class pattern { uniform, pairs, hold, ascending };
 
 inline std::string name_of(pattern one) {
-    return one == pattern::uniform ? "uniform" : one == pattern::hold ? "hold" : "ascending";
+    const char *names[] = {"uniform", "pairs", "hold", "ascending"};
+    return names[int(one)];
 }
 
 struct workload {
     pattern what;
     std::size_t threads;
-    std::size_t items; // live between two pairs
-    std::size_t pairs; // an insertion and a deletion each, of all threads together
+    std::size_t items; // live between two pairs; at uniform some more or fewer
     std::uint64_t seed;
-    std::uint64_t steps = 0; // of spin(), between the two calls of a pair
+    std::uint64_t spins = 0; // steps of spin(), between the two calls of a pair
 
-    // All that may live at once.
-    std::size_t room() const { return items + threads; }
+    // A pair of calls, but at uniform one call.
+    std::size_t calls_of_a_step() const { return what == pattern::uniform ? 1 : 2; }
+
+    // All that may live at once. At uniform as many come more than are deleted as coins give: after n calls some
+    // sqrt(n), and n is below 10^8.
+    std::size_t room() const { return items + threads + (what == pattern::uniform ? 65536 : 0); }
 };
 
-// The keys of a workload, drawn before anything is measured. Pair i uses pairs[i], whichever thread
-// makes it, so that all queues get the same keys.
-struct workload_keys {
-    std::vector<std::uint64_t> filling, pairs;
+// The keys of a workload. A step has the same key and the same coin whichever thread makes it and whichever queue it
+// is made with.
+class workload_keys {
+public:
+    explicit workload_keys(const workload &given) : given_(given) {}
 
-    explicit workload_keys(const workload &given) : filling(given.items), pairs(given.pairs) {
-        draws from(given.seed);
-        std::uint64_t next = 0;
-        auto key = [&] { return given.what == pattern::ascending ? next++ : from.next() >> 24; };
-        for (std::uint64_t &one : filling)
-            one = key();
-        for (std::uint64_t &one : pairs)
-            one = key();
+    std::uint64_t of_filling(std::uint64_t i) const { return of(i); }
+    std::uint64_t of_step(std::uint64_t i) const { return of(given_.items + i); }
+
+    // Whether this step of uniform inserts.
+    bool inserts(std::uint64_t step) const { return (draws::at(given_.seed, given_.items + step) & 1) != 0; }
+
+private:
+    std::uint64_t of(std::uint64_t i) const {
+        return given_.what == pattern::ascending ? i : draws::at(given_.seed, i) >> 24;
     }
+
+    const workload given_;
 };
 
-// Calls as they are. What records calls (record.hpp) has the same two functions.
+// Calls as they are. What records calls (record.hpp) or times them (latency.hpp) has the same two functions.
 struct plain_calls {
     template <class Handle> void insert(Handle &by, item given) { by.insert(given); }
     template <class Handle> bool delete_min(Handle &by, item &out) { return by.delete_min(out); }
 };
 
-// What one thread does. Both halves of a pair may be made apart, with others' calls between them.
+// What one thread does. Both halves of a step may be made apart, with others' calls between them. At uniform the
+// second one is empty.
 template <class Handle, class Calls> class worker {
 public:
-    worker(const workload &given, const workload_keys &keys, Handle by, Calls calls = Calls())
-        : what_(given.what), steps_(given.steps), keys_(keys.pairs), first_load_(keys.filling.size()), by_(by),
-          calls_(calls) {}
+    worker(const workload &given, Handle by, Calls calls = Calls())
+        : given_(given), keys_(given), by_(by), calls_(calls) {}
 
-    void first_half(std::size_t pair) {
-        if (what_ == pattern::hold)
+    void first_half(std::uint64_t step) {
+        if (given_.what == pattern::hold)
             remove();
+        else if (given_.what != pattern::uniform || keys_.inserts(step))
+            insert(keys_.of_step(step), step);
         else
-            insert(keys_[pair], pair);
+            calls_.delete_min(by_, last_); // where it finds nothing, it is a call all the same
     }
 
-    void second_half(std::size_t pair) {
-        if (what_ == pattern::hold)
-            insert(last_.key + keys_[pair], pair);
-        else
+    void second_half(std::uint64_t step) {
+        if (given_.what == pattern::hold)
+            insert(last_.key + keys_.of_step(step), step);
+        else if (given_.what != pattern::uniform)
             remove();
     }
 
-    void run(std::size_t from, std::size_t to) {
-        for (std::size_t i = from; i < to; i++) {
-            first_half(i);
-            spin(steps_);
-            second_half(i);
-        }
+    void run(std::uint64_t step) {
+        first_half(step);
+        spin(given_.spins);
+        second_half(step);
     }
 
     Calls &calls() { return calls_; }
 
 private:
     // No two items have one load.
-    void insert(std::uint64_t key, std::size_t pair) { calls_.insert(by_, {key, first_load_ + pair}); }
+    void insert(std::uint64_t key, std::uint64_t step) { calls_.insert(by_, {key, given_.items + step}); }
 
     // A deletion that finds no item is made again. There are as many items as the filling had.
     void remove() {
@@ -101,40 +110,49 @@ private:
             if (misses > 100000000) stop("an item cannot be found");
     }
 
-    const pattern what_;
-    const std::uint64_t steps_;
-    const std::vector<std::uint64_t> &keys_;
-    const std::uint64_t first_load_;
+    const workload given_;
+    const workload_keys keys_;
     Handle by_;
     item last_;
     Calls calls_;
 };
 
-// Pairs that threads take up by hundreds. So all are at work until none is left, however unequally a
-// queue or the machine serves them.
-class common_pairs {
+// Steps that threads take up by hundreds, so that none is ahead of the others by more, however unequally a queue or
+// the machine serves them.
+class common_steps {
 public:
-    common_pairs(std::size_t from, std::size_t end) : next_(from), end_(end) {}
+    static constexpr std::uint64_t most = 100;
 
-    template <class Worker> void run(Worker &by) {
-        const std::size_t step = 100;
-        for (std::size_t from; (from = next_.fetch_add(step, std::memory_order_relaxed)) < end_;)
-            by.run(from, std::min(from + step, end_));
+    std::uint64_t take() { return next_.fetch_add(most, std::memory_order_relaxed); }
+
+private:
+    alignas(128) std::atomic<std::uint64_t> next_{0};
+};
+
+// The steps of one thread.
+class own_steps {
+public:
+    explicit own_steps(common_steps &from) : from_(&from) {}
+
+    std::uint64_t next() {
+        if (left_ == 0) {
+            at_ = from_->take();
+            left_ = common_steps::most;
+        }
+        left_--;
+        return at_++;
     }
 
 private:
-    alignas(128) std::atomic<std::size_t> next_;
-    alignas(128) const std::size_t end_;
+    common_steps *from_;
+    std::uint64_t at_ = 0, left_ = 0;
 };
 
 // Fills a queue by the handles of all threads in turns.
-template <class Handle, class Calls>
-void fill(const workload_keys &keys, std::vector<Handle> &handles, Calls &calls) {
-    std::uint64_t load = 0;
-    for (std::uint64_t key : keys.filling) {
-        calls.insert(handles[load % handles.size()], {key, load});
-        load++;
-    }
+template <class Handle, class Calls> void fill(const workload &given, std::vector<Handle> &handles, Calls &calls) {
+    const workload_keys keys(given);
+    for (std::uint64_t i = 0; i < given.items; i++)
+        calls.insert(handles[i % handles.size()], {keys.of_filling(i), i});
 }
 
 template <class Queue> auto handles_of(Queue &queue, std::size_t threads) {
@@ -144,28 +162,32 @@ template <class Queue> auto handles_of(Queue &queue, std::size_t threads) {
     return handles;
 }
 
-// Operations a second of all threads together: fills a queue, and times all pairs but a first tenth,
-// which is made before.
+// A worker and its steps. It is made by its own thread, in whose pages it lies then.
+template <class Queue, class Calls> struct alignas(128) placed_worker {
+    worker<typename Queue::handle, Calls> by;
+    own_steps steps;
+};
+
+// Operations a second of all threads together: fills a queue, and counts the calls of so many seconds.
 template <class Queue>
-double operations_per_second(const workload &given, const placing &where, typename Queue::setting setting) {
-    using one_worker = worker<typename Queue::handle, plain_calls>;
-    const workload_keys keys(given);
+double operations_per_second(const workload &given, double seconds, const placing &where,
+                             typename Queue::setting setting) {
+    using placed = placed_worker<Queue, plain_calls>;
     Queue queue(given.threads, given.room(), setting);
     auto handles = handles_of(queue, given.threads);
     plain_calls calls;
-    fill(keys, handles, calls);
-    const std::size_t before = given.pairs / 10;
-    common_pairs first(0, before), rest(before, given.pairs);
-    // Each worker is made by its own thread, in whose pages it lies then.
-    std::vector<std::unique_ptr<one_worker>> workers(given.threads);
-    const double seconds = time_of(
-        given.threads, where,
+    fill(given, handles, calls);
+    common_steps steps;
+    std::vector<std::unique_ptr<placed>> workers(given.threads);
+    const done all = repeat_for(
+        seconds, given.threads, where,
+        [&](std::size_t t) { workers[t].reset(new placed{{given, handles[t]}, own_steps(steps)}); },
+        [](std::size_t) {},
         [&](std::size_t t) {
-            workers[t] = std::make_unique<one_worker>(given, keys, handles[t]);
-            first.run(*workers[t]);
-        },
-        [&](std::size_t t) { rest.run(*workers[t]); });
-    return 2.0 * double(given.pairs - before) / seconds;
+            workers[t]->by.run(workers[t]->steps.next());
+            return given.calls_of_a_step();
+        });
+    return double(all.count) / all.seconds;
 }
 
 #endif

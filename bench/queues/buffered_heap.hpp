@@ -4,67 +4,20 @@
 #define BENCH_QUEUES_BUFFERED_HEAP_HPP
 
 #include "item.hpp"
+#include "octal_heap.hpp"
 
 #include <algorithm>
 #include <cstddef>
-#include <vector>
-
-// A heap in which each item has up to eight children, so that those of one item lie in two lines of
-// the cache, and a third of the levels of a binary heap is enough.
-class octal_heap {
-public:
-    explicit octal_heap(std::size_t room) { items_.reserve(room); }
-
-    std::size_t size() const { return items_.size(); }
-
-    void push(item given) {
-        std::size_t at = items_.size();
-        items_.push_back(given);
-        for (; at > 0 && given.key < items_[(at - 1) / 8].key; at = (at - 1) / 8)
-            items_[at] = items_[(at - 1) / 8];
-        items_[at] = given;
-    }
-
-    // The least item leaves. There is one.
-    item pop() {
-        const item least = items_.front(), last = items_.back();
-        items_.pop_back();
-        if (!items_.empty()) sink(last);
-        return least;
-    }
-
-private:
-    // Puts an item where the least one was, or below.
-    void sink(item given) {
-        std::size_t at = 0;
-        for (std::size_t first = 1; first < items_.size(); first = 8 * at + 1) {
-            const std::size_t child = least_of(first, std::min(first + 8, items_.size()));
-            if (items_[child].key >= given.key) break;
-            items_[at] = items_[child];
-            at = child;
-        }
-        items_[at] = given;
-    }
-
-    std::size_t least_of(std::size_t first, std::size_t end) const {
-        std::size_t least = first;
-        for (std::size_t i = first + 1; i < end; i++)
-            least = items_[i].key < items_[least].key ? i : least;
-        return least;
-    }
-
-    std::vector<item> items_;
-};
 
 // The items of the deletion buffer are at most all others. It is empty only where all is.
-class buffered_heap {
+template <class Kept> class buffered_heap {
 public:
     explicit buffered_heap(std::size_t room) : heap_(room) {}
 
     bool is_empty() const { return least_count_ == 0; }
     std::uint64_t least_key() const { return is_empty() ? UINT64_MAX : least_[least_count_ - 1].key; }
 
-    void push(item given) {
+    void push(const Kept &given) {
         const bool is_all = heap_.size() == 0 && new_count_ == 0;
         const bool is_among_least = is_empty() || given.key < least_[0].key || (is_all && least_count_ < buffer);
         if (!is_among_least)
@@ -76,8 +29,8 @@ public:
     }
 
     // The least item leaves. There is one.
-    item pop() {
-        const item least = least_[--least_count_];
+    Kept pop() {
+        const Kept least = least_[--least_count_];
         if (least_count_ == 0) refill();
         return least;
     }
@@ -85,12 +38,12 @@ public:
 private:
     static constexpr std::size_t buffer = 16;
 
-    void add_new(item given) {
+    void add_new(const Kept &given) {
         if (new_count_ == buffer) flush();
         new_[new_count_++] = given;
     }
 
-    void add_least(item given) {
+    void add_least(const Kept &given) {
         std::size_t at = least_count_++;
         for (; at > 0 && least_[at - 1].key < given.key; at--)
             least_[at] = least_[at - 1];
@@ -98,8 +51,8 @@ private:
     }
 
     // Puts an item into the full deletion buffer, from which the greatest one leaves.
-    item exchange_greatest(item given) {
-        const item greatest = least_[0];
+    Kept exchange_greatest(const Kept &given) {
+        const Kept greatest = least_[0];
         std::size_t at = 0;
         for (; at + 1 < buffer && least_[at + 1].key > given.key; at++)
             least_[at] = least_[at + 1];
@@ -121,10 +74,10 @@ private:
         least_count_ = count;
     }
 
-    item least_[buffer]; // descending
-    item new_[buffer];
+    Kept least_[buffer]; // descending
+    Kept new_[buffer];
     std::size_t least_count_ = 0, new_count_ = 0;
-    octal_heap heap_;
+    octal_heap<Kept> heap_;
 };
 
 #endif

@@ -12,7 +12,7 @@
 #include <cstddef>
 
 // A queue of libcds as one of ours.
-template <class Queue> class cds_queue {
+template <class Queue, class Kept> class cds_queue {
 public:
     using setting = no_setting;
 
@@ -25,7 +25,13 @@ public:
         void insert(item given) {
             if (!queue_->push(given)) stop("a queue of libcds was full");
         }
-        bool delete_min(item &out) { return queue_->pop(out); }
+
+        bool delete_min(item &out) {
+            Kept found;
+            if (!queue_->pop(found)) return false;
+            out = found;
+            return true;
+        }
 
     private:
         Queue *queue_;
@@ -42,23 +48,28 @@ template <class Wait> struct combining_traits : cds::container::fcpqueue::traits
     using wait_strategy = cds::algo::flat_combining::wait_strategy::backoff<Wait>;
 };
 
-template <class Wait> struct flat_combining
-    : cds_queue<cds::container::FCPriorityQueue<item, standard_heap, combining_traits<Wait>>> {
+template <class Kept, class Wait>
+using combining_queue = cds::container::FCPriorityQueue<Kept, standard_heap<Kept>, combining_traits<Wait>>;
+
+template <class Kept, class Wait> struct flat_combining : cds_queue<combining_queue<Kept, Wait>, Kept> {
     flat_combining(std::size_t, std::size_t room, no_setting) {
-        this->queue_.apply([room](standard_heap &heap) { heap = heap_with_room(room); });
+        this->queue_.apply([room](standard_heap<Kept> &heap) { heap = heap_with_room<Kept>(room); });
     }
 };
 
-using combining_and_sleep = flat_combining<cds::backoff::delay_of<2>>; // the library's own choice
-using combining_and_pause = flat_combining<cds::backoff::pause>;
+// The first is the library's own choice.
+template <class Kept> using combining_and_sleep = flat_combining<Kept, cds::backoff::delay_of<2>>;
+template <class Kept> using combining_and_pause = flat_combining<Kept, cds::backoff::pause>;
 
 struct array_heap_traits : cds::container::mspriority_queue::traits {
     using less = is_later;
 };
 
+template <class Kept> using array_heap_queue = cds::container::MSPriorityQueue<Kept, array_heap_traits>;
+
 // Its room is fixed: the least power of two, less one, that is enough.
-struct array_heap : cds_queue<cds::container::MSPriorityQueue<item, array_heap_traits>> {
-    array_heap(std::size_t, std::size_t room, setting) : cds_queue(room + 1) {}
+template <class Kept> struct array_heap : cds_queue<array_heap_queue<Kept>, Kept> {
+    array_heap(std::size_t, std::size_t room, no_setting) : cds_queue<array_heap_queue<Kept>, Kept>(room + 1) {}
 };
 
 #endif

@@ -9,23 +9,23 @@
 #include <queue>
 #include <vector>
 
-using standard_heap = std::priority_queue<item, std::vector<item>, is_later>;
+template <class Kept> using standard_heap = std::priority_queue<Kept, std::vector<Kept>, is_later>;
 
 // A heap whose storage has grown to its full size before anything is measured.
-inline standard_heap heap_with_room(std::size_t room) {
-    std::vector<item> storage;
+template <class Kept> standard_heap<Kept> heap_with_room(std::size_t room) {
+    std::vector<Kept> storage;
     storage.reserve(room);
-    return standard_heap(is_later(), std::move(storage));
+    return standard_heap<Kept>(is_later(), std::move(storage));
 }
 
 struct no_setting {};
 
 // `Lock` is std::mutex, or no_lock where there is one thread alone.
-template <class Lock> class locked_heap {
+template <class Lock, class Kept> class locked_heap {
 public:
     using setting = no_setting;
 
-    locked_heap(std::size_t, std::size_t room, setting) : heap_(heap_with_room(room)) {}
+    locked_heap(std::size_t, std::size_t room, setting) : heap_(heap_with_room<Kept>(room)) {}
 
     class handle {
     public:
@@ -52,7 +52,7 @@ public:
 
 private:
     alignas(128) Lock lock_;
-    alignas(128) standard_heap heap_;
+    alignas(128) standard_heap<Kept> heap_;
 };
 
 struct no_lock {
@@ -60,7 +60,7 @@ struct no_lock {
     void unlock() {}
 };
 
-using heap_alone = locked_heap<no_lock>;
-using heap_and_mutex = locked_heap<std::mutex>;
+template <class Kept> using heap_alone = locked_heap<no_lock, Kept>;
+template <class Kept> using heap_and_mutex = locked_heap<std::mutex, Kept>;
 
 #endif

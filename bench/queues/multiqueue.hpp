@@ -23,7 +23,7 @@
 #include <memory>
 #include <vector>
 
-class multiqueue {
+template <class Kept> class multiqueue {
     struct alignas(128) inner {
         explicit inner(std::size_t room) : heap(room) {}
 
@@ -39,7 +39,7 @@ class multiqueue {
 
         std::atomic<bool> is_held{false};
         std::atomic<std::uint64_t> least{UINT64_MAX};
-        alignas(128) buffered_heap heap;
+        alignas(128) buffered_heap<Kept> heap;
     };
 
 public:

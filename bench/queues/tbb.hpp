@@ -9,7 +9,7 @@
 #include <cstddef>
 #include <tbb/concurrent_priority_queue.h>
 
-class tbb_queue {
+template <class Kept> class tbb_queue {
 public:
     using setting = no_setting;
 
@@ -18,17 +18,24 @@ public:
     class handle {
     public:
         explicit handle(tbb_queue &of) : queue_(&of.queue_) {}
+
         void insert(item given) { queue_->push(given); }
-        bool delete_min(item &out) { return queue_->try_pop(out); }
+
+        bool delete_min(item &out) {
+            Kept found;
+            if (!queue_->try_pop(found)) return false;
+            out = found;
+            return true;
+        }
 
     private:
-        tbb::concurrent_priority_queue<item, is_later> *queue_;
+        tbb::concurrent_priority_queue<Kept, is_later> *queue_;
     };
 
     handle handle_of(std::size_t) { return handle(*this); }
 
 private:
-    alignas(128) tbb::concurrent_priority_queue<item, is_later> queue_;
+    alignas(128) tbb::concurrent_priority_queue<Kept, is_later> queue_;
 };
 
 #endif
