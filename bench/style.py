@@ -122,27 +122,39 @@ PLACES = [
     (-5, 5, "right", "bottom"),
     (5, -5, "left", "top"),
     (-5, -5, "right", "top"),
-    (0, 14, "center", "bottom"),
-    (0, -14, "center", "top"),
+    *((dx, dy, "center", "center") for far in (14, 22, 30) for dx, dy in ((0, far), (0, -far), (far, 0), (-far, 0))),
+    *((dx, dy, "center", "center") for far in (12, 20, 28) for dx in (far, -far) for dy in (far, -far)),
 ]
 
 
-def label(figure, axes, labels, points):
-    """Texts by points, each where it lies within the axes, and on no point and no other text, if there is such a
+def pixels_of(axes, lines):
+    """What lines cover, as pixels not far from each other. A line is a list of points of the data."""
+    found = []
+    for line in lines:
+        ends = axes.transData.transform(line)
+        found.extend(ends)
+        for (x, y), (to_x, to_y) in zip(ends, ends[1:]):
+            parts = int(max(abs(to_x - x), abs(to_y - y)) / 3) + 1
+            found.extend((x + (to_x - x) * i / parts, y + (to_y - y) * i / parts) for i in range(1, parts))
+    return found
+
+
+def label(figure, axes, labels, lines):
+    """Texts by points, each where it lies within the axes, and on no line and no other text, if there is such a
     place. A label is a text, x, y and a colour."""
     figure.canvas.draw()
     renderer = figure.canvas.get_renderer()
     frame = axes.get_window_extent(renderer)
     taken = [text.get_window_extent(renderer) for text in axes.texts]
-    pixels = axes.transData.transform(points)
+    pixels = pixels_of(axes, lines)
     for written, x, y, colour in labels:
         for dx, dy, ha, va in PLACES:
             at = {"xytext": (dx, dy), "textcoords": "offset points", "ha": ha, "va": va}
             text = axes.annotate(written, (x, y), fontsize=7.5, color=colour, zorder=6, **at)
             box = text.get_window_extent(renderer)
             is_within = frame.x0 <= box.x0 and box.x1 <= frame.x1 and frame.y0 <= box.y0 and box.y1 <= frame.y1 + 8
-            on_point = any(box.padded(2).contains(*pixel) for pixel in pixels)
-            if is_within and not on_point and not any(box.overlaps(other) for other in taken):
+            on_line = any(box.padded(1).contains(*pixel) for pixel in pixels)
+            if is_within and not on_line and not any(box.overlaps(other) for other in taken):
                 taken.append(box)
                 break
             text.remove()
