@@ -6,12 +6,12 @@
 //   nodes, the bound offset, does it move the head's pointers behind them, all at once. A node whose insertion is
 //   under way at the upper levels stays in the list.
 // Taken is all of that, with a level more for each second node. Of its own: nodes may have equal keys, and one goes
-// before those of its key; memory that was given back is used again once epochs.hpp says so, by the thread that gave it
-// back, and is freed at the end. It was not compared with its authors' program.
+// before those of its key. Memory is freed at the end, and none is used again before: where a thread is stopped while it
+// moves the head's pointers, a live node may keep a pointer, at an upper level, to one that has left the list; a search
+// that follows it comes back to the list by the deleted nodes. It was not compared with its authors' program.
 #ifndef BENCH_QUEUES_SKIP_LIST_HPP
 #define BENCH_QUEUES_SKIP_LIST_HPP
 
-#include "epochs.hpp"
 #include "item.hpp"
 #include "skip_nodes.hpp"
 
@@ -29,9 +29,9 @@ public:
         std::size_t bound_offset;
     };
 
-    skip_list(std::size_t threads, std::size_t, setting given) : epochs_(threads), bound_offset_(given.bound_offset) {
+    skip_list(std::size_t threads, std::size_t, setting given) : bound_offset_(given.bound_offset) {
         for (std::size_t t = 0; t < threads; t++)
-            nodes_.push_back(std::make_unique<nodes>(epochs_, t));
+            nodes_.push_back(std::make_unique<nodes>(t));
         head_ = nodes_[0]->made({0, 0}, levels);
         end_ = nodes_[0]->made({UINT64_MAX, 0}, levels);
         for (std::size_t i = 0; i < levels; i++)
@@ -42,32 +42,17 @@ public:
 
     class handle {
     public:
-        handle(skip_list &of, std::size_t thread) : of_(&of), thread_(thread) {}
+        handle(skip_list &of, std::size_t thread) : of_(&of), nodes_(of.nodes_[thread].get()) {}
 
-        void insert(item given) {
-            const epochs::reading reading(of_->epochs_, thread_);
-            of_->insert(*of_->nodes_[thread_], given);
-        }
-
-        bool delete_min(item &out) {
-            const epochs::reading reading(of_->epochs_, thread_);
-            return of_->delete_min(*of_->nodes_[thread_], out);
-        }
+        void insert(item given) { of_->insert(*nodes_, given); }
+        bool delete_min(item &out) { return of_->delete_min(out); }
 
     private:
         skip_list *of_;
-        std::size_t thread_;
+        nodes *nodes_;
     };
 
     handle handle_of(std::size_t thread) { return handle(*this, thread); }
-
-    // The bytes that all its nodes, those to be used again among them, were taken from.
-    std::size_t bytes() const {
-        std::size_t sum = 0;
-        for (const std::unique_ptr<nodes> &one : nodes_)
-            sum += one->bytes();
-        return sum;
-    }
 
 private:
     // The neighbours of a key at each level, and the last deleted node, which no mark of its own tells.
@@ -133,7 +118,7 @@ private:
         }
     }
 
-    bool delete_min(nodes &own, item &out) {
+    bool delete_min(item &out) {
         const link_word first = head_->next(0).load(std::memory_order_acquire);
         node *at = head_, *new_first = nullptr;
         std::size_t passed = 0;
@@ -147,21 +132,14 @@ private:
             at = node_of<Kept>(next);
         } while (is_marked<Kept>(next));
         out = at->kept;
-        if (passed > bound_offset_) drop_deleted(own, first, new_first == nullptr ? at : new_first);
+        if (passed > bound_offset_) drop_deleted(first, new_first == nullptr ? at : new_first);
         return true;
     }
 
     // Takes the nodes before `new_first`, all of them deleted, out of the list, unless the head has moved.
-    void drop_deleted(nodes &own, link_word first, node *new_first) {
+    void drop_deleted(link_word first, node *new_first) {
         if (head_->next(0).load(std::memory_order_relaxed) != first) return;
-        if (!head_->next(0).compare_exchange_strong(first, marked_link_to(new_first))) return;
-        restructure();
-        for (node *one = node_of<Kept>(first); one != new_first;) {
-            node *next = node_of<Kept>(one->next(0).load(std::memory_order_relaxed));
-            own.give_back(one);
-            one = next;
-        }
-        own.use_again();
+        if (head_->next(0).compare_exchange_strong(first, marked_link_to(new_first))) restructure();
     }
 
     // Moves the head's pointers at the upper levels behind the deleted nodes.
@@ -182,7 +160,6 @@ private:
         }
     }
 
-    epochs epochs_;
     const std::size_t bound_offset_;
     std::vector<std::unique_ptr<nodes>> nodes_; // one for each thread
     node *head_, *end_;

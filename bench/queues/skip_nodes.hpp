@@ -3,7 +3,6 @@
 #define BENCH_QUEUES_SKIP_NODES_HPP
 
 #include "../draws.hpp"
-#include "epochs.hpp"
 #include "item.hpp"
 
 #include <atomic>
@@ -46,11 +45,12 @@ template <class Kept> bool is_marked(link_word one) { return (one & 1) != 0; }
 template <class Kept> link_word link_to(skip_node<Kept> *one) { return reinterpret_cast<link_word>(one); }
 template <class Kept> link_word marked_link_to(skip_node<Kept> *one) { return link_to(one) | 1; }
 
+// What one thread makes nodes of. All are freed together, at the end.
 template <class Kept> class skip_nodes {
     using node = skip_node<Kept>;
 
 public:
-    skip_nodes(epochs &all, std::size_t thread) : epochs_(all), draws_(thread) {}
+    explicit skip_nodes(std::size_t thread) : draws_(thread) {}
 
     // Half of all nodes have one level, a quarter two, and so on.
     std::size_t drawn_level() {
@@ -59,37 +59,19 @@ public:
     }
 
     node *made(item given, std::size_t levels) {
-        std::vector<void *> &free = free_[levels - 1];
-        void *at = free.empty() ? fresh(node::bytes(levels)) : free.back();
-        if (!free.empty()) free.pop_back();
-        return new (at) node(given, levels);
-    }
-
-    void give_back(node *one) { given_back_.add(one, epochs_.now()); }
-
-    // Looks which nodes that were given back can be used again.
-    void use_again() {
-        given_back_.release(epochs_.advance(), [&](node *one) { free_[one->levels - 1].push_back(one); });
-    }
-
-    std::size_t bytes() const { return blocks_.size() * block; }
-
-private:
-    static constexpr std::size_t block = std::size_t(1) << 18;
-
-    void *fresh(std::size_t bytes) {
+        const std::size_t bytes = node::bytes(levels);
         if (left_ < bytes) {
             blocks_.emplace_back(new char[block]);
             left_ = block;
         }
         left_ -= bytes;
-        return blocks_.back().get() + left_;
+        return new (blocks_.back().get() + left_) node(given, levels);
     }
 
-    epochs &epochs_;
+private:
+    static constexpr std::size_t block = std::size_t(1) << 18;
+
     draws draws_;
-    given_back<node *> given_back_;
-    std::vector<void *> free_[node::most_levels];
     std::vector<std::unique_ptr<char[]>> blocks_;
     std::size_t left_ = 0;
 };

@@ -78,20 +78,6 @@ template <class Queue> void gives_each_once(typename Queue::setting setting, std
     check(count == threads * calls);
 }
 
-// The nodes that left are used again: a million insertions take the room of some thousands.
-void reuses_its_nodes() {
-    skip_list<item> queue(1, 0, {8});
-    auto by = queue.handle_of(0);
-    for (std::uint64_t i = 0; i < 1000; i++)
-        by.insert({i, i});
-    for (std::uint64_t i = 0; i < 1000000; i++) {
-        item out;
-        check(by.delete_min(out));
-        by.insert({out.key + 1 + i % 1000, i});
-    }
-    check(queue.bytes() <= std::size_t(1) << 20);
-}
-
 // With one thread and batches of one the least item comes, of its buffer or of its heap.
 void steals_from_itself() {
     stealing_multiqueue<item> queue(1, 0, {1, 8});
@@ -138,7 +124,6 @@ template <class Kept> void test_all() {
 int main() {
     test_all<item>();
     test_all<wide_item>();
-    reuses_its_nodes();
     steals_from_itself();
     steals_a_batch();
     std::puts("the queues: passed");
