@@ -1,5 +1,5 @@
 -- What the public calls of a board say of its members.
-use Rattle.std.specs.Prelude.{◌≡◌, ℕ, ◌++◌, List, [], ◌∷◌}
+use Rattle.std.specs.Prelude.{◌≡◌, ℕ, ◌++◌, List, [], ◌∷◌, length}
 use mathlib.Core.Option.{some}
 use lib.ListN.{get_elem?}
 use Rattle.klsm_run.specs.declared.item.Item.{Item}
@@ -60,10 +60,18 @@ module _ {CAP LEVELS : ℕ} where
   abbrev pub Adds : Member CAP LEVELS → Member CAP LEVELS → List Item → List Item → Type 0
   Adds before after inserts deletes = Gains (own_steps before) (own_steps after) inserts deletes
 
-  -- members 0, 1, .., which have made no step
-  abbrev pub IsCrew : List (Member CAP LEVELS) → Type 0
-  IsCrew members = (i : ℕ) (member : Member CAP LEVELS) → get_elem? members i ≡ some member
-      → (member.number ≡ i) × (own_steps member ≡ [])
+  -- the members of this board, in the order of their numbers
+  pub record AreMembersOf (board : Board CAP LEVELS) (members : List (Member CAP LEVELS)) : Type 0 where
+    pub of : (i : ℕ) (member : Member CAP LEVELS) → get_elem? members i ≡ some member → IsOf member board
+    pub many : length members ≡ board.sizes.threads
+    pub numbered : (i : ℕ) (member : Member CAP LEVELS) → get_elem? members i ≡ some member
+        → member.number ≡ i
+
+  -- and none of them has made a step
+  pub record AreNewMembersOf (board : Board CAP LEVELS) (members : List (Member CAP LEVELS)) : Type 0 where
+    pub are : AreMembersOf board members
+    pub new : (i : ℕ) (member : Member CAP LEVELS) → get_elem? members i ≡ some member
+        → own_steps member ≡ []
 
 -- why a part is not held, and what the member's list gained
 abbrev pub RefusesHold : ℕ → List Entry → List Entry → HoldError → Type 0

@@ -1,5 +1,6 @@
--- Where a deletion takes effect, and in which world.
+-- Which events a list commits, where a deletion takes effect, and in which world.
 use Rattle.std.specs.Prelude.{◌≡◌, ℕ, ◌*◌, ◌-◌, ◌≤◌, List, ◌∷◌, ◌++◌, length, Option}
+use Rattle.std.specs.List.{flat_map}
 use Rattle.std.specs.Option.{option_to_list}
 use Rattle.klsm_run.specs.declared.item.Item.{Item}
 use Rattle.klsm_run.specs.Content.{skipped}
@@ -7,12 +8,16 @@ use Rattle.klsm_world.specs.declared.step.Event.{Event}
 use Rattle.klsm_world.specs.declared.step.Event.TheVariants.{Put, Flush, Take, Early, Nothing, Spy, Refill}
 use Rattle.klsm_world.specs.declared.step.Entry.{Entry}
 use Rattle.klsm_world.specs.declared.step.Entry.TheVariants.{Committed}
-use Rattle.klsm_world.specs.OwnSteps.{inserted, deleted, deleted_by}
+use Rattle.klsm_world.specs.OwnSteps.{event_at, inserted, deleted, deleted_by}
 use Rattle.klsm_world.specs.Worlds.{live}
 use Rattle.klsm_board.specs.declared.sizes.Sizes.{Sizes}
 use Rattle.klsm_board.specs.declared.rule.Own.{Own}
 use Rattle.klsm_board.specs.Rule.{own, view}
 use Rattle.klsm_board.specs.Steps.{AreReached}
+
+-- the events that a list of own steps commits
+abbrev pub committed_in : List Entry → List Event
+committed_in es = flat_map event_at es
 
 -- a deletion skips at most T·k of these items, one by the front at most (T-1)·k, and with one thread none;
 -- nothing is answered where they are at most (T-1)·k

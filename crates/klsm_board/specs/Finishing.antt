@@ -45,7 +45,7 @@ module _ {CAP LEVELS : ℕ} where
   HasMember members t = (i : ℕ) × (member : Member CAP LEVELS)
       × (get_elem? members i ≡ some member) × (member.number ≡ t)
 
-  -- each number below T has a member
+  -- each number below T has a member, in whatever order; so it is of all members of a board (`AreMembersOf`)
   abbrev pub AreAll : List (Member CAP LEVELS) → ℕ → Type 0
   AreAll members threads = (t : ℕ) → t < threads → HasMember members t
 

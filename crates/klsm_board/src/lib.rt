@@ -34,7 +34,7 @@
 //! `try_insert` and `try_delete_min` wait for nobody: where a lock is held they release what they
 //! acquired, and say who held it. `try_hold` acquires one part in order to look at it.
 //!
-//! **What a member promises** is told by its list of own steps, which is for the proof alone: which
+//! **What a member promises** is said by its list of own steps, which is for the proof alone: which
 //! parts it acquired and what it found there, what it committed, what it released. The contract of each
 //! call says which entries the call adds.
 //!
@@ -65,7 +65,7 @@
 //! - **Deletions take no memory**, and are refused for want of none. An insertion takes some only where
 //!   items move to the shared part.
 //!
-//! How the locks are acquired, what commits and why a stale look does no harm is told in
+//! How the locks are acquired, what commits and why a stale look does no harm is said in
 //! docs/ARCHITECTURE.md, "How a locked call becomes steps of a schedule".
 //!
 //! The files, from the atomic steps up: `rule` and `plays` (what always holds, and what a step tells),

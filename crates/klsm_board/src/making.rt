@@ -4,7 +4,7 @@ ghost use Rattle.klsm_run.specs.Capacity.{IsCapacity};
 ghost use Rattle.klsm_parts.specs.Limit.{IsLevelCount};
 ghost use Rattle.klsm_board.specs.Rule.{view, fresh};
 ghost use Rattle.klsm_board.specs.Members.{AreSizes, most_insertions};
-ghost use Rattle.klsm_board.specs.Boards.{IsCrew, IsOf, own_steps};
+ghost use Rattle.klsm_board.specs.Boards.{AreNewMembersOf, IsOf, own_steps};
 
 use crate::board::{Board, Member};
 use crate::boxed::Boxed;
@@ -40,7 +40,7 @@ impl<const CAP: usize, const LEVELS: usize> Board<CAP, LEVELS> {
             made.0.sizes ≡ record { threads = threads; k = k; quota = quota; refill = 0 }) }
         ensures of { IfOk result (λ made. All (λ member. IsOf member made.0) made.1.items) }
         ensures count { IfOk result (λ made. length made.1.items ≡ threads) }
-        ensures crew { IfOk result (λ made. IsCrew made.1.items) }
+        ensures crew { IfOk result (λ made. AreNewMembersOf made.0 made.1.items) }
 
         // Each refusal comes exactly where its cause holds and none before it; else memory lacks.
         ensures bad_threads { IsErrAnd result (λ why. why ≡ MakeError.BadThreads)
@@ -69,7 +69,7 @@ impl<const CAP: usize, const LEVELS: usize> Board<CAP, LEVELS> {
             ≡ record { threads = threads; k = k; quota = quota; refill = refill }) }
         ensures of { IfOk result (λ made. All (λ member. IsOf member made.0) made.1.items) }
         ensures count { IfOk result (λ made. length made.1.items ≡ threads) }
-        ensures crew { IfOk result (λ made. IsCrew made.1.items) }
+        ensures crew { IfOk result (λ made. AreNewMembersOf made.0 made.1.items) }
 
         // Each refusal comes exactly where its cause holds and none before it; else memory lacks.
         ensures bad_threads { IsErrAnd result (λ why. why ≡ MakeError.BadThreads)
@@ -186,7 +186,7 @@ fn deal<const CAP: usize, const LEVELS: usize>(
     requires view { seat.me ≡ (view (fresh 0 board.now.sizes.threads), []) }
     ensures of { IfOk result (λ members. All (λ member. IsOf member board.now) members.items) }
     ensures count { IfOk result (λ members. length members.items ≡ board.now.sizes.threads) }
-    ensures crew { IfOk result (λ members. IsCrew members.items) }
+    ensures crew { IfOk result (λ members. AreNewMembersOf board.now members.items) }
 {
     let threads = board.sizes.threads;
     let mut members = Vec::with_capacity(alloc, threads)?;

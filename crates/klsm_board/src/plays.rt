@@ -1,10 +1,20 @@
 //! What a step on a lock or on the front tells the call that makes it. These types are for the proofs alone.
+//!
+//! A step of the table is passed a type, one of the markers below. The marker's ghost item `then` is what the caller
+//! learns: a relation of the step, the seat before it, the number found (at a store, the number stored) and the seat
+//! after it. What comes of a step depends on what the call intends, and that is the marker's parameter: an `Intent`,
+//! whose ghost items say for which board and thread the step is, which events may be committed, and which item goes.
+//! It is a type and no value, since the table reads `then` off a type, and since a condition on events is no value of
+//! a program: nothing of an intent is there when the board runs. A call passes `Brand`, the kit's type for which the
+//! caller's proof picks the ghost items (`ghosts-..` in `proofs/steps`); those of the `impl` below stand for none.
+//! In `steps.rt` the clause `outcome` is both sides of this: as a premise, what the caller has to show of its intent,
+//! that it is for this board and this thread; as a result, what the caller learns, which is `then` of that intent.
 use crate::rule::{Holding, View};
 use atomic_table::Play;
 use std::marker::{Brand, PhantomData};
 
-/// What a call tells the step that it makes.
-pub trait Told {
+/// What a call intends by the step that it makes.
+pub trait Intent {
     ghost use Rattle.std.specs.Prelude.{ℕ};
     ghost use Rattle.klsm_run.specs.declared.item.Item.{Item};
     ghost use Rattle.klsm_world.specs.declared.step.Event.{Event};
@@ -22,7 +32,7 @@ pub trait Told {
     ghost least: { Item };
 }
 
-impl Told for Brand {
+impl Intent for Brand {
     ghost sizes = { record { threads = 0; k = 0; quota = 0; refill = 0 } };
 
     ghost thread = { 0 };
@@ -37,7 +47,7 @@ pub(crate) struct Acquire<D> {
     of: PhantomData<D>,
 }
 
-impl<S: Holding, D: Told> Play<S, View> for Acquire<D> {
+impl<S: Holding, D: Intent> Play<S, View> for Acquire<D> {
     ghost use Rattle.klsm_board.specs.Steps.{attempted, on_part};
 
     ghost then = { on_part (attempted S.content S.suits D.sizes D.thread) };
@@ -48,7 +58,7 @@ pub(crate) struct Release<D> {
     of: PhantomData<D>,
 }
 
-impl<S: Holding, D: Told> Play<S, View> for Release<D> {
+impl<S: Holding, D: Intent> Play<S, View> for Release<D> {
     ghost use Rattle.klsm_board.specs.Steps.{released, on_part};
 
     ghost then = { on_part (released D.sizes D.thread) };
@@ -59,7 +69,7 @@ pub(crate) struct Commit<D> {
     of: PhantomData<D>,
 }
 
-impl<S: Holding, D: Told> Play<S, View> for Commit<D> {
+impl<S: Holding, D: Intent> Play<S, View> for Commit<D> {
     ghost use Rattle.klsm_board.specs.Steps.{committed, on_part};
 
     ghost then = { on_part (committed D.fits D.sizes D.thread) };
@@ -70,7 +80,7 @@ pub(crate) struct SetFront<D> {
     of: PhantomData<D>,
 }
 
-impl<S: Holding, D: Told> Play<S, View> for SetFront<D> {
+impl<S: Holding, D: Intent> Play<S, View> for SetFront<D> {
     ghost use Rattle.klsm_board.specs.Steps.{set_front};
 
     ghost then = { set_front D.fits D.sizes D.thread };
@@ -81,7 +91,7 @@ pub(crate) struct Look<D> {
     of: PhantomData<D>,
 }
 
-impl<S: Holding, D: Told> Play<S, View> for Look<D> {
+impl<S: Holding, D: Intent> Play<S, View> for Look<D> {
     ghost use Rattle.klsm_board.specs.Steps.{looked};
 
     ghost then = { looked D.least D.sizes D.thread };
@@ -92,7 +102,7 @@ pub(crate) struct Glance<D> {
     of: PhantomData<D>,
 }
 
-impl<S: Holding, D: Told> Play<S, View> for Glance<D> {
+impl<S: Holding, D: Intent> Play<S, View> for Glance<D> {
     ghost use Rattle.klsm_board.specs.Steps.{glanced};
 
     ghost then = { glanced D.sizes D.thread };
@@ -103,7 +113,7 @@ pub(crate) struct Turn<D> {
     of: PhantomData<D>,
 }
 
-impl<S: Holding, D: Told> Play<S, View> for Turn<D> {
+impl<S: Holding, D: Intent> Play<S, View> for Turn<D> {
     ghost use Rattle.klsm_board.specs.Steps.{turned_to};
 
     ghost then = { turned_to D.sizes D.thread };

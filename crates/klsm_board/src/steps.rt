@@ -14,26 +14,26 @@ ghost use Rattle.klsm_board.specs.Steps.{mine, rest_of, IsMine, AreReached, atte
 ghost use Rattle.klsm_board.specs.Seats.{Carries, Stands, Has, CarriedOut, QuotaAllows, LeavesShared, SetsFront, IsSeatOf, own_in_hand, both_in_hand};
 ghost use Rattle.klsm_board.specs.Entries.{both_released};
 
-use crate::plays::{Acquire, Commit, Glance, Look, Release, SetFront, Told, Turn};
+use crate::plays::{Acquire, Commit, Glance, Intent, Look, Release, SetFront, Turn};
 use crate::rule::{Holding, Locks, MemberSeat, STRIDE};
 use klsm_run::Item;
 use klsm_world::Event;
 use std::marker::Brand;
 
 // A try to acquire a part. The word found is 0 where it came to the seat.
-fn acquire<S: Holding, D: Told>(
+fn acquire<S: Holding, D: Intent>(
     table: &Locks<S>,
     seat: &mut MemberSeat<S>,
     part: usize,
     thread: usize,
 ) -> u64
-    requires told { (D.sizes ≡ table.now.key) × (D.thread ≡ thread) }
+    requires outcome { (D.sizes ≡ table.now.key) × (D.thread ≡ thread) }
     requires seat { IsSeatOf seat.old.table_id table.now.table_id table.now.key thread }
     requires part { part ≤ table.now.key.threads }
     requires view { IsMine seat.old.me.0 thread }
     requires away { found_in (hand_of thread (mine seat.old.me.0)) part ≡ None }
     ensures same { (seat.new.table_id ≡ seat.old.table_id) × (seat.new.id ≡ seat.old.id) }
-    ensures told { attempted S.content S.suits table.now.key thread
+    ensures outcome { attempted S.content S.suits table.now.key thread
         (step table.now.table_id.slots part 0 (thread + 1) none) seat.old.me result seat.new.me }
 {
     let free = 0;
@@ -41,13 +41,13 @@ fn acquire<S: Holding, D: Told>(
 }
 
 // Releases the part that was acquired last, with the content that the seat's list says.
-fn release<S: Holding, D: Told>(
+fn release<S: Holding, D: Intent>(
     table: &Locks<S>,
     seat: &mut MemberSeat<S>,
     part: usize,
     thread: usize,
 )
-    requires told { (D.sizes ≡ table.now.key) × (D.thread ≡ thread) }
+    requires outcome { (D.sizes ≡ table.now.key) × (D.thread ≡ thread) }
     requires seat { IsSeatOf seat.old.table_id table.now.table_id table.now.key thread }
     requires part { part ≤ table.now.key.threads }
     requires view { IsMine seat.old.me.0 thread }
@@ -55,7 +55,7 @@ fn release<S: Holding, D: Told>(
         × S.suits table.now.key.k part y
         × Holds (hand_of thread (mine seat.old.me.0)) part (S.content y) }
     ensures same { (seat.new.table_id ≡ seat.old.table_id) × (seat.new.id ≡ seat.old.id) }
-    ensures told { released table.now.key thread (step table.now.table_id.slots part 0 0 none)
+    ensures outcome { released table.now.key thread (step table.now.table_id.slots part 0 0 none)
         seat.old.me 0 seat.new.me }
 {
     // For the proof: the contract alone names the thread.
@@ -66,14 +66,14 @@ fn release<S: Holding, D: Told>(
 // Commits some event that D fits, and releases the part that was acquired last, with the content
 // that the event leaves it. The caller knows the event by what it fits, and D by what the event is
 // about.
-fn commit<S: Holding, D: Told, T>(
+fn commit<S: Holding, D: Intent, T>(
     table: &Locks<S>,
     seat: &mut MemberSeat<S>,
     part: usize,
     thread: usize,
     about: &T,
 )
-    requires told { (D.sizes ≡ table.now.key) × (D.thread ≡ thread) }
+    requires outcome { (D.sizes ≡ table.now.key) × (D.thread ≡ thread) }
     requires seat { IsSeatOf seat.old.table_id table.now.table_id table.now.key thread }
     requires part { part ≤ table.now.key.threads }
     requires view { IsMine seat.old.me.0 thread }
@@ -86,7 +86,7 @@ fn commit<S: Holding, D: Told, T>(
         × S.suits table.now.key.k part y
         × Holds (after_event thread (hand_of thread (mine seat.old.me.0)) e) part (S.content y)) }
     ensures same { (seat.new.table_id ≡ seat.old.table_id) × (seat.new.id ≡ seat.old.id) }
-    ensures told { committed D.fits table.now.key thread
+    ensures outcome { committed D.fits table.now.key thread
         (step table.now.table_id.slots part 0 0 none) seat.old.me 0 seat.new.me }
 {
     // For the proof: the contract alone names the thread and what the event is about.
@@ -96,7 +96,7 @@ fn commit<S: Holding, D: Told, T>(
 }
 
 // Commits some event that D fits by setting the front to what the event leaves it.
-fn store_front<S: Holding, D: Told, T>(
+fn store_front<S: Holding, D: Intent, T>(
     table: &Locks<S>,
     seat: &mut MemberSeat<S>,
     threads: usize,
@@ -104,7 +104,7 @@ fn store_front<S: Holding, D: Told, T>(
     front: u64,
     about: &T,
 )
-    requires told { (D.sizes ≡ table.now.key) × (D.thread ≡ thread) }
+    requires outcome { (D.sizes ≡ table.now.key) × (D.thread ≡ thread) }
     requires seat { IsSeatOf seat.old.table_id table.now.table_id table.now.key thread }
     requires threads { threads ≡ table.now.key.threads }
     requires view { IsMine seat.old.me.0 thread }
@@ -114,7 +114,7 @@ fn store_front<S: Holding, D: Told, T>(
         × QuotaAllows table.now.key.quota (mine seat.old.me.0) e
         × SetsFront thread (hand_of thread (mine seat.old.me.0)) e front }
     ensures same { (seat.new.table_id ≡ seat.old.table_id) × (seat.new.id ≡ seat.old.id) }
-    ensures told { set_front D.fits table.now.key thread
+    ensures outcome { set_front D.fits table.now.key thread
         (step table.now.table_id.slots (place (threads + 1)) front 0 none) seat.old.me front
         seat.new.me }
 {
@@ -125,21 +125,21 @@ fn store_front<S: Holding, D: Told, T>(
 }
 
 // Loads the front. Where the key of D's item is below it, the load commits the deletion of that item.
-fn load_front<S: Holding, D: Told>(
+fn load_front<S: Holding, D: Intent>(
     table: &Locks<S>,
     seat: &mut MemberSeat<S>,
     threads: usize,
     thread: usize,
     least: Item,
 ) -> u64
-    requires told { (D.sizes ≡ table.now.key) × (D.thread ≡ thread) × (D.least ≡ least) }
+    requires outcome { (D.sizes ≡ table.now.key) × (D.thread ≡ thread) × (D.least ≡ least) }
     requires seat { IsSeatOf seat.old.table_id table.now.table_id table.now.key thread }
     requires threads { threads ≡ table.now.key.threads }
     requires view { IsMine seat.old.me.0 thread }
     requires least { (own : List Item)
         × Holds (hand_of thread (mine seat.old.me.0)) (own_part thread) own × IsLeast least own }
     ensures same { (seat.new.table_id ≡ seat.old.table_id) × (seat.new.id ≡ seat.old.id) }
-    ensures told { looked least table.now.key thread
+    ensures outcome { looked least table.now.key thread
         (step table.now.table_id.slots (place (threads + 1)) 0 0 none) seat.old.me result
         seat.new.me }
 {
@@ -150,18 +150,18 @@ fn load_front<S: Holding, D: Told>(
 }
 
 // Loads the front, and no more.
-fn load_front_alone<S: Holding, D: Told>(
+fn load_front_alone<S: Holding, D: Intent>(
     table: &Locks<S>,
     seat: &mut MemberSeat<S>,
     threads: usize,
     thread: usize,
 ) -> u64
-    requires told { (D.sizes ≡ table.now.key) × (D.thread ≡ thread) }
+    requires outcome { (D.sizes ≡ table.now.key) × (D.thread ≡ thread) }
     requires seat { IsSeatOf seat.old.table_id table.now.table_id table.now.key thread }
     requires threads { threads ≡ table.now.key.threads }
     requires view { IsMine seat.old.me.0 thread }
     ensures same { (seat.new.table_id ≡ seat.old.table_id) × (seat.new.id ≡ seat.old.id) }
-    ensures told { glanced table.now.key thread
+    ensures outcome { glanced table.now.key thread
         (step table.now.table_id.slots (place (threads + 1)) 0 0 none) seat.old.me result
         seat.new.me }
 {
@@ -171,16 +171,16 @@ fn load_front_alone<S: Holding, D: Told>(
 }
 
 // Loads a word, and brings the thread's list to the front.
-fn load_turning<S: Holding, D: Told>(
+fn load_turning<S: Holding, D: Intent>(
     table: &Locks<S>,
     seat: &mut MemberSeat<S>,
     thread: usize,
 ) -> u64
-    requires told { (D.sizes ≡ table.now.key) × (D.thread ≡ thread) }
+    requires outcome { (D.sizes ≡ table.now.key) × (D.thread ≡ thread) }
     requires seat { IsSeatOf seat.old.table_id table.now.table_id table.now.key thread }
     requires has { HasList seat.old.me.0.lists thread }
     ensures same { (seat.new.table_id ≡ seat.old.table_id) × (seat.new.id ≡ seat.old.id) }
-    ensures told { turned_to table.now.key thread (step table.now.table_id.slots 0 0 0 none)
+    ensures outcome { turned_to table.now.key thread (step table.now.table_id.slots 0 0 0 none)
         seat.old.me result seat.new.me }
 {
     // For the proof: the contract alone names the thread.
@@ -201,7 +201,7 @@ pub(crate) fn acquire_part<S: Holding>(
         × (found_in hand part ≡ None) }
     ensures same { (seat.new.table_id ≡ seat.old.table_id) × (seat.new.id ≡ seat.old.id) }
     ensures others { rest_of seat.new.me.0 ≡ rest_of seat.old.me.0 }
-    ensures told { (hand : Hand) → Stands S.content S.suits table.now.key thread hand seat.old.me
+    ensures outcome { (hand : Hand) → Stands S.content S.suits table.now.key thread hand seat.old.me
         → MatchBool (result == 0)
         ((found : List Item)
         × Has S.content S.suits table.now.key thread ((part, found) ∷ hand) seat.new.me

@@ -8,7 +8,7 @@ ghost use mathlib.Core.Option.{some};
 ghost use lib.ListN.{get_elem?};
 ghost use Rattle.klsm_world.specs.Account.{account};
 ghost use Rattle.klsm_world.specs.OwnSteps.{inserted};
-ghost use Rattle.klsm_board.specs.Boards.{Gains, IsOf, own_steps};
+ghost use Rattle.klsm_board.specs.Boards.{AreMembersOf, Gains, IsOf, own_steps};
 ghost use Rattle.klsm_board.specs.Inserting.{Inserts, RefusesInsertWaiting, stamp_of, stamped};
 ghost use Rattle.klsm_board.specs.Deleting.{AnswersDeletion};
 ghost use Rattle.klsm_board.specs.Finishing.{AreAll, AreListsAtEnd, IsLeastAbsent, lists_of};
@@ -152,9 +152,9 @@ impl<const CAP: usize, const LEVELS: usize> AllMembers<CAP, LEVELS> {
         requires of { AreOf self board.now }
         ensures of { All (λ member. IsOf member board.now) result.items }
         ensures count { length result.items ≡ (sizes_of_all self.entry).threads }
-        ensures members { (i : ℕ) (member : Member CAP LEVELS)
-            → get_elem? result.items i ≡ some member
-            → (member.number ≡ i) × (own_steps member ≡ steps_for self.entry i) }
+        ensures crew { AreMembersOf board.now result.items }
+        ensures steps { (i : ℕ) (member : Member CAP LEVELS)
+            → get_elem? result.items i ≡ some member → own_steps member ≡ steps_for self.entry i }
     {
         let AllMembers {
             acting,

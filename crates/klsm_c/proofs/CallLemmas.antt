@@ -9,25 +9,25 @@ use Rattle.klsm_c.specs.declared.item.PlainItem.{PlainItem}
 use Rattle.klsm_owned.specs.declared.owned.OwnedMember.{OwnedMember}
 use Rattle.klsm_owned.specs.Owned.{IsSameOwned}
 use Rattle.klsm_owned.specs.Trying.{LooksAtFront, TriesInsert, TriesDelete}
-use Rattle.klsm_c.specs.Calls.{Inserts, Deletes, LooksAt, insert_code, delete_code, written}
+use Rattle.klsm_c.specs.Calls.{InsertsBySlot, DeletesBySlot, LooksAt, insert_code, delete_code, written}
 
 pub inserts_told : (old new : List OwnedMember) (x y : OwnedMember) (key load : ℕ) (code : ℤ) (answer : Result Stamp TryInsertError)
     → old ≡ x ∷ [] → new ≡ y ∷ [] → IsSameOwned x y → TriesInsert x y key load answer → code ≡ insert_code answer
-    → Inserts old new key load code
+    → InsertsBySlot old new key load code
 inserts_told old new x y key load code answer was is same tries code_is =
-    subst (λ (xs : List OwnedMember). Inserts xs new key load code) (sym was) (y, is, same, answer, code_is, tries)
+    subst (λ (xs : List OwnedMember). InsertsBySlot xs new key load code) (sym was) (y, is, same, answer, code_is, tries)
 
-pub inserts_none : (old new : List OwnedMember) (key load : ℕ) → old ≡ [] → new ≡ [] → Inserts old new key load (pos 6)
-inserts_none old new key load was is = subst (λ (xs : List OwnedMember). Inserts xs new key load (pos 6)) (sym was) (refl, is)
+pub inserts_none : (old new : List OwnedMember) (key load : ℕ) → old ≡ [] → new ≡ [] → InsertsBySlot old new key load (pos 6)
+inserts_none old new key load was is = subst (λ (xs : List OwnedMember). InsertsBySlot xs new key load (pos 6)) (sym was) (refl, is)
 
 pub deletes_told : (old new : List OwnedMember) (x y : OwnedMember) (item item' : PlainItem) (code : ℤ) (answer : Result (Option Item) Busy)
     → old ≡ x ∷ [] → new ≡ y ∷ [] → IsSameOwned x y → TriesDelete x y answer → code ≡ delete_code answer → item' ≡ written item answer
-    → Deletes old new item item' code
+    → DeletesBySlot old new item item' code
 deletes_told old new x y item item' code answer was is same tries code_is written_is =
-    subst (λ (xs : List OwnedMember). Deletes xs new item item' code) (sym was) (y, is, same, answer, code_is, written_is, tries)
+    subst (λ (xs : List OwnedMember). DeletesBySlot xs new item item' code) (sym was) (y, is, same, answer, code_is, written_is, tries)
 
-pub deletes_none : (old new : List OwnedMember) (item : PlainItem) → old ≡ [] → new ≡ [] → Deletes old new item item (pos 6)
-deletes_none old new item was is = subst (λ (xs : List OwnedMember). Deletes xs new item item (pos 6)) (sym was) (refl, is, refl)
+pub deletes_none : (old new : List OwnedMember) (item : PlainItem) → old ≡ [] → new ≡ [] → DeletesBySlot old new item item (pos 6)
+deletes_none old new item was is = subst (λ (xs : List OwnedMember). DeletesBySlot xs new item item (pos 6)) (sym was) (refl, is, refl)
 
 pub looks_told : (old new : List OwnedMember) (x y : OwnedMember) (front : ℕ) → old ≡ x ∷ [] → new ≡ y ∷ [] → IsSameOwned x y → LooksAtFront x y front → LooksAt old new front
 looks_told old new x y front was is same looks = subst (λ (xs : List OwnedMember). LooksAt xs new front) (sym was) (y, is, same, looks)

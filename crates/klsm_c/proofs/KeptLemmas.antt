@@ -7,14 +7,14 @@ use lib.ListN.{get_elem?}
 use Rattle.atomic_table.specs.Seated.{TableId}
 use Rattle.klsm_board.specs.declared.board.Member.{Member}
 use Rattle.klsm_board.specs.declared.sizes.Sizes.{Sizes}
+use Rattle.klsm_board.proofs.lemmas.ending.MemberLemmas.{stands_mapped}
 use Rattle.klsm_owned.specs.declared.owned.OwnedMember.{OwnedMember}
-use Rattle.klsm_owned.specs.Owned.{IsSameOwned, IsWhole, member_of, members_of}
+use Rattle.klsm_owned.specs.Owned.{IsSameOwned, AreAllOfTheirBoard, member_of, members_of}
 use Rattle.klsm_owned.proofs.ListLemmas.{unmapped}
 use Rattle.klsm_c.specs.declared.item.PlainItem.{PlainItem}
 use Rattle.klsm_c.specs.declared.slot.Slot.{Slot}
-use Rattle.klsm_c.specs.Calls.{Deletes, Inserts, LooksAt}
+use Rattle.klsm_c.specs.Calls.{DeletesBySlot, InsertsBySlot, LooksAt}
 use Rattle.klsm_c.specs.Slots.{owned_in}
-use Rattle.klsm_c.proofs.BoardLemmas.{mapped}
 use Rattle.klsm_c.proofs.ListLemmas.{map_behind}
 
 -- what tells the member of a board: its number, its board and the sizes
@@ -28,17 +28,18 @@ abbrev faces : List OwnedMember → List Face
 faces xs = map face (members_of xs)
 
 -- members that cannot be told from all those of a board are all those of one
-whole_by_faces : (ms ns : List (Member 64 21)) → map face ns ≡ map face ms → IsWhole ms → IsWhole ns
-whole_by_faces ms ns same whole = record {
-  numbers = λ i a there. let x = twin i a there in ap (λ f. f.0) (sym x.2) ∙ whole.numbers i x.0 x.1;
-  count = λ i a there. let x = twin i a there in
-      sym (length-map ns face) ∙ (ap length same ∙ (length-map ms face ∙ (whole.count i x.0 x.1 ∙ ap (λ f. f.1.1.threads) x.2)));
-  one_board = λ i j a b there other. let x = twin i a there in let y = twin j b other in let one = whole.one_board i j x.0 y.0 x.1 y.1 in
-      (ap (λ f. f.1.0) (sym x.2) ∙ (one.0 ∙ ap (λ f. f.1.0) y.2), ap (λ f. f.1.1) (sym x.2) ∙ (one.1 ∙ ap (λ f. f.1.1) y.2));
-}
+whole_by_faces : (ms ns : List (Member 64 21)) → map face ns ≡ map face ms → AreAllOfTheirBoard ms → AreAllOfTheirBoard ns
+whole_by_faces ms ns same whole i a there board of =
+    let x = twin i a there in
+    let are = whole i x.0 x.1 board (ap (λ f. f.1.0) x.2 ∙ of.0, ap (λ f. f.1.1) x.2 ∙ of.1) in
+    record {
+      of = λ j b other. let y = twin j b other in let its = are.of j y.0 y.1 in (ap (λ f. f.1.0) (sym y.2) ∙ its.0, ap (λ f. f.1.1) (sym y.2) ∙ its.1);
+      many = sym (length-map ns face) ∙ (ap length same ∙ (length-map ms face ∙ are.many));
+      numbered = λ j b other. let y = twin j b other in ap (λ f. f.0) (sym y.2) ∙ are.numbered j y.0 y.1;
+    }
   where
     twin : (i : ℕ) (a : Member 64 21) → get_elem? ns i ≡ some a → (x : Member 64 21) × (get_elem? ms i ≡ some x) × (face x ≡ face a)
-    twin i a there = unmapped face ms i (face a) (ap (λ fs. get_elem? fs i) (sym same) ∙ mapped face ns i a there)
+    twin i a there = unmapped face ms i (face a) (ap (λ fs. get_elem? fs i) (sym same) ∙ stands_mapped face ns i a there)
 
 same_face : (x y : OwnedMember) → IsSameOwned x y → face (member_of y) ≡ face (member_of x)
 same_face x y is = λ i. (is.member.0 i, (is.member.2 i, is.member.1 i))
@@ -48,11 +49,11 @@ abbrev pub IsKept : List OwnedMember → List OwnedMember → Type 0
 IsKept [] new = new ≡ []
 IsKept (x ∷ xs) new = (y : OwnedMember) × (new ≡ y ∷ []) × IsSameOwned x y
 
-pub kept_by_insert : (old new : List OwnedMember) (key load : ℕ) (code : ℤ) → Inserts old new key load code → IsKept old new
+pub kept_by_insert : (old new : List OwnedMember) (key load : ℕ) (code : ℤ) → InsertsBySlot old new key load code → IsKept old new
 kept_by_insert [] new key load code told = told.1
 kept_by_insert (x ∷ xs) new key load code told = (told.0, told.1, told.2)
 
-pub kept_by_delete : (old new : List OwnedMember) (item item' : PlainItem) (code : ℤ) → Deletes old new item item' code → IsKept old new
+pub kept_by_delete : (old new : List OwnedMember) (item item' : PlainItem) (code : ℤ) → DeletesBySlot old new item item' code → IsKept old new
 kept_by_delete [] new item item' code told = told.1
 kept_by_delete (x ∷ xs) new item item' code told = (told.0, told.1, told.2)
 
@@ -85,7 +86,7 @@ faces_set (s ∷ ss) (suc n) before after there same =
     ∙ (ap (λ fs. faces s.handle.held ++ fs) (faces_set ss n before after there same) ∙ sym (faces_behind s.handle.held (owned_in ss)))
 
 pub members_kept : (slots : List Slot) (n : ℕ) (before after : Slot) → get_elem? slots n ≡ some before → IsKept before.handle.held after.handle.held
-    → IsWhole (members_of (owned_in slots)) → IsWhole (members_of (owned_in (slice_set slots n after)))
+    → AreAllOfTheirBoard (members_of (owned_in slots)) → AreAllOfTheirBoard (members_of (owned_in (slice_set slots n after)))
 members_kept slots n before after there kept whole =
     let few : length before.handle.held ≤ 1 = omega (arith, before.single, before.fits) in
     whole_by_faces (members_of (owned_in slots)) (members_of (owned_in (slice_set slots n after)))

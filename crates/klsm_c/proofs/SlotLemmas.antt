@@ -6,9 +6,9 @@ use Rattle.std.proofs.lemmas.List.{drop-replicate, length-map}
 use Rattle.std.proofs.lemmas.List.Elements.{All-nil, All-cons}
 use mathlib.Core.Option.{some-ne-none}
 use Rattle.klsm_owned.specs.declared.owned.OwnedMember.{OwnedMember}
-use Rattle.klsm_owned.specs.Owned.{IsWhole, member_of, members_of}
+use Rattle.klsm_owned.specs.Owned.{AreAllOfTheirBoard, member_of, members_of}
 use Rattle.klsm_c.specs.declared.slot.Slot.{Slot}
-use Rattle.klsm_c.specs.Slots.{AreClosed, alone, held_in, joined, owned_in, some_open}
+use Rattle.klsm_c.specs.Slots.{AreClosed, alone, held_in, one_after_another, owned_in, some_open}
 use Rattle.klsm_c.proofs.ListLemmas.{all_copied, index_copied, index_mapped}
 
 abbrev pub none : List OwnedMember
@@ -21,14 +21,10 @@ abbrev pub held : Slot → List OwnedMember
 held slot = slot.handle.held
 
 -- no members are all those of a board
-pub none_are_whole : IsWhole []
-none_are_whole = record {
-  numbers = λ i a there. absurd (some-ne-none a (sym there));
-  count = λ i a there. absurd (some-ne-none a (sym there));
-  one_board = λ i j a b there other. absurd (some-ne-none a (sym there));
-}
+pub none_are_whole : AreAllOfTheirBoard []
+none_are_whole = λ i a there board of. absurd (some-ne-none a (sym there))
 
-joined_none : (n : ℕ) → joined (replicate n none) ≡ []
+joined_none : (n : ℕ) → one_after_another (replicate n none) ≡ []
 joined_none zero = refl
 joined_none (suc n) = joined_none n
 
@@ -53,8 +49,8 @@ pub closed_own_none : (slots : List Slot) → AreClosed slots → owned_in slots
 closed_own_none [] closed = refl
 closed_own_none (s ∷ ss) closed = ap (λ xs. xs ++ owned_in ss) (closed 0 s (omega arith)) ∙ closed_own_none ss (λ k d h. closed (suc k) d (omega (arith, h)))
 
-pub closed_are_whole : (slots : List Slot) → AreClosed slots → IsWhole (members_of (owned_in slots))
-closed_are_whole slots closed = subst (λ xs. IsWhole (members_of xs)) (sym (closed_own_none slots closed)) none_are_whole
+pub closed_are_whole : (slots : List Slot) → AreClosed slots → AreAllOfTheirBoard (members_of (owned_in slots))
+closed_are_whole slots closed = subst (λ xs. AreAllOfTheirBoard (members_of xs)) (sym (closed_own_none slots closed)) none_are_whole
 
 no_members : (xs : List OwnedMember) (more : Bool) → (nat_lt 0 (length xs) || more) ≡ false → (xs ≡ []) × (more ≡ false)
 no_members [] more is = (refl, is)
@@ -67,13 +63,13 @@ none_open (s ∷ ss) closed = let h = no_members (held s) (some_open ss) closed 
     ap (λ xs. xs ∷ held_in ss) h.0 ∙ ap (λ xss. none ∷ xss) (none_open ss h.1)
 
 -- the slots of the members, and then closed ones
-joined_front : (xs : List OwnedMember) (n : ℕ) → joined (map alone xs ++ replicate n none) ≡ xs
+joined_front : (xs : List OwnedMember) (n : ℕ) → one_after_another (map alone xs ++ replicate n none) ≡ xs
 joined_front [] n = joined_none n
 joined_front (x ∷ xs) n = ap (λ ys. x ∷ ys) (joined_front xs n)
 
 pub filled_own : (slots old : List Slot) (xs : List OwnedMember) (t : ℕ) → some_open old ≡ false → held_in slots ≡ map alone xs ++ drop t (held_in old) → owned_in slots ≡ xs
 filled_own slots old xs t closed is =
-    ap joined (is ∙ ap (λ xss. map alone xs ++ xss) (ap (drop t) (none_open old closed) ∙ drop-replicate t (length old) none)) ∙ joined_front xs (length old - t)
+    ap one_after_another (is ∙ ap (λ xss. map alone xs ++ xss) (ap (drop t) (none_open old closed) ∙ drop-replicate t (length old) none)) ∙ joined_front xs (length old - t)
 
 pub filled_front : (slots old : List Slot) (xs : List OwnedMember) (t : ℕ) → some_open old ≡ false → held_in slots ≡ map alone xs ++ drop t (held_in old)
     → held_in slots ≡ map alone (owned_in slots) ++ replicate (length old - t) none

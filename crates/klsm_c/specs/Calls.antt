@@ -51,15 +51,15 @@ written old (Err busy) = old
 
 -- An insertion: 6 exactly where there is no member. Else the member is the same afterwards, its list
 -- tells what it did, and the code says which answer it was.
-abbrev pub Inserts : List OwnedMember → List OwnedMember → ℕ → ℕ → ℤ → Type 0
-Inserts [] new key load code = (code ≡ pos 6) × (new ≡ [])
-Inserts (x ∷ xs) new key load code = (y : OwnedMember) × (new ≡ y ∷ []) × IsSameOwned x y
+abbrev pub InsertsBySlot : List OwnedMember → List OwnedMember → ℕ → ℕ → ℤ → Type 0
+InsertsBySlot [] new key load code = (code ≡ pos 6) × (new ≡ [])
+InsertsBySlot (x ∷ xs) new key load code = (y : OwnedMember) × (new ≡ y ∷ []) × IsSameOwned x y
     × (answer : Result Stamp TryInsertError) × (code ≡ insert_code answer) × TriesInsert x y key load answer
 
 -- A deletion, as an insertion. An item is written exactly where the code is 0.
-abbrev pub Deletes : List OwnedMember → List OwnedMember → PlainItem → PlainItem → ℤ → Type 0
-Deletes [] new item item' code = (code ≡ pos 6) × (new ≡ []) × (item' ≡ item)
-Deletes (x ∷ xs) new item item' code = (y : OwnedMember) × (new ≡ y ∷ []) × IsSameOwned x y
+abbrev pub DeletesBySlot : List OwnedMember → List OwnedMember → PlainItem → PlainItem → ℤ → Type 0
+DeletesBySlot [] new item item' code = (code ≡ pos 6) × (new ≡ []) × (item' ≡ item)
+DeletesBySlot (x ∷ xs) new item item' code = (y : OwnedMember) × (new ≡ y ∷ []) × IsSameOwned x y
     × (answer : Result (Option Item) IsBusy) × (code ≡ delete_code answer) × (item' ≡ written item answer)
     × TriesDelete x y answer
 

@@ -8,13 +8,13 @@ use Rattle.klsm_c.specs.declared.slot.Slot.{Slot}
 abbrev pub held_in : List Slot → List (List OwnedMember)
 held_in slots = map (λ slot. slot.handle.held) slots
 
-abbrev pub joined : List (List OwnedMember) → List OwnedMember
-joined [] = []
-joined (xs ∷ xss) = xs ++ joined xss
+abbrev pub one_after_another : List (List OwnedMember) → List OwnedMember
+one_after_another [] = []
+one_after_another (xs ∷ xss) = xs ++ one_after_another xss
 
 -- the members in some slots, in order
 abbrev pub owned_in : List Slot → List OwnedMember
-owned_in slots = joined (held_in slots)
+owned_in slots = one_after_another (held_in slots)
 
 -- what a slot has that holds one
 abbrev pub alone : OwnedMember → List OwnedMember

@@ -1,7 +1,7 @@
 //! The calls of one slot. None of them waits.
 ghost use Rattle.std.specs.Prelude.{◌≡◌, ◌≤◌};
 ghost use Rattle.klsm_board.specs.Members.{most_deletions, most_insertions};
-ghost use Rattle.klsm_c.specs.Calls.{Deletes, Inserts, LooksAt, deleted_in, inserted_in};
+ghost use Rattle.klsm_c.specs.Calls.{DeletesBySlot, InsertsBySlot, LooksAt, deleted_in, inserted_in};
 
 use crate::codes::{BUSY, FULL, NO_MEMORY, NOT_OPEN, NOTHING, OK, SPENT};
 use crate::item::PlainItem;
@@ -12,7 +12,7 @@ use std::alloc::Global;
 /// Inserts a key with a load by the slot's member.
 #[unsafe(no_mangle)]
 pub extern "C" fn klsm_try_insert(alloc: Global, slot: &mut Slot, key: u64, load: u64) -> i32
-    ensures { Inserts slot.old.handle.held slot.new.handle.held key load result }
+    ensures { InsertsBySlot slot.old.handle.held slot.new.handle.held key load result }
 {
     let Some(mut member) = slot.take(alloc) else {
         return NOT_OPEN;
@@ -31,7 +31,7 @@ pub extern "C" fn klsm_try_insert(alloc: Global, slot: &mut Slot, key: u64, load
 /// Deletes a small item by the slot's member, and writes it.
 #[unsafe(no_mangle)]
 pub extern "C" fn klsm_try_delete_min(alloc: Global, slot: &mut Slot, item: &mut PlainItem) -> i32
-    ensures { Deletes slot.old.handle.held slot.new.handle.held item.old item.new result }
+    ensures { DeletesBySlot slot.old.handle.held slot.new.handle.held item.old item.new result }
 {
     let Some(mut member) = slot.take(alloc) else {
         return NOT_OPEN;

@@ -7,7 +7,7 @@ ghost use lib.ListN.{get_elem?};
 ghost use Rattle.klsm_world.specs.OwnSteps.{deleted, inserted};
 ghost use Rattle.klsm_board.specs.Boards.{IsOf, own_steps};
 ghost use Rattle.klsm_board.specs.Members.{most_deletions, most_insertions};
-ghost use Rattle.klsm_owned.specs.Owned.{IsWhole, member_of, members_of};
+ghost use Rattle.klsm_owned.specs.Owned.{AreAllOfTheirBoard, member_of, members_of};
 ghost use Rattle.klsm_c.specs.Slots.{AreClosed, held_in, owned_in, some_open};
 ghost use Rattle.klsm_c.specs.Calls.{deleted_in, inserted_in};
 ghost use Rattle.klsm_c.specs.Closing.{HasOneOf, IsAccount, all_steps};
@@ -95,13 +95,13 @@ fn close_slots(
     slots: &mut [Slot],
     left: &mut [PlainItem],
 ) -> Result<Account, CloseError>
-    requires whole { IsWhole (members_of (owned_in slots.old)) }
+    requires whole { AreAllOfTheirBoard (members_of (owned_in slots.old)) }
     requires few { length slots.old ≤ 16 }
     ensures not_open { IsErrAnd result (λ why. why ≡ CloseError.NotOpen)
         ↔ (some_open slots.old ≡ false) }
     ensures ok { IfOk result (λ account. IsAccount (members_of (owned_in slots.old))
         account left.old left.new) }
-    ensures whole { IsWhole (members_of (owned_in slots.new)) }
+    ensures whole { AreAllOfTheirBoard (members_of (owned_in slots.new)) }
     ensures closed { OnOk result (AreClosed slots.new) }
     ensures refused { IfErr result (λ why. (left.new ≡ left.old)
         × ((why ≡ CloseError.Shared → AreClosed slots.new)
@@ -202,7 +202,7 @@ fn finish(
     items: Vec<Item>,
     left: &mut [PlainItem],
 ) -> Option<Account>
-    requires whole { IsWhole members.items }
+    requires whole { AreAllOfTheirBoard members.items }
     requires one { HasOneOf (arc_value board) members.items }
     requires empty { items.items ≡ [] }
     requires room { length (flat_map inserted (map own_steps members.items))

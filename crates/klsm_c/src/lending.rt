@@ -1,6 +1,6 @@
 //! The calls of one member of a queue, for a caller that has the whole queue.
 ghost use Rattle.std.specs.Prelude.{◌≡◌, ◌<◌};
-ghost use Rattle.klsm_c.specs.Calls.{CallsSlot, Deletes, Inserts, LooksAt, deleted_in, inserted_in};
+ghost use Rattle.klsm_c.specs.Calls.{CallsSlot, DeletesBySlot, InsertsBySlot, LooksAt, deleted_in, inserted_in};
 
 use crate::calls::{klsm_deleted, klsm_front, klsm_inserted, klsm_try_delete_min, klsm_try_insert};
 use crate::item::PlainItem;
@@ -13,7 +13,7 @@ impl Queue {
     pub fn try_insert(&mut self, alloc: Global, number: usize, key: u64, load: u64) -> i32
         requires { number < 16 }
         ensures { CallsSlot number self.old.slots self.new.slots
-            (λ before after. Inserts before after key load result) }
+            (λ before after. InsertsBySlot before after key load result) }
     {
         klsm_try_insert(alloc, &mut self.slots[number], key, load)
     }
@@ -23,7 +23,7 @@ impl Queue {
     pub fn try_delete_min(&mut self, alloc: Global, number: usize, item: &mut PlainItem) -> i32
         requires { number < 16 }
         ensures { CallsSlot number self.old.slots self.new.slots
-            (λ before after. Deletes before after item.old item.new result) }
+            (λ before after. DeletesBySlot before after item.old item.new result) }
     {
         klsm_try_delete_min(alloc, &mut self.slots[number], item)
     }

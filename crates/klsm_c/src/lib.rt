@@ -9,7 +9,7 @@
 //! What C gets is what `klsm_board` promises:
 //!
 //! - **A call of a slot is a call of the member behind it**, with all that `Member::try_insert` and
-//!   `Member::try_delete_min` promise, and its code says which answer it was (`Inserts` and `Deletes` of
+//!   `Member::try_delete_min` promise, and its code says which answer it was (`InsertsBySlot` and `DeletesBySlot` of
 //!   `specs/Calls.antt`).
 //! - **A code comes exactly where its cause holds**; memory is refused only where `malloc` gives none. After
 //!   a refusal nothing has changed.

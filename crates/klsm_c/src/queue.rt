@@ -1,6 +1,6 @@
 //! The memory of a queue.
 ghost use Rattle.std.specs.Prelude.{◌≡◌, []};
-ghost use Rattle.klsm_owned.specs.Owned.{IsWhole, members_of};
+ghost use Rattle.klsm_owned.specs.Owned.{AreAllOfTheirBoard, members_of};
 ghost use Rattle.klsm_c.specs.Slots.{owned_in};
 
 use crate::slot::Slot;
@@ -11,7 +11,7 @@ use crate::slot::Slot;
 #[derive(Drop)]
 pub struct Queue {
     pub slots: [Slot; 16],
-    pub ghost whole: { IsWhole (members_of (owned_in slots)) },
+    pub ghost whole: { AreAllOfTheirBoard (members_of (owned_in slots)) },
 }
 
 impl Queue {

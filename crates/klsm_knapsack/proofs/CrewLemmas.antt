@@ -2,6 +2,7 @@
 use Rattle.std.proofs.Common.{◌≡◌, ℕ, zero, suc, ◌<◌, ◌≤◌, ◌⊎◌, inl, inr, List, [], ◌∷◌, ◌++◌, length, map, get_or, set, All, Option, Some, None, refl, sym, ap, ◌∙◌, subst, arith}
 use Rattle.std.specs.List.{Contains, flat_map}
 use Rattle.std.specs.Option.{option_or}
+use Rattle.std.proofs.lemmas.List.{length-map}
 use Rattle.std.proofs.lemmas.Option.{none-some}
 use Rattle.std.proofs.lemmas.List.Elements.{Contains-append_left}
 use mathlib.Core.Option.{some, some-injective, some-ne-none}
@@ -10,8 +11,9 @@ use Rattle.klsm_run.specs.declared.item.Item.{Item}
 use Rattle.klsm_world.specs.declared.step.Entry.{Entry}
 use Rattle.klsm_world.specs.OwnSteps.{inserted, deleted}
 use Rattle.klsm_board.specs.declared.board.Member.{Member}
-use Rattle.klsm_board.specs.Boards.{own_steps}
-use Rattle.klsm_board.proofs.lemmas.ending.EndLemmas.{place_within}
+use Rattle.klsm_board.specs.Boards.{IsOf, own_steps}
+use Rattle.klsm_board.proofs.lemmas.ending.EndLemmas.{each_of, place_within}
+use Rattle.klsm_board.proofs.lemmas.ending.MemberLemmas.{stands_mapped, stands_unmapped}
 use Rattle.klsm_knapsack.specs.declared.common.Common.{Common}
 use Rattle.klsm_knapsack.specs.declared.common.NoRoom.{NoRoom}
 use Rattle.klsm_knapsack.specs.declared.common.Worker.{Worker}
@@ -22,7 +24,7 @@ use Rattle.klsm_knapsack.specs.Watching.{found_by}
 use Rattle.klsm_knapsack.specs.Work.{HasNode, HasWorked, IsNodeItem}
 use Rattle.klsm_knapsack.specs.Ends.{EndsAnswered, HasEnded, first_refusal}
 use Rattle.klsm_knapsack.specs.Answers.{GainsOthers}
-use Rattle.klsm_knapsack.specs.Workers.{HasEndedSo, HasRun, HaveWorked, IsAtWork, AreWorkersOf, IsIdle, IsNew, IsSameWorker, IsWorkerOf, work_of}
+use Rattle.klsm_knapsack.specs.Workers.{HasEndedSo, HasRun, HaveWorked, IsAtWork, AreWorkersOf, IsIdle, HasNotBegun, IsSameWorker, IsWorkerOf, work_of}
 use Rattle.klsm_knapsack.proofs.CoverageLemmas.{wider}
 use Rattle.klsm_knapsack.proofs.WorkLemmas.{inserts_one, has_last}
 use Rattle.klsm_knapsack.proofs.IdleLemmas.{gains_none, idle_after_others}
@@ -44,8 +46,11 @@ each_alone P x here zero d lt = here
 each_alone P x here (suc k) d lt = absurd (omega (arith, lt))
 
 module _ {LEVELS : ℕ} where
+  abbrev pub member_of : Worker LEVELS → Member 64 LEVELS
+  member_of w = w.member
+
   -- a worker that has not begun has done all that it began
-  pub new_at_work : (m : NoRoom) (p : Problem) (w : Worker LEVELS) → IsNew w → IsAtWork m p w
+  pub new_at_work : (m : NoRoom) (p : Problem) (w : Worker LEVELS) → HasNotBegun w → IsAtWork m p w
   new_at_work m p w new = record {
     worked = subst (λ (es : List Entry). HasWorked p record { inserted = inserted es; deleted = deleted es; found = found_by w.watcher }) (sym new.steps) none;
     answered = λ refuses. inl new.steps;
@@ -55,11 +60,11 @@ module _ {LEVELS : ℕ} where
       none = record { inserts_nodes = λ x there. absurd (omega (arith, there.1)); is_done = λ x there node. absurd (omega (arith, there.1)) }
 
   -- and has ended without a refusal
-  new_ended : (m : NoRoom) (w : Worker LEVELS) → IsNew w → HasEndedSo m w
+  new_ended : (m : NoRoom) (w : Worker LEVELS) → HasNotBegun w → HasEndedSo m w
   new_ended m w new refuses = subst (λ (r : Option Refusal). HasEnded LEVELS w.member.sizes.k w.member.number (own_steps w.member) r) (sym new.refused) (inl new.steps)
 
   -- so where the first worker has ended and the others have not begun, all have ended
-  pub crew_ended : (m : NoRoom) (crew : List (Worker LEVELS)) (after : Worker LEVELS) → All IsNew crew → HasEndedSo m after → All (HasEndedSo m) (set crew 0 after)
+  pub crew_ended : (m : NoRoom) (crew : List (Worker LEVELS)) (after : Worker LEVELS) → All HasNotBegun crew → HasEndedSo m after → All (HasEndedSo m) (set crew 0 after)
   crew_ended m [] after new ended = λ k d lt. absurd (omega (arith, lt))
   crew_ended m (w ∷ crew) after new ended = by_place
     where
@@ -68,11 +73,11 @@ module _ {LEVELS : ℕ} where
       by_place (suc k) d lt = new_ended m (get_or crew k d) (new (suc k) d lt)
 
   -- it has room for its first insertion
-  pub new_room : (w : Worker LEVELS) → IsNew w → 2 ≤ w.member.sizes.quota → length (work_of w).inserted < w.member.sizes.quota
+  pub new_room : (w : Worker LEVELS) → HasNotBegun w → 2 ≤ w.member.sizes.quota → length (work_of w).inserted < w.member.sizes.quota
   new_room w new room = subst (λ (es : List Entry). length (inserted es) < w.member.sizes.quota) (sym new.steps) (omega (arith, room))
 
   -- after which it is at work
-  pub root_at_work : (m : NoRoom) (p : Problem) (before after : Worker LEVELS) (x : Item) → IsNew before → IsNodeItem p x → level_in x.load ≡ 0 → picks_in x.load ≡ 0 → (work_of after).inserted ≡ (work_of before).inserted ++ x ∷ []
+  pub root_at_work : (m : NoRoom) (p : Problem) (before after : Worker LEVELS) (x : Item) → HasNotBegun before → IsNodeItem p x → level_in x.load ≡ 0 → picks_in x.load ≡ 0 → (work_of after).inserted ≡ (work_of before).inserted ++ x ∷ []
       → (work_of after).deleted ≡ (work_of before).deleted → EndsAnswered after.member.number (own_steps after.member) → IsAtWork m p after × HasNode (work_of after).inserted 0 0
   root_at_work m p before after x new node level picks is same answered = (record { worked = worked; answered = λ refuses. answered }, has_last _ _ x 0 0 is level picks)
     where
@@ -157,7 +162,7 @@ module _ {LEVELS : ℕ} where
   }
 
   -- where the first worker has begun, no list has an answer "nothing"
-  pub begun_gains : (crew : List (Worker LEVELS)) (after : Worker LEVELS) → All IsNew crew → GainsOthers [] (own_steps after.member) → All (λ (w : Worker LEVELS). GainsOthers [] (own_steps w.member)) (set crew 0 after)
+  pub begun_gains : (crew : List (Worker LEVELS)) (after : Worker LEVELS) → All HasNotBegun crew → GainsOthers [] (own_steps after.member) → All (λ (w : Worker LEVELS). GainsOthers [] (own_steps w.member)) (set crew 0 after)
   begun_gains [] after new gains = λ k d lt. absurd (omega (arith, lt))
   begun_gains (w ∷ crew) after new gains = by_place
     where
@@ -183,38 +188,65 @@ module _ {LEVELS : ℕ} where
       watcher = same.watcher ∙ of.watcher;
     }
 
+    -- workers of the search, each at its number, and as many as the board has threads
+    pub are_workers : (crew : List (Worker LEVELS)) → All (IsWorkerOf common) crew → length crew ≡ common.board.sizes.threads → 0 < length crew
+        → ((i : ℕ) (w : Worker LEVELS) → get_elem? crew i ≡ some w → w.member.number ≡ i) → AreWorkersOf common crew
+    are_workers crew of many some_worker numbered = record {
+      members = record {
+        of = λ i member there.
+            let at = stands_unmapped member_of crew i member there in
+            subst (λ (z : Member 64 LEVELS). IsOf z common.board) at.2 (each_of (IsWorkerOf common) crew of i at.0 at.1).member;
+        many = length-map crew member_of ∙ many;
+        numbered = λ i member there.
+            let at = stands_unmapped member_of crew i member there in
+            ap (λ (z : Member 64 LEVELS). z.number) (sym at.2) ∙ numbered i at.0 at.1;
+      };
+      watchers = λ k d lt. (of k d lt).watcher;
+      some_worker = some_worker;
+    }
+
+    -- and back
+    pub each_worker : (crew : List (Worker LEVELS)) → AreWorkersOf common crew → All (IsWorkerOf common) crew
+    each_worker crew is k d lt =
+        let w = get_or crew k d in
+        record { member = is.members.of k w.member (stands_mapped member_of crew k w (stands_at crew k d lt)); watcher = is.watchers k d lt }
+
+    pub so_many_workers : (crew : List (Worker LEVELS)) → AreWorkersOf common crew → length crew ≡ common.board.sizes.threads
+    so_many_workers crew is = sym (length-map crew member_of) ∙ is.members.many
+
+    pub worker_number : (crew : List (Worker LEVELS)) → AreWorkersOf common crew → (i : ℕ) (w : Worker LEVELS) → get_elem? crew i ≡ some w → w.member.number ≡ i
+    worker_number crew is i w there = is.members.numbered i w.member (stands_mapped member_of crew i w there)
+
     -- the first worker has begun
     pub crew_begun : (crew : List (Worker LEVELS)) (d after : Worker LEVELS) → AreWorkersOf common crew → IsSameWorker (get_or crew 0 d) after → AreWorkersOf common (set crew 0 after)
     crew_begun [] d after is same = absurd (omega (arith, is.some_worker))
-    crew_begun (w ∷ crew) d after is same = record { of = of; many = is.many; some_worker = is.some_worker; numbered = numbered }
+    crew_begun (w ∷ crew) d after is same = are_workers (after ∷ crew) of (so_many_workers (w ∷ crew) is) is.some_worker numbered
       where
         of : (k : ℕ) (e : Worker LEVELS) → k < length (after ∷ crew) → IsWorkerOf common (get_or (after ∷ crew) k e)
-        of zero e lt = same_of w after (is.of 0 e lt) same
-        of (suc k) e lt = is.of (suc k) e lt
+        of zero e lt = same_of w after (each_worker (w ∷ crew) is 0 e lt) same
+        of (suc k) e lt = each_worker (w ∷ crew) is (suc k) e lt
 
         numbered : (i : ℕ) (v : Worker LEVELS) → get_elem? (after ∷ crew) i ≡ some v → v.member.number ≡ i
-        numbered zero v there = subst (λ (u : Worker LEVELS). u.member.number ≡ 0) (some-injective after v there) (same.member.0 ∙ is.numbered 0 w refl)
-        numbered (suc i) v there = is.numbered (suc i) v there
+        numbered zero v there = subst (λ (u : Worker LEVELS). u.member.number ≡ 0) (some-injective after v there) (same.member.0 ∙ worker_number (w ∷ crew) is 0 w refl)
+        numbered (suc i) v there = worker_number (w ∷ crew) is (suc i) v there
 
     -- and all are ready to run
-    pub crew_ready : (m : NoRoom) (p : Problem) (crew : List (Worker LEVELS)) (d after : Worker LEVELS) → AreWorkersOf common crew → All IsNew crew → IsSameWorker (get_or crew 0 d) after → IsAtWork m p after
+    pub crew_ready : (m : NoRoom) (p : Problem) (crew : List (Worker LEVELS)) (d after : Worker LEVELS) → AreWorkersOf common crew → All HasNotBegun crew → IsSameWorker (get_or crew 0 d) after → IsAtWork m p after
         → All (λ (w : Worker LEVELS). IsWorkerOf common w × IsAtWork m p w) (set crew 0 after)
     crew_ready m p [] d after is new same begun = absurd (omega (arith, is.some_worker))
     crew_ready m p (w ∷ crew) d after is new same begun = ready
       where
         ready : (k : ℕ) (e : Worker LEVELS) → k < length (after ∷ crew) → IsWorkerOf common (get_or (after ∷ crew) k e) × IsAtWork m p (get_or (after ∷ crew) k e)
-        ready zero e lt = (same_of w after (is.of 0 e lt) same, begun)
-        ready (suc k) e lt = (is.of (suc k) e lt, new_at_work m p (get_or crew k e) (new (suc k) e lt))
+        ready zero e lt = (same_of w after (each_worker (w ∷ crew) is 0 e lt) same, begun)
+        ready (suc k) e lt = (each_worker (w ∷ crew) is (suc k) e lt, new_at_work m p (get_or crew k e) (new (suc k) e lt))
 
     -- a crew that ran is one still
     pub crew_run : (m : NoRoom) (p : Problem) (idle : ℕ) (old new : List (Worker LEVELS)) → length new ≡ length old → ((i : ℕ) (e : Worker LEVELS) → i < length old → HasRun m p idle (get_or old i e) (get_or new i e))
         → AreWorkersOf common old → AreWorkersOf common new
-    crew_run m p idle old new many runs is = record {
-      of = λ k e lt. same_of (get_or old k e) (get_or new k e) (is.of k e (omega (arith, lt, many))) (runs k e (omega (arith, lt, many))).same;
-      many = many ∙ is.many;
-      some_worker = omega (arith, many, is.some_worker);
-      numbered = λ i v there.
-          let lt : i < length old = omega (arith, place_within new i v there, many) in
-          let run = runs i v lt in
-          ap (λ (u : Worker LEVELS). u.member.number) (sym (is_at new i v v there)) ∙ (run.same.member.0 ∙ is.numbered i (get_or old i v) (stands_at old i v lt));
-    }
+    crew_run m p idle old new many runs is =
+        are_workers new (λ k e lt. same_of (get_or old k e) (get_or new k e) (each_worker old is k e (omega (arith, lt, many))) (runs k e (omega (arith, lt, many))).same)
+        (many ∙ so_many_workers old is) (omega (arith, many, is.some_worker))
+        (λ i v there.
+        let lt : i < length old = omega (arith, place_within new i v there, many) in
+        let run = runs i v lt in
+        ap (λ (u : Worker LEVELS). u.member.number) (sym (is_at new i v v there)) ∙ (run.same.member.0 ∙ worker_number old is i (get_or old i v) (stands_at old i v lt)))

@@ -16,9 +16,10 @@ use Rattle.klsm_board.specs.declared.board.Member.{Member}
 use Rattle.klsm_board.specs.declared.sizes.Sizes.{Sizes}
 use Rattle.klsm_board.specs.Rule.{IsReached}
 use Rattle.klsm_board.proofs.lemmas.hands.PossibleLemmas.{each_reached}
-use Rattle.klsm_board.specs.Boards.{IsCrew, IsOf, own_steps}
-use Rattle.klsm_board.specs.Finishing.{AreAll, AreEachOnce, lists_of}
-use Rattle.klsm_board.proofs.lemmas.ending.EndLemmas.{are_lists, each_of}
+use Rattle.klsm_board.specs.Boards.{AreMembersOf, AreNewMembersOf, IsOf, own_steps}
+use Rattle.klsm_board.specs.Finishing.{AreEachOnce, lists_of}
+use Rattle.klsm_board.proofs.lemmas.ending.EndLemmas.{each_of}
+use Rattle.klsm_board.proofs.lemmas.ending.MemberLemmas.{all_of_board, lists_in_order, stands_mapped, stands_unmapped}
 use Rattle.klsm_knapsack.specs.declared.common.Common.{Common}
 use Rattle.klsm_knapsack.specs.declared.common.NoRoom.TheVariants.{Refuses}
 use Rattle.klsm_knapsack.specs.declared.common.Worker.{Worker}
@@ -30,25 +31,18 @@ use Rattle.klsm_instance.specs.Selections.{Problem}
 use Rattle.klsm_knapsack.specs.Watching.{IsWatchedBy, found_by}
 use Rattle.klsm_knapsack.specs.Work.{HasNode, HasWorked, all_inserted, all_deleted}
 use Rattle.klsm_knapsack.specs.Ends.{End, HasEnded, IsLeastRefusal, first_refusal}
-use Rattle.klsm_knapsack.specs.Workers.{HasEndedSo, HaveWorked, AreWorkersOf, IsNew, IsSearched, IsWorkerOf, work_of}
+use Rattle.klsm_knapsack.specs.Workers.{HasEndedSo, HaveWorked, AreWorkersOf, HasNotBegun, IsSearched, IsWorkerOf, work_of}
 use Rattle.klsm_board.specs.Members.{sizes_of}
 use Rattle.klsm_knapsack.specs.Refusals.{RefusesSearch, RefusesWithRefill, error_of}
-use Rattle.klsm_knapsack.proofs.CrewLemmas.{stands_at}
+use Rattle.klsm_knapsack.proofs.CrewLemmas.{each_worker, member_of, so_many_workers, stands_at, worker_number}
 
 -- what a list is after its store was lent as a slice
 pub whole : {A : Type 0} (n : ℕ) (xs ys : List A) → n ≡ length xs → take n (xs ++ ys) ≡ xs
 whole n xs ys e = ap (λ k. take k (xs ++ ys)) e ∙ take_at xs ys (length xs) refl
 
--- what stands in a list that was mapped
-map_at : {A B : Type 0} (f : A → B) (xs : List A) (i : ℕ) (a : A) → get_elem? xs i ≡ some a → get_elem? (map f xs) i ≡ some (f a)
-map_at f [] i a there = absurd (some-ne-none a (sym there))
-map_at f (x ∷ xs) zero a there = ap (λ z. some (f z)) (some-injective x a there)
-map_at f (x ∷ xs) (suc i) a there = map_at f xs i a there
-
-from_map : {A B : Type 0} (f : A → B) (xs : List A) (i : ℕ) (b : B) → get_elem? (map f xs) i ≡ some b → (a : A) × (get_elem? xs i ≡ some a) × (f a ≡ b)
-from_map f [] i b there = absurd (some-ne-none b (sym there))
-from_map f (x ∷ xs) zero b there = (x, refl, some-injective (f x) b there)
-from_map f (x ∷ xs) (suc i) b there = from_map f xs i b there
+mapped_twice : {A B C : Type 0} (f : A → B) (g : B → C) (xs : List A) → map (λ x. g (f x)) xs ≡ map g (map f xs)
+mapped_twice f g [] = refl
+mapped_twice f g (x ∷ xs) = ap (λ ys. g (f x) ∷ ys) (mapped_twice f g xs)
 
 flat_of_map : {A B C : Type 0} (f : A → B) (g : B → List C) (xs : List A) → flat_map g (map f xs) ≡ flat_map (λ x. g (f x)) xs
 flat_of_map f g [] = refl
@@ -104,57 +98,47 @@ refused_as_any levels threads k refill Full fits is = is
 refused_as_any levels threads k refill NoMemory fits is = is
 
 module _ {LEVELS : ℕ} where
-  abbrev member_of : Worker LEVELS → Member 64 LEVELS
-  member_of w = w.member
-
   module _ (common : Common LEVELS) (crew : List (Worker LEVELS)) (members : List (Member 64 LEVELS)) (are : map (λ (w : Worker LEVELS). w.member) crew ≡ members)
-      (of : All (λ (m : Member 64 LEVELS). IsOf m common.board) members) (many : length members ≡ common.board.sizes.threads) (some_thread : 0 < common.board.sizes.threads) (numbered : IsCrew members)
+      (new : AreNewMembersOf common.board members) (some_thread : 0 < common.board.sizes.threads)
       (seats : All (λ (w : Worker LEVELS). IsWatchedBy common.incumbent w.watcher × (found_by w.watcher ≡ 0) × (w.refused ≡ None)) crew) where
     stands : (i : ℕ) (w : Worker LEVELS) → get_elem? crew i ≡ some w → get_elem? members i ≡ some w.member
-    stands i w there = ap (λ ms. get_elem? ms i) (sym are) ∙ map_at member_of crew i w there
-
-    long : length crew ≡ length members
-    long = sym (length-map crew member_of) ∙ ap length are
+    stands i w there = ap (λ ms. get_elem? ms i) (sym are) ∙ stands_mapped member_of crew i w there
 
     -- the workers that were recruited are a crew
     pub recruited : AreWorkersOf common crew
     recruited = record {
-      of = λ i d lt.
-          let w = get_or crew i d in
-          let there = stands i w (stands_at crew i d lt) in
-          record { member = each_of (λ (m : Member 64 LEVELS). IsOf m common.board) members of i w.member there; watcher = (seats i d lt).0 };
-      many = long ∙ many;
-      some_worker = omega (arith, long, many, some_thread);
-      numbered = λ i w there. (numbered i w.member (stands i w there)).0;
+      members = subst (λ (ms : List (Member 64 LEVELS)). AreMembersOf common.board ms) (sym are) new.are;
+      watchers = λ i d lt. (seats i d lt).0;
+      some_worker = (let long : length crew ≡ length members = sym (length-map crew member_of) ∙ ap length are in omega (arith, long, new.are.many, some_thread));
     }
 
     -- none of which has begun
-    pub are_new : All IsNew crew
+    pub are_new : All HasNotBegun crew
     are_new i d lt =
         let w = get_or crew i d in
         let there = stands i w (stands_at crew i d lt) in
-        record { steps = (numbered i w.member there).1; found = (seats i d lt).1; refused = (seats i d lt).2 }
+        record { steps = new.new i w.member there; found = (seats i d lt).1; refused = (seats i d lt).2 }
 
   module _ (common : Common LEVELS) (crew : List (Worker LEVELS)) (is : AreWorkersOf common crew) where
     -- the members are those of the board
     pub members_of : All (λ (m : Member 64 LEVELS). IsOf m common.board) (map (λ (w : Worker LEVELS). w.member) crew)
-    members_of = All-map (λ (m : Member 64 LEVELS). IsOf m common.board) member_of crew (λ k d lt. (is.of k d lt).member)
+    members_of = all_of_board common.board (map member_of crew) is.members
 
     abbrev end_of : Worker LEVELS → End
     end_of w = record { steps = own_steps w.member; refused = w.refused }
 
     worker_at : (t : ℕ) (w : Worker LEVELS) → get_elem? crew t ≡ some w → IsWorkerOf common w
-    worker_at t w there = each_of (IsWorkerOf common) crew is.of t w there
+    worker_at t w there = each_of (IsWorkerOf common) crew (each_worker common crew is) t w there
 
     reached_by : (t : ℕ) (w : Worker LEVELS) → get_elem? crew t ≡ some w → ∥ IsReached common.board.sizes t (own_steps w.member) ∥₁
     reached_by t w there =
         subst (λ (m : Sizes). ∥ IsReached m t (own_steps w.member) ∥₁) (worker_at t w there).member.1
-        (subst (λ (n : ℕ). ∥ IsReached w.member.sizes n (own_steps w.member) ∥₁) (is.numbered t w there) (each_reached w.member.sizes w.member.number w.member.seat.me.0 w.member.rests.reached))
+        (subst (λ (n : ℕ). ∥ IsReached w.member.sizes n (own_steps w.member) ∥₁) (worker_number common crew is t w there) (each_reached w.member.sizes w.member.number w.member.seat.me.0 w.member.rests.reached))
 
     ended_by : (t : ℕ) (w : Worker LEVELS) → get_elem? crew t ≡ some w → HasEndedSo Refuses w → HasEnded LEVELS common.board.sizes.k t (own_steps w.member) w.refused
     ended_by t w there ended =
         subst (λ (m : Sizes). HasEnded LEVELS m.k t (own_steps w.member) w.refused) (worker_at t w there).member.1
-        (subst (λ (n : ℕ). HasEnded LEVELS w.member.sizes.k n (own_steps w.member) w.refused) (is.numbered t w there) (ended refl))
+        (subst (λ (n : ℕ). HasEnded LEVELS w.member.sizes.k n (own_steps w.member) w.refused) (worker_number common crew is t w there) (ended refl))
 
     refusals : (ws : List (Worker LEVELS)) → map (λ (end : End). end.refused) (map end_of ws) ≡ map (λ (w : Worker LEVELS). w.refused) ws
     refusals [] = refl
@@ -164,12 +148,12 @@ module _ {LEVELS : ℕ} where
     pub least_refusal : (why : Refusal) → All (HasEndedSo Refuses) crew → first_refusal (map (λ (w : Worker LEVELS). w.refused) crew) ≡ Some why → IsLeastRefusal LEVELS common.board.sizes why
     least_refusal why ended first = record {
       ends = map end_of crew;
-      many = length-map crew end_of ∙ is.many;
+      many = length-map crew end_of ∙ so_many_workers common crew is;
       reached = λ t end there.
-          let at = from_map end_of crew t end there in
+          let at = stands_unmapped end_of crew t end there in
           subst (λ (e : End). ∥ IsReached common.board.sizes t e.steps ∥₁) at.2 (reached_by t at.0 at.1);
       ended = λ t end there.
-          let at = from_map end_of crew t end there in
+          let at = stands_unmapped end_of crew t end there in
           subst (λ (e : End). HasEnded LEVELS common.board.sizes.k t e.steps e.refused) at.2 (ended_by t at.0 at.1 (each_of (HasEndedSo Refuses) crew ended t at.0 at.1));
       first = ap first_refusal (refusals crew) ∙ first;
     }
@@ -177,9 +161,9 @@ module _ {LEVELS : ℕ} where
     -- by the account of the board, all nodes but those left are done with
     pub searched : (p : Problem) (found number : ℕ) (members : List (Member 64 LEVELS)) (left : List Item) → members ≡ map (λ (w : Worker LEVELS). w.member) crew → HaveWorked p crew
         → All (λ (w : Worker LEVELS). found_by w.watcher ≤ found) crew → found ≤ number
-        → AreAll members common.board.sizes.threads → AreEachOnce (lists_of common.board.sizes.threads members)
+        → AreEachOnce (lists_of common.board.sizes.threads members)
         → left ≡ (account (lists_of common.board.sizes.threads members)).left → IsSearched p number left
-    searched p found number members left back worked below le all once left_is = record {
+    searched p found number members left back worked below le once left_is = record {
       works = map work_of crew;
       root = subst (λ (xs : List Item). HasNode xs 0 0) (sym (flat_of_map work_of (λ w. w.inserted) crew)) worked.root;
       none_lost = none_lost;
@@ -188,12 +172,7 @@ module _ {LEVELS : ℕ} where
     }
       where
         lists_are : map (λ (w : Worker LEVELS). own_steps w.member) crew ≡ lists_of common.board.sizes.threads members
-        lists_are = are_lists (map (λ (w : Worker LEVELS). own_steps w.member) crew) common.board.sizes.threads members (length-map crew (λ w. own_steps w.member) ∙ is.many) all
-            (λ i member there.
-            let at = from_map member_of crew i member (ap (λ ms. get_elem? ms i) (sym back) ∙ there) in
-            let number_is : member.number ≡ i = ap (λ (m : Member 64 LEVELS). m.number) (sym at.2) ∙ is.numbered i at.0 at.1 in
-            ap (λ j. get_elem? (map (λ (w : Worker LEVELS). own_steps w.member) crew) j) number_is
-            ∙ (map_at (λ (w : Worker LEVELS). own_steps w.member) crew i at.0 at.1 ∙ ap (λ (m : Member 64 LEVELS). some (own_steps m)) at.2))
+        lists_are = mapped_twice member_of own_steps crew ∙ (lists_in_order common.board (map member_of crew) is.members ∙ ap (lists_of common.board.sizes.threads) (sym back))
 
         inserted_are : all_inserted (map work_of crew) ≡ flat_map inserted (lists_of common.board.sizes.threads members)
         inserted_are = flat_of_map work_of (λ w. w.inserted) crew ∙ (sym (flat_of_map (λ (w : Worker LEVELS). own_steps w.member) inserted crew) ∙ ap (λ ls. flat_map inserted ls) lists_are)

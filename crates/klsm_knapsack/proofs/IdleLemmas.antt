@@ -5,7 +5,8 @@ use Rattle.std.proofs.lemmas.List.{append-nil, length-append, replicate_more}
 use Rattle.klsm_world.specs.declared.step.Event.{Event}
 use Rattle.klsm_world.specs.declared.step.Event.TheVariants.{Nothing}
 use Rattle.klsm_world.specs.declared.step.Entry.{Entry}
-use Rattle.klsm_knapsack.specs.Answers.{EndsIdle, GainsNothing, GainsOthers, GainsSome, committed_in}
+use Rattle.klsm_board.specs.Effects.{committed_in}
+use Rattle.klsm_knapsack.specs.Answers.{EndsIdle, GainsNothing, GainsOthers, GainsSome}
 
 -- no answers "nothing"
 abbrev AreOthers : List Event → Type 0

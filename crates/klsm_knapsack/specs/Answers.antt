@@ -1,14 +1,10 @@
 -- What a worker's calls were answered, as the events that its list gained tell.
 use Rattle.std.specs.Prelude.{ℕ, ◌≡◌, ◌≢◌, ◌<◌, List, [], ◌∷◌, ◌++◌, length, replicate}
-use Rattle.std.specs.List.{AllByRecursion, flat_map}
+use Rattle.std.specs.List.{AllByRecursion}
 use Rattle.klsm_world.specs.declared.step.Event.{Event}
 use Rattle.klsm_world.specs.declared.step.Event.TheVariants.{Nothing}
 use Rattle.klsm_world.specs.declared.step.Entry.{Entry}
-use Rattle.klsm_world.specs.OwnSteps.{event_at}
-
--- the events that a list of own steps commits
-abbrev pub committed_in : List Entry → List Event
-committed_in es = flat_map event_at es
+use Rattle.klsm_board.specs.Effects.{committed_in}
 
 -- the list gained events, none of which is an answer "nothing"
 pub record GainsOthers (es es' : List Entry) : Type 0 where

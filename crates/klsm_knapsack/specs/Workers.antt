@@ -1,12 +1,10 @@
 -- Workers, and how the work of one of them grows.
-use Rattle.std.specs.Prelude.{ℕ, ◌≡◌, ◌+◌, ◌≤◌, ◌<◌, ◌⊎◌, List, [], None, Some, All, length, slice_get}
+use Rattle.std.specs.Prelude.{ℕ, ◌≡◌, ◌+◌, ◌≤◌, ◌<◌, ◌⊎◌, List, [], None, Some, All, length, map, slice_get}
 use Rattle.std.specs.List.{AllByRecursion, Contains, flat_map}
-use mathlib.Core.Option.{some}
-use lib.ListN.{get_elem?}
 use Rattle.klsm_run.specs.declared.item.Item.{Item}
 use Rattle.klsm_world.specs.declared.step.Entry.{Entry}
 use Rattle.klsm_world.specs.OwnSteps.{inserted, deleted}
-use Rattle.klsm_board.specs.Boards.{IsOf, IsSame, own_steps}
+use Rattle.klsm_board.specs.Boards.{AreMembersOf, IsOf, IsSame, own_steps}
 use Rattle.klsm_knapsack.specs.declared.common.Common.{Common}
 use Rattle.klsm_knapsack.specs.declared.common.NoRoom.{NoRoom}
 use Rattle.klsm_knapsack.specs.declared.common.NoRoom.TheVariants.{Refuses}
@@ -75,15 +73,15 @@ module _ {LEVELS : ℕ} where
         → InsertsNodes p (work_of before).inserted (work_of after).inserted
     pub idles : after.refused ≡ None → IsIdle idle (own_steps before.member) after
 
-  -- the workers of a search, in the order of their numbers
+  -- the workers of a search: theirs are the members of its board, in the order of their numbers, and seats
+  -- at its incumbent
   pub record AreWorkersOf (common : Common LEVELS) (crew : List (Worker LEVELS)) : Type 0 where
-    pub of : All (IsWorkerOf common) crew
-    pub many : length crew ≡ common.board.sizes.threads
+    pub members : AreMembersOf common.board (map (λ w. w.member) crew)
+    pub watchers : All (λ w. IsWatchedBy common.incumbent w.watcher) crew
     pub some_worker : 0 < length crew
-    pub numbered : (i : ℕ) (w : Worker LEVELS) → get_elem? crew i ≡ some w → w.member.number ≡ i
 
   -- a worker that has not begun
-  pub record IsNew (w : Worker LEVELS) : Type 0 where
+  pub record HasNotBegun (w : Worker LEVELS) : Type 0 where
     pub steps : own_steps w.member ≡ []
     pub found : found_by w.watcher ≡ 0
     pub refused : w.refused ≡ None

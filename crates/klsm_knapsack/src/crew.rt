@@ -8,7 +8,7 @@ ghost use Rattle.klsm_world.specs.OwnSteps.{inserted};
 ghost use Rattle.klsm_knapsack.specs.declared.common.Worker.{Worker};
 ghost use Rattle.klsm_knapsack.specs.Watching.{IsWatchedBy, found_by, problem_of};
 ghost use Rattle.klsm_knapsack.specs.Ends.{first_refusal};
-ghost use Rattle.klsm_knapsack.specs.Workers.{HasEndedSo, HasRun, HaveWorked, IsAtWork, AreWorkersOf, IsIdle, IsNew, IsWorkerOf};
+ghost use Rattle.klsm_knapsack.specs.Workers.{HasEndedSo, HasRun, HaveWorked, IsAtWork, AreWorkersOf, IsIdle, HasNotBegun, IsWorkerOf};
 
 use crate::common::{Common, Listeners, Worker};
 use crate::errors::Refusal;
@@ -68,7 +68,7 @@ pub(crate) fn search<R: Threads + Wait + Sync, G: Gate, P: Progress, const LEVEL
 )
     requires problem { problem_of common.now.incumbent ≡ instance.now }
     requires crew { AreWorkersOf common.now crew.old }
-    requires new { All IsNew crew.old }
+    requires new { All HasNotBegun crew.old }
     requires room { 2 ≤ common.now.board.sizes.quota }
     ensures crew { AreWorkersOf common.now crew.new }
     ensures ended { All (HasEndedSo common.now.no_room) crew.new }

@@ -2,7 +2,7 @@
 ghost use Rattle.std.specs.Prelude.{All, ◌≡◌, ◌≤◌, ◌<◌, ◌⊎◌, ◌↔◌, IfOk, IfErr, IsErrAnd, length};
 ghost use Rattle.klsm_parts.specs.Limit.{IsLevelCount};
 ghost use Rattle.klsm_board.specs.Members.{sizes_of};
-ghost use Rattle.klsm_board.specs.Boards.{IsCrew, IsOf};
+ghost use Rattle.klsm_board.specs.Boards.{AreNewMembersOf, IsOf};
 ghost use Rattle.klsm_instance.specs.Answers.{IsBestAnswer};
 ghost use Rattle.klsm_knapsack.specs.Refusals.{RefusesSearch, RefusesWithRefill};
 
@@ -173,7 +173,7 @@ fn board_for<const LEVELS: usize>(
     ensures refill { IfOk result (λ _. refill ≤ k) }
     ensures of { IfOk result (λ made. All (λ member. IsOf member made.0) made.1.items) }
     ensures count { IfOk result (λ made. length made.1.items ≡ threads) }
-    ensures crew { IfOk result (λ made. IsCrew made.1.items) }
+    ensures crew { IfOk result (λ made. AreNewMembersOf made.0 made.1.items) }
     ensures refused { IfErr result (λ why. RefusesWithRefill LEVELS threads k refill why) }
     ensures bad_threads { IsErrAnd result (λ why. why ≡ SolveError.BadThreads)
         ↔ ((threads ≡ 0) ⊎ (16 < threads)) }

@@ -11,7 +11,7 @@ ghost use Rattle.klsm_knapsack.specs.Watching.{problem_of};
 ghost use Rattle.klsm_knapsack.specs.Work.{ClosesBounded, HasNode, IsNodeItem, IsSplit, IsDone, HasWorked};
 ghost use Rattle.klsm_knapsack.specs.Ends.{EndsAnswered, EndsRefused};
 ghost use Rattle.klsm_knapsack.specs.Answers.{GainsNothing, GainsOthers, GainsSome};
-ghost use Rattle.klsm_knapsack.specs.Workers.{Extends, HasEndedSo, HasRun, InsertsNodes, IsAtWork, IsIdle, IsNew, IsSameWorker, IsWorkerOf, work_of};
+ghost use Rattle.klsm_knapsack.specs.Workers.{Extends, HasEndedSo, HasRun, InsertsNodes, IsAtWork, IsIdle, HasNotBegun, IsSameWorker, IsWorkerOf, work_of};
 
 use crate::common::{Common, Listeners, NoRoom, Worker};
 use crate::errors::Refusal;
@@ -29,7 +29,7 @@ impl<const LEVELS: usize> Worker<LEVELS> {
         instance: &Instance,
     ) -> bool
         requires of { IsWorkerOf common.now self.old }
-        requires new { IsNew self.old }
+        requires new { HasNotBegun self.old }
         requires room { 2 ≤ self.old.member.sizes.quota }
         ensures same { IsSameWorker self.old self.new }
         ensures ended { HasEndedSo common.now.no_room self.new }

@@ -10,9 +10,10 @@ module _ {X : Type 0} where
   front_taken [] rest x any is left = let no : ⊥ = omega (arith, any) in absurd no
   front_taken (y ∷ ys) rest x any is left = ap (λ z. z ∷ ys) (sym is) ∙ ap (λ zs. x ∷ zs) (sym left)
 
-  -- one place further in a list is that place in the rest
-  pub one_further : (xs rest : List X) (x : X) (j : ℕ) (y : X) → xs ≡ x ∷ rest → get_elem? rest j ≡ some y → get_elem? xs (suc j) ≡ some y
-  one_further xs rest x j y is there = ap (λ zs. get_elem? zs (suc j)) is ∙ there
+  -- and a list of no length
+  pub none_in : (xs : List X) → length xs ≡ 0 → xs ≡ []
+  none_in [] none = refl
+  none_in (x ∷ xs) none = absurd (omega (arith, none))
 
   -- a list that gains an element at its end
   pub each_push : (P : ℕ → X → Type 0) (xs : List X) (x : X) → ((i : ℕ) (y : X) → get_elem? xs i ≡ some y → P i y) → P (length xs) x
@@ -21,18 +22,6 @@ module _ {X : Type 0} where
   each_push P [] x each last (suc i) y there = absurd (some-ne-none y (sym there))
   each_push P (z ∷ zs) x each last zero y there = each 0 y there
   each_push P (z ∷ zs) x each last (suc i) y there = each_push (λ n. P (suc n)) zs x (λ n. each (suc n)) last i y there
-
-  -- what stands in a list stands within it
-  pub within : (xs : List X) (i : ℕ) (x : X) → get_elem? xs i ≡ some x → i < length xs
-  within [] i x there = absurd (some-ne-none x (sym there))
-  within (y ∷ ys) zero x there = omega arith
-  within (y ∷ ys) (suc i) x there = let h = within ys i x there in omega (arith, h)
-
-  -- and each place within it has something
-  pub place : (xs : List X) (i : ℕ) → i < length xs → (x : X) × (get_elem? xs i ≡ some x)
-  place [] i h = let no : ⊥ = omega (arith, h) in absurd no
-  place (y ∷ ys) zero h = (y, refl)
-  place (y ∷ ys) (suc i) h = place ys i (omega (arith, h))
 
 pub length_mapped : {X Y : Type 0} (f : X → Y) (xs : List X) → length (map f xs) ≡ length xs
 length_mapped f [] = refl

@@ -1,11 +1,11 @@
 -- Members that own a share of their board.
-use Rattle.std.specs.Prelude.{◌≡◌, ℕ, ◌+◌, ◌%◌, ◌^◌, List, [], length, map}
+use Rattle.std.specs.Prelude.{◌≡◌, ℕ, ◌+◌, ◌%◌, ◌^◌, List, map}
 use Rattle.std.specs.Arc.{arc_value}
 use mathlib.Core.Option.{some}
 use lib.ListN.{get_elem?}
 use Rattle.klsm_board.specs.declared.board.Board.{Board}
 use Rattle.klsm_board.specs.declared.board.Member.{Member}
-use Rattle.klsm_board.specs.Boards.{IsOf, IsSame, own_steps}
+use Rattle.klsm_board.specs.Boards.{AreMembersOf, AreNewMembersOf, IsOf, IsSame}
 use Rattle.klsm_board.specs.declared.sizes.Sizes.{Sizes}
 use Rattle.klsm_board.specs.Members.{most_insertions}
 use Rattle.klsm_choice.specs.declared.choice.Choice.{Choice}
@@ -32,31 +32,24 @@ pub record IsSameOwned (before after : OwnedMember) : Type 0 where
   pub member : IsSame (member_of before) (member_of after)
   pub board : board_of after ≡ board_of before
 
--- it is member i of this board and has made no step, and its picker is the i-th of those by this pick
--- and this seed
-pub record IsNew (board : Board 64 21) (pick : Pick) (seed i : ℕ) (owned : OwnedMember) : Type 0 where
-  pub of : IsOf (member_of owned) board
-  pub number : (member_of owned).number ≡ i
-  pub steps : own_steps (member_of owned) ≡ []
-  pub choice : choice_of owned ≡ choice_by pick ((seed + i) % 2 ^ 64)
+-- the picker of the one at place i is that by this pick whose seed is greater than this one by i, modulo 2^64
+abbrev pub PickBy : Pick → ℕ → List OwnedMember → Type 0
+PickBy pick seed owned = (i : ℕ) (x : OwnedMember) → get_elem? owned i ≡ some x
+    → choice_of x ≡ choice_by pick ((seed + i) % 2 ^ 64)
 
 -- the sizes of a board whose members may make the most insertions, and whose deletions move so many items
 abbrev pub sizes_with : ℕ → ℕ → ℕ → Sizes
 sizes_with threads k refill = record { threads = threads; k = k; quota = most_insertions; refill = refill }
 
--- all members of one new board of these sizes, in the order of their numbers
+-- all members of one new board of these sizes, in the order of their numbers, with their pickers
 pub record AreNew (threads k : ℕ) (pick : Pick) (seed refill : ℕ) (owned : List OwnedMember) : Type 0 where
-  pub count : length owned ≡ threads
   pub board : Board 64 21
   pub sizes : board.sizes ≡ sizes_with threads k refill
-  pub each : (i : ℕ) (x : OwnedMember) → get_elem? owned i ≡ some x → IsNew board pick seed i x
+  pub members : AreNewMembersOf board (members_of owned)
+  pub pickers : PickBy pick seed owned
 
--- These are all members of one board, in the order of their numbers; or there are none. No board is
--- named, so that this is a property of the members alone.
-pub record IsWhole (members : List (Member 64 21)) : Type 0 where
-  pub numbers : (i : ℕ) (a : Member 64 21) → get_elem? members i ≡ some a → a.number ≡ i
-  pub count : (i : ℕ) (a : Member 64 21) → get_elem? members i ≡ some a
-      → length members ≡ a.sizes.threads
-  pub one_board : (i j : ℕ) (a b : Member 64 21)
-      → get_elem? members i ≡ some a → get_elem? members j ≡ some b
-      → (a.seat.table_id ≡ b.seat.table_id) × (a.sizes ≡ b.sizes)
+-- Of whichever board one of them is a member, these are its members; or there are none. No board is named,
+-- so that this is a property of the members alone.
+abbrev pub AreAllOfTheirBoard : List (Member 64 21) → Type 0
+AreAllOfTheirBoard members = (i : ℕ) (member : Member 64 21) → get_elem? members i ≡ some member
+    → (board : Board 64 21) → IsOf member board → AreMembersOf board members

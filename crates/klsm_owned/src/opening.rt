@@ -1,11 +1,8 @@
 //! How a board is opened for members that own it.
 ghost use Rattle.std.specs.Prelude.{All, ◌≡◌, ◌<◌, ◌≤◌, ◌↔◌, ◌⊎◌, ℕ, length, map, IfOk, IsErrAnd};
 ghost use Rattle.std.specs.Arc.{arc_value};
-ghost use mathlib.Core.Option.{some};
-ghost use lib.ListN.{get_elem?};
-ghost use Rattle.klsm_board.specs.Boards.{IsCrew, IsOf};
-ghost use Rattle.klsm_owned.specs.declared.owned.OwnedMember.{OwnedMember as Owned};
-ghost use Rattle.klsm_owned.specs.Owned.{AreNew, IsNew, IsWhole, members_of};
+ghost use Rattle.klsm_board.specs.Boards.{IsOf};
+ghost use Rattle.klsm_owned.specs.Owned.{AreAllOfTheirBoard, AreNew, PickBy, members_of};
 
 use crate::owned::OwnedMember;
 use klsm_board::{Board, MOST_INSERTIONS, MakeError, Member};
@@ -28,7 +25,8 @@ pub fn open_board(
     ensures count { IfOk result (λ boxes. length boxes.items ≡ threads) }
     ensures new { IfOk result (λ boxes.
         AreNew threads k pick seed refill (map (λ b. b.value) boxes.items)) }
-    ensures whole { IfOk result (λ boxes. IsWhole (members_of (map (λ b. b.value) boxes.items))) }
+    ensures whole { IfOk result (λ boxes.
+        AreAllOfTheirBoard (members_of (map (λ b. b.value) boxes.items))) }
     ensures bad_threads { IsErrAnd result (λ why. why ≡ MakeError.BadThreads)
         ↔ ((threads ≡ 0) ⊎ (16 < threads)) }
     ensures bad_k { IsErrAnd result (λ why. why ≡ MakeError.BadK)
@@ -56,11 +54,10 @@ fn box_members(
     seed: u64,
 ) -> Result<Vec<Box<OwnedMember, Global>>, AllocError>
     requires of { All (λ member. IsOf member (arc_value board.now)) members.items }
-    requires crew { IsCrew members.items }
-    ensures count { IfOk result (λ boxes. length boxes.items ≡ length members.items) }
-    ensures each { IfOk result (λ boxes. (i : ℕ) (x : Owned)
-        → get_elem? (map (λ b. b.value) boxes.items) i ≡ some x
-        → IsNew (arc_value board.now) pick seed i x) }
+    ensures count { IfOk result (λ boxes. length boxes.items ≡ length members.entry.items) }
+    ensures members { IfOk result (λ boxes.
+        members_of (map (λ b. b.value) boxes.items) ≡ members.entry.items) }
+    ensures pickers { IfOk result (λ boxes. PickBy pick seed (map (λ b. b.value) boxes.items)) }
 {
     let count = members.len();
     let mut boxes = Vec::with_capacity(alloc, count)?;

@@ -1,6 +1,6 @@
 //! A board and its members side by side, for calls that take both.
 ghost use Rattle.std.specs.Prelude.{◌≡◌, length, All, IfOk};
-ghost use Rattle.klsm_board.specs.Boards.{IsCrew, IsOf};
+ghost use Rattle.klsm_board.specs.Boards.{AreNewMembersOf, IsOf};
 
 use klsm_board::{Board, MakeError, Member};
 use std::alloc::Global;
@@ -34,7 +34,7 @@ impl Made {
             ≡ record { threads = threads; k = k; quota = quota; refill = refill }) }
         ensures of { IfOk result (λ made. All (λ member. IsOf member made.board) made.members.items) }
         ensures count { IfOk result (λ made. length made.members.items ≡ threads) }
-        ensures crew { IfOk result (λ made. IsCrew made.members.items) }
+        ensures crew { IfOk result (λ made. AreNewMembersOf made.board made.members.items) }
     {
         let (board, members) = Board::with_refill(alloc, threads, k, quota, refill)?;
         Ok(Made { board, members })

@@ -14,21 +14,22 @@ use Rattle.klsm_board.specs.declared.all_members.AllMembers.{AllMembers}
 use Rattle.klsm_board.specs.declared.board.Board.{Board}
 use Rattle.klsm_board.specs.declared.board.Member.{Member}
 use Rattle.klsm_board.specs.declared.sizes.Sizes.{Sizes}
-use Rattle.klsm_board.specs.Boards.{IsOf, own_steps}
+use Rattle.klsm_board.specs.Boards.{AreMembersOf, own_steps}
 use Rattle.klsm_board.specs.Finishing.{AreListsAtEnd, lists_of}
 use Rattle.klsm_board.specs.Rule.{world_limits}
 use Rattle.klsm_board.specs.Together.{all_lists, sizes_of_all, steps_for}
-use Rattle.klsm_board.proofs.lemmas.ending.EndLemmas.{are_lists, each_of, place_within}
+use Rattle.klsm_board.proofs.lemmas.ending.EndLemmas.{are_lists, place_within}
+use Rattle.klsm_board.proofs.lemmas.ending.MemberLemmas.{all_there}
 use Rattle.klsm_board.proofs.lemmas.ending.WholeLemmas.{known_at, so_many_known}
 use Rattle.klsm_text.specs.declared.report.End.{End}
 use Rattle.klsm_text.specs.declared.report.End.TheVariants as end
 use Rattle.klsm_text.specs.declared.report.Report.{Report}
 use Rattle.klsm_text.specs.Reports.{GoesOrFails}
-use Rattle.klsm_tool.specs.Crews.{AreMembers, lists_in, steps_in}
+use Rattle.klsm_tool.specs.Crews.{lists_in, steps_in}
 use Rattle.klsm_tool.specs.Shown.{shown_in}
 use Rattle.klsm_tool.specs.Replay.{Replays, ReplaysAlone, ReplaysToTheEnd}
 use Rattle.klsm_tool.proofs.AllLemmas.{rule_of_all}
-use Rattle.klsm_tool.proofs.CrewLemmas.{crew_lists, one_at}
+use Rattle.klsm_tool.proofs.CrewLemmas.{crew_lists}
 use Rattle.klsm_tool.proofs.ClosingLemmas.{replays_nothing}
 
 empty_at : (n t : ℕ) → steps_in (replicate n []) t ≡ []
@@ -57,27 +58,19 @@ pub not_done : (before after : Option (List ℕ)) (text : List ℕ) (written wri
 not_done before after text written written' result (inl whole) done = let bad = sym whole.0 ∙ done in cc
 not_done before after text written written' result (inr cut) done = let bad = sym cut.0 ∙ done in cc
 
-module _ (board : Board 64 21) (all : AllMembers 64 21) (members : List (Member 64 21)) (of : All (λ member. IsOf member board) members) (many : length members ≡ (sizes_of_all all).threads)
-    (sizes : sizes_of_all all ≡ board.sizes) (each : (i : ℕ) (member : Member 64 21) → get_elem? members i ≡ some member → (member.number ≡ i) × (own_steps member ≡ steps_for all i)) where
-  -- members that were in one hand are those of the board
-  pub spread_crew : AreMembers board members
-  spread_crew = record {
-    of = λ i member there. each_of (λ z. IsOf z board) members of i member there;
-    many = many ∙ ap (λ (z : Sizes). z.threads) sizes;
-    numbered = λ i member there. (each i member there).0;
-  }
-
-  -- and have the lists that they had there
+-- members that were in one hand have the lists that they had there
+module _ (board : Board 64 21) (all : AllMembers 64 21) (members : List (Member 64 21)) (crew : AreMembersOf board members) (sizes : sizes_of_all all ≡ board.sizes)
+    (steps : (i : ℕ) (member : Member 64 21) → get_elem? members i ≡ some member → own_steps member ≡ steps_for all i) where
   pub spread_lists_of : all_lists all ≡ lists_of board.sizes.threads members
   spread_lists_of = are_lists (all_lists all) board.sizes.threads members (so_many_known (sizes_of_all all).threads all.acting.seat.me.0.lists ∙ ap (λ (z : Sizes). z.threads) sizes)
-      (λ t below. let one = one_at members t (omega (arith, below, spread_crew.many)) in (t, one.0, one.1, spread_crew.numbered t one.0 one.1))
+      (all_there board members crew)
       (λ i member there.
       let inside = place_within members i member there in
-      subst (λ n. get_elem? (all_lists all) n ≡ some (own_steps member)) (sym (spread_crew.numbered i member there))
-      (known_at (sizes_of_all all).threads all.acting.seat.me.0.lists i (omega (arith, inside, many)) ∙ ap some (sym (each i member there).1)))
+      subst (λ n. get_elem? (all_lists all) n ≡ some (own_steps member)) (sym (crew.numbered i member there))
+      (known_at (sizes_of_all all).threads all.acting.seat.me.0.lists i (omega (arith, inside, crew.many, ap (λ (z : Sizes). z.threads) sizes)) ∙ ap some (sym (steps i member there))))
 
   pub spread_lists : all_lists all ≡ lists_in members
-  spread_lists = spread_lists_of ∙ sym (crew_lists board members spread_crew)
+  spread_lists = spread_lists_of ∙ sym (crew_lists board members crew)
 
 -- and what is told of one is told of the other
 pub replays_by : {threads k : ℕ} {lists lists' : List (List Entry)} {input before after : Option (List ℕ)} {report : Report} → lists ≡ lists' → Replays threads k lists input before after report

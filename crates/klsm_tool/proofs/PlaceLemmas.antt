@@ -8,7 +8,7 @@ use Rattle.klsm_world.specs.declared.step.Entry.{Entry}
 use Rattle.klsm_board.specs.declared.board.Board.{Board}
 use Rattle.klsm_board.specs.declared.board.Member.{Member}
 use Rattle.klsm_board.specs.declared.sizes.Sizes.{Sizes}
-use Rattle.klsm_board.specs.Boards.{IsCrew, IsOf, own_steps}
+use Rattle.klsm_board.specs.Boards.{AreMembersOf, AreNewMembersOf, IsOf, own_steps}
 use Rattle.klsm_board.specs.Rule.{IsReached}
 use Rattle.klsm_board.proofs.lemmas.hands.PossibleLemmas.{each_reached}
 use Rattle.klsm_board.proofs.lemmas.ending.EndLemmas.{each_of}
@@ -20,7 +20,7 @@ use Rattle.klsm_text.specs.declared.totals.Totals.{Totals}
 use Rattle.klsm_tool.specs.declared.passing.Passed.{Passed}
 use Rattle.klsm_tool.specs.declared.worker.GaveUp.{GaveUp}
 use Rattle.klsm_tool.specs.declared.worker.Worker.{Worker}
-use Rattle.klsm_tool.specs.Crews.{AreMembers, lists_in, steps_in}
+use Rattle.klsm_tool.specs.Crews.{lists_in, steps_in}
 use Rattle.klsm_tool.specs.Live.{GaveUpAt, GivesUpFirst, HasNoTotals, RunsAll, RunsScript, RunsUntilFull}
 use Rattle.klsm_rows.specs.Rows.{AreAllRows, Row}
 use Rattle.klsm_tool.specs.Shown.{shown_in}
@@ -39,11 +39,11 @@ ready_from board (m ∷ members) n each (suc t) d within =
     (ready_from board members (n + 1) (λ i member there. subst (λ j. IsReady board j member) (let e : n + suc i ≡ (n + 1) + i = omega arith in e) (each (suc i) member there)) t d (omega (arith, within)))
 
 -- the members of a new board are ready at their places
-pub crew_ready : (board : Board 64 21) (members : List (Member 64 21)) → All (λ member. IsOf member board) members → IsCrew members → (t : ℕ) (d : Option Worker) → t < length (map ready members)
+pub crew_ready : (board : Board 64 21) (members : List (Member 64 21)) → All (λ member. IsOf member board) members → AreNewMembersOf board members → (t : ℕ) (d : Option Worker) → t < length (map ready members)
     → IsReadyAt board t (slice_index_or (map ready members) t d)
 crew_ready board members of crew t d within =
     subst (λ j. IsReadyAt board j (slice_index_or (map ready members) t d)) (let e : 0 + t ≡ t = omega arith in e)
-    (ready_from board members 0 (λ i member there. record { of = each_of (λ z. IsOf z board) members of i member there; number = (let n = (crew i member there).0 in omega (arith, n)); shows_none = ap shown_in (crew i member there).1 }) t d within)
+    (ready_from board members 0 (λ i member there. record { of = each_of (λ z. IsOf z board) members of i member there; number = (let n = crew.are.numbered i member there in omega (arith, n)); shows_none = ap shown_in (crew.new i member there) }) t d within)
 
 -- ---- when all are back
 
@@ -105,7 +105,7 @@ all_ran board asked (Some worker ∷ crew) n each =
 -- then they are the members of the board, and their lists answer all rows
 pub all_back : (board : Board 64 21) (asked : ℕ → List Asked) (crew : List (Option Worker)) → length crew ≡ board.sizes.threads
     → ((t : ℕ) (d : Option Worker) → t < length crew → HasRunAt board t (asked t) (slice_index_or crew t d)) → ((t : ℕ) (d : Option Worker) → t < length crew → gave_up_at (slice_index_or crew t d) ≡ None)
-    → (members : List (Member 64 21)) × (crew ≡ map back members) × AreMembers board members × ((t : ℕ) → t < board.sizes.threads → AreAnswers (asked t) (shown_in (steps_in (lists_in members) t)))
+    → (members : List (Member 64 21)) × (crew ≡ map back members) × AreMembersOf board members × ((t : ℕ) → t < board.sizes.threads → AreAnswers (asked t) (shown_in (steps_in (lists_in members) t)))
 all_back board asked crew many ran none =
     let from_zero = λ (t : ℕ). let e : t ≡ 0 + t = omega arith in e in
     let told = all_ran board asked crew 0 (λ t d below. (subst (λ j. HasRunAt board j (asked j) (slice_index_or crew t d)) (from_zero t) (ran t d below), none t d below)) in
@@ -139,8 +139,8 @@ all_run m input rows lists totals all accepted many answers accounted =
 
 -- or, where memory was wanted for that, none
 pub finished : (failed : Bool) (m : Sizes) (input : Option (List ℕ)) (rows : List Row) (board : Board 64 21) (crew : List (Option Worker)) (ms : List (Member 64 21)) (result : Result Totals Closing) → board.sizes ≡ m → AreAllRows input rows → AreAccepted m.threads rows
-    → crew ≡ map back ms → AreMembers board ms → ((t : ℕ) → t < board.sizes.threads → AreAnswers (asked_of m.threads t rows) (shown_in (steps_in (lists_in ms) t)))
-    → IfOk result (λ totals. (members : List (Member 64 21)) × (crew ≡ map back members) × AreMembers board members × AreAccounted board.sizes (lists_in members) totals) → IfErr result (λ closing. closing.stop ≡ stop.NoMemory) → RunsScript failed m input result
+    → crew ≡ map back ms → AreMembersOf board ms → ((t : ℕ) → t < board.sizes.threads → AreAnswers (asked_of m.threads t rows) (shown_in (steps_in (lists_in ms) t)))
+    → IfOk result (λ totals. (members : List (Member 64 21)) × (crew ≡ map back members) × AreMembersOf board members × AreAccounted board.sizes (lists_in members) totals) → IfErr result (λ closing. closing.stop ≡ stop.NoMemory) → RunsScript failed m input result
 finished failed m input rows board crew ms (Ok totals) sizes all accepted is back answers ok err =
     let same = same_members ms ok.0 (sym is ∙ ok.1) in let threads_are = ap (λ z. z.threads) sizes in
     all_run m input rows (lists_in ok.0) totals all accepted (length-map ok.0 own_steps ∙ (ok.2.many ∙ threads_are))

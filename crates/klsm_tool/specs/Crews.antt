@@ -1,17 +1,14 @@
--- The board that answers the rows of a script, its members, and how one of them goes on.
+-- The board that answers the rows of a script, the lists of its members, and how one of them goes on.
 use Rattle.std.specs.Prelude.{ℕ, ◌≡◌, ◌≢◌, ◌+◌, ◌<◌, ◌≤◌, List, [], ◌∷◌, ◌++◌, length, map, slice_index_or}
-use mathlib.Core.Option.{some}
-use lib.ListN.{get_elem?}
 use Rattle.klsm_run.specs.declared.item.Item.{Item}
 use Rattle.klsm_run.specs.Content.{without}
 use Rattle.klsm_parts.specs.Events.{plus}
 use Rattle.klsm_world.specs.declared.step.Entry.{Entry}
 use Rattle.klsm_world.specs.Account.{account}
 use Rattle.klsm_board.specs.declared.all_members.AllMembers.{AllMembers}
-use Rattle.klsm_board.specs.declared.board.Board.{Board}
 use Rattle.klsm_board.specs.declared.board.Member.{Member}
 use Rattle.klsm_board.specs.declared.sizes.Sizes.{Sizes}
-use Rattle.klsm_board.specs.Boards.{IsOf, own_steps}
+use Rattle.klsm_board.specs.Boards.{own_steps}
 use Rattle.klsm_board.specs.Members.{sizes_of}
 use Rattle.klsm_board.specs.Together.{sizes_of_all, steps_for}
 use Rattle.klsm_text.specs.declared.answer.Answer.{Answer}
@@ -24,14 +21,7 @@ abbrev pub board_sizes : Settings → Sizes
 board_sizes settings = record (sizes_of settings.threads settings.k) { refill = settings.refill }
 
 module _ {CAP LEVELS : ℕ} where
-  -- the members of the board, in the order of their numbers
-  pub record AreMembers (board : Board CAP LEVELS) (members : List (Member CAP LEVELS)) : Type 0 where
-    pub of : (i : ℕ) (member : Member CAP LEVELS) → get_elem? members i ≡ some member → IsOf member board
-    pub many : length members ≡ board.sizes.threads
-    pub numbered : (i : ℕ) (member : Member CAP LEVELS) → get_elem? members i ≡ some member
-        → member.number ≡ i
-
-  -- their lists of own steps
+  -- the lists of own steps of some members, in their order
   abbrev pub lists_in : List (Member CAP LEVELS) → List (List Entry)
   lists_in members = map own_steps members
 

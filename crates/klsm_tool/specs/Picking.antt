@@ -6,8 +6,8 @@ use Rattle.klsm_words.specs.declared.settings.Settings.{Settings}
 use Rattle.klsm_tool.specs.declared.picking.ThreadPicker.{ThreadPicker}
 
 -- that of thread t, whose seed is greater by t than that of thread 0
-abbrev pub choice_of : Settings → ℕ → Choice
-choice_of settings t = choice_by settings.pick ((settings.seed + t) % 2 ^ 64)
+abbrev pub choice_for : Settings → ℕ → Choice
+choice_for settings t = choice_by settings.pick ((settings.seed + t) % 2 ^ 64)
 
 -- it picks as its choice does, and stays that of its thread
 abbrev pub may_pick_for : ThreadPicker → ℕ → ℕ → ThreadPicker → Type 0
@@ -16,7 +16,7 @@ may_pick_for before candidates index after =
 
 -- the picker of thread t, which has drawn nothing yet
 abbrev pub picker_of : Settings → ℕ → ThreadPicker
-picker_of settings t = record { thread = t; choice = choice_of settings t }
+picker_of settings t = record { thread = t; choice = choice_for settings t }
 
 -- the pickers of all threads, which have drawn nothing yet, each at the place of its thread
 pub record ArePickers (settings : Settings) (pickers : List ThreadPicker) : Type 0 where

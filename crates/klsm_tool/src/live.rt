@@ -4,7 +4,7 @@ ghost use Rattle.std.specs.Prelude.{slice_index_or, Option, Some, None, IfErr, I
 ghost use Rattle.klsm_rows.specs.Rows.{Row, AreAllRows};
 ghost use Rattle.klsm_text.specs.Script.{row_limit};
 ghost use Rattle.klsm_text.specs.Reports.{GoesOrFails};
-ghost use Rattle.klsm_tool.specs.Crews.{AreMembers, board_sizes, lists_in};
+ghost use Rattle.klsm_tool.specs.Crews.{board_sizes, lists_in};
 ghost use Rattle.klsm_text.specs.ThreadRows.{AreAccepted, HasReadToRefusal, StandsAtRefusal};
 ghost use Rattle.klsm_text.specs.declared.request.Refusal.{Refusal};
 ghost use Rattle.klsm_text.specs.declared.stop.Stop.TheVariants as stop;
@@ -13,6 +13,7 @@ ghost use Rattle.klsm_text.specs.Reading.{HasReadScript, reader_failed};
 ghost use Rattle.klsm_tool.specs.Working.{AreAccounted, HasRunAt, IsReadyAt, back, gave_up_at, ready};
 ghost use Rattle.klsm_tool.specs.Live.{Lives, LivesBy, RunsScript, outcome_end, outcome_text};
 ghost use Rattle.klsm_tool.specs.declared.worker.Worker.{Worker};
+ghost use Rattle.klsm_board.specs.Boards.{AreMembersOf};
 ghost use Rattle.klsm_board.specs.declared.board.Member.{Member};
 
 use crate::making::board_for;
@@ -301,9 +302,9 @@ fn gave_up_of(place: &Option<Worker>) -> Option<GaveUp>
 // Ends the board, once its members have run all their rows.
 fn finish(alloc: Global, board: Board<64, 21>, crew: Vec<Option<Worker>>) -> Result<Totals, Closing>
     requires crew { (members : List (Member 64 21)) × (crew.items ≡ map back members)
-        × AreMembers board members }
+        × AreMembersOf board members }
     ensures totals { IfOk result (λ totals. (members : List (Member 64 21))
-        × (crew.items ≡ map back members) × AreMembers board members
+        × (crew.items ≡ map back members) × AreMembersOf board members
         × AreAccounted board.sizes (lists_in members) totals) }
     ensures refused { IfErr result (λ closing. closing.stop ≡ Stop.NoMemory) }
 {

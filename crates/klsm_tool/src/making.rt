@@ -1,6 +1,6 @@
 //! The board over which a script is run.
 ghost use Rattle.std.specs.Prelude.{All, ◌≡◌, ◌≤◌, IfOk, length};
-ghost use Rattle.klsm_board.specs.Boards.{IsCrew, IsOf};
+ghost use Rattle.klsm_board.specs.Boards.{AreNewMembersOf, IsOf};
 ghost use Rattle.klsm_tool.specs.Crews.{board_sizes};
 
 use klsm_board::{Board, MOST_INSERTIONS, Member};
@@ -19,7 +19,7 @@ pub(crate) fn board_for(
     ensures sizes { IfOk result (λ made. made.0.sizes ≡ board_sizes settings.now) }
     ensures of { IfOk result (λ made. All (λ member. IsOf member made.0) made.1.items) }
     ensures count { IfOk result (λ made. length made.1.items ≡ settings.now.threads) }
-    ensures crew { IfOk result (λ made. IsCrew made.1.items) }
+    ensures crew { IfOk result (λ made. AreNewMembersOf made.0 made.1.items) }
 {
     let Settings {
         threads,

@@ -1,10 +1,9 @@
 //! `klsm replay`: a script, answered row by row by the members of a board.
 ghost use Rattle.std.specs.Prelude.{◌≡◌, ℕ, ◌+◌, ◌*◌, ◌<◌, ◌≤◌, ◌^◌, List, [], ◌∷◌};
 ghost use Rattle.std.specs.Prelude.{length, Option, IfErr, IfOk, MatchResult, true};
-ghost use Rattle.std.specs.List.{All};
 ghost use Rattle.klsm_run.specs.declared.item.Item.{Item};
 ghost use Rattle.klsm_world.specs.declared.step.Entry.{Entry};
-ghost use Rattle.klsm_board.specs.Boards.{IsCrew, IsOf};
+ghost use Rattle.klsm_board.specs.Boards.{AreMembersOf, AreNewMembersOf};
 ghost use Rattle.klsm_board.specs.Together.{AreOf, all_lists};
 ghost use Rattle.klsm_world.specs.Account.{account};
 ghost use Rattle.klsm_text.specs.Output.{pending, put_count};
@@ -13,7 +12,7 @@ ghost use Rattle.klsm_text.specs.declared.answer.Line.{Line};
 ghost use Rattle.klsm_text.specs.declared.stop.Stop.TheVariants as stop;
 ghost use Rattle.klsm_rows.specs.Rows.{Row};
 ghost use Rattle.klsm_text.specs.Script.{row_limit};
-ghost use Rattle.klsm_tool.specs.Crews.{AreFew, AreMembers, HaveNoSteps, board_sizes, lists_in};
+ghost use Rattle.klsm_tool.specs.Crews.{AreFew, HaveNoSteps, board_sizes, lists_in};
 ghost use Rattle.klsm_tool.specs.Answering.{live_beside, picker_count, pickers_beside};
 ghost use Rattle.klsm_tool.specs.Picking.{ArePickers};
 ghost use Rattle.klsm_text.specs.Reading.{HasReadScript, reader_failed};
@@ -109,10 +108,8 @@ pub fn replay_on<P: AllocGlobal + Wait, R: Read + Drop, W: Write>(
     members: &mut Vec<Member<64, 21>>,
 ) -> Report
     requires sizes { board.now.sizes ≡ board_sizes settings.now }
-    requires of { All (λ member. IsOf member board.now) members.old.items }
-    requires count { length members.old.items ≡ settings.now.threads }
-    requires crew { IsCrew members.old.items }
-    ensures members { AreMembers board.now members.new.items }
+    requires crew { AreNewMembersOf board.now members.old.items }
+    ensures members { AreMembersOf board.now members.new.items }
     ensures written { result.written < 2 ^ 63 }
     ensures replays { Replays settings.now.threads settings.now.k (lists_in members.new.items)
         (R.remaining reader) (W.contents writer.old) (W.contents writer.new) result }

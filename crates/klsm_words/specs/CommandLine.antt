@@ -115,20 +115,20 @@ HasStatus words status =
 
 -- why what was asked for is not run: the word of `--pick` is none that it takes; or, where it is one,
 -- the number of `--refill` is above that of `--k`
-abbrev pub IsRefused : Option Action → Fault → Type 0
-IsRefused asked UnknownPick = asked ≡ None
-IsRefused asked BadRefill =
+abbrev pub IsFaultOf : Option Action → Fault → Type 0
+IsFaultOf asked UnknownPick = asked ≡ None
+IsFaultOf asked BadRefill =
     (action : Action) × (asked ≡ Some action) × ¬ (RefillsAtMostK action)
-IsRefused asked (Said text status) = ⊥
-IsRefused asked NotText = ⊥
-IsRefused asked NoMemory = ⊥
+IsFaultOf asked (Said text status) = ⊥
+IsFaultOf asked NotText = ⊥
+IsFaultOf asked NoMemory = ⊥
 
 -- why words ask for no run: the parser has a text on them, the word of `--pick` or the number of
 -- `--refill` is none that it takes, one of them is not UTF-8, or memory is wanted
 abbrev pub IsFaultIn : List (List ℕ) → Fault → Type 0
 IsFaultIn words (Said text status) = HasStatus words status
-IsFaultIn words UnknownPick = IsCommand words × IsRefused (action_in words) UnknownPick
-IsFaultIn words BadRefill = IsCommand words × IsRefused (action_in words) BadRefill
+IsFaultIn words UnknownPick = IsCommand words × IsFaultOf (action_in words) UnknownPick
+IsFaultIn words BadRefill = IsCommand words × IsFaultOf (action_in words) BadRefill
 IsFaultIn words NotText = ¬ (All IsUtf8 words)
 IsFaultIn words NoMemory = ⊤
 

@@ -4,7 +4,7 @@ ghost use Rattle.std.specs.List.{All};
 ghost use Rattle.clap.specs.Words.{app_of, found_of, kind_of, rows_of, subcommand_rows_of};
 ghost use Rattle.clap.specs.declared.builder.command.Command.TheViews.{out-Command as fields_of};
 ghost use Rattle.klsm_words.specs.CommandLine.{Explains, IsCommand, IsFaultIn, IsActionInRange, action_in as action_in_words};
-ghost use Rattle.klsm_words.specs.CommandLine.{IsRefused, RefillsAtMostK};
+ghost use Rattle.klsm_words.specs.CommandLine.{IsFaultOf, RefillsAtMostK};
 ghost use Rattle.klsm_words.specs.CommandLine.{action_of, action_under, bare_app, klsm_command, knapsack_app};
 ghost use Rattle.klsm_words.specs.CommandLine.{command_over_rows, command_over_scripts, live_app, replay_app, script_action};
 ghost use Rattle.klsm_words.specs.Options.{AreInRange};
@@ -73,7 +73,7 @@ pub fn parse(alloc: Global, words: &[Vec<u8>]) -> Result<Action, Fault>
 // What was asked for, unless it is refused.
 fn run_of(asked: Option<Action>) -> Result<Action, Fault>
     requires range { IfSome asked (λ action. RefillsAtMostK action → IsActionInRange action) }
-    ensures fault { IfErr result (IsRefused asked) }
+    ensures fault { IfErr result (IsFaultOf asked) }
     ensures action { IfOk result (λ action. asked ≡ Some action) }
     ensures range { IfOk result IsActionInRange }
 {

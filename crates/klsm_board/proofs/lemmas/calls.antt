@@ -1,6 +1,6 @@
 -- What the calls add to a list.
 pub mod MissLemmas  -- tries in vain, one after another
-pub mod TestLemmas  -- what is told by cases
+pub mod TestLemmas  -- what is known by cases
 pub mod TakeLemmas  -- the deletion from an own part alone
 pub mod EventLemmas  -- which events the entries have
 pub mod AddLemmas  -- what the calls insert and delete

@@ -5,18 +5,18 @@ use Rattle.klsm_board.proofs.acquiring.try_acquire.Goals as goal
 pub overflow_cast-result : goal.overflow_cast-result
 overflow_cast-result g c =
     let k = c.requires.has in let seat = c.requires.seat in
-    let told = where_not_zero _ _ c.acquire_part-found.result c.if-found-eq0.false (c.acquire_part-found.ensures.told k.0 k.1) in
+    let outcome = where_not_zero _ _ c.acquire_part-found.result c.if-found-eq0.false (c.acquire_part-found.ensures.outcome k.0 k.1) in
     let threads : ℕ = c.args.table.now.key.threads in
-    let within : c.acquire_part-found.result ≤ threads = told.2 in
+    let within : c.acquire_part-found.result ≤ threads = outcome.2 in
     let few : threads ≤ 16 = seat.1.2 in
     omega (arith, within, few)
 
 pub returns-then-found-eq0-clause-ok : goal.returns-then-found-eq0-clause-ok
 returns-then-found-eq0-clause-ok g c hand has =
-    where_zero _ _ c.acquire_part-found.result c.if-found-eq0.true (c.acquire_part-found.ensures.told hand has)
+    where_zero _ _ c.acquire_part-found.result c.if-found-eq0.true (c.acquire_part-found.ensures.outcome hand has)
 
 pub returns-else-found-eq0-clause-busy : goal.returns-else-found-eq0-clause-busy
 returns-else-found-eq0-clause-busy g c =
     let k = c.requires.has in
-    let told = where_not_zero _ _ c.acquire_part-found.result c.if-found-eq0.false (c.acquire_part-found.ensures.told k.0 k.1) in
-    (refl, (λ hand has. (where_not_zero _ _ c.acquire_part-found.result c.if-found-eq0.false (c.acquire_part-found.ensures.told hand has)).0), told.1)
+    let outcome = where_not_zero _ _ c.acquire_part-found.result c.if-found-eq0.false (c.acquire_part-found.ensures.outcome k.0 k.1) in
+    (refl, (λ hand has. (where_not_zero _ _ c.acquire_part-found.result c.if-found-eq0.false (c.acquire_part-found.ensures.outcome hand has)).0), outcome.1)

@@ -5,8 +5,7 @@ use Rattle.klsm_board.specs.Steps.{mine, rest_of}
 use Rattle.klsm_board.specs.Seats.{own_in_hand}
 use Rattle.klsm_board.specs.Entries.{own_acquired, both_acquired}
 use Rattle.klsm_board.specs.Deleting.{Deletes, FindsNothing, TakesEarly}
-use Rattle.klsm_board.specs.Effects.{TakesEffect}
-use Rattle.klsm_board.proofs.lemmas.calls.EventLemmas.{events}
+use Rattle.klsm_board.specs.Effects.{committed_in, TakesEffect}
 use Rattle.klsm_board.proofs.lemmas.calls.AddLemmas.{own_quiet, both_quiet}
 use Rattle.klsm_board.proofs.lemmas.calls.EffectLemmas.{effect_since}
 use Rattle.klsm_board.proofs.lemmas.seats.StandLemmas.{stands}
@@ -79,7 +78,7 @@ pub returns-in-Some-clause-effect : goal.returns-in-Some-clause-effect
 returns-in-Some-clause-effect g c =
     let m = c.args.table.now.key in let t = c.args.thread in let es = mine c.args.seat.now.me.0 in let me1 = c.try_acquire.new.seat.me in let es' = mine c.delete_early.new.seat.me.0 in
     let own = c.in_ok-try_acquire.ensures.ok [] c.requires.stands in
-    effect_since m t (rest_of c.args.seat.now.me.0) es (mine me1.0) es' (Some c.in-Some.item) (ap events own.2 ∙ own_quiet t [] own.0 es)
+    effect_since m t (rest_of c.args.seat.now.me.0) es (mine me1.0) es' (Some c.in-Some.item) (ap committed_in own.2 ∙ own_quiet t [] own.0 es)
     (subst (λ z. TakesEffect m t z (mine me1.0) es' (Some c.in-Some.item)) c.try_acquire.ensures.others c.in-Some.ensures.effect)
 
 pub returns-clause-effect : goal.returns-clause-effect
@@ -89,5 +88,5 @@ returns-clause-effect g c =
     let shared = c.in_default-try_acquire.ensures.ok (own_in_hand t own.0) (stands kept.0) in
     let me2 = c.try_acquire-2.new.seat.me in let did = c.delete_under_both in let es' = mine did.new.seat.me.0 in
     let acquired : mine me2.0 ≡ both_acquired t [] [] own.0 shared.0 es = shared.2 ∙ ap (λ z. z ++ Acquired 0 shared.0 ∷ []) (kept.1 ∙ own.2) in
-    effect_since m t (rest_of c.args.seat.now.me.0) es (mine me2.0) es' did.result (ap events acquired ∙ both_quiet t [] [] own.0 shared.0 es)
+    effect_since m t (rest_of c.args.seat.now.me.0) es (mine me2.0) es' did.result (ap committed_in acquired ∙ both_quiet t [] [] own.0 shared.0 es)
     (subst (λ z. TakesEffect m t z (mine me2.0) es' did.result) (c.try_acquire-2.ensures.others ∙ (c.delete_early.ensures.others ∙ c.try_acquire.ensures.others)) did.ensures.effect)

@@ -6,13 +6,14 @@ use Rattle.std.specs.Prelude.{Some, None}
 use Rattle.std.specs.List.{flat_map}
 use Rattle.klsm_world.specs.OwnSteps.{inserted, inserted_by, deleted, deleted_by}
 use Rattle.klsm_world.specs.OwnListLaws.{LeavesFew}
+use Rattle.klsm_board.specs.Effects.{committed_in}
 use Rattle.klsm_board.specs.Rule.{world_limits}
 use Rattle.klsm_board.specs.Steps.{mine, rest_of}
 use Rattle.klsm_board.specs.Entries.{both_released}
 use Rattle.klsm_board.specs.Seats.{Has, both_in_hand}
 use Rattle.klsm_board.specs.Deleting.{Passes, SpiesAfter, refilled_after}
 use Rattle.klsm_board.proofs.lemmas.hands.PossibleLemmas.{nothing_leaves_few}
-use Rattle.klsm_board.proofs.lemmas.calls.EventLemmas.{events, same_events}
+use Rattle.klsm_board.proofs.lemmas.calls.EventLemmas.{same_events}
 use Rattle.klsm_board.proofs.lemmas.calls.DeletedLemmas.{passes_are_quiet, spies_same}
 use Rattle.klsm_board.proofs.lemmas.calls.EffectLemmas.{alone_skips_none, effect_at, effect_of_some, lawful_there}
 use Rattle.klsm_board.proofs.lemmas.calls.TakeLemmas.{least_alone}
@@ -134,7 +135,7 @@ returns-clause-effect g c =
     let none = c.in_default.ensures.done k.0 k.1 k.2 in let empty = none.0 in
     let has : Has content suits m t (both_in_hand t [] []) me1 = subst (λ (z : List Item × List Item). Has content suits m t (both_in_hand t z.0 z.1) me1) (λ i. (empty.own_empty i, empty.shared_empty i)) none.1 in
     let passed = c.if-search_victims.ensures.done [] has in let has2 = passed.0 in let reached = has2.reached in let carries = has2.carries in
-    let quiet : events (mine me2.0) ≡ events (mine me1.0) = same_events (mine me1.0) passed.1.0 (mine me2.0) passed.1.2 (passes_are_quiet c.args.threads t (c.args.threads - 1) passed.1.0 passed.1.1) in
+    let quiet : committed_in (mine me2.0) ≡ committed_in (mine me1.0) = same_events (mine me1.0) passed.1.0 (mine me2.0) passed.1.2 (passes_are_quiet c.args.threads t (c.args.threads - 1) passed.1.0 passed.1.1) in
     effect_at m t me2.0 (rest_of me.0) (mine me.0) (mine c.release_committed.new.seat.me.0) (both_released t) Nothing None carries.acts (c.search_victims.ensures.others ∙ c.take_both_out.ensures.others) reached
     (nothing_leaves_few content suits m t [] [] me2 has2 (record { own_empty = refl; shared_empty = refl }) reached.world (lawful_there m t me2.0 reached) reached.list_is)
     c.release_committed.ensures.list refl (ap (flat_map inserted_by) quiet ∙ ap inserted none.2) (ap (flat_map deleted_by) quiet ∙ ap deleted none.2)

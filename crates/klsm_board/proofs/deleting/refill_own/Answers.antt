@@ -50,9 +50,9 @@ returns-in-Some-clause-list g c own shared has =
     let moved = refill_of c.args.refill m.k own shared in
     let did = c.in-Some.ensures.done own shared has.carries in
     let named = c.commit_moving_by_front.ensures.list (both_in_hand t (own_after_refill own moved) (shared_after_refill shared moved)) did.1 in
-    let told = refill_told content suits m t own shared moved named.0 me c.refill_in.new.seat.me has same did.0.ascending named.1 in
+    let outcome = refill_told content suits m t own shared moved named.0 me c.refill_in.new.seat.me has same did.0.ascending named.1 in
     named.2 ∙ (ap (λ v. mine v ++ Committed (Refill named.0) ∷ []) same
-    ∙ (ap (λ z. mine me.0 ++ Committed (Refill z) ∷ []) told ∙ ap (λ z. mine me.0 ++ z) (sym (some_refilled moved did.0.some))))
+    ∙ (ap (λ z. mine me.0 ++ Committed (Refill z) ∷ []) outcome ∙ ap (λ z. mine me.0 ++ z) (sym (some_refilled moved did.0.some))))
 
 pub returns-in_default-clause-has : goal.returns-in_default-clause-has
 returns-in_default-clause-has g c =

@@ -30,11 +30,11 @@ join_seat-requires g c =
 pub loop-member-preserved : goal.loop-member-preserved
 loop-member-preserved g c =
     let whole = c.args.members.now.items in let left = c.loop-member.members.items in let next = c.pop-in-loop-member.new.self.items in let member = c.in-Some-pop.member in
-    let seat = c.loop-member.seat in let told = c.join_seat.ensures in (
-      told.0 ∙ c.loop-member.invariant.0,
-      ap (λ z. z.1) told.2 ∙ c.loop-member.invariant.1,
+    let seat = c.loop-member.seat in let outcome = c.join_seat.ensures in (
+      outcome.0 ∙ c.loop-member.invariant.0,
+      ap (λ z. z.1) outcome.2 ∙ c.loop-member.invariant.1,
       c.pop-in-loop-member.ensures.capacity ∙ c.loop-member.invariant.2,
-      subst (AreJoined whole next) (sym (ap (λ z. z.0) told.2)) (join_last whole left next member seat.me.0 member.seat.me.0 c.loop-member.invariant.3 c.in-Some-pop.ensures.items member.rests.acts),
+      subst (AreJoined whole next) (sym (ap (λ z. z.0) outcome.2)) (join_last whole left next member seat.me.0 member.seat.me.0 c.loop-member.invariant.3 c.in-Some-pop.ensures.items member.rests.acts),
     )
 
 pub returns-clause-knows : goal.returns-clause-knows

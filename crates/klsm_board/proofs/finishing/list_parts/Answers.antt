@@ -19,9 +19,9 @@ loop-part-preserved g c =
     let counts = (slots_counts c.args.closed.now.slots).0 in let full = c.requires.full.1 in
     let filled = (slots_counts c.loop-part.closed.slots).1 in
     let there = ap (λ z. get_elem? z n) (sym inv.0) ∙ c.take.ensures.value in
-    let told = c.in-Ok.ensures in let items = told.items in let others = c.take.ensures.others in
+    let outcome = c.in-Ok.ensures in let items = outcome.items in let others = c.take.ensures.others in
     let next = one_more_out g.S.Holding.content slots n (slots_filled c.loop-part.closed.slots) c.loop-part.all.items (vec_len c.loop-part.all) (vec_capacity c.args.all.now) (vec_capacity c.loop-part.all) c.take.result items.0 (vec_capacity c.append_to.new.all)
-    (omega (arith, counts, full, c.loop-part-test.true)) (omega (arith, filled, inv.1, counts)) there items.1 told.capacity out in
+    (omega (arith, counts, full, c.loop-part-test.true)) (omega (arith, filled, inv.1, counts)) there items.1 outcome.capacity out in
     let all = c.append_to.new.all in let before = c.loop-part.all in
     let longer : vec_len all ≡ vec_len before + length items.0 = all.ok.0 ∙ (ap length items.2 ∙ (length-append before.items items.0 ∙ ap (λ z. z + length items.0) (sym before.ok.0))) in (
       others.0 ∙ inv.0,

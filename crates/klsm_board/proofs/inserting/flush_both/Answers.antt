@@ -64,11 +64,11 @@ returns-in-Ok-clause-done g c own shared has =
     let m = c.args.table.now.key in let t = c.args.thread in let me = c.args.seat.now.me in
     let did = c.in-Ok.ensures.done own shared has.carries in
     let named = c.commit_moving_by_front.ensures.list (both_in_hand t (own_after_flush own c.args.item did.0) (shared_after_flush shared did.0)) did.2 in
-    let told = flush_told content suits m t own shared c.args.item did.0 named.0 me c.flush_in.new.seat.me has c.flush_in.ensures.same.2 named.1 in
+    let outcome = flush_told content suits m t own shared c.args.item did.0 named.0 me c.flush_in.new.seat.me has c.flush_in.ensures.same.2 named.1 in
     let limit : ℕ = limit_of g.S.PartSlot.levels heap_room in (
       named.0,
-      told.0,
-      subst (λ n. length shared + n ≤ limit) (sym told.1) did.3,
+      outcome.0,
+      subst (λ n. length shared + n ≤ limit) (sym outcome.1) did.3,
       c.release_both.ensures.list
           ∙ (ap (λ z. z ++ both_released t) (named.2 ∙ ap (λ v. mine v ++ Committed (Flush c.args.item named.0) ∷ []) c.flush_in.ensures.same.2)
           ∙ append_assoc (mine me.0) (Committed (Flush c.args.item named.0) ∷ []) (both_released t)),

@@ -25,7 +25,7 @@ returns-clause-done g c own carries =
     let m = c.args.table.now.key in let t = c.args.thread in let me = c.args.seat.now.me in
     let content = g.S.Holding.content in let suits = g.S.Holding.suits in
     let h = first_here content suits m t (t + 1) own [] me.1 (rest me.1) c.slot_mut.result.now carries.contents_are carries.suited c.slot_mut.ensures.value in
-    let told = c.put.ensures.done m.k t h.1 in let kind = c.put.ensures.kind m.k t h.1 in
-    either_way c.put.result _ _ _ _ told
+    let outcome = c.put.ensures.done m.k t h.1 in let kind = c.put.ensures.kind m.k t h.1 in
+    either_way c.put.result _ _ _ _ outcome
     (λ put. (subst (λ c'. MayPut m.k c') h.0 put.0, first_changed content suits m t (t + 1) own (own_after_put own c.args.item) [] me c.put.new.self carries (put.1 ∙ ap (λ c'. own_after_put c' c.args.item) h.0) kind))
     (λ full. (sym (ap (λ (c' : List Item). length c') h.0) ∙ full.0, first_changed content suits m t (t + 1) own own [] me c.put.new.self carries (full.1 ∙ h.0) kind))

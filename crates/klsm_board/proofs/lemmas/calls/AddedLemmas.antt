@@ -8,6 +8,7 @@ use Rattle.klsm_world.specs.declared.step.Event.TheVariants.{Put, Flush}
 use Rattle.klsm_world.specs.declared.step.Entry.{Entry}
 use Rattle.klsm_world.specs.declared.step.Entry.TheVariants.{Committed, Released, Missed}
 use Rattle.klsm_world.specs.OwnSteps.{inserted, inserted_by, deleted, deleted_by, own_part}
+use Rattle.klsm_board.specs.Effects.{committed_in}
 use Rattle.klsm_board.specs.declared.errors.TryInsertError.{TryInsertError}
 use Rattle.klsm_board.specs.declared.errors.TryInsertError.TheVariants as try_insert
 use Rattle.klsm_board.specs.declared.errors.InsertError.{InsertError}
@@ -15,11 +16,11 @@ use Rattle.klsm_board.specs.declared.errors.InsertError.TheVariants as insert
 use Rattle.klsm_board.specs.Boards.{Gains}
 use Rattle.klsm_board.specs.Entries.{own_acquired, both_acquired, both_released}
 use Rattle.klsm_board.specs.Inserting.{Puts, Flushes, GivesUp, Inserts, LacksRoom, IsBelowLimit, RefusesInsert, RefusesInsertWaiting}
-use Rattle.klsm_board.proofs.lemmas.calls.EventLemmas.{events, IsQuiet, same_events}
+use Rattle.klsm_board.proofs.lemmas.calls.EventLemmas.{IsQuiet, same_events}
 use Rattle.klsm_board.proofs.lemmas.calls.AddLemmas.{goes_on, inserts, deletes, own_quiet, both_quiet}
 
 -- an insertion
-pub puts_events : (k t : ℕ) (misses : List ℕ) (es es' : List Entry) (x : Item) → Puts k t misses es es' x → events es' ≡ events es ++ Put x ∷ []
+pub puts_events : (k t : ℕ) (misses : List ℕ) (es es' : List Entry) (x : Item) → Puts k t misses es es' x → committed_in es' ≡ committed_in es ++ Put x ∷ []
 puts_events k t misses es es' x puts =
     goes_on es (own_acquired t misses puts.own es) (Committed (Put x) ∷ Released (own_part t) ∷ []) es' (own_quiet t misses puts.own es) puts.steps
 
@@ -29,7 +30,7 @@ puts_gain k t misses es es' x puts =
     let e = puts_events k t misses es es' x puts in
     record { inserted_are = inserts es es' added e; deleted_are = deletes es es' added e }
 
-pub flushes_events : (levels k t : ℕ) (own_misses shared_misses : List ℕ) (es es' : List Entry) (x : Item) → (f : Flushes levels k t own_misses shared_misses es es' x) → events es' ≡ events es ++ Flush x f.moved ∷ []
+pub flushes_events : (levels k t : ℕ) (own_misses shared_misses : List ℕ) (es es' : List Entry) (x : Item) → (f : Flushes levels k t own_misses shared_misses es es' x) → committed_in es' ≡ committed_in es ++ Flush x f.moved ∷ []
 flushes_events levels k t own_misses shared_misses es es' x f =
     goes_on es (both_acquired t own_misses shared_misses f.own f.shared es) (Committed (Flush x f.moved) ∷ both_released t) es' (both_quiet t own_misses shared_misses f.own f.shared es) f.steps
 
@@ -44,9 +45,9 @@ inserts_gain levels k t own_misses shared_misses es es' x (inl puts) = puts_gain
 inserts_gain levels k t own_misses shared_misses es es' x (inr f) = flushes_gain levels k t own_misses shared_misses es es' x f
 
 -- entries without an event
-pub quiet_gains : (es es' : List Entry) → events es' ≡ events es → Gains es es' [] []
+pub quiet_gains : (es es' : List Entry) → committed_in es' ≡ committed_in es → Gains es es' [] []
 quiet_gains es es' same =
-    let e : events es' ≡ events es ++ [] = same ∙ sym (append-nil (events es)) in
+    let e : committed_in es' ≡ committed_in es ++ [] = same ∙ sym (append-nil (committed_in es)) in
     record { inserted_are = inserts es es' [] e; deleted_are = deletes es es' [] e }
 
 -- entries without an event behind a list leave it its insertions and deletions
@@ -56,11 +57,11 @@ pub record Same (es es' : List Entry) : Type 0 where
 
 pub quiet_same : (es fs es' : List Entry) → es' ≡ es ++ fs → IsQuiet fs → Same es es'
 quiet_same es fs es' is quiet =
-    let same : events es' ≡ events es = same_events es fs es' is quiet in
+    let same : committed_in es' ≡ committed_in es = same_events es fs es' is quiet in
     record { inserted_are = ap (flat_map inserted_by) same; deleted_are = ap (flat_map deleted_by) same }
 
 -- a call that gave up
-gives_up_events : (k t : ℕ) (own_misses shared_misses : List ℕ) (es es' : List Entry) (Lacks : List Item → Type 0) → GivesUp k t own_misses shared_misses es es' Lacks → events es' ≡ events es
+gives_up_events : (k t : ℕ) (own_misses shared_misses : List ℕ) (es es' : List Entry) (Lacks : List Item → Type 0) → GivesUp k t own_misses shared_misses es es' Lacks → committed_in es' ≡ committed_in es
 gives_up_events k t own_misses shared_misses es es' Lacks up =
     same_events (both_acquired t own_misses shared_misses up.own up.shared es) (both_released t) es' up.steps refl ∙ both_quiet t own_misses shared_misses up.own up.shared es
 
@@ -77,33 +78,33 @@ gained_counts es es' ins dels i d gains counts counts' =
 
 -- why a try to insert was refused, once it began
 pub refused_gains : (levels k t : ℕ) (es es' : List Entry) (why : TryInsertError) → RefusesInsert ⊥ levels k t es es' why → Gains es es' [] []
-refused_gains levels k t es es' try_insert.Spent told = absurd told.0
+refused_gains levels k t es es' try_insert.Spent outcome = absurd outcome.0
 refused_gains levels k t es es' (try_insert.Busy busy) (inl own) = quiet_gains es es' (same_events es (Missed (own_part t) busy.by ∷ []) es' own.steps refl)
 refused_gains levels k t es es' (try_insert.Busy busy) (inr shared) =
     quiet_gains es es' (same_events (own_acquired t [] shared.own es) (Missed 0 busy.by ∷ Released (own_part t) ∷ []) es' shared.steps refl ∙ own_quiet t [] shared.own es)
-refused_gains levels k t es es' try_insert.Full told = gives_up_gains k t [] [] es es' (LacksRoom levels k) told
-refused_gains levels k t es es' try_insert.NoMemory told = gives_up_gains k t [] [] es es' (IsBelowLimit levels) told
+refused_gains levels k t es es' try_insert.Full outcome = gives_up_gains k t [] [] es es' (LacksRoom levels k) outcome
+refused_gains levels k t es es' try_insert.NoMemory outcome = gives_up_gains k t [] [] es es' (IsBelowLimit levels) outcome
 
 -- the same of an insertion that may wait
-pub refused_waiting_events : (levels k t : ℕ) (es es' : List Entry) (why : InsertError) → RefusesInsertWaiting ⊥ levels k t es es' why → events es' ≡ events es
-refused_waiting_events levels k t es es' insert.Spent told = absurd told.0
-refused_waiting_events levels k t es es' insert.Full told = gives_up_events k t told.0 told.1 es es' (LacksRoom levels k) told.2
-refused_waiting_events levels k t es es' insert.NoMemory told = gives_up_events k t told.0 told.1 es es' (IsBelowLimit levels) told.2
+pub refused_waiting_events : (levels k t : ℕ) (es es' : List Entry) (why : InsertError) → RefusesInsertWaiting ⊥ levels k t es es' why → committed_in es' ≡ committed_in es
+refused_waiting_events levels k t es es' insert.Spent outcome = absurd outcome.0
+refused_waiting_events levels k t es es' insert.Full outcome = gives_up_events k t outcome.0 outcome.1 es es' (LacksRoom levels k) outcome.2
+refused_waiting_events levels k t es es' insert.NoMemory outcome = gives_up_events k t outcome.0 outcome.1 es es' (IsBelowLimit levels) outcome.2
 
 pub refused_waiting_gains : (levels k t : ℕ) (es es' : List Entry) (why : InsertError) → RefusesInsertWaiting ⊥ levels k t es es' why → Gains es es' [] []
-refused_waiting_gains levels k t es es' why told = quiet_gains es es' (refused_waiting_events levels k t es es' why told)
+refused_waiting_gains levels k t es es' why outcome = quiet_gains es es' (refused_waiting_events levels k t es es' why outcome)
 
 -- a member that began the call is not one that may insert no more
 pub began : (Spent : Type 0) (levels k t : ℕ) (es es' : List Entry) (why : TryInsertError) → RefusesInsert ⊥ levels k t es es' why → RefusesInsert Spent levels k t es es' why
-began Spent levels k t es es' try_insert.Spent told = absurd told.0
-began Spent levels k t es es' (try_insert.Busy busy) told = told
-began Spent levels k t es es' try_insert.Full told = told
-began Spent levels k t es es' try_insert.NoMemory told = told
+began Spent levels k t es es' try_insert.Spent outcome = absurd outcome.0
+began Spent levels k t es es' (try_insert.Busy busy) outcome = outcome
+began Spent levels k t es es' try_insert.Full outcome = outcome
+began Spent levels k t es es' try_insert.NoMemory outcome = outcome
 
 pub began_waiting : (Spent : Type 0) (levels k t : ℕ) (es es' : List Entry) (why : InsertError) → RefusesInsertWaiting ⊥ levels k t es es' why → RefusesInsertWaiting Spent levels k t es es' why
-began_waiting Spent levels k t es es' insert.Spent told = absurd told.0
-began_waiting Spent levels k t es es' insert.Full told = told
-began_waiting Spent levels k t es es' insert.NoMemory told = told
+began_waiting Spent levels k t es es' insert.Spent outcome = absurd outcome.0
+began_waiting Spent levels k t es es' insert.Full outcome = outcome
+began_waiting Spent levels k t es es' insert.NoMemory outcome = outcome
 
 -- what is said of an error that was passed on
 pub passed_on : {T E : Type 0} (r : Result T E) (Q P : E → Type 0) → IsErrAnd r Q → ((why : E) → Q why → P why) → IfErr r P

@@ -11,11 +11,12 @@ use Rattle.klsm_world.specs.declared.step.Event.TheVariants.{Take, Early, Nothin
 use Rattle.klsm_world.specs.declared.step.Entry.{Entry}
 use Rattle.klsm_world.specs.declared.step.Entry.TheVariants.{Acquired, Committed, Released, Missed}
 use Rattle.klsm_world.specs.OwnSteps.{own_part, event_at, inserted, inserted_by, deleted, deleted_by}
+use Rattle.klsm_board.specs.Effects.{committed_in}
 use Rattle.klsm_board.specs.declared.sizes.Sizes.{Sizes}
 use Rattle.klsm_board.specs.declared.errors.Busy.{Busy}
 use Rattle.klsm_board.specs.Entries.{own_acquired, both_acquired, both_released}
 use Rattle.klsm_board.specs.Deleting.{Passes, PassesBy, SpiesAfter, TakesOut, TakesEarly, TakesSpied, FindsNothing, Deletes, AnswersDeletion, MissesDeletion, victim_of, refilled, refilled_after}
-use Rattle.klsm_board.proofs.lemmas.calls.EventLemmas.{events, IsQuiet, events_append, quiet_append, same_events}
+use Rattle.klsm_board.proofs.lemmas.calls.EventLemmas.{IsQuiet, events_append, quiet_append, same_events}
 use Rattle.klsm_board.proofs.lemmas.calls.AddLemmas.{goes_on, inserts, deletes, own_quiet, both_quiet}
 use Rattle.klsm_board.specs.Boards.{Gains}
 use Rattle.klsm_board.proofs.lemmas.calls.AddedLemmas.{quiet_gains}
@@ -23,16 +24,16 @@ use Rattle.klsm_board.proofs.lemmas.calls.RefillLemmas.{is_refilled}
 
 -- victims that were passed by
 pass_is_quiet : (victim : ℕ) (added : List Entry) → PassesBy victim added → IsQuiet added
-pass_is_quiet victim added (inl miss) = ap events miss.1
-pass_is_quiet victim added (inr empty) = ap events empty
+pass_is_quiet victim added (inl miss) = ap committed_in miss.1
+pass_is_quiet victim added (inr empty) = ap committed_in empty
 
 pub passes_are_quiet : (threads t n : ℕ) (added : List Entry) → Passes threads t n added → IsQuiet added
-passes_are_quiet threads t zero added none = ap events none
+passes_are_quiet threads t zero added none = ap committed_in none
 passes_are_quiet threads t (suc n) added some =
-    ap events some.4 ∙ quiet_append some.0 some.1 (passes_are_quiet threads t n some.0 some.2) (pass_is_quiet (victim_of threads t (suc n)) some.1 some.3)
+    ap committed_in some.4 ∙ quiet_append some.0 some.1 (passes_are_quiet threads t n some.0 some.2) (pass_is_quiet (victim_of threads t (suc n)) some.1 some.3)
 
 -- items that were spied are neither inserted nor deleted
-pub spies_events : (threads t : ℕ) (es es' : List Entry) (moved : List Item) → (s : SpiesAfter threads t es es' moved) → events es' ≡ events es ++ Spy (victim_of threads t (suc s.passed)) moved ∷ []
+pub spies_events : (threads t : ℕ) (es es' : List Entry) (moved : List Item) → (s : SpiesAfter threads t es es' moved) → committed_in es' ≡ committed_in es ++ Spy (victim_of threads t (suc s.passed)) moved ∷ []
 spies_events threads t es es' moved spies =
     let one = spies.spies in let v : ℕ = victim_of threads t (suc spies.passed) in
     goes_on es (es ++ spies.added) (Acquired (own_part v) one.found ∷ Committed (Spy v moved) ∷ Released (own_part v) ∷ []) es' (same_events es spies.added (es ++ spies.added) refl (passes_are_quiet threads t spies.passed spies.added spies.passes)) one.steps
@@ -44,44 +45,44 @@ spies_same threads t es es' moved spies =
     (inserts es es' added e ∙ append-nil (inserted es), deletes es es' added e ∙ append-nil (deleted es))
 
 -- a list that gained these events
-gained : (es es' : List Entry) (added : List Event) (ins dels : List Item) → events es' ≡ events es ++ added → (ins ≡ Rattle.std.specs.List.flat_map Rattle.klsm_world.specs.OwnSteps.inserted_by added) → (dels ≡ Rattle.std.specs.List.flat_map Rattle.klsm_world.specs.OwnSteps.deleted_by added) → Gains es es' ins dels
+gained : (es es' : List Entry) (added : List Event) (ins dels : List Item) → committed_in es' ≡ committed_in es ++ added → (ins ≡ Rattle.std.specs.List.flat_map Rattle.klsm_world.specs.OwnSteps.inserted_by added) → (dels ≡ Rattle.std.specs.List.flat_map Rattle.klsm_world.specs.OwnSteps.deleted_by added) → Gains es es' ins dels
 gained es es' added ins dels e i d = record {
   inserted_are = inserts es es' added e ∙ ap (λ z. Rattle.klsm_world.specs.OwnSteps.inserted es ++ z) (sym i);
   deleted_are = deletes es es' added e ∙ ap (λ z. Rattle.klsm_world.specs.OwnSteps.deleted es ++ z) (sym d);
 }
 
 -- items that move behind a Take are neither inserted nor deleted
-none_more : (x : Item) (moved : List Item) → ([] ≡ flat_map inserted_by (Take x ∷ events (refilled moved))) × (x ∷ [] ≡ flat_map deleted_by (Take x ∷ events (refilled moved)))
+none_more : (x : Item) (moved : List Item) → ([] ≡ flat_map inserted_by (Take x ∷ committed_in (refilled moved))) × (x ∷ [] ≡ flat_map deleted_by (Take x ∷ committed_in (refilled moved)))
 none_more x [] = (refl, refl)
 none_more x (y ∷ moved) = (refl, refl)
 
-module _ (m : Sizes) (t : ℕ) (own shared : List Item) (es acquired es' : List Entry) (quiet : events acquired ≡ events es) where
-  pub takes_events : (x : Item) → TakesOut m t own shared acquired es' x → events es' ≡ events es ++ Take x ∷ events (refilled_after m.refill m.k own shared x)
+module _ (m : Sizes) (t : ℕ) (own shared : List Item) (es acquired es' : List Entry) (quiet : committed_in acquired ≡ committed_in es) where
+  pub takes_events : (x : Item) → TakesOut m t own shared acquired es' x → committed_in es' ≡ committed_in es ++ Take x ∷ committed_in (refilled_after m.refill m.k own shared x)
   takes_events x takes =
       let added : List Entry = refilled_after m.refill m.k own shared x in
-      let behind : events (added ++ both_released t) ≡ events added = events_append added (both_released t) ∙ append-nil (events added) in
+      let behind : committed_in (added ++ both_released t) ≡ committed_in added = events_append added (both_released t) ∙ append-nil (committed_in added) in
       goes_on es acquired (Committed (Take x) ∷ (added ++ both_released t)) es' quiet takes.steps
-      ∙ ap (λ z. events es ++ z) (flat_map-cons event_at (Committed (Take x)) (added ++ both_released t) ∙ ap (λ z. Take x ∷ z) behind)
+      ∙ ap (λ z. committed_in es ++ z) (flat_map-cons event_at (Committed (Take x)) (added ++ both_released t) ∙ ap (λ z. Take x ∷ z) behind)
 
   takes_gain : (x : Item) → TakesOut m t own shared acquired es' x → Gains es es' [] (x ∷ [])
   takes_gain x takes =
       let some = is_refilled m.refill m.k own shared x in
       let none = none_more x some.0 in
-      gained es es' (Take x ∷ events (refilled some.0)) [] (x ∷ []) (takes_events x takes ∙ ap (λ z. events es ++ Take x ∷ events z) some.1) none.0 none.1
+      gained es es' (Take x ∷ committed_in (refilled some.0)) [] (x ∷ []) (takes_events x takes ∙ ap (λ z. committed_in es ++ Take x ∷ committed_in z) some.1) none.0 none.1
 
-  pub spied_events : (x : Item) → (takes : TakesSpied m t own shared acquired es' x) → events es' ≡ events es ++ Spy (victim_of m.threads t (suc takes.spies.passed)) takes.moved ∷ Take x ∷ []
+  pub spied_events : (x : Item) → (takes : TakesSpied m t own shared acquired es' x) → committed_in es' ≡ committed_in es ++ Spy (victim_of m.threads t (suc takes.spies.passed)) takes.moved ∷ Take x ∷ []
   spied_events x takes =
       let spies = takes.spies in
       let v : ℕ = victim_of m.threads t (suc spies.passed) in
-      let spied : events takes.spied ≡ events es ++ Spy v takes.moved ∷ [] = spies_events m.threads t acquired takes.spied takes.moved spies ∙ ap (λ z. z ++ Spy v takes.moved ∷ []) quiet in
-      ap events takes.steps ∙ (events_append takes.spied (Committed (Take x) ∷ both_released t) ∙ (ap (λ z. z ++ Take x ∷ []) spied ∙ append_assoc (events es) (Spy v takes.moved ∷ []) (Take x ∷ [])))
+      let spied : committed_in takes.spied ≡ committed_in es ++ Spy v takes.moved ∷ [] = spies_events m.threads t acquired takes.spied takes.moved spies ∙ ap (λ z. z ++ Spy v takes.moved ∷ []) quiet in
+      ap committed_in takes.steps ∙ (events_append takes.spied (Committed (Take x) ∷ both_released t) ∙ (ap (λ z. z ++ Take x ∷ []) spied ∙ append_assoc (committed_in es) (Spy v takes.moved ∷ []) (Take x ∷ [])))
 
   spied_gain : (x : Item) → TakesSpied m t own shared acquired es' x → Gains es es' [] (x ∷ [])
   spied_gain x takes = gained es es' (Spy (victim_of m.threads t (suc takes.spies.passed)) takes.moved ∷ Take x ∷ []) [] (x ∷ []) (spied_events x takes) refl refl
 
-  pub nothing_events : FindsNothing m t own shared acquired es' → events es' ≡ events es ++ Nothing ∷ []
+  pub nothing_events : FindsNothing m t own shared acquired es' → committed_in es' ≡ committed_in es ++ Nothing ∷ []
   nothing_events finds =
-      let passed : events (acquired ++ finds.added) ≡ events es = same_events acquired finds.added (acquired ++ finds.added) refl (passes_are_quiet m.threads t (m.threads - 1) finds.added finds.passes) ∙ quiet in
+      let passed : committed_in (acquired ++ finds.added) ≡ committed_in es = same_events acquired finds.added (acquired ++ finds.added) refl (passes_are_quiet m.threads t (m.threads - 1) finds.added finds.passes) ∙ quiet in
       goes_on es (acquired ++ finds.added) (Committed Nothing ∷ both_released t) es' passed finds.steps
 
   nothing_gains : FindsNothing m t own shared acquired es' → Gains es es' [] []
@@ -94,15 +95,15 @@ module _ (m : Sizes) (t : ℕ) (own shared : List Item) (es acquired es' : List 
   -- what a deletion answered is what the list deletes more
   answer_gains : {P : Type 0} (may_pick : P → ℕ → ℕ → P → Type 0) (before after : P) (answer : Option Item) → MatchOption answer (FindsNothing m t own shared acquired es' × (after ≡ before)) (Deletes may_pick before after m t own shared acquired es')
       → Gains es es' [] (option_to_list answer)
-  answer_gains may_pick before after None told = nothing_gains told.0
-  answer_gains may_pick before after (Some x) told = deletes_gain may_pick before after x told
+  answer_gains may_pick before after None outcome = nothing_gains outcome.0
+  answer_gains may_pick before after (Some x) outcome = deletes_gain may_pick before after x outcome
 
-pub early_events : (m : Sizes) (t : ℕ) (own : List Item) (es acquired es' : List Entry) (x : Item) → events acquired ≡ events es → (told : TakesEarly m t own acquired es' x) → events es' ≡ events es ++ Early x told.front ∷ []
-early_events m t own es acquired es' x quiet told = goes_on es acquired (Committed (Early x told.front) ∷ Released (own_part t) ∷ []) es' quiet told.steps
+pub early_events : (m : Sizes) (t : ℕ) (own : List Item) (es acquired es' : List Entry) (x : Item) → committed_in acquired ≡ committed_in es → (outcome : TakesEarly m t own acquired es' x) → committed_in es' ≡ committed_in es ++ Early x outcome.front ∷ []
+early_events m t own es acquired es' x quiet outcome = goes_on es acquired (Committed (Early x outcome.front) ∷ Released (own_part t) ∷ []) es' quiet outcome.steps
 
-early_gains : (m : Sizes) (t : ℕ) (own : List Item) (es acquired es' : List Entry) (answer : Option Item) → events acquired ≡ events es → IsSomeAnd answer (λ x. TakesEarly m t own acquired es' x) → Gains es es' [] (option_to_list answer)
-early_gains m t own es acquired es' None quiet told = absurd told
-early_gains m t own es acquired es' (Some x) quiet told = gained es es' (Early x told.front ∷ []) [] (x ∷ []) (early_events m t own es acquired es' x quiet told) refl refl
+early_gains : (m : Sizes) (t : ℕ) (own : List Item) (es acquired es' : List Entry) (answer : Option Item) → committed_in acquired ≡ committed_in es → IsSomeAnd answer (λ x. TakesEarly m t own acquired es' x) → Gains es es' [] (option_to_list answer)
+early_gains m t own es acquired es' None quiet outcome = absurd outcome
+early_gains m t own es acquired es' (Some x) quiet outcome = gained es es' (Early x outcome.front ∷ []) [] (x ∷ []) (early_events m t own es acquired es' x quiet outcome) refl refl
 
 -- and so it is of each of the ways to answer
 pub answers_gain : {P : Type 0} (may_pick : P → ℕ → ℕ → P → Type 0) (before after : P) (m : Sizes) (t : ℕ) (own_misses shared_misses : List ℕ) (es es' : List Entry) (answer : Option Item)

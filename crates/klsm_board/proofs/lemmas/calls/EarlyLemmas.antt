@@ -34,23 +34,23 @@ module _ {S : Type 0} (content : S → List Item) (suits : ℕ → ℕ → S →
 
   -- where the front is not above the least own key, the look leaves all as it is
   pub looked_only : (x : Item) (n : ℕ) (me me' : Me S View) → n ≤ x.key → LooksAt x n me me' → me' ≡ me
-  looked_only x n me me' above told =
-      subst (λ b. MatchBool b (Deleted x n me me') (me' ≡ me)) (le-ltb x.key n above) told
+  looked_only x n me me' above outcome =
+      subst (λ b. MatchBool b (Deleted x n me me') (me' ≡ me)) (le-ltb x.key n above) outcome
 
   -- and else it commits an Early
   pub looked_below : (x : Item) (n : ℕ) (me me' : Me S View) → x.key < n → LooksAt x n me me' → Deleted x n me me'
-  looked_below x n me me' below told =
-      subst (λ b. MatchBool b (Deleted x n me me') (me' ≡ me)) (lt-ltb x.key n below) told
+  looked_below x n me me' below outcome =
+      subst (λ b. MatchBool b (Deleted x n me me') (me' ≡ me)) (lt-ltb x.key n below) outcome
 
   -- in both cases the lists behind the first stay
   pub looked_others : (x : Item) (n : ℕ) (me me' : Me S View) → LooksAt x n me me' → rest_of me'.0 ≡ rest_of me.0
-  looked_others x n me me' told = by_test (ltb x.key n) told
+  looked_others x n me me' outcome = by_test (ltb x.key n) outcome
     where
       by_test : (b : Bool) → MatchBool b (Deleted x n me me') (me' ≡ me) → rest_of me'.0 ≡ rest_of me.0
       by_test true took = set_others content suits m t (Early x n) me me' took.0
       by_test false same = ap (λ (z : Me S View). rest_of z.0) same
 
-  module _ (own : List Item) (x : Item) (n : ℕ) (me me' : Me S View) (has : Has content suits m t (own_in_hand t own) me) (least : IsLeast x own) (below : x.key < n) (told : LooksAt x n me me') where
+  module _ (own : List Item) (x : Item) (n : ℕ) (me me' : Me S View) (has : Has content suits m t (own_in_hand t own) me) (least : IsLeast x own) (below : x.key < n) (outcome : LooksAt x n me me') where
     -- what the seat has, once the item is out of the part
     pub early_out : (y' : S) → content y' ≡ own_after_early own x → suits m.k (own_part t) y'
         → Has content suits m t (own_in_hand t (own_after_early own x)) (me'.0, (own_part t, y') ∷ rest me'.1)
@@ -58,7 +58,7 @@ module _ {S : Type 0} (content : S → List Item) (suits : ℕ → ℕ → S →
         let now : Me S View = (me.0, (own_part t, y') ∷ rest me.1) in
         let carries = first_changed content suits m t (own_part t) own (own_after_early own x) [] me y' has.carries is suit in
         let out = early_done content suits m t own x n me now has refl (record { least = least; below = below }) carries in
-        let took = looked_below x n me me' below told in
+        let took = looked_below x n me me' below outcome in
         has_set content suits m t (Early x n) (own_in_hand t (own_after_early own x)) now (me'.0, (own_part t, y') ∷ rest me'.1) out
         (ap (λ (z : Me S View). (z.0, (own_part t, y') ∷ rest z.1)) took.0) took.1
 
@@ -69,7 +69,7 @@ module _ {S : Type 0} (content : S → List Item) (suits : ℕ → ℕ → S →
       may = may;
       skips = early_skips_few content suits m t own me x n has may;
       keeps = early_keeps_order content suits m t own me x n has may;
-      steps = released ∙ (ap (λ z. z ++ Released (own_part t) ∷ []) (mine_set content suits m t (Early x n) me me' acts (looked_below x n me me' below told).0)
+      steps = released ∙ (ap (λ z. z ++ Released (own_part t) ∷ []) (mine_set content suits m t (Early x n) me me' acts (looked_below x n me me' below outcome).0)
           ∙ append_assoc (mine me.0) (Committed (Early x n) ∷ []) (Released (own_part t) ∷ []));
     }
 
@@ -77,7 +77,7 @@ module _ {S : Type 0} (content : S → List Item) (suits : ℕ → ℕ → S →
     pub early_effect : (es' : List Entry) → es' ≡ mine me'.0 ++ Released (own_part t) ∷ [] → TakesEffect m t (rest_of me.0) (mine me.0) es' (Some x)
     unfolding takes_early
     early_effect es' released =
-        let took = looked_below x n me me' below told in
+        let took = looked_below x n me me' below outcome in
         let before = took.2.0 in
         let skips = early_skips_few content suits m t own me x n has (record { least = least; below = below }) in
         let keeps = early_keeps_order content suits m t own me x n has (record { least = least; below = below }) in
@@ -85,7 +85,7 @@ module _ {S : Type 0} (content : S → List Item) (suits : ℕ → ℕ → S →
         effect_at m t me.0 (rest_of me.0) (mine me.0) es' (Released (own_part t) ∷ []) (Early x n) (Some x) has.carries.acts refl before (skips before.world (lawful_there m t me.0 before) before.list_is took.2.1, alone_skips_none m t me.0 x before (keeps before.world (lawful_there m t me.0 before) before.list_is took.2.1)) takes.steps refl refl refl
 
     slots_same : me'.1 ≡ me.1
-    slots_same = ap (λ (z : Me S View). z.1) (looked_below x n me me' below told).0
+    slots_same = ap (λ (z : Me S View). z.1) (looked_below x n me me' below outcome).0
 
     -- the own part is still in hand, and has the item
     pub slot_there : (y : S) × (me'.1 ≡ (own_part t, y) ∷ rest me'.1)

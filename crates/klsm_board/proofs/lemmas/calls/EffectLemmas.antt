@@ -18,8 +18,7 @@ use Rattle.klsm_board.specs.declared.rule.Own.{Own}
 use Rattle.klsm_board.specs.declared.rule.View.{View}
 use Rattle.klsm_board.specs.Rule.{own, view, world_limits}
 use Rattle.klsm_board.specs.Steps.{mine, rest_of, IsMine, AreReached}
-use Rattle.klsm_board.specs.Effects.{PassesFew, TakesEffect}
-use Rattle.klsm_board.proofs.lemmas.calls.EventLemmas.{events}
+use Rattle.klsm_board.specs.Effects.{committed_in, PassesFew, TakesEffect}
 use Rattle.klsm_board.proofs.lemmas.calls.LoneLemmas.{skips_none}
 
 module _ (m : Sizes) (t : ℕ) where
@@ -50,7 +49,7 @@ module _ (m : Sizes) (t : ℕ) where
       }
 
   -- the list may have begun earlier, with the same events
-  pub effect_since : (behind : List Own) (es now es' : List Entry) (answer : Option Item) → events now ≡ events es → TakesEffect m t behind now es' answer → TakesEffect m t behind es es' answer
+  pub effect_since : (behind : List Own) (es now es' : List Entry) (answer : Option Item) → committed_in now ≡ committed_in es → TakesEffect m t behind now es' answer → TakesEffect m t behind es es' answer
   effect_since behind es now es' answer same effect = record {
     at = effect.at;
     event = effect.event;
@@ -66,5 +65,5 @@ module _ (m : Sizes) (t : ℕ) where
   -- where an item has to be answered
   pub effect_of_some : (behind : List Own) (es es' : List Entry) (answer : Option Item) (A : Type 0) (B : Item → Type 0) → MatchOption answer A B → (A → ⊥) → ((x : Item) → B x → TakesEffect m t behind es es' (Some x))
       → TakesEffect m t behind es es' answer
-  effect_of_some behind es es' None A B told none some = absurd (none told)
-  effect_of_some behind es es' (Some x) A B told none some = some x told
+  effect_of_some behind es es' None A B outcome none some = absurd (none outcome)
+  effect_of_some behind es es' (Some x) A B outcome none some = some x outcome

@@ -10,17 +10,14 @@ use Rattle.klsm_world.specs.declared.step.Entry.{Entry}
 use Rattle.klsm_world.specs.declared.step.Entry.TheVariants.{Acquired, Missed}
 use Rattle.klsm_world.specs.OwnSteps.{event_at, inserted, inserted_by}
 use Rattle.klsm_world.specs.LegalSteps.{BearsStamp}
+use Rattle.klsm_board.specs.Effects.{committed_in}
 use Rattle.klsm_board.specs.Entries.{missed}
-
--- the events of a list
-abbrev pub events : List Entry → List Event
-events es = flat_map event_at es
 
 -- entries without an event
 abbrev pub IsQuiet : List Entry → Type 0
-IsQuiet es = events es ≡ []
+IsQuiet es = committed_in es ≡ []
 
-pub events_append : (es fs : List Entry) → events (es ++ fs) ≡ events es ++ events fs
+pub events_append : (es fs : List Entry) → committed_in (es ++ fs) ≡ committed_in es ++ committed_in fs
 events_append es fs = flat_map-append event_at es fs
 
 pub quiet_append : (es fs : List Entry) → IsQuiet es → IsQuiet fs → IsQuiet (es ++ fs)
@@ -35,12 +32,12 @@ pub acquiring_is_quiet : (p : ℕ) (bys : List ℕ) (found : List Item) → IsQu
 acquiring_is_quiet p bys found = quiet_append (missed p bys) (Acquired p found ∷ []) (misses_are_quiet p bys) refl
 
 -- a list that goes on quietly has the same events
-pub same_events : (es fs es' : List Entry) → es' ≡ es ++ fs → IsQuiet fs → events es' ≡ events es
-same_events es fs es' is quiet = ap events is ∙ (events_append es fs ∙ (ap (λ z. events es ++ z) quiet ∙ append-nil (events es)))
+pub same_events : (es fs es' : List Entry) → es' ≡ es ++ fs → IsQuiet fs → committed_in es' ≡ committed_in es
+same_events es fs es' is quiet = ap committed_in is ∙ (events_append es fs ∙ (ap (λ z. committed_in es ++ z) quiet ∙ append-nil (committed_in es)))
 
 -- and the same next stamp and room
-pub stamp_kept : (t : ℕ) (x : Item) (es es' : List Entry) → events es' ≡ events es → BearsStamp t (length (inserted es)) x → BearsStamp t (length (inserted es')) x
+pub stamp_kept : (t : ℕ) (x : Item) (es es' : List Entry) → committed_in es' ≡ committed_in es → BearsStamp t (length (inserted es)) x → BearsStamp t (length (inserted es')) x
 stamp_kept t x es es' same bears = subst (λ (z : List Event). BearsStamp t (length (flat_map inserted_by z)) x) (sym same) bears
 
-pub room_kept : (quota : ℕ) (es es' : List Entry) → events es' ≡ events es → length (inserted es) < quota → length (inserted es') < quota
+pub room_kept : (quota : ℕ) (es es' : List Entry) → committed_in es' ≡ committed_in es → length (inserted es) < quota → length (inserted es') < quota
 room_kept quota es es' same room = subst (λ (z : List Event). length (flat_map inserted_by z) < quota) (sym same) room

@@ -9,6 +9,7 @@ use Rattle.klsm_world.specs.declared.step.Event.TheVariants.{Flush}
 use Rattle.klsm_world.specs.declared.step.Entry.{Entry}
 use Rattle.klsm_world.specs.declared.step.Entry.TheVariants.{Acquired, Committed}
 use Rattle.klsm_world.specs.OwnSteps.{Hand, own_part, shared_part}
+use Rattle.klsm_board.specs.Effects.{committed_in}
 use Rattle.klsm_board.specs.declared.sizes.Sizes.{Sizes}
 use Rattle.klsm_board.specs.declared.rule.View.{View}
 use Rattle.klsm_board.specs.Steps.{mine}
@@ -16,7 +17,6 @@ use Rattle.klsm_board.specs.Seats.{Has, Stands, own_in_hand, both_in_hand}
 use Rattle.klsm_board.specs.Entries.{missed, both_acquired, both_released}
 use Rattle.klsm_board.specs.Inserting.{Flushes, GivesUp}
 use Rattle.klsm_board.proofs.lemmas.seats.StandLemmas.{stands}
-use Rattle.klsm_board.proofs.lemmas.calls.EventLemmas.{events}
 use Rattle.klsm_board.proofs.lemmas.calls.AddLemmas.{both_quiet}
 
 module _ {S : Type 0} (content : S → List Item) (suits : ℕ → ℕ → S → Type 0) (m : Sizes) (t : ℕ) where
@@ -28,7 +28,7 @@ module _ {S : Type 0} (content : S → List Item) (suits : ℕ → ℕ → S →
     pub full : length own ≡ m.k
     pub list : mine me.0 ≡ both_acquired t own_misses shared_misses own shared es
 
-  -- by one try each: what the first told, what was found of the own part, what the second told
+  -- by one try each: what came of the first, what was found of the own part, what came of the second
   pub full_now : (me own_acquired_me kept both : Me S View) → Stands content suits m t [] me
       → ((hand : Hand) → Stands content suits m t hand me → (found : List Item) × Has content suits m t ((own_part t, found) ∷ hand) own_acquired_me × (mine own_acquired_me.0 ≡ mine me.0 ++ Acquired (own_part t) found ∷ []))
       → ((own : List Item) → Has content suits m t (own_in_hand t own) own_acquired_me → (length own ≡ m.k) × Has content suits m t (own_in_hand t own) kept × (mine kept.0 ≡ mine own_acquired_me.0))
@@ -75,8 +75,8 @@ module _ {S : Type 0} (content : S → List Item) (suits : ℕ → ℕ → S →
 
   module _ (own_misses shared_misses : List ℕ) (es es' : List Entry) (me : Me S View) (k : Full own_misses shared_misses es me) where
     -- nothing has happened yet
-    pub full_is_quiet : events (mine me.0) ≡ events es
-    full_is_quiet = ap events k.list ∙ both_quiet t own_misses shared_misses k.own k.shared es
+    pub full_is_quiet : committed_in (mine me.0) ≡ committed_in es
+    full_is_quiet = ap committed_in k.list ∙ both_quiet t own_misses shared_misses k.own k.shared es
 
     -- then items moved
     pub flushed : (levels : ℕ) (x : Item) → ((moved : List Item) × MayFlush m.k k.own x moved × (length k.shared + length moved ≤ limit_of levels heap_room) × (es' ≡ mine me.0 ++ Committed (Flush x moved) ∷ both_released t))

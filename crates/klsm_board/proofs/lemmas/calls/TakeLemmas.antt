@@ -29,8 +29,8 @@ stays_if_as_many k owner own shared x may same = elim (cases_eq (times x own) 0)
   | inr some ↦ ap (λ b. if b then without x shared else shared) (ne_eqb (times x own) 0 some)
 ]
 
--- what is told of the front, by the number of items that the shared part had and has
+-- what is known of the front, by the number of items that the shared part had and has
 pub front_told : (o : Option ℕ) (c left shared : List Item) (n : ℕ) → MatchOption o (length c ≡ n) (λ front. (length c ≢ n) × (front ≡ front_of c)) → c ≡ left → n ≡ length shared → (length left ≡ length shared → left ≡ shared)
     → MatchOption o (left ≡ shared) (λ front. (left ≢ shared) × (front ≡ front_of left))
-front_told None c left shared n told is count stays = stays (sym (ap length is) ∙ (told ∙ count))
-front_told (Some front) c left shared n told is count stays = (λ same. told.0 (ap length (is ∙ same) ∙ sym count), told.1 ∙ ap front_of is)
+front_told None c left shared n outcome is count stays = stays (sym (ap length is) ∙ (outcome ∙ count))
+front_told (Some front) c left shared n outcome is count stays = (λ same. outcome.0 (ap length (is ∙ same) ∙ sym count), outcome.1 ∙ ap front_of is)

@@ -1,4 +1,4 @@
--- What is told by cases of a number, where the number is known to be 0, or not to be.
+-- What is known by cases of a number, where the number is known to be 0, or not to be.
 use Rattle.std.proofs.Common.{◌≡◌, ◌≢◌, ℕ, ◌==◌, Bool, true, false, subst, eq-eqb, ne_eqb}
 use Rattle.std.specs.Prelude.{MatchBool, MatchOption, Option, Some, None}
 
@@ -8,17 +8,17 @@ where_zero P Q n e h = subst (λ b. MatchBool b P Q) (eq-eqb n 0 e) h
 pub where_not_zero : (P Q : Type 0) (n : ℕ) → n ≢ 0 → MatchBool (n == 0) P Q → Q
 where_not_zero P Q n e h = subst (λ b. MatchBool b P Q) (ne_eqb n 0 e) h
 
--- what is told of each case gives what is to be told of it
+-- what is known of each case gives what is to be known of it
 pub either_way : (b : Bool) (P Q R T : Type 0) → MatchBool b P Q → (P → R) → (Q → T) → MatchBool b R T
-either_way true P Q R T told f h = f told
-either_way false P Q R T told f h = h told
+either_way true P Q R T outcome f h = f outcome
+either_way false P Q R T outcome f h = h outcome
 
 -- the same of an option
 pub either_option : {A : Type 0} (o : Option A) (P R : Type 0) (Q T : A → Type 0) → MatchOption o P Q → (P → R) → ((a : A) → Q a → T a) → MatchOption o R T
-either_option None P R Q T told f h = f told
-either_option (Some a) P R Q T told f h = h a told
+either_option None P R Q T outcome f h = f outcome
+either_option (Some a) P R Q T outcome f h = h a outcome
 
 -- an option that is not None
 pub where_some : {A : Type 0} (o : Option A) (P : Type 0) (Q : A → Type 0) (R : Type 0) → MatchOption o P Q → (P → ⊥) → ((a : A) → Q a → R) → R
-where_some None P Q R told none h = absurd (none told)
-where_some (Some a) P Q R told none h = h a told
+where_some None P Q R outcome none h = absurd (none outcome)
+where_some (Some a) P Q R outcome none h = h a outcome

@@ -41,8 +41,8 @@ gave_up_at k t own_misses shared_misses es es' Found up =
 -- why an insertion was refused that found the shared part full
 pub refused_full : {T : Type 0} (G Spent : Type 0) (levels k t : ℕ) (es es' : List Entry) (r : Result T InsertError) → IfErr r (λ why. G × RefusesInsertWaiting Spent levels k t es es' why) → IsErrAnd r (λ why. why ≡ insert.Full)
     → G × ((own_misses : List ℕ) × (shared_misses : List ℕ) × GivesUp k t own_misses shared_misses es es' (LacksRoom levels k))
-refused_full G Spent levels k t es es' (Ok x) told is = absurd is
-refused_full G Spent levels k t es es' (Err why) told is = (told.0, subst (RefusesInsertWaiting Spent levels k t es es') is told.1)
+refused_full G Spent levels k t es es' (Ok x) outcome is = absurd is
+refused_full G Spent levels k t es es' (Err why) outcome is = (outcome.0, subst (RefusesInsertWaiting Spent levels k t es es') is outcome.1)
 
 module _ {CAP LEVELS : ℕ} where
   -- what the member whose turn it is found in a part is no more than all members inserted

@@ -41,12 +41,12 @@ left_in lists = (account lists).left
 
 -- what follows for what was answered, and for a refusal
 pub ok_then : {T E : Type 0} {P Q : T → Type 0} (r : Result T E) → ((x : T) → P x → Q x) → IfOk r P → IfOk r Q
-ok_then (Ok x) then' told = then' x told
-ok_then (Err why) then' told = tt
+ok_then (Ok x) then' outcome = then' x outcome
+ok_then (Err why) then' outcome = tt
 
 pub on_err : {T E Q : Type 0} {P : E → Type 0} (r : Result T E) → ((why : E) → P why → Q) → IfErr r P → OnErr r Q
-on_err (Ok x) then' told = tt
-on_err (Err why) then' told = then' why told
+on_err (Ok x) then' outcome = tt
+on_err (Err why) then' outcome = then' why outcome
 
 -- the items that are left are ascending
 minus_in_order : (c gone : List Item) → minus (sorted c) gone ≡ sorted (minus c gone)

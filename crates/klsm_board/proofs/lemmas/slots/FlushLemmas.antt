@@ -63,7 +63,7 @@ module _ (levels n : ℕ) (x : Item) (self shared : AnySlot) (own_before common_
   abbrev Lacks : Type 0
   Lacks = limit_of levels heap_room < n + length (moved own_before.blocks x)
 
-  -- what the slots are told to have become
+  -- what the slots are said to have become
   abbrev IsFlushed : PartState → PartState → Type 0
   IsFlushed own_after common_after = (k t : ℕ) → IsSlotOf k (own_part t) self
       → (moved : List Item) × MayFlush k (slot_content self) x moved
@@ -73,13 +73,13 @@ module _ (levels n : ℕ) (x : Item) (self shared : AnySlot) (own_before common_
 
   -- a flush that was carried out
   pub flushed : (own_after common_after : PartState) (answer : Answer) → OnOk answer (IsTold own_after common_after) → IsErrAnd answer (λ why. why ≡ LsmError.Full) ↔ Lacks → OnOk answer (IsFlushed own_after common_after)
-  flushed own_after common_after (Ok u) told full = λ k t kind.
+  flushed own_after common_after (Ok u) outcome full = λ k t kind.
       let k_is : own_before.k ≡ k = own_k k (own_part t) self own_before own_is kind in
       let own_same : slot_content self ≡ items_in own_before = own_content self own_before own_is in
       let common_same : slot_content shared ≡ items_in common_before = shared_content shared common_before common_is in
       let within : length (items_in common_before) + length (moved own_before.blocks x) ≤ limit_of levels heap_room = not_more _ _ _ _ count (λ less. full.1 less) in
-      (moved own_before.blocks x, rw (own_same, ← k_is) told.0, rw own_same told.1, rw common_same told.2, rw common_same within)
-  flushed own_after common_after (Err why) told full = tt
+      (moved own_before.blocks x, rw (own_same, ← k_is) outcome.0, rw own_same outcome.1, rw common_same outcome.2, rw common_same within)
+  flushed own_after common_after (Err why) outcome full = tt
 
   -- a flush that was refused for want of room
   pub lacks_room : length (items_in own_before) ≡ own_before.k → (answer : Answer) → IsErrAnd answer (λ why. why ≡ LsmError.Full) ↔ Lacks

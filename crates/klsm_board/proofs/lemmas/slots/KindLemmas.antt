@@ -44,12 +44,12 @@ pub put_done : (slot : AnySlot) (own new : PartState) (x : Item) (done : Bool) �
     → MatchBool done ((MayPut own.k (items_in own)) × (items_in new ≡ own_after_put (items_in own) x)) ((length (items_in own) ≡ own.k) × (new ≡ own))
     → (k p : ℕ) → IsSlotOf k p slot
     → MatchBool done ((MayPut k (slot_content slot)) × (items_in new ≡ own_after_put (slot_content slot) x)) ((length (slot_content slot) ≡ k) × (items_in new ≡ slot_content slot))
-put_done slot own new x true is told k p kind =
+put_done slot own new x true is outcome k p kind =
     let there = sym (own_content slot own is) in
-    (subst (λ (n : ℕ). MayPut n (slot_content slot)) (own_k k p slot own is kind) (subst (λ (c : List Item). MayPut own.k c) there told.0), told.1 ∙ ap (λ (c : List Item). own_after_put c x) there)
-put_done slot own new x false is told k p kind =
+    (subst (λ (n : ℕ). MayPut n (slot_content slot)) (own_k k p slot own is kind) (subst (λ (c : List Item). MayPut own.k c) there outcome.0), outcome.1 ∙ ap (λ (c : List Item). own_after_put c x) there)
+put_done slot own new x false is outcome k p kind =
     let there = own_content slot own is in
-    (ap length there ∙ (told.0 ∙ own_k k p slot own is kind), ap items_in told.1 ∙ sym there)
+    (ap length there ∙ (outcome.0 ∙ own_k k p slot own is kind), ap items_in outcome.1 ∙ sym there)
 
 -- the part in a slot of k items is full
 pub is_full : (k p : ℕ) (slot : AnySlot) (own : PartState) → slot ≡ Own own → IsSlotOf k p slot → length (slot_content slot) ≡ k → length (items_in own) ≡ own.k

@@ -20,14 +20,14 @@ module _ (most : ℕ) (self shared : AnySlot) (own own_after common common_after
       → (k t : ℕ) → IsSlotOf k (own_part t) self
       → MatchBool (not (n == 0)) (Leave k (slot_content self) (slot_content shared) (refill_of most k (slot_content self) (slot_content shared)))
       ((refill_of most k (slot_content self) (slot_content shared) ≡ []) × (items_in own_after ≡ slot_content self) × (items_in common_after ≡ slot_content shared))
-  has_refilled zero count unchanged told k t kind =
+  has_refilled zero count unchanged outcome k t kind =
       let own_same : slot_content self ≡ items_in own = own_content self own own_is in
       let common_same : slot_content shared ≡ items_in common = shared_content shared common common_is in
       let k_is : own.k ≡ k = own_k k (own_part t) self own own_is kind in
       rw (own_same, common_same, ← k_is) (ap (λ n. take n (items_in common)) (sym count), ap items_in (unchanged refl).0, ap items_in (unchanged refl).1)
-  has_refilled (suc n) count unchanged told k t kind =
+  has_refilled (suc n) count unchanged outcome k t kind =
       let own_same : slot_content self ≡ items_in own = own_content self own own_is in
       let common_same : slot_content shared ≡ items_in common = shared_content shared common common_is in
       let k_is : own.k ≡ k = own_k k (own_part t) self own own_is kind in
-      let did : Leave k (slot_content self) (slot_content shared) (refill_of most k (slot_content self) (slot_content shared)) = rw (own_same, common_same, ← k_is) (told (omega arith)) in
+      let did : Leave k (slot_content self) (slot_content shared) (refill_of most k (slot_content self) (slot_content shared)) = rw (own_same, common_same, ← k_is) (outcome (omega arith)) in
       rw (ne_eqb (suc n) 0 (λ e. absurd (omega (arith, e)))) did

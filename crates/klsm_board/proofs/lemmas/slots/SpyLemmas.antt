@@ -17,7 +17,7 @@ module _ (self victim : AnySlot) (own own_after other other_after : PartState) (
   abbrev IsTold : List Item → Type 0
   IsTold moved = MaySpy (items_in own) (items_in other) moved × (items_in own_after ≡ own_after_spy moved) × (items_in other_after ≡ victim_after_spy (items_in other) moved)
 
-  -- what the slots are told to have become
+  -- what the slots are said to have become
   abbrev IsSpied : Type 0
   IsSpied = (moved : List Item) × MaySpy (slot_content self) (slot_content victim) moved × (items_in own_after ≡ own_after_spy moved)
       × (items_in other_after ≡ victim_after_spy (slot_content victim) moved)
@@ -26,12 +26,12 @@ module _ (self victim : AnySlot) (own own_after other other_after : PartState) (
   pub has_spied : (moved : Option (List Item)) (n : ℕ) → own_after ≡ record { k = own.k; blocks = option_to_list moved } → n ≡ length (items_in own_after) → (n ≡ 0) ↔ (items_in other ≡ [])
       → ((n ≡ 0) → (own_after ≡ own) × (other_after ≡ other)) → IfSome moved IsTold
       → MatchBool (not (n == 0)) IsSpied ((slot_content victim ≡ []) × (items_in own_after ≡ slot_content self) × (items_in other_after ≡ slot_content victim))
-  has_spied moved zero is count none unchanged told =
+  has_spied moved zero is count none unchanged outcome =
       let victim_same : slot_content victim ≡ items_in other = own_content victim other victim_is in
       (victim_same ∙ none.0 refl, ap items_in (unchanged refl).0 ∙ sym (own_content self own own_is), ap items_in (unchanged refl).1 ∙ sym victim_same)
-  has_spied None (suc n) is count none unchanged told = absurd (none_moved own_after own.k n is count)
-  has_spied (Some moved) (suc n) is count none unchanged told =
+  has_spied None (suc n) is count none unchanged outcome = absurd (none_moved own_after own.k n is count)
+  has_spied (Some moved) (suc n) is count none unchanged outcome =
       let own_same : slot_content self ≡ items_in own = own_content self own own_is in
       let victim_same : slot_content victim ≡ items_in other = own_content victim other victim_is in
-      let is_spied : IsSpied = rw (own_same, victim_same) (moved, told.0, told.1, told.2) in
+      let is_spied : IsSpied = rw (own_same, victim_same) (moved, outcome.0, outcome.1, outcome.2) in
       rw (ne_eqb (suc n) 0 (λ e. absurd (omega (arith, e)))) is_spied

@@ -63,19 +63,19 @@ module _ {P : Type 0} (may_pick : P → ℕ → ℕ → P → Type 0) (before af
       (λ item. MayTake k owner (slot_content self) (slot_content shared) item × (items_in own_after ≡ own_after_take (slot_content self) item)
       × (items_in common_after ≡ shared_after_take (slot_content self) (slot_content shared) item)
       × Chooses may_pick before after k owner (slot_content self) (slot_content shared) item)
-  taken None unasked asked left told nothing k t kind =
+  taken None unasked asked left outcome nothing k t kind =
       let own_same : slot_content self ≡ items_in own_before = own_content self own_before own_is in
       let common_same : slot_content shared ≡ items_in common_before = shared_content shared common_before common_is in
       let both = nothing.0 refl in
       let quiet : picks (least_in own_before) (least_in common_before) ≡ false = ap (λ c. picks (least_in own_before) (slice_get c 0)) both.shared_empty in
       (rw (own_same, common_same) both, ap items_in left.0 ∙ sym own_same, ap items_in left.1 ∙ sym common_same, (unasked quiet).0)
-  taken (Some item) unasked asked left told nothing k t kind =
+  taken (Some item) unasked asked left outcome nothing k t kind =
       let own_same : slot_content self ≡ items_in own_before = own_content self own_before own_is in
       let common_same : slot_content shared ≡ items_in common_before = shared_content shared common_before common_is in
       let k_is : own_before.k ≡ k = own_k k (own_part t) self own_before own_is kind in
-      rw (own_same, common_same, ← k_is) (told.0, told.1, told.2, chosen item unasked asked)
+      rw (own_same, common_same, ← k_is) (outcome.0, outcome.1, outcome.2, chosen item unasked asked)
 
 -- the least item that a part tells is that of the slot's content
 pub least_told : (slot : AnySlot) (part : PartState) (answer : Option Item) → slot_content slot ≡ items_in part → answer ≡ least_in part → IfSome answer (λ x. IsLeast x (slot_content slot))
-least_told slot part None same told = tt
-least_told slot part (Some x) same told = ap (λ c. slice_get (sorted c) 0) same ∙ (ap (λ c. slice_get c 0) (in_order part) ∙ sym told)
+least_told slot part None same outcome = tt
+least_told slot part (Some x) same outcome = ap (λ c. slice_get (sorted c) 0) same ∙ (ap (λ c. slice_get c 0) (in_order part) ∙ sym outcome)

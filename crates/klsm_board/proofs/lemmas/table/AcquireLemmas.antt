@@ -34,11 +34,11 @@ module _ {S : Type 0} (content : S → List Item) (suits : ℕ → ℕ → S →
     abbrev me0 : Me S View
     me0 = (acting content suits m t xs behind, cs)
 
-    abbrev Told : ℕ → Me S View → Type 0
-    Told = on_part (attempted content suits m t) (step slots (place p) 0 (t + 1) none) me0
+    abbrev Outcome : ℕ → Me S View → Type 0
+    Outcome = on_part (attempted content suits m t) (step slots (place p) 0 (t + 1) none) me0
 
     -- the part is free, and comes to the seat
-    wins : get_or s.words (place p) 0 ≡ 0 → Goes content suits m s id p cs Told (t + 1)
+    wins : get_or s.words (place p) 0 ≡ 0 → Goes content suits m s id p cs Outcome (t + 1)
     wins e =
         let a = agrees content suits m s r id t xs behind at lt in
         let same = same_steps content suits m s r id t xs behind at lt in
@@ -80,7 +80,7 @@ module _ {S : Type 0} (content : S → List Item) (suits : ℕ → ℕ → S →
         )
 
     -- another thread holds it
-    loses : get_or s.words (place p) 0 ≢ 0 → Goes content suits m s id p cs Told (get_or s.words (place p) 0)
+    loses : get_or s.words (place p) 0 ≢ 0 → Goes content suits m s id p cs Outcome (get_or s.words (place p) 0)
     loses ne =
         let a = agrees content suits m s r id t xs behind at lt in
         let same = same_steps content suits m s r id t xs behind at lt in

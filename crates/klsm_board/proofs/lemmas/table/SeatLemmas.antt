@@ -203,7 +203,7 @@ module _ {S : Type 0} (content : S → List Item) (suits : ℕ → ℕ → S →
       → MatchBool (n == 0)
       ((found : List Item) × Has content suits m t ((p, found) ∷ hand) me' × (mine me'.0 ≡ mine me.0 ++ Acquired p found ∷ []))
       (Has content suits m t hand me' × (mine me'.0 ≡ mine me.0 ++ Missed p (n - 1) ∷ []) × (n ≤ m.threads))
-  tried p slots n hand me me' has told =
+  tried p slots n hand me me' has outcome =
       let old = has.carries in
       let won : S → Me S View = (λ y. (gain me.0 (Acquired p (content y)), (p, y) ∷ me.1)) in
       let lost : Me S View = (gain me.0 (Missed p (n - 1)), me.1) in
@@ -212,21 +212,21 @@ module _ {S : Type 0} (content : S → List Item) (suits : ℕ → ℕ → S →
       let Hits : Type 0 = (found : List Item) × Has content suits m t ((p, found) ∷ hand) me' × (mine me'.0 ≡ mine me.0 ++ Acquired p found ∷ []) in
       let Misses : Type 0 = Has content suits m t hand me' × (mine me'.0 ≡ mine me.0 ++ Missed p (n - 1) ∷ []) × (n ≤ m.threads) in
       dite (ℕ_discrete n 0)
-      (λ e. let k : Won = where_zero Won Lost n e told.0 in subst (λ b. MatchBool b Hits Misses) (sym (eq-eqb n 0 e))
-      (content k.0, has_won p k.0 hand me me' has k.1 k.2 told.1, ap (λ (z : Me S View). mine z.0) k.2 ∙ mine_gain me.0 t (Acquired p (content k.0)) old.acts))
-      (λ e. let k : Lost = where_not_zero Won Lost n e told.0 in subst (λ b. MatchBool b Hits Misses) (sym (ne_eqb n 0 e))
-      (has_lost p (n - 1) hand me me' has k.0 told.1, ap (λ (z : Me S View). mine z.0) k.0 ∙ mine_gain me.0 t (Missed p (n - 1)) old.acts, k.1))
+      (λ e. let k : Won = where_zero Won Lost n e outcome.0 in subst (λ b. MatchBool b Hits Misses) (sym (eq-eqb n 0 e))
+      (content k.0, has_won p k.0 hand me me' has k.1 k.2 outcome.1, ap (λ (z : Me S View). mine z.0) k.2 ∙ mine_gain me.0 t (Acquired p (content k.0)) old.acts))
+      (λ e. let k : Lost = where_not_zero Won Lost n e outcome.0 in subst (λ b. MatchBool b Hits Misses) (sym (ne_eqb n 0 e))
+      (has_lost p (n - 1) hand me me' has k.0 outcome.1, ap (λ (z : Me S View). mine z.0) k.0 ∙ mine_gain me.0 t (Missed p (n - 1)) old.acts, k.1))
 
   -- it leaves the lists behind the first as they were
   pub tried_others : (p slots n : ℕ) (me me' : Me S View) → attempted content suits m t (step slots p 0 (t + 1) none) me n me' → rest_of me'.0 ≡ rest_of me.0
-  tried_others p slots n me me' told =
+  tried_others p slots n me me' outcome =
       let won : S → Me S View = (λ y. (gain me.0 (Acquired p (content y)), (p, y) ∷ me.1)) in
       let lost : Me S View = (gain me.0 (Missed p (n - 1)), me.1) in
       let Won : Type 0 = (y : S) × suits m.k p y × (me' ≡ won y) in
       let Lost : Type 0 = (me' ≡ lost) × (n ≤ m.threads) in
       dite (ℕ_discrete n 0)
-      (λ e. let k : Won = where_zero Won Lost n e told.0 in ap (λ (z : Me S View). rest_of z.0) k.2 ∙ others_gain me.0 (Acquired p (content k.0)))
-      (λ e. let k : Lost = where_not_zero Won Lost n e told.0 in ap (λ (z : Me S View). rest_of z.0) k.0 ∙ others_gain me.0 (Missed p (n - 1)))
+      (λ e. let k : Won = where_zero Won Lost n e outcome.0 in ap (λ (z : Me S View). rest_of z.0) k.2 ∙ others_gain me.0 (Acquired p (content k.0)))
+      (λ e. let k : Lost = where_not_zero Won Lost n e outcome.0 in ap (λ (z : Me S View). rest_of z.0) k.0 ∙ others_gain me.0 (Missed p (n - 1)))
 
   -- so do a release, a commit and the release behind it, and a commit alone
   pub released_others : (p : ℕ) (me me' : Me S View) → me' ≡ (gain me.0 (Released p), rest me.1) → rest_of me'.0 ≡ rest_of me.0

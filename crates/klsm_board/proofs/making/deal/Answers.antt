@@ -17,14 +17,14 @@ pub loop-number-preserved : goal.loop-number-preserved
 loop-number-preserved g c =
     let inv = c.loop-number.invariant in let n = c.loop-number.number in let left = c.args.board.now.sizes.threads - n in
     let test : n < c.args.board.now.sizes.threads = c.loop-number-test.true in
-    let next = c.next_member.result in let told = c.next_member.ensures in
+    let next = c.next_member.result in let outcome = c.next_member.ensures in
     let items : c.push.new.self.items ≡ c.loop-number.members.items ++ next ∷ [] = c.in_ok-push.ensures.items in
     record {
-      of_table = told.table ∙ inv.of_table;
+      of_table = outcome.table ∙ inv.of_table;
       left = so_many_fresh (n + 1) (left - 1) (c.args.board.now.sizes.threads - (n + 1)) c.next_member.new.seat.me (omega (arith, test))
-          (told.seat (left - 1) (so_many_fresh n left ((left - 1) + 1) c.loop-number.seat.me (omega (arith, test)) inv.left));
+          (outcome.seat (left - 1) (so_many_fresh n left ((left - 1) + 1) c.loop-number.seat.me (omega (arith, test)) inv.left));
       count = ap (λ (z : List (Member g.row.CAP g.row.LEVELS)). length z) items ∙ (length-append c.loop-number.members.items (next ∷ []) ∙ ap (λ z. z + 1) inv.count);
-      members = λ i member at. at_new_end c.loop-number.members.items next n inv.count (λ j z. (z.number ≡ j) × IsOf z c.args.board.now × (own_steps z ≡ [])) inv.members told.member i member
+      members = λ i member at. at_new_end c.loop-number.members.items next n inv.count (λ j z. (z.number ≡ j) × IsOf z c.args.board.now × (own_steps z ≡ [])) inv.members outcome.member i member
           (ap (λ (z : List (Member g.row.CAP g.row.LEVELS)). get_elem? z i) (sym items) ∙ at);
     }
 
@@ -34,7 +34,16 @@ returns-clause-of g c k d h =
     (c.loop-number.invariant.members k (slice_index_or members k d) (found_at members k d h)).1
 
 pub returns-clause-crew : goal.returns-clause-crew
-returns-clause-crew g c i member at = let told = c.loop-number.invariant.members i member at in (told.0, told.2)
+returns-clause-crew g c =
+    let inv = c.loop-number.invariant in
+    record {
+      are = record {
+        of = λ i member at. (inv.members i member at).1;
+        many = omega (arith, inv.count, c.loop-number-test.false, c.loop-number.auto.number-end);
+        numbered = λ i member at. (inv.members i member at).0;
+      };
+      new = λ i member at. (inv.members i member at).2;
+    }
 
 pub drop-seat-requires-room-S-Destruct : goal.drop-seat-requires-room-S-Destruct
 drop-seat-requires-room-S-Destruct g c κs = shared_fits _ c.args.board.now.levels

@@ -45,12 +45,12 @@ pub invariant_of-result : goal.invariant_of-result
 invariant_of-result g c =
     let m : Sizes = c.args.sizes in
     let own : Slot PartState PartState = Own (record { k = m.k; blocks = [] }) in
-    let told = c.in-Ok.ensures.ok in
+    let outcome = c.in-Ok.ensures.ok in
     let words_are : c.as_slice.result.now ≡ first_words m = c.as_slice.ensures.value ∙ ap (λ (ws : List ℕ). set ws (place (m.threads + 1)) 18446744073709551615) (c.in_ok-words.ensures.items_if_clones_equal (λ y same. same)) in
     let slots_are : c.in_ok-slots.slots.items ≡ Common (record { k = m.k; blocks = [] }) ∷ replicate m.threads own = c.in_ok-slots.ensures in
     let words : length c.as_slice.result.now ≡ place (m.threads + 2) = ap length words_are ∙ length_first m in
     let slots : length c.in_ok-slots.slots.items ≡ m.threads + 1 = omega (arith, ap length slots_are, length-replicate m.threads own) in
-    record { key = told.5; sized = (told.0 ∙ words, told.1 ∙ slots, c.requires.sizes.threads); in_range = c.requires.sizes; capacity = c.requires.capacity; levels = c.requires.levels }
+    record { key = outcome.5; sized = (outcome.0 ∙ words, outcome.1 ∙ slots, c.requires.sizes.threads); in_range = c.requires.sizes; capacity = c.requires.capacity; levels = c.requires.levels }
 
 pub returns : goal.returns
-returns g c = let told = c.in-Ok.ensures.ok in (refl, told.2, told.4)
+returns g c = let outcome = c.in-Ok.ensures.ok in (refl, outcome.2, outcome.4)

@@ -18,20 +18,20 @@ acquire_part-requires-clause-has g c =
 pub spy_in-requires-clause-carries : goal.spy_in-requires-clause-carries
 spy_in-requires-clause-carries g c =
     let t = c.args.thread in let k = c.requires.has in
-    let acquired = where_zero _ _ c.acquire_part.result c.if-acquire_part-ne0.false (c.acquire_part.ensures.told (both_in_hand t [] k.0) (stands k.1)) in
+    let acquired = where_zero _ _ c.acquire_part.result c.if-acquire_part-ne0.false (c.acquire_part.ensures.outcome (both_in_hand t [] k.0) (stands k.1)) in
     (c.args.victim, acquired.0, k.0, refl, acquired.1.carries)
 
 pub returns-then-acquire_part-ne0-clause-done : goal.returns-then-acquire_part-ne0-clause-done
 returns-then-acquire_part-ne0-clause-done g c shared has =
     let t = c.args.thread in
-    let missed = where_not_zero _ _ c.acquire_part.result c.if-acquire_part-ne0.true (c.acquire_part.ensures.told (both_in_hand t [] shared) (stands has)) in
+    let missed = where_not_zero _ _ c.acquire_part.result c.if-acquire_part-ne0.true (c.acquire_part.ensures.outcome (both_in_hand t [] shared) (stands has)) in
     (missed.0, (Missed (c.args.victim + 1) (c.acquire_part.result - 1) ∷ [], inl (c.acquire_part.result - 1, refl), missed.1))
 
 pub release_part-requires-clause-has : goal.release_part-requires-clause-has
 release_part-requires-clause-has g c =
     let content = g.S.Holding.content in let suits = g.S.Holding.suits in
     let m = c.args.table.now.key in let t = c.args.thread in let v = c.args.victim in let k = c.requires.has in
-    let acquired = where_zero _ _ c.acquire_part.result c.if-acquire_part-ne0.false (c.acquire_part.ensures.told (both_in_hand t [] k.0) (stands k.1)) in
+    let acquired = where_zero _ _ c.acquire_part.result c.if-acquire_part-ne0.false (c.acquire_part.ensures.outcome (both_in_hand t [] k.0) (stands k.1)) in
     let left = c.if-not-spy_in.ensures.done v acquired.0 k.0 refl acquired.1.carries in (
       acquired.0,
       both_in_hand t [] k.0,
@@ -43,7 +43,7 @@ pub returns-then-not-spy_in-clause-done : goal.returns-then-not-spy_in-clause-do
 returns-then-not-spy_in-clause-done g c shared has =
     let content = g.S.Holding.content in let suits = g.S.Holding.suits in
     let m = c.args.table.now.key in let t = c.args.thread in let v = c.args.victim in let me = c.args.seat.now.me in
-    let acquired = where_zero _ _ c.acquire_part.result c.if-acquire_part-ne0.false (c.acquire_part.ensures.told (both_in_hand t [] shared) (stands has)) in
+    let acquired = where_zero _ _ c.acquire_part.result c.if-acquire_part-ne0.false (c.acquire_part.ensures.outcome (both_in_hand t [] shared) (stands has)) in
     let left = c.if-not-spy_in.ensures.done v acquired.0 shared refl acquired.1.carries in
     let still = has_still content suits m t (three_in_hand t v acquired.0 [] shared) c.acquire_part.new.seat.me c.spy_in.new.seat.me acquired.1 c.spy_in.ensures.same.2 left.1 in (
       c.release_part.ensures.released acquired.0 (both_in_hand t [] shared) (stands still) (victim_not_in_both t v [] shared c.requires.victim.1),
@@ -59,7 +59,7 @@ pub commit_moving-requires-clause-out : goal.commit_moving-requires-clause-out
 commit_moving-requires-clause-out g c =
     let content = g.S.Holding.content in let suits = g.S.Holding.suits in
     let m = c.args.table.now.key in let t = c.args.thread in let v = c.args.victim in let k = c.requires.has in
-    let acquired = where_zero _ _ c.acquire_part.result c.if-acquire_part-ne0.false (c.acquire_part.ensures.told (both_in_hand t [] k.0) (stands k.1)) in
+    let acquired = where_zero _ _ c.acquire_part.result c.if-acquire_part-ne0.false (c.acquire_part.ensures.outcome (both_in_hand t [] k.0) (stands k.1)) in
     let spied = c.if-not-spy_in.ensures.done v acquired.0 k.0 refl acquired.1.carries in (
       spied.0,
       victim_after_spy acquired.0 spied.0,
@@ -72,7 +72,7 @@ pub returns-clause-done : goal.returns-clause-done
 returns-clause-done g c shared has =
     let content = g.S.Holding.content in let suits = g.S.Holding.suits in
     let m = c.args.table.now.key in let t = c.args.thread in let v = c.args.victim in let me = c.args.seat.now.me in
-    let acquired = where_zero _ _ c.acquire_part.result c.if-acquire_part-ne0.false (c.acquire_part.ensures.told (both_in_hand t [] shared) (stands has)) in
+    let acquired = where_zero _ _ c.acquire_part.result c.if-acquire_part-ne0.false (c.acquire_part.ensures.outcome (both_in_hand t [] shared) (stands has)) in
     let spied = c.if-not-spy_in.ensures.done v acquired.0 shared refl acquired.1.carries in
     let left = victim_after_spy acquired.0 spied.0 in let rest_of_hand = both_in_hand t (own_after_spy spied.0) shared in
     let named = c.commit_moving.ensures.list left rest_of_hand spied.2 in

@@ -14,20 +14,20 @@ pub compare_exchange-requires : goal.compare_exchange-requires
 compare_exchange-requires g c =
     let m = c.args.table.now.key in let slots = c.args.table.now.table_id.slots in
     let me = c.args.seat.now.me in let p = c.args.part in let t = c.args.thread in
-    let le = c.requires.part in let seat = c.requires.seat in let told = c.requires.told in
+    let le = c.requires.part in let seat = c.requires.seat in let outcome = c.requires.outcome in
     let content = g.S.Holding.content in let suits = g.S.Holding.suits in (
       seat.0,
       inside c.args.table.now.table_id m p seat.1 le,
       subst (λ (l : Sizes × ℕ). Allows (Ruled content suits m) slots c.args.seat.now.id me (place p) (λ n. either (n == 0) (t + 1) n) (on_part (attempted content suits l.0 l.1) (step slots (place p) 0 (t + 1) none) me))
-          (λ i. (sym told.0 i, sym told.1 i))
+          (λ i. (sym outcome.0 i, sym outcome.1 i))
           (subst (λ (os : List Own). Allows (Ruled content suits m) slots c.args.seat.now.id (view os, me.1) (place p) (λ n. either (n == 0) (t + 1) n) (on_part (attempted content suits m t) (step slots (place p) 0 (t + 1) none) (view os, me.1)))
           (sym c.requires.view)
           (acquire_allows content suits m slots c.args.seat.now.id p t (mine me.0) (rest_of me.0) me.1 seat.2 le c.requires.away)),
     )
 
-pub returns-clause-told : goal.returns-clause-told
-returns-clause-told g c =
+pub returns-clause-outcome : goal.returns-clause-outcome
+returns-clause-outcome g c =
     let slots = c.args.table.now.table_id.slots in let me = c.args.seat.now.me in let p = c.args.part in
-    let told = c.requires.told in
+    let outcome = c.requires.outcome in
     subst (λ (l : Sizes × ℕ). attempted g.S.Holding.content g.S.Holding.suits l.0 l.1 (step slots p 0 (c.args.thread + 1) none) me c.compare_exchange.result c.compare_exchange.new.seat.me)
-    (λ i. (told.0 i, told.1 i)) (c.compare_exchange.ensures.2 p refl)
+    (λ i. (outcome.0 i, outcome.1 i)) (c.compare_exchange.ensures.2 p refl)

@@ -3,8 +3,8 @@ use Rattle.klsm_world.specs.OwnSteps.{found_in}
 use Rattle.klsm_board.proofs.lemmas.table.SeatLemmas.{tried, tried_others}
 use Rattle.klsm_board.proofs.steps.acquire_part.Goals as goal
 
-pub acquire-requires-clause-told : goal.acquire-requires-clause-told
-acquire-requires-clause-told g c = (refl, refl)
+pub acquire-requires-clause-outcome : goal.acquire-requires-clause-outcome
+acquire-requires-clause-outcome g c = (refl, refl)
 
 pub acquire-requires-clause-view : goal.acquire-requires-clause-view
 acquire-requires-clause-view g c = let has = c.requires.has.1 in let carries = has.carries in carries.acts
@@ -12,8 +12,8 @@ acquire-requires-clause-view g c = let has = c.requires.has.1 in let carries = h
 pub acquire-requires-clause-away : goal.acquire-requires-clause-away
 acquire-requires-clause-away g c = let has = c.requires.has.1 in ap (λ h. found_in h c.args.part) has.hand_is ∙ c.requires.has.2
 
-pub returns-clause-told : goal.returns-clause-told
-returns-clause-told g c = λ hand has. tried g.S.Holding.content g.S.Holding.suits c.args.table.now.key c.args.thread c.args.part c.args.table.now.table_id.slots c.acquire.result hand c.args.seat.now.me c.acquire.new.seat.me has c.acquire.ensures.told
+pub returns-clause-outcome : goal.returns-clause-outcome
+returns-clause-outcome g c = λ hand has. tried g.S.Holding.content g.S.Holding.suits c.args.table.now.key c.args.thread c.args.part c.args.table.now.table_id.slots c.acquire.result hand c.args.seat.now.me c.acquire.new.seat.me has c.acquire.ensures.outcome
 
 pub returns-clause-others : goal.returns-clause-others
-returns-clause-others g c = tried_others g.S.Holding.content g.S.Holding.suits c.args.table.now.key c.args.thread c.args.part c.args.table.now.table_id.slots c.acquire.result c.args.seat.now.me c.acquire.new.seat.me c.acquire.ensures.told
+returns-clause-others g c = tried_others g.S.Holding.content g.S.Holding.suits c.args.table.now.key c.args.thread c.args.part c.args.table.now.table_id.slots c.acquire.result c.args.seat.now.me c.acquire.new.seat.me c.acquire.ensures.outcome

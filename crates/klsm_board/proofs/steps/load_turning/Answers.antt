@@ -11,18 +11,18 @@ pub load-requires : goal.load-requires
 load-requires g c =
     let m = c.args.table.now.key in let slots = c.args.table.now.table_id.slots in
     let me = c.args.seat.now.me in let t = c.args.thread in
-    let seat = c.requires.seat in let told = c.requires.told in
+    let seat = c.requires.seat in let outcome = c.requires.outcome in
     let words : c.args.table.now.table_id.words ≡ (m.threads + 2) * 16 = seat.1.0 in
     let content = g.S.Holding.content in let suits = g.S.Holding.suits in (
       seat.0,
       omega (arith, words),
       subst (λ (l : Sizes × ℕ). Allows (Ruled content suits m) slots c.args.seat.now.id me 0 (λ n. n) (turned_to l.0 l.1 (step slots 0 0 0 none) me))
-          (λ i. (sym told.0 i, sym told.1 i))
+          (λ i. (sym outcome.0 i, sym outcome.1 i))
           (turn_allows content suits m slots c.args.seat.now.id t me seat.2 c.requires.has),
     )
 
-pub returns-clause-told : goal.returns-clause-told
-returns-clause-told g c =
-    let told = c.requires.told in let slots = c.args.table.now.table_id.slots in
+pub returns-clause-outcome : goal.returns-clause-outcome
+returns-clause-outcome g c =
+    let outcome = c.requires.outcome in let slots = c.args.table.now.table_id.slots in
     subst (λ (l : Sizes × ℕ). turned_to l.0 l.1 (step slots 0 0 0 none) c.args.seat.now.me c.load.result c.load.new.seat.me)
-    (λ i. (told.0 i, told.1 i)) c.load.ensures.2
+    (λ i. (outcome.0 i, outcome.1 i)) c.load.ensures.2

@@ -4,8 +4,8 @@ use Rattle.klsm_board.proofs.lemmas.hands.EventLemmas.{own_in_one}
 use Rattle.klsm_board.proofs.lemmas.calls.EarlyLemmas.{looked_others}
 use Rattle.klsm_board.proofs.steps.look_at_front.Goals as goal
 
-pub load_front-requires-clause-told : goal.load_front-requires-clause-told
-load_front-requires-clause-told g c = (refl, refl, refl)
+pub load_front-requires-clause-outcome : goal.load_front-requires-clause-outcome
+load_front-requires-clause-outcome g c = (refl, refl, refl)
 
 pub load_front-requires-clause-view : goal.load_front-requires-clause-view
 load_front-requires-clause-view g c = let has = c.requires.has.1 in let carries = has.carries in carries.acts
@@ -16,4 +16,4 @@ load_front-requires-clause-least g c =
     (own, ap (λ h. found_in h (t + 1)) has.hand_is ∙ own_in_one t own, c.requires.has.2)
 
 pub returns-clause-others : goal.returns-clause-others
-returns-clause-others g c = looked_others g.S.Holding.content g.S.Holding.suits c.args.table.now.key c.args.thread c.args.least c.load_front.result c.args.seat.now.me c.load_front.new.seat.me c.load_front.ensures.told
+returns-clause-others g c = looked_others g.S.Holding.content g.S.Holding.suits c.args.table.now.key c.args.thread c.args.least c.load_front.result c.args.seat.now.me c.load_front.new.seat.me c.load_front.ensures.outcome

@@ -13,10 +13,10 @@ turn_to-requires-room-S-Holding-2 g c κs = shared_fits _ c.args.acting.now.leve
 
 pub invariant_of-acting : goal.invariant_of-acting
 invariant_of-acting g c =
-    let me = c.args.acting.now in let n = c.args.number in let told = c.turn_to.ensures in
-    let reached = subst (λ (m : Sizes). AreReached m n c.turn_to.new.seat.me.0) (c.args.board.now.key ∙ sym c.requires.of.1) told.reached in
+    let me = c.args.acting.now in let n = c.args.number in let outcome = c.turn_to.ensures in
+    let reached = subst (λ (m : Sizes). AreReached m n c.turn_to.new.seat.me.0) (c.args.board.now.key ∙ sym c.requires.of.1) outcome.reached in
     record {
-      rests = rests_at_turn me.sizes n c.args.inserted c.args.deleted me.seat.me c.turn_to.new.seat.me c.requires.has (ap (λ z. z.0) told.turned) (ap (λ z. z.1) told.turned ∙ me.rests.carries_none) reached c.requires.rests;
+      rests = rests_at_turn me.sizes n c.args.inserted c.args.deleted me.seat.me c.turn_to.new.seat.me c.requires.has (ap (λ z. z.0) outcome.turned) (ap (λ z. z.1) outcome.turned ∙ me.rests.carries_none) reached c.requires.rests;
       in_range = me.in_range;
       capacity = me.capacity;
       levels = me.levels;

@@ -37,12 +37,12 @@ split_seat-requires g c =
 
 pub invariant_of-result : goal.invariant_of-result
 invariant_of-result g c =
-    let board = c.args.board.now in let n = c.args.number in let lists = c.args.seat.now.me.0.lists in let told = c.turn_to.ensures in
-    let is : c.turn_to.new.seat.me.0.lists ≡ own n (steps_known lists n) ∷ left_behind n lists = ap (λ z. z.0.lists) told.turned ∙ turned_first n lists c.requires.has in
-    let reached = subst (λ (m : Sizes). AreReached m n c.turn_to.new.seat.me.0) board.key told.reached in
+    let board = c.args.board.now in let n = c.args.number in let lists = c.args.seat.now.me.0.lists in let outcome = c.turn_to.ensures in
+    let is : c.turn_to.new.seat.me.0.lists ≡ own n (steps_known lists n) ∷ left_behind n lists = ap (λ z. z.0.lists) outcome.turned ∙ turned_first n lists c.requires.has in
+    let reached = subst (λ (m : Sizes). AreReached m n c.turn_to.new.seat.me.0) board.key outcome.reached in
     record {
       rests = rests_alone board.sizes n c.args.inserted c.args.deleted lists c.split_seat.result.me c.requires.has (c.split_seat.ensures.4 ∙ ap (λ (z : List Own). (view (first_of_all z), [])) is)
-          (subst (λ (z : View). AreReached board.sizes n z) (ap (λ z. z.0) told.turned) reached) c.requires.rests;
+          (subst (λ (z : View). AreReached board.sizes n z) (ap (λ z. z.0) outcome.turned) reached) c.requires.rests;
       in_range = board.in_range;
       capacity = board.capacity;
       levels = board.levels;
@@ -50,12 +50,12 @@ invariant_of-result g c =
 
 pub returns-clause-left : goal.returns-clause-left
 returns-clause-left g c =
-    let n = c.args.number in let lists = c.args.seat.now.me.0.lists in let told = c.turn_to.ensures in
-    let is : c.turn_to.new.seat.me.0.lists ≡ own n (steps_known lists n) ∷ left_behind n lists = ap (λ z. z.0.lists) told.turned ∙ turned_first n lists c.requires.has in
-    c.split_seat.ensures.2 ∙ λ i. (view (others (is i)), (ap (λ z. z.1) told.turned ∙ c.requires.none) i)
+    let n = c.args.number in let lists = c.args.seat.now.me.0.lists in let outcome = c.turn_to.ensures in
+    let is : c.turn_to.new.seat.me.0.lists ≡ own n (steps_known lists n) ∷ left_behind n lists = ap (λ z. z.0.lists) outcome.turned ∙ turned_first n lists c.requires.has in
+    c.split_seat.ensures.2 ∙ λ i. (view (others (is i)), (ap (λ z. z.1) outcome.turned ∙ c.requires.none) i)
 
 pub returns-clause-member : goal.returns-clause-member
 returns-clause-member g c =
-    let n = c.args.number in let lists = c.args.seat.now.me.0.lists in let told = c.turn_to.ensures in
-    let is : c.turn_to.new.seat.me.0.lists ≡ own n (steps_known lists n) ∷ left_behind n lists = ap (λ z. z.0.lists) told.turned ∙ turned_first n lists c.requires.has in
-    (λ i. n, (c.split_seat.ensures.3 ∙ (told.same.0 ∙ c.requires.table), λ i. c.args.board.now.sizes), ap (λ z. mine z.0) c.split_seat.ensures.4 ∙ ap (λ (z : List Own). mine (view (first_of_all z))) is)
+    let n = c.args.number in let lists = c.args.seat.now.me.0.lists in let outcome = c.turn_to.ensures in
+    let is : c.turn_to.new.seat.me.0.lists ≡ own n (steps_known lists n) ∷ left_behind n lists = ap (λ z. z.0.lists) outcome.turned ∙ turned_first n lists c.requires.has in
+    (λ i. n, (c.split_seat.ensures.3 ∙ (outcome.same.0 ∙ c.requires.table), λ i. c.args.board.now.sizes), ap (λ z. mine z.0) c.split_seat.ensures.4 ∙ ap (λ (z : List Own). mine (view (first_of_all z))) is)

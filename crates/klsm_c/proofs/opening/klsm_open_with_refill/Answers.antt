@@ -1,6 +1,6 @@
 use Rattle.std.proofs.Common.{rules, ◌≡◌, ◌-◌, ◌++◌, false, length, map, ap, sym, subst, ◌∙◌}
 use Rattle.std.specs.Prelude.{replicate}
-use Rattle.klsm_owned.specs.Owned.{AreNew, IsWhole, members_of}
+use Rattle.klsm_owned.specs.Owned.{AreNew, AreAllOfTheirBoard, members_of}
 use Rattle.klsm_c.specs.Opening.{pick_by}
 use Rattle.klsm_c.specs.Slots.{alone, owned_in, some_open}
 use Rattle.klsm_c.proofs.SlotLemmas.{filled_front, filled_own, none}
@@ -10,7 +10,7 @@ pub invariant_of-queue : goal.invariant_of-queue
 invariant_of-queue c =
     let values = map (λ b. b.value) c.in-Ok.members.items in let old = c.args.queue.now.slots in
     let closed : some_open old ≡ false = sym c.some_is_open.ensures ∙ c.if-some_is_open.false in
-    record { whole = subst (λ xs. IsWhole (members_of xs)) (sym (filled_own c.fill_front.new.slots old values (length c.in-Ok.members.items) closed c.fill_front.ensures)) c.in-Ok.ensures.whole }
+    record { whole = subst (λ xs. AreAllOfTheirBoard (members_of xs)) (sym (filled_own c.fill_front.new.slots old values (length c.in-Ok.members.items) closed c.fill_front.ensures)) c.in-Ok.ensures.whole }
 
 pub returns-in-Ok-clause-ok : goal.returns-in-Ok-clause-ok
 returns-in-Ok-clause-ok c = λ ok.

@@ -10,8 +10,8 @@ use Rattle.klsm_knapsack.specs.declared.errors.SolveError.{SolveError}
 use Rattle.klsm_knapsack.specs.Watching.{IsWatchedBy}
 use Rattle.klsm_knapsack.specs.Ends.{IsLeastRefusal}
 use Rattle.klsm_knapsack.specs.Refusals.{RefusesWithRefill}
-use Rattle.klsm_knapsack.specs.Workers.{AreWorkersOf, HasEndedSo, IsNew, HaveWorked, IsSearched}
-use Rattle.klsm_knapsack.proofs.CrewLemmas.{none_refused}
+use Rattle.klsm_knapsack.specs.Workers.{AreWorkersOf, HasEndedSo, HasNotBegun, HaveWorked, IsSearched}
+use Rattle.klsm_knapsack.proofs.CrewLemmas.{none_refused, so_many_workers}
 use Rattle.klsm_parts.proofs.FitLemmas.{shared_fits}
 use Rattle.klsm_knapsack.proofs.FinishLemmas.{good_threads, good_k, good_refill, memory_is_not_threads, memory_is_not_k, memory_is_not_refill, whole, refuses, refused_too, recruited, are_new, members_of, least_refusal, searched}
 use Rattle.klsm_knapsack.proofs.solving.solve_on_board.Goals as goal
@@ -24,12 +24,11 @@ search-requires-after_bounds g c κs within =
     let made = c.in_ok-board.ensures in
     let threads : board.sizes.threads ≡ c.args.threads = ap (λ (m : Sizes). m.threads) made.sizes in
     let quota : board.sizes.quota ≡ most_insertions = ap (λ (m : Sizes). m.quota) made.sizes in
-    let many : length c.in_ok-board.members.items ≡ board.sizes.threads = made.count ∙ sym threads in
     let some_thread : 0 < board.sizes.threads = omega (arith, threads, made.in_range.0) in
-    let crew : AreWorkersOf common workers = recruited common workers c.in_ok-board.members.items c.in-Ok-recruit.ensures.members made.of many some_thread made.crew c.in-Ok-recruit.ensures.seats in
-    let new : All IsNew workers = are_new common workers c.in_ok-board.members.items c.in-Ok-recruit.ensures.members made.of many some_thread made.crew c.in-Ok-recruit.ensures.seats in
+    let crew : AreWorkersOf common workers = recruited common workers c.in_ok-board.members.items c.in-Ok-recruit.ensures.members made.crew some_thread c.in-Ok-recruit.ensures.seats in
+    let new : All HasNotBegun workers = are_new common workers c.in_ok-board.members.items c.in-Ok-recruit.ensures.members made.crew some_thread c.in-Ok-recruit.ensures.seats in
     let lent : workers ≡ c.as_mut_slice.result.now = sym c.as_mut_slice.ensures.value in
-    (lit< tt, (lit< tt, (c.in-Ok.ensures.0, (subst (λ (ws : List (Worker g.row.LEVELS)). AreWorkersOf common ws) lent crew, (subst (λ (ws : List (Worker g.row.LEVELS)). All IsNew ws) lent new, omega (arith, quota))))))
+    (lit< tt, (lit< tt, (c.in-Ok.ensures.0, (subst (λ (ws : List (Worker g.row.LEVELS)). AreWorkersOf common ws) lent crew, (subst (λ (ws : List (Worker g.row.LEVELS)). All HasNotBegun ws) lent new, omega (arith, quota))))))
 
 pub dismiss-requires : goal.dismiss-requires
 dismiss-requires g c =
@@ -39,8 +38,8 @@ dismiss-requires g c =
     let as_long : c.in-Ok-recruit.crew.len ≡ length after = search rules in
     let is : take c.in-Ok-recruit.crew.len (after ++ drop (length after) c.in-Ok-recruit.crew.items) ≡ after = whole c.in-Ok-recruit.crew.len after (drop (length after) c.in-Ok-recruit.crew.items) as_long in
     let threads : c.in_ok-board.board.sizes.threads ≡ c.args.threads = ap (λ (m : Sizes). m.threads) c.in_ok-board.ensures.sizes in
-    let room : length after ≤ vec_capacity c.in-Ok-with_capacity.back = omega (arith, crew.many, threads, c.in-Ok-with_capacity.ensures.exact) in
-    let seats : All (λ (w : Worker g.row.LEVELS). IsWatchedBy c.in-Ok.incumbent w.watcher) after = λ k d lt. (crew.of k d lt).watcher in (
+    let room : length after ≤ vec_capacity c.in-Ok-with_capacity.back = omega (arith, so_many_workers common after crew, threads, c.in-Ok-with_capacity.ensures.exact) in
+    let seats : All (λ (w : Worker g.row.LEVELS). IsWatchedBy c.in-Ok.incumbent w.watcher) after = crew.watchers in (
       lit< tt,
       (
         lit< tt,
@@ -87,7 +86,7 @@ returns-clause-best g c =
     let none = rw is at c.in_default-dismiss.ensures.none in
     let worked : HaveWorked p after = c.search.ensures.worked (none_refused after none) in
     let done : IsSearched p c.finish-number.result c.in-Ok-finish.account.left.items = searched common after c.search.ensures.crew p _ c.finish-number.result c.dismiss.new.back.items c.in-Ok-finish.account.left.items back worked found c.finish-number.ensures.found
-    c.in-Ok-finish.ensures.ok.0 c.in-Ok-finish.ensures.each_once c.in-Ok-finish.ensures.ok.4 in
+    c.in-Ok-finish.ensures.each_once c.in-Ok-finish.ensures.ok.4 in
     c.conclude.ensures.best (rw c.as_slice.ensures.value done)
 
 pub drop-members-requires-room-T-Destruct : goal.drop-members-requires-room-T-Destruct

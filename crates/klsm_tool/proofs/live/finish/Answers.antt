@@ -1,9 +1,9 @@
 use Rattle.std.proofs.Common.{rules, ◌∙◌, List, length, sym, ap, subst}
 use Rattle.klsm_world.specs.declared.step.Entry.{Entry}
 use Rattle.klsm_world.specs.Account.{account}
+use Rattle.klsm_board.specs.Boards.{AreMembersOf}
 use Rattle.klsm_board.specs.declared.board.Member.{Member}
 use Rattle.klsm_board.specs.Finishing.{AreListsAtEnd}
-use Rattle.klsm_tool.specs.Crews.{AreMembers}
 use Rattle.klsm_tool.proofs.CrewLemmas.{crew_all, crew_lists}
 use Rattle.klsm_tool.proofs.PlaceLemmas.{same_members}
 use Rattle.klsm_tool.proofs.live.finish.Goals as goal
@@ -14,14 +14,14 @@ members_of-requires c = (c.requires.crew.0, c.requires.crew.1)
 pub finish-requires : goal.finish-requires
 finish-requires c =
     let same = same_members c.requires.crew.0 c.in-Ok.members.items (sym c.requires.crew.1 ∙ c.in-Ok.ensures) in
-    let crew : AreMembers c.args.board c.in-Ok.members.items = subst (λ (z : List (Member 64 21)). AreMembers c.args.board z) same c.requires.crew.2 in
+    let crew : AreMembersOf c.args.board c.in-Ok.members.items = subst (λ (z : List (Member 64 21)). AreMembersOf c.args.board z) same c.requires.crew.2 in
     (search rules, (search rules, (search rules, crew_all c.args.board c.in-Ok.members.items crew)))
 
 pub returns-in-Ok-finish-clause-totals : goal.returns-in-Ok-finish-clause-totals
 returns-in-Ok-finish-clause-totals c =
     let board = c.args.board in let members = c.in-Ok.members.items in
     let same = same_members c.requires.crew.0 members (sym c.requires.crew.1 ∙ c.in-Ok.ensures) in
-    let crew : AreMembers board members = subst (λ (z : List (Member 64 21)). AreMembers board z) same c.requires.crew.2 in
+    let crew : AreMembersOf board members = subst (λ (z : List (Member 64 21)). AreMembersOf board z) same c.requires.crew.2 in
     let lists = sym (crew_lists board members crew) in let ok = c.in-Ok-finish.ensures.ok in (
       members,
       c.in-Ok.ensures,

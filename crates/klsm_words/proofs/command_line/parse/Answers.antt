@@ -10,7 +10,7 @@ use Rattle.klsm_words.specs.declared.command_line.Fault.{Fault}
 use Rattle.klsm_words.specs.declared.command_line.Fault.TheVariants.{Said, UnknownPick, BadRefill, NotText, NoMemory}
 use Rattle.klsm_words.specs.declared.command_line.Action.{Action}
 use Rattle.klsm_words.specs.CommandLine.{IsCommand, action_in, action_under, found_in, klsm_command}
-use Rattle.klsm_words.specs.CommandLine.{Explains, IsFaultIn, IsRefused}
+use Rattle.klsm_words.specs.CommandLine.{Explains, IsFaultIn, IsFaultOf}
 use Rattle.klsm_words.proofs.command_line.parse.Goals as goal
 
 -- the command is one of which the parser's answers are known
@@ -43,14 +43,14 @@ unfolding action_in
 action_found a texts words m is same has = sym (ap action_under ((has (matches_known a is)).1 ∙ ap₂ subcommand_of is same))
 
 -- what is refused of what the words ask for is a fault in them
-refused_in : (words : List (List ℕ)) (asked : Option Action) (fault : Fault) → IsCommand words → action_in words ≡ asked → IsRefused asked fault → IsFaultIn words fault
+refused_in : (words : List (List ℕ)) (asked : Option Action) (fault : Fault) → IsCommand words → action_in words ≡ asked → IsFaultOf asked fault → IsFaultIn words fault
 refused_in words asked UnknownPick command found is = (command, found ∙ is)
 refused_in words asked BadRefill command found is = (command, (is.0, found ∙ is.1, is.2))
 refused_in words asked (Said said status) command found is = absurd is
 refused_in words asked NotText command found is = absurd is
 refused_in words asked NoMemory command found is = absurd is
 
-run_refused : (words : List (List ℕ)) (asked : Option Action) (r : Result Action Fault) → IfErr r (IsRefused asked) → IsCommand words → action_in words ≡ asked → IfErr r (IsFaultIn words)
+run_refused : (words : List (List ℕ)) (asked : Option Action) (r : Result Action Fault) → IfErr r (IsFaultOf asked) → IsCommand words → action_in words ≡ asked → IfErr r (IsFaultIn words)
 run_refused words asked (Err fault) is command found = refused_in words asked fault command found is
 run_refused words asked (Ok action) is command found = tt
 

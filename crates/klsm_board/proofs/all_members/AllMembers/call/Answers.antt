@@ -10,16 +10,16 @@ use Rattle.klsm_board.proofs.all_members.AllMembers.call.Goals as goal
 
 pub invariant_of-self : goal.invariant_of-self
 invariant_of-self g c =
-    let all = c.args.self.now in let me = all.acting in let n = c.args.number in let lists = me.seat.me.0.lists in let noted = c.note.ensures in let told = c.hand_on.ensures in
+    let all = c.args.self.now in let me = all.acting in let n = c.args.number in let lists = me.seat.me.0.lists in let noted = c.note.ensures in let outcome = c.hand_on.ensures in
     let inside : length all.tally.inserted ≡ 16 = all.tally.sized.0 in let inside' : length all.tally.deleted ≡ 16 = all.tally.sized.1 in
     let thread : me.number < me.sizes.threads = me.rests.thread in let few : me.sizes.threads ≤ 16 = me.in_range.threads in let whole = all.whole in
     let rests = all_rest me.sizes me.number me.inserted me.deleted lists all.tally.inserted all.tally.deleted (omega (arith, inside, thread, few)) (omega (arith, inside', thread, few)) whole (rests_as me.sizes me.number me.inserted me.deleted me.seat.me me.rests) in
     let ins = c.note.new.self.inserted in let dels = c.note.new.self.deleted in
     let now : (u : ℕ) → u < me.sizes.threads → IsAtRest me.sizes u (steps_known lists u) (slice_index_or ins u 0) (slice_index_or dels u 0) = (λ u below.
     subst (λ (z : List ℕ × List ℕ). IsAtRest me.sizes u (steps_known lists u) (slice_index_or z.0 u 0) (slice_index_or z.1 u 0)) (λ i. (sym noted.inserted i, sym noted.deleted i)) (rests u below)) in
-    let sizes : me.sizes ≡ c.hand_on.new.acting.sizes = c.requires.of.1 ∙ sym told.of.1 in
+    let sizes : me.sizes ≡ c.hand_on.new.acting.sizes = c.requires.of.1 ∙ sym outcome.of.1 in
     record {
-      whole = subst (λ (z : Sizes × ℕ × List Own). IsWhole z.0 z.1 z.2 ins dels) (λ i. (sizes i, sym told.turn i, ap (λ (v : View). v.lists) (sym told.lists) i))
+      whole = subst (λ (z : Sizes × ℕ × List Own). IsWhole z.0 z.1 z.2 ins dels) (λ i. (sizes i, sym outcome.turn i, ap (λ (v : View). v.lists) (sym outcome.lists) i))
           (whole_at_turn me.sizes n lists ins dels (whole.has n c.requires.number) whole.has now);
       empty = all.empty;
       roomy = let threads = ap (λ (z : Sizes). z.threads) sizes in omega (arith, threads, all.roomy);

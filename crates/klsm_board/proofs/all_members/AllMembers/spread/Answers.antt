@@ -39,18 +39,18 @@ member_of-member-requires g c =
 pub loop-number-preserved : goal.loop-number-preserved
 loop-number-preserved g c =
     let inv = c.loop-number.invariant in let n = c.loop-number.number in let me = c.args.self.acting in let lists = c.loop-number.seat.me.0.lists in let test : n < me.sizes.threads = c.loop-number-test.true in
-    let member = c.member_of-member.result in let told = c.member_of-member.ensures in let pushed = c.in-Ok.ensures in let at : n ≤ n = omega arith in
+    let member = c.member_of-member.result in let outcome = c.member_of-member.ensures in let pushed = c.in-Ok.ensures in let at : n ≤ n = omega arith in
     let items : c.push.new.self.items ≡ c.loop-number.members.items ++ member ∷ [] = pushed.items in
     record {
-      of_table = told.table ∙ inv.of_table;
-      none = ap (λ z. z.1) told.left;
-      has = λ t above below. subst (λ z. HasList z.0.lists t) (sym told.left) (has_behind n t lists (inv.has n at test) (λ same. omega (arith, same, above)) (inv.has t (omega (arith, above)) below));
-      same = λ t above below. ap (λ z. steps_known z.0.lists t) told.left ∙ (behind_known n t lists (λ same. omega (arith, same, above)) ∙ inv.same t (omega (arith, above)) below);
+      of_table = outcome.table ∙ inv.of_table;
+      none = ap (λ z. z.1) outcome.left;
+      has = λ t above below. subst (λ z. HasList z.0.lists t) (sym outcome.left) (has_behind n t lists (inv.has n at test) (λ same. omega (arith, same, above)) (inv.has t (omega (arith, above)) below));
+      same = λ t above below. ap (λ z. steps_known z.0.lists t) outcome.left ∙ (behind_known n t lists (λ same. omega (arith, same, above)) ∙ inv.same t (omega (arith, above)) below);
       rests = inv.rests;
       room = omega (arith, pushed.capacity, inv.room);
       count = ap (λ (z : List (Member g.row.CAP g.row.LEVELS)). length z) items ∙ (length-append c.loop-number.members.items (member ∷ []) ∙ ap (λ z. z + 1) inv.count);
       members = λ i one there. at_new_end c.loop-number.members.items member n inv.count (λ j z. (z.number ≡ j) × IsOf z c.args.board.now × (own_steps z ≡ steps_known me.seat.me.0.lists j)) inv.members
-          (told.member.0, told.member.1, told.member.2 ∙ inv.same n at test) i one (ap (λ (z : List (Member g.row.CAP g.row.LEVELS)). get_elem? z i) (sym items) ∙ there);
+          (outcome.member.0, outcome.member.1, outcome.member.2 ∙ inv.same n at test) i one (ap (λ (z : List (Member g.row.CAP g.row.LEVELS)). get_elem? z i) (sym items) ∙ there);
     }
 
 pub returns-clause-of : goal.returns-clause-of
@@ -58,5 +58,14 @@ returns-clause-of g c k d h =
     let members = c.loop-number.members.items in
     (c.loop-number.invariant.members k (slice_index_or members k d) (found_at members k d h)).1
 
-pub returns-clause-members : goal.returns-clause-members
-returns-clause-members g c i member at = let told = c.loop-number.invariant.members i member at in (told.0, told.2)
+pub returns-clause-crew : goal.returns-clause-crew
+returns-clause-crew g c =
+    let inv = c.loop-number.invariant in let sizes : c.args.self.acting.sizes.threads ≡ c.args.board.now.sizes.threads = ap (λ (z : Sizes). z.threads) c.requires.of.1 in
+    record {
+      of = λ i member at. (inv.members i member at).1;
+      many = omega (arith, inv.count, sizes, c.loop-number-test.false, c.loop-number.auto.number-end);
+      numbered = λ i member at. (inv.members i member at).0;
+    }
+
+pub returns-clause-steps : goal.returns-clause-steps
+returns-clause-steps g c i member at = (c.loop-number.invariant.members i member at).2

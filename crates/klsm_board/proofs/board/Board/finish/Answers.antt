@@ -29,15 +29,15 @@ returns-clause-missing g c = λ number.
 
 pub close-requires : goal.close-requires
 close-requires g c =
-    let board = c.args.self in let threads = board.sizes.threads in let told = c.in-Ok.ensures.ok in let same = c.as_slice.ensures.value in
-    let all = subst (λ (z : List (Member g.row.CAP g.row.LEVELS)). AreAll z threads) same told.0 in
-    let insertions = told.1 ∙ ap (λ (z : List (Member g.row.CAP g.row.LEVELS)). length (flat_map inserted (lists_of threads z))) same in
-    let deletions = told.2 ∙ ap (λ (z : List (Member g.row.CAP g.row.LEVELS)). length (flat_map deleted (lists_of threads z))) same in
+    let board = c.args.self in let threads = board.sizes.threads in let outcome = c.in-Ok.ensures.ok in let same = c.as_slice.ensures.value in
+    let all = subst (λ (z : List (Member g.row.CAP g.row.LEVELS)). AreAll z threads) same outcome.0 in
+    let insertions = outcome.1 ∙ ap (λ (z : List (Member g.row.CAP g.row.LEVELS)). length (flat_map inserted (lists_of threads z))) same in
+    let deletions = outcome.2 ∙ ap (λ (z : List (Member g.row.CAP g.row.LEVELS)). length (flat_map deleted (lists_of threads z))) same in
     let count = c.saturating_sub-count.ensures in let made = c.in-Ok-with_capacity.ensures in let room = made.capacity in
     (search rules, (search rules, (c.requires, (all, (insertions, (deletions, (made.items, omega (arith, count, room))))))))
 
 pub returns-clause-ok : goal.returns-clause-ok
 returns-clause-ok g c =
     let all = subst (λ (z : List (Member g.row.CAP g.row.LEVELS)). AreAll z c.args.self.sizes.threads) c.as_slice.ensures.value c.in-Ok.ensures.ok.0 in
-    let told = c.close.ensures in
-    (all, told.at_end, told.inserted, told.deleted, told.left)
+    let outcome = c.close.ensures in
+    (all, outcome.at_end, outcome.inserted, outcome.deleted, outcome.left)

@@ -57,14 +57,14 @@ known CAP LEVELS key m members v w ins dels same some_thread counted knows is re
 
 pub invariant_of-acting : goal.invariant_of-acting
 invariant_of-acting g c =
-    let board = c.args.self.now in let m = board.sizes in let members = c.args.members.items in let seat = c.join_all-seat.result in let ins = c.in-Ok.tally.inserted in let dels = c.in-Ok.tally.deleted in let told = c.turn_to.ensures in
+    let board = c.args.self.now in let m = board.sizes in let members = c.args.members.items in let seat = c.join_all-seat.result in let ins = c.in-Ok.tally.inserted in let dels = c.in-Ok.tally.deleted in let outcome = c.turn_to.ensures in
     let some_thread : 0 < m.threads = omega (arith, board.in_range.some_thread) in
     let counted = subst (λ (z : List (Member g.row.CAP g.row.LEVELS)). AreCounted z m.threads ins dels) c.as_slice.ensures.value c.in-Ok.ensures.ok in
-    let is = ap (λ z. z.0) told.turned in
-    let k = known g.row.CAP g.row.LEVELS board.table.shared.key m members seat.me.0 c.turn_to.new.seat.me.0 ins dels board.key some_thread counted c.join_all-seat.ensures.knows is told.reached in
+    let is = ap (λ z. z.0) outcome.turned in
+    let k = known g.row.CAP g.row.LEVELS board.table.shared.key m members seat.me.0 c.turn_to.new.seat.me.0 ins dels board.key some_thread counted c.join_all-seat.ensures.knows is outcome.reached in
     let rest = members_rest m members seat.me.0.lists ins dels counted (λ i member there. (each_of (λ z. IsOf z board) members c.requires.of i member there).1) k.2 0 some_thread in
     record {
-      rests = rests_at_turn m 0 (slice_index_or ins 0 0) (slice_index_or dels 0 0) seat.me c.turn_to.new.seat.me k.0 is (ap (λ z. z.1) told.turned ∙ c.join_all-seat.ensures.none) k.1 rest;
+      rests = rests_at_turn m 0 (slice_index_or ins 0 0) (slice_index_or dels 0 0) seat.me c.turn_to.new.seat.me k.0 is (ap (λ z. z.1) outcome.turned ∙ c.join_all-seat.ensures.none) k.1 rest;
       in_range = board.in_range;
       capacity = board.capacity;
       levels = board.levels;
@@ -72,11 +72,11 @@ invariant_of-acting g c =
 
 pub invariant_of-result : goal.invariant_of-result
 invariant_of-result g c =
-    let board = c.args.self.now in let m = board.sizes in let members = c.args.members.items in let seat = c.join_all-seat.result in let ins = c.in-Ok.tally.inserted in let dels = c.in-Ok.tally.deleted in let told = c.turn_to.ensures in
+    let board = c.args.self.now in let m = board.sizes in let members = c.args.members.items in let seat = c.join_all-seat.result in let ins = c.in-Ok.tally.inserted in let dels = c.in-Ok.tally.deleted in let outcome = c.turn_to.ensures in
     let some_thread : 0 < m.threads = omega (arith, board.in_range.some_thread) in
     let counted = subst (λ (z : List (Member g.row.CAP g.row.LEVELS)). AreCounted z m.threads ins dels) c.as_slice.ensures.value c.in-Ok.ensures.ok in
-    let is = ap (λ z. z.0) told.turned in
-    let k = known g.row.CAP g.row.LEVELS board.table.shared.key m members seat.me.0 c.turn_to.new.seat.me.0 ins dels board.key some_thread counted c.join_all-seat.ensures.knows is told.reached in
+    let is = ap (λ z. z.0) outcome.turned in
+    let k = known g.row.CAP g.row.LEVELS board.table.shared.key m members seat.me.0 c.turn_to.new.seat.me.0 ins dels board.key some_thread counted c.join_all-seat.ensures.knows is outcome.reached in
     let rests = members_rest m members seat.me.0.lists ins dels counted (λ i member there. (each_of (λ z. IsOf z board) members c.requires.of i member there).1) k.2 in
     record {
       whole = subst (λ (z : View). IsWhole m 0 z.lists ins dels) (sym is)
@@ -87,17 +87,17 @@ invariant_of-result g c =
 
 pub returns-clause-same : goal.returns-clause-same
 returns-clause-same g c =
-    let board = c.args.self.now in let m = board.sizes in let members = c.args.members.items in let seat = c.join_all-seat.result in let ins = c.in-Ok.tally.inserted in let dels = c.in-Ok.tally.deleted in let told = c.turn_to.ensures in
+    let board = c.args.self.now in let m = board.sizes in let members = c.args.members.items in let seat = c.join_all-seat.result in let ins = c.in-Ok.tally.inserted in let dels = c.in-Ok.tally.deleted in let outcome = c.turn_to.ensures in
     let some_thread : 0 < m.threads = omega (arith, board.in_range.some_thread) in
     let counted = subst (λ (z : List (Member g.row.CAP g.row.LEVELS)). AreCounted z m.threads ins dels) c.as_slice.ensures.value c.in-Ok.ensures.ok in
-    let is = ap (λ z. z.0) told.turned in
-    let k = known g.row.CAP g.row.LEVELS board.table.shared.key m members seat.me.0 c.turn_to.new.seat.me.0 ins dels board.key some_thread counted c.join_all-seat.ensures.knows is told.reached in
+    let is = ap (λ z. z.0) outcome.turned in
+    let k = known g.row.CAP g.row.LEVELS board.table.shared.key m members seat.me.0 c.turn_to.new.seat.me.0 ins dels board.key some_thread counted c.join_all-seat.ensures.knows is outcome.reached in
     (counted.all, ap (λ (z : View). lists_known m.threads z.lists) is ∙ lists_among m.threads members (turned 0 seat.me.0.lists) (λ t below. same_turned 0 seat.me.0.lists k.0 t ∙ k.2 t below))
 
 pub returns-clause-lists : goal.returns-clause-lists
 returns-clause-lists g c =
-    let board = c.args.self.now in let m = board.sizes in let seat = c.join_all-seat.result in let told = c.turn_to.ensures in
+    let board = c.args.self.now in let m = board.sizes in let seat = c.join_all-seat.result in let outcome = c.turn_to.ensures in
     let counted = subst (λ (z : List (Member g.row.CAP g.row.LEVELS)). AreCounted z m.threads c.in-Ok.tally.inserted c.in-Ok.tally.deleted) c.as_slice.ensures.value c.in-Ok.ensures.ok in
-    let is = ap (λ z. z.0) told.turned in
+    let is = ap (λ z. z.0) outcome.turned in
     let each : (u : ℕ) → u < m.threads → HasList c.turn_to.new.seat.me.0.lists u = (λ u below. subst (λ (z : View). HasList z.lists u) (sym is) (has_turned 0 u seat.me.0.lists (has_each c.args.members.items m.threads seat.me.0 counted.all c.join_all-seat.ensures.knows u below))) in
-    all_at_end m 0 c.turn_to.new.seat.me.0 (subst (λ (z : Sizes). AreReached z 0 c.turn_to.new.seat.me.0) board.key told.reached) each
+    all_at_end m 0 c.turn_to.new.seat.me.0 (subst (λ (z : Sizes). AreReached z 0 c.turn_to.new.seat.me.0) board.key outcome.reached) each

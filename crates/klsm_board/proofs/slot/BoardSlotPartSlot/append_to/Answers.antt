@@ -11,7 +11,7 @@ use Rattle.klsm_board.proofs.slot.BoardSlotPartSlot.append_to.Goals as goal
 
 -- the items that were appended are those of a slot where they are its part's
 appended : (answer : Result (Unit {0}) AllocError) (all all' items content : List Item) → OnOk answer (all' ≡ all ++ items) → sorted items ≡ content → OnOk answer ((found : List Item) × (sorted found ≡ content) × (all' ≡ all ++ found))
-appended answer all all' items content told same = on_ok_weaker answer (λ is. (items, same, is)) told
+appended answer all all' items content outcome same = on_ok_weaker answer (λ is. (items, same, is)) outcome
 
 -- a list that has room for the items of a part has it for those of its blocks
 pub returns-in-Own-clause-succeeds : goal.returns-in-Own-clause-succeeds

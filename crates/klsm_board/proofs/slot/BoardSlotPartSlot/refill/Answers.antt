@@ -22,8 +22,8 @@ returns-clause-done g c =
     let common = c.get_mut-in-Own-Common.result.now in
     let own_is : c.args.self.now ≡ Own own = c.in-Own-Common.is-0 ∙ ap Own (sym c.get_mut.ensures.value) in
     let common_is : c.args.shared.now ≡ Common common = c.in-Own-Common.is-1 ∙ ap Common (sym c.get_mut-in-Own-Common.ensures.value) in
-    let told = c.refill.ensures in
-    has_refilled c.args.most c.args.self.now c.args.shared.now own c.refill.new.own common c.refill.new.shared own_is common_is c.refill.result told.count told.unchanged told.event
+    let outcome = c.refill.ensures in
+    has_refilled c.args.most c.args.self.now c.args.shared.now own c.refill.new.own common c.refill.new.shared own_is common_is c.refill.result outcome.count outcome.unchanged outcome.event
 
 pub returns-clause-kind : goal.returns-clause-kind
 returns-clause-kind g c = λ k t.

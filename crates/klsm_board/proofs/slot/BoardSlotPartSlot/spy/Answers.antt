@@ -23,8 +23,8 @@ returns-clause-done g c =
     let victim = c.get_mut-in-Own-Own.result.now in
     let own_is : c.args.self.now ≡ Own own = c.in-Own-Own.is-0 ∙ ap Own (sym c.get_mut.ensures.value) in
     let victim_is : c.args.victim.now ≡ Own victim = c.in-Own-Own.is-1 ∙ ap Own (sym c.get_mut-in-Own-Own.ensures.value) in
-    let told = c.spy.ensures in
-    has_spied c.args.self.now c.args.victim.now own c.spy.new.own victim c.spy.new.victim own_is victim_is _ c.spy.result told.own told.count told.none told.unchanged told.event
+    let outcome = c.spy.ensures in
+    has_spied c.args.self.now c.args.victim.now own c.spy.new.own victim c.spy.new.victim own_is victim_is _ c.spy.result outcome.own outcome.count outcome.none outcome.unchanged outcome.event
 
 pub returns-clause-kind : goal.returns-clause-kind
 returns-clause-kind g c = λ k t.

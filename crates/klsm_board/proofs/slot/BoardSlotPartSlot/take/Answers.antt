@@ -25,9 +25,9 @@ returns-clause-done g c =
     let common_is : c.args.shared.now ≡ Common common = c.in-Own-Common.is-1 ∙ ap Common (sym c.get_mut-in-Own-Common.ensures.value) in
     let parts = c.requires.parts in
     let same_k : own.k ≡ common.k = own_k parts.0 _ c.args.self.now own own_is parts.2 ∙ sym (shared_k parts.0 _ c.args.shared.now common common_is parts.3) in
-    let told = c.take.ensures in
+    let outcome = c.take.ensures in
     taken g.P.Picker.may_pick c.args.picker.now c.take.new.picker c.args.owner c.args.self.now c.args.shared.now own common c.take.new.own c.take.new.shared own_is common_is same_k
-    c.take.result told.unasked told.asked told.left told.event told.nothing
+    c.take.result outcome.unasked outcome.asked outcome.left outcome.event outcome.nothing
 
 pub returns-clause-kind : goal.returns-clause-kind
 returns-clause-kind g c = λ k t.

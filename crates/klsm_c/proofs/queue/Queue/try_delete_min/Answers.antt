@@ -1,7 +1,7 @@
 use Rattle.std.proofs.Common.{rules, ◌<◌, length, slice_index_or, refl, sym, subst, w32}
 use Rattle.std.proofs.lemmas.Int.{to_z-of_z}
 use Rattle.klsm_board.proofs.lemmas.table.MakeLemmas.{found_at}
-use Rattle.klsm_c.specs.Calls.{Deletes}
+use Rattle.klsm_c.specs.Calls.{DeletesBySlot}
 use Rattle.klsm_c.proofs.KeptLemmas.{kept_by_delete, members_kept}
 use Rattle.klsm_c.proofs.SlotLemmas.{held}
 use Rattle.klsm_c.proofs.queue.Queue.try_delete_min.Goals as goal
@@ -17,4 +17,4 @@ returns c =
     let slots = c.args.self.now.slots in let n = c.args.number in let d = c.index-self-number.result in let there : n < length slots = search rules in
     let before = slice_index_or slots n d in let after = c.klsm_try_delete_min.new.slot in
     let code = to_z-of_z w32 c.klsm_try_delete_min.result (search rules) in
-    (before, after, found_at slots n d there, refl, subst (λ code. Deletes (held before) (held after) c.args.item.now c.klsm_try_delete_min.new.item code) (sym code) c.klsm_try_delete_min.ensures)
+    (before, after, found_at slots n d there, refl, subst (λ code. DeletesBySlot (held before) (held after) c.args.item.now c.klsm_try_delete_min.new.item code) (sym code) c.klsm_try_delete_min.ensures)
