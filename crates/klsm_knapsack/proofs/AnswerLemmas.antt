@@ -11,7 +11,7 @@ use Rattle.klsm_board.specs.Inserting.{GivesUp, Inserts}
 use Rattle.klsm_board.specs.Deleting.{Deletes, FindsNothing, AnswersDeletion, victim_of, refilled}
 use Rattle.klsm_board.specs.Entries.{own_acquired, both_acquired, both_released}
 use Rattle.klsm_board.proofs.lemmas.calls.AddLemmas.{goes_on, own_quiet, both_quiet}
-use Rattle.klsm_board.proofs.lemmas.calls.EventLemmas.{events}
+use Rattle.klsm_board.specs.Effects.{committed_in}
 use Rattle.klsm_board.proofs.lemmas.calls.RefillLemmas.{is_refilled}
 use Rattle.klsm_board.proofs.lemmas.calls.DeletedLemmas.{takes_events, spied_events, nothing_events, early_events}
 use Rattle.klsm_knapsack.specs.Ends.{EndsAnswered}
@@ -70,7 +70,7 @@ refusal_gains k t own_misses shared_misses es es' Found gives = record {
 }
 
 -- neither a Take nor what moves behind it is an answer "nothing"
-take_and_more : (x : Item) (moved : List Item) → AllByRecursion (λ event. event ≢ Nothing) (Take x ∷ events (refilled moved))
+take_and_more : (x : Item) (moved : List Item) → AllByRecursion (λ event. event ≢ Nothing) (Take x ∷ committed_in (refilled moved))
 take_and_more x [] = (λ is. cc, tt)
 take_and_more x (y ∷ moved) = (λ is. cc, (λ is. cc, tt))
 
@@ -87,10 +87,10 @@ deletion_gains may_pick before after m t own_misses shared_misses es es' x (own,
 }
 deletion_gains may_pick before after m t own_misses shared_misses es es' x (own, inr (shared, inl takes)) = record {
   gains = record {
-    gained = Take x ∷ events (refilled (is_refilled m.refill m.k own shared x).0);
+    gained = Take x ∷ committed_in (refilled (is_refilled m.refill m.k own shared x).0);
     others = take_and_more x (is_refilled m.refill m.k own shared x).0;
     events = takes_events m t own shared es (both_acquired t own_misses shared_misses own shared es) es' (both_quiet t own_misses shared_misses own shared es) x takes.0
-        ∙ ap (λ z. events es ++ Take x ∷ events z) (is_refilled m.refill m.k own shared x).1;
+        ∙ ap (λ z. committed_in es ++ Take x ∷ committed_in z) (is_refilled m.refill m.k own shared x).1;
   };
   some = omega arith;
 }

@@ -54,9 +54,9 @@ fn box_members(
     seed: u64,
 ) -> Result<Vec<Box<OwnedMember, Global>>, AllocError>
     requires of { All (λ member. IsOf member (arc_value board.now)) members.items }
-    ensures count { IfOk result (λ boxes. length boxes.items ≡ length members.entry.items) }
+    ensures count { IfOk result (λ boxes. length boxes.items ≡ length members.items) }
     ensures members { IfOk result (λ boxes.
-        members_of (map (λ b. b.value) boxes.items) ≡ members.entry.items) }
+        members_of (map (λ b. b.value) boxes.items) ≡ members.items) }
     ensures pickers { IfOk result (λ boxes. PickBy pick seed (map (λ b. b.value) boxes.items)) }
 {
     let count = members.len();

@@ -13,7 +13,7 @@ use Rattle.klsm_board.specs.declared.errors.InsertError.{InsertError}
 use Rattle.klsm_board.specs.Entries.{own_acquired, both_acquired}
 use Rattle.klsm_board.specs.Inserting.{Inserts, RefusesInsertWaiting}
 use Rattle.klsm_board.specs.Deleting.{Deletes, FindsNothing, AnswersDeletion, victim_of, refilled}
-use Rattle.klsm_board.proofs.lemmas.calls.EventLemmas.{events}
+use Rattle.klsm_board.specs.Effects.{committed_in}
 use Rattle.klsm_board.proofs.lemmas.calls.AddLemmas.{own_quiet, both_quiet}
 use Rattle.klsm_board.proofs.lemmas.calls.AddedLemmas.{puts_events, flushes_events, refused_waiting_events}
 use Rattle.klsm_board.proofs.lemmas.calls.DeletedLemmas.{takes_events, early_events, spied_events, nothing_events}
@@ -22,12 +22,12 @@ use Rattle.klsm_text.specs.declared.answer.Answer.TheVariants.{Inserted, Deleted
 use Rattle.klsm_tool.specs.Shown.{shown, shown_in}
 
 -- events more show answers more
-shows_more : (es es' : List Entry) (added : List Event) → events es' ≡ events es ++ added → shown_in es' ≡ shown_in es ++ flat_map shown added
-shows_more es es' added is = ap (flat_map shown) is ∙ flat_map-append shown (events es) added
+shows_more : (es es' : List Entry) (added : List Event) → committed_in es' ≡ committed_in es ++ added → shown_in es' ≡ shown_in es ++ flat_map shown added
+shows_more es es' added is = ap (flat_map shown) is ∙ flat_map-append shown (committed_in es) added
 
 -- each insertion is shown
 pub inserted_within : (es : List Entry) → length (inserted es) ≤ length (shown_in es)
-inserted_within es = by_events (events es)
+inserted_within es = by_events (committed_in es)
   where
     one : (e : Event) → length (inserted_by e) ≤ length (shown e)
     one (event.Put x) = omega arith
@@ -57,7 +57,7 @@ pub refusal_shows : (levels k t : ℕ) (es es' : List Entry) (why : InsertError)
 refusal_shows levels k t es es' why told = ap (flat_map shown) (refused_waiting_events levels k t es es' why told)
 
 -- what moves behind a Take is not shown
-take_shows : (x : Item) (moved : List Item) → flat_map shown (event.Take x ∷ events (refilled moved)) ≡ Deleted x ∷ []
+take_shows : (x : Item) (moved : List Item) → flat_map shown (event.Take x ∷ committed_in (refilled moved)) ≡ Deleted x ∷ []
 take_shows x [] = refl
 take_shows x (y ∷ moved) = refl
 
@@ -65,7 +65,7 @@ module _ (m : Sizes) (t : ℕ) (own_misses shared_misses : List ℕ) (own shared
   abbrev taken : List Entry
   taken = both_acquired t own_misses shared_misses own shared es
 
-  quiet : events taken ≡ events es
+  quiet : committed_in taken ≡ committed_in es
   quiet = both_quiet t own_misses shared_misses own shared es
 
   -- a deletion from both parts shows its item
@@ -73,7 +73,7 @@ module _ (m : Sizes) (t : ℕ) (own_misses shared_misses : List ℕ) (own shared
       → shown_in es' ≡ shown_in es ++ Deleted x ∷ []
   deletion_shows may_pick before after x (inl takes) =
       let some = is_refilled m.refill m.k own shared x in
-      shows_more es es' (event.Take x ∷ events (refilled some.0)) (takes_events m t own shared es taken es' quiet x takes.0 ∙ ap (λ z. events es ++ event.Take x ∷ events z) some.1)
+      shows_more es es' (event.Take x ∷ committed_in (refilled some.0)) (takes_events m t own shared es taken es' quiet x takes.0 ∙ ap (λ z. committed_in es ++ event.Take x ∷ committed_in z) some.1)
       ∙ ap (λ z. shown_in es ++ z) (take_shows x some.0)
   deletion_shows may_pick before after x (inr takes) =
       shows_more es es' (event.Spy (victim_of m.threads t (suc takes.0.spies.passed)) takes.0.moved ∷ event.Take x ∷ []) (spied_events m t own shared es taken es' quiet x takes.0)

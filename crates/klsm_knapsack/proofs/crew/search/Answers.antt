@@ -1,13 +1,19 @@
-use Rattle.std.proofs.Common.{◌≡◌, ◌<◌, arith, length, get_or-set_same, get_or, set, None, List, [], lit<, sym, subst, refl}
+use Rattle.std.proofs.Common.{◌≡◌, ◌<◌, ◌≤◌, arith, length, get_or-set_same, get_or, set, None, List, [], lit<, sym, subst, refl}
 use Rattle.std.proofs.lemmas.List.{length-set}
 use Rattle.klsm_knapsack.specs.declared.common.Worker.{Worker}
 use Rattle.klsm_board.specs.Boards.{own_steps}
+use Rattle.klsm_board.specs.declared.sizes.Sizes.{Sizes}
 use Rattle.klsm_world.specs.declared.step.Entry.{Entry}
 use Rattle.klsm_knapsack.specs.Answers.{GainsOthers}
 use Rattle.klsm_knapsack.specs.Work.{HasNode}
 use Rattle.klsm_knapsack.specs.Workers.{work_of}
-use Rattle.klsm_knapsack.proofs.CrewLemmas.{crew_begun, crew_ended, crew_ready, crew_run, all_worked, begun_gains, all_idle}
+use Rattle.klsm_knapsack.proofs.CrewLemmas.{crew_begun, crew_ended, crew_ready, crew_run, all_worked, begun_gains, all_idle, each_worker}
 use Rattle.klsm_knapsack.proofs.crew.search.Goals as goal
+
+pub begin-requires : goal.begin-requires
+begin-requires g c =
+    let d = c.index-crew-0.result in let first = each_worker c.args.common.now c.args.crew.now c.requires.crew 0 d c.requires.crew.some_worker in
+    (lit< tt, (lit< tt, (first, (c.requires.new 0 d c.requires.crew.some_worker, subst (λ (m : Sizes). 2 ≤ m.quota) (sym first.member.1) c.requires.room))))
 
 pub run_all-requires-after_bounds : goal.run_all-requires-after_bounds
 run_all-requires-after_bounds g c κs within =
