@@ -1,4 +1,4 @@
-use Rattle.std.proofs.Common.{ap, sym, subst, refl, ◌∙◌, List}
+use Rattle.std.proofs.Common.{ap, lit<, sym, subst, refl, ◌∙◌, List}
 use Rattle.klsm_board.specs.Boards.{AreNewMembersOf}
 use Rattle.klsm_board.specs.declared.board.Member.{Member}
 use Rattle.klsm_board.specs.declared.sizes.Sizes.{Sizes}
@@ -6,6 +6,12 @@ use Rattle.klsm_board.proofs.lemmas.ending.MemberLemmas.{all_of_board, none_miss
 use Rattle.klsm_tool.proofs.AloneLemmas.{replays_by, spread_lists}
 use Rattle.klsm_tool.proofs.CrewLemmas.{gathered_fresh}
 use Rattle.klsm_tool.proofs.replay.replay_on.Goals as goal
+
+pub gather-requires : goal.gather-requires
+gather-requires g c =
+    let board = c.args.board.now in let members = c.replace.result.items in let same = ap (λ z. z.items) c.replace.ensures.value in
+    let crew : AreNewMembersOf board members = subst (λ (z : List (Member 64 21)). AreNewMembersOf board z) (sym same) c.requires.crew in
+    (lit< tt, (lit< tt, (lit< tt, (lit< tt, all_of_board board members crew.are))))
 
 pub unreachable-requires : goal.unreachable-requires
 unreachable-requires g c =
