@@ -1,11 +1,16 @@
-//! Workers that are held up at the gate: by each other, so that they run side by side, or until all
-//! others have passed.
+//! Workers that are held up at the gate: by each other, so that they run side by side, until all
+//! others have passed, or until one of them has told how far the search has come.
 
 use super::worked::{BEST, worked};
+use crate::three::Three;
 use klsm_board::Gate;
-use klsm_knapsack::solve;
+use klsm_knapsack::{Instance, Listeners, solve, solve_to_the_end};
 use klsm_test_support::{LOOKS, Meeting};
-use std::sync::atomic::{AtomicU64, Ordering};
+use klsm_tool::{Counted, Progress};
+use std::alloc::Global;
+use std::sync::Wait;
+use std::sync::atomic::{AtomicBool, AtomicU64, Ordering};
+use std::thread::Threads;
 
 #[test]
 fn two_workers_run_side_by_side(rt: HostRuntime) {
@@ -16,6 +21,17 @@ fn two_workers_run_side_by_side(rt: HostRuntime) {
     };
     assert!(rt; answer == Some(BEST));
     assert!(rt; meeting.took_place());
+}
+
+#[test]
+fn three_workers_run_side_by_side(rt: HostRuntime) {
+    let gate = Three::new();
+    let answer = match worked(rt.alloc()) {
+        Some(instance) => solve::<21>(&rt, rt.alloc(), &instance, 3, 1, 8, &gate).ok(),
+        None => None,
+    };
+    assert!(rt; answer == Some(BEST));
+    assert!(rt; gate.took_place());
 }
 
 // Holds worker 3 until three others have passed.
@@ -48,4 +64,84 @@ fn a_worker_that_comes_late_changes_no_answer(rt: HostRuntime) {
         None => None,
     };
     assert!(rt; answer == Some(BEST));
+}
+
+// Lets one of three workers pass, and holds the two others until it has told of nodes. Then that one waits
+// until another one has told of some.
+#[derive(Drop)]
+struct Listening {
+    first: usize,
+    nodes: AtomicU64,
+    /// How many of the others heard of nodes while they waited.
+    heard: AtomicU64,
+    /// Whether the first one heard of theirs.
+    joined: AtomicBool,
+}
+
+impl Gate for Listening {
+    fn pass(&self, worker: usize) {
+        if worker == self.first {
+            return;
+        }
+        for _ in 0..LOOKS {
+            if self.nodes.load(Ordering::SeqCst) > 0 {
+                self.heard.fetch_add(1, Ordering::SeqCst);
+                return;
+            }
+        }
+    }
+}
+
+impl Progress for Listening {
+    fn begins(&self, _total: Option<u64>) {}
+
+    fn went_on(&self, _counted: Counted, more: u64) {
+        if self.nodes.fetch_add(more, Ordering::SeqCst) > 0 {
+            return;
+        }
+        for _ in 0..LOOKS {
+            if self.nodes.load(Ordering::SeqCst) > more {
+                self.joined.store(true, Ordering::SeqCst);
+                return;
+            }
+        }
+    }
+
+    fn ended(&self) {}
+}
+
+// Things of the value of their weight, of which no selection fills the knapsack: tens of thousands of nodes.
+const THINGS: &[u8] = b"\
+capacity,15
+2,2\n2,2\n2,2\n2,2\n2,2\n2,2\n2,2\n2,2\n2,2\n2,2\n2,2\n2,2\n2,2\n2,2\n2,2\n2,2
+";
+
+// The value that three workers find, how many of them waited until the first one told of nodes, and whether that
+// one then heard of theirs.
+fn heard_of(
+    rt: &(impl Threads + Wait + Sync),
+    alloc: Global,
+    first: usize,
+) -> Option<(u64, u64, bool)> {
+    let instance = Instance::read(alloc, THINGS).ok()?;
+    let listening = Listening {
+        first,
+        nodes: AtomicU64::new(0),
+        heard: AtomicU64::new(0),
+        joined: AtomicBool::new(false),
+    };
+    let listeners = Listeners {
+        gate: &listening,
+        progress: &listening,
+    };
+    let best = solve_to_the_end::<_, _, 21>(rt, alloc, &instance, 3, 1, 8, &listeners).ok()?;
+    let heard = listening.heard.load(Ordering::SeqCst);
+    Some((best.value, heard, listening.joined.load(Ordering::SeqCst)))
+}
+
+#[test]
+fn nodes_are_told_of_while_the_other_workers_wait(rt: HostRuntime) {
+    for first in 0..3 {
+        assert!(rt; heard_of(&rt, rt.alloc(), first) == Some((14, 2, true)));
+    }
 }

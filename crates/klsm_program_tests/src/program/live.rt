@@ -3,6 +3,7 @@
 
 use super::worked::SCRIPT;
 use super::{Told, all_go};
+use crate::three::Three;
 use klsm_test_support::{Counting, Meeting};
 use klsm_tool::{End, Pick, Report, Settings, live_over};
 
@@ -73,20 +74,32 @@ fn two_threads_run_side_by_side(rt: HostRuntime) {
     assert!(rt; meeting.took_place());
 }
 
+const OF_THREE: Settings = Settings {
+    threads: 3,
+    k: 64,
+    refill: 0,
+    pick: Pick::First,
+    seed: 1,
+};
+
+// Two threads at a time would do for a meeting of two.
+#[test]
+fn three_threads_run_side_by_side(rt: HostRuntime) {
+    let gate = Three::new();
+    let mut text = Vec::new(rt.alloc());
+    let script: &[u8] = b"0,i,1,0\n1,i,2,0\n2,i,3,0\n";
+    let report = live_over(&rt, script, &mut text, &OF_THREE, &gate);
+    assert!(rt; text.as_slice() == b"inserted 3 deleted 0 left 3\n".as_slice());
+    assert!(rt; report.end == End::Done && gate.took_place());
+}
+
 // Three threads, of which the last has no row.
 #[test]
 fn each_thread_passes_the_gate_once(rt: HostRuntime) {
-    let settings = Settings {
-        threads: 3,
-        k: 64,
-        refill: 0,
-        pick: Pick::First,
-        seed: 1,
-    };
     let gate = Counting::new();
     let mut text = Vec::new(rt.alloc());
     let script: &[u8] = b"0,i,1,0\n1,i,2,0\n0,i,3,0\n";
-    let report = live_over(&rt, script, &mut text, &settings, &gate);
+    let report = live_over(&rt, script, &mut text, &OF_THREE, &gate);
     assert!(rt; text.as_slice() == b"inserted 3 deleted 0 left 3\n".as_slice());
     assert!(rt; report.end == End::Done && gate.passed() == [1, 1, 1]);
 }
