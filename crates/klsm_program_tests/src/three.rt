@@ -2,12 +2,12 @@
 
 use klsm_board::Gate;
 use klsm_test_support::LOOKS;
-use std::sync::atomic::{AtomicBool, AtomicU64, Ordering};
+use std::sync::atomic::{AtomicU64, Ordering};
 
 /// A gate for three workers, at which each waits for a while until all have come.
 #[derive(Drop)]
 pub(crate) struct Three {
-    came: [AtomicBool; 3],
+    came: AtomicU64,
     /// How many have seen that all came.
     met: AtomicU64,
 }
@@ -15,20 +15,9 @@ pub(crate) struct Three {
 impl Three {
     pub(crate) fn new() -> Self {
         Three {
-            came: [
-                AtomicBool::new(false),
-                AtomicBool::new(false),
-                AtomicBool::new(false),
-            ],
+            came: AtomicU64::new(0),
             met: AtomicU64::new(0),
         }
-    }
-
-    fn all_came(&self) -> bool {
-        let [first, second, third] = &self.came;
-        first.load(Ordering::SeqCst)
-            && second.load(Ordering::SeqCst)
-            && third.load(Ordering::SeqCst)
     }
 
     /// Whether each of them has seen that all came.
@@ -38,12 +27,10 @@ impl Three {
 }
 
 impl Gate for Three {
-    fn pass(&self, worker: usize) {
-        if let Some(came) = self.came.get(worker) {
-            came.store(true, Ordering::SeqCst);
-        }
+    fn pass(&self, _worker: usize) {
+        self.came.fetch_add(1, Ordering::SeqCst);
         for _ in 0..LOOKS {
-            if self.all_came() {
+            if self.came.load(Ordering::SeqCst) == 3 {
                 self.met.fetch_add(1, Ordering::SeqCst);
                 return;
             }

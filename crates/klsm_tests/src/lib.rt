@@ -4,6 +4,7 @@
 //! they test. Each folder has the tests of one subject:
 //!
 //! - `board`: a board and its members, in one thread and in several;
+//! - `given_back`: that a queue that is let go keeps no memory;
 //! - `runs`: copies, merges, removals and unions of runs;
 //! - `lsm`: LSMs over runs on the heap and fixed ones, with the blocks that each call leaves;
 //! - `parts`: a queue for one thread and its parts, beside a plain program written from the rules;
@@ -15,6 +16,8 @@
 
 #[cfg(test)]
 mod board;
+#[cfg(test)]
+mod given_back;
 pub mod letting_go;
 #[cfg(test)]
 mod lsm;
