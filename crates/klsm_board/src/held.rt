@@ -3,7 +3,9 @@ ghost use Rattle.std.specs.Prelude.{◌≡◌, ◌<◌, ◌≤◌, ◌++◌, ◌
 ghost use Rattle.klsm_run.specs.declared.item.Item.{Item};
 ghost use Rattle.klsm_world.specs.declared.step.Entry.TheVariants.{Acquired, Released, Missed};
 ghost use Rattle.klsm_world.specs.OwnSteps.{inserted, deleted};
-ghost use Rattle.klsm_board.specs.Rule.{IsReached};
+ghost use Rattle.klsm_world.specs.Worlds.{World, content_of, steps_of};
+ghost use Rattle.klsm_world.specs.LawfulWorlds.{IsLawful};
+ghost use Rattle.klsm_board.specs.Rule.{IsReached, world_limits};
 ghost use Rattle.klsm_board.specs.declared.errors.Busy.{Busy};
 ghost use Rattle.klsm_board.specs.Seats.{Carries};
 ghost use Rattle.klsm_board.specs.Boards.{IsHeldBy, IsHeldOf, IsOf, IsSame, RefusesHold, held_content, held_steps, own_steps};
@@ -85,11 +87,14 @@ impl<const CAP: usize, const LEVELS: usize> Member<CAP, LEVELS> {
 }
 
 impl<const CAP: usize, const LEVELS: usize> Held<CAP, LEVELS> {
-    /// The number of the lock.
+    /// The number of the lock. In each lawful world with this list its part has the content that is shown here.
     #[inline]
     pub fn lock(&self) -> usize
         ensures lock { result ≡ self.now.lock }
         ensures in_range { self.now.lock ≤ self.now.sizes.threads }
+        ensures content { (w : World) → IsLawful (world_limits self.now.sizes) w
+            → steps_of w self.now.number ≡ held_steps self.now
+            → content_of w self.now.lock ≡ held_content self.now }
     {
         self.lock
     }
