@@ -4,13 +4,15 @@ use mathlib.Core.Option.{some}
 use lib.ListN.{get_elem?}
 use Rattle.atomic_table.specs.Table.{Me, Step, step, rest}
 use Rattle.klsm_run.specs.declared.item.Item.{Item}
+use Rattle.klsm_parts.specs.Events.{front_of}
 use Rattle.klsm_world.specs.declared.step.Event.{Event}
 use Rattle.klsm_world.specs.declared.step.Event.TheVariants.{Early}
 use Rattle.klsm_world.specs.declared.step.Entry.{Entry}
 use Rattle.klsm_world.specs.declared.step.Entry.TheVariants.{Acquired, Committed, Released, Missed}
 use Rattle.klsm_world.specs.declared.step.Step.{Step as WorldStep}
 use Rattle.klsm_world.specs.Laws.{IsWithinQuota}
-use Rattle.klsm_world.specs.Worlds.{World, steps_of}
+use Rattle.klsm_world.specs.OwnSteps.{shared_part}
+use Rattle.klsm_world.specs.Worlds.{World, steps_of, content_of}
 use Rattle.klsm_world.specs.Schedules.{Leads}
 use Rattle.klsm_board.specs.declared.sizes.Sizes.{Sizes}
 use Rattle.klsm_board.specs.declared.rule.Own.{Own}
@@ -63,6 +65,12 @@ pub record AreReached (m : Sizes) (t : ℕ) (v : View) : Type 0 where
   pub has : (i : ℕ) (o : Own) → get_elem? v.lists i ≡ some o
       → get_elem? world.lists o.thread ≡ some o.steps
 
+-- The same of a world with this front: the key of its least shared item, and the greatest number where no item
+-- is shared.
+pub record HasFront (m : Sizes) (t : ℕ) (v : View) (front : ℕ) : Type 0 where
+  pub reached : AreReached m t v
+  pub front_is : front ≡ front_of (content_of reached.world shared_part)
+
 module _ {S : Type 0} where
   -- what a step on the lock word of a part tells, with the part in place of the word
   abbrev pub on_part : (Step S → Me S View → ℕ → Me S View → Type 0) → Step S → Me S View → ℕ → Me S View → Type 0
@@ -107,7 +115,7 @@ module _ {S : Type 0} where
 
   -- the front was loaded, and nothing else happened
   abbrev pub glanced : Sizes → ℕ → Step S → Me S View → ℕ → Me S View → Type 0
-  glanced m t st me n me' = (me' ≡ me) × SeesFront m t (mine me.0) n
+  glanced m t st me n me' = (me' ≡ me) × SeesFront m t (mine me.0) n × HasFront m t me.0 n
 
   -- thread t's list came to the front of those that the seat knows, and they are of one world
   abbrev pub turned_to : Sizes → ℕ → Step S → Me S View → ℕ → Me S View → Type 0

@@ -3,16 +3,19 @@ use Rattle.std.specs.Prelude.{◌≡◌, ◌≢◌, ℕ, List, ◌∷◌, ◌++�
 use Rattle.std.specs.Option.{option_to_list}
 use Rattle.klsm_run.specs.declared.item.Item.{Item}
 use Rattle.klsm_run.specs.Content.{without}
+use Rattle.klsm_parts.specs.Events.{front_of}
 use Rattle.klsm_world.specs.declared.step.Event.{Event}
 use Rattle.klsm_world.specs.declared.step.Entry.{Entry}
 use Rattle.klsm_world.specs.declared.step.Entry.TheVariants.{Committed}
-use Rattle.klsm_world.specs.OwnSteps.{deleted_by}
+use Rattle.klsm_world.specs.OwnSteps.{deleted_by, shared_part}
+use Rattle.klsm_world.specs.Worlds.{content_of}
 use Rattle.klsm_world.specs.Account.{account}
 use Rattle.klsm_board.specs.declared.sizes.Sizes.{Sizes}
 use Rattle.klsm_board.specs.declared.board.Board.{Board}
 use Rattle.klsm_board.specs.declared.all_members.AllMembers.{AllMembers}
 use Rattle.klsm_board.specs.Boards.{IsOf}
 use Rattle.klsm_board.specs.Effects.{PassesFew}
+use Rattle.klsm_board.specs.Finishing.{AreListsAtEnd}
 use Rattle.klsm_board.specs.Turning.{steps_known, lists_known}
 
 -- what a deletion leaves of a content
@@ -55,3 +58,9 @@ pub record PassesFewLeft (m : Sizes) (lists : List (List Entry)) (es' : List Ent
   pub steps : es' ≡ at ++ Committed event ∷ after
   pub answers : deleted_by event ≡ option_to_list answer
   pub few : PassesFew m event (account lists).left
+
+-- This is the front of a world of these lists: the key of its least shared item, and the greatest number where no
+-- item is shared.
+pub record IsFrontOf (m : Sizes) (lists : List (List Entry)) (front : ℕ) : Type 0 where
+  pub at_end : AreListsAtEnd m lists
+  pub front_is : front ≡ front_of (content_of at_end.world shared_part)

@@ -3,7 +3,8 @@ ghost use Rattle.std.specs.Prelude.{◌≡◌, ◌<◌, ◌≤◌, ◌+◌, ◌+
 ghost use Rattle.std.specs.Option.{option_to_list};
 ghost use Rattle.klsm_run.specs.declared.item.Item.{Item};
 ghost use Rattle.klsm_world.specs.OwnSteps.{inserted, deleted};
-ghost use Rattle.klsm_board.specs.Rule.{IsReached, SeesFront};
+ghost use Rattle.klsm_board.specs.Rule.{IsReached, SeesFront, own, view};
+ghost use Rattle.klsm_board.specs.Steps.{HasFront};
 ghost use Rattle.klsm_board.specs.Members.{most_deletions};
 ghost use Rattle.klsm_board.specs.Boards.{Adds, IsOf, IsSame, known_of_others, own_steps};
 ghost use Rattle.klsm_board.specs.Effects.{TakesEffect};
@@ -58,6 +59,8 @@ impl<const CAP: usize, const LEVELS: usize> Member<CAP, LEVELS> {
         ensures others { known_of_others self.new ≡ known_of_others self.old }
         ensures steps { own_steps self.new ≡ own_steps self.old }
         ensures seen { SeesFront self.old.sizes self.old.number (own_steps self.old) result }
+        ensures known { HasFront self.old.sizes self.old.number
+            (view (own self.old.number (own_steps self.old) ∷ known_of_others self.old)) result }
     {
         let thread = self.number as usize;
         see_front(

@@ -10,7 +10,7 @@ ghost use Rattle.klsm_parts.specs.Least.{IsLeast};
 ghost use Rattle.klsm_board.specs.Rule.{place, view, SeesFront};
 ghost use Rattle.klsm_board.specs.Turning.{turned, HasList};
 ghost use Rattle.klsm_world.specs.LegalSteps.{MayCommit};
-ghost use Rattle.klsm_board.specs.Steps.{mine, rest_of, IsMine, AreReached, attempted, released, committed, looked, glanced, set_front, turned_to};
+ghost use Rattle.klsm_board.specs.Steps.{mine, rest_of, IsMine, AreReached, HasFront, attempted, released, committed, looked, glanced, set_front, turned_to};
 ghost use Rattle.klsm_board.specs.Seats.{Carries, Stands, Has, CarriedOut, QuotaAllows, LeavesShared, SetsFront, IsSeatOf, own_in_hand, both_in_hand};
 ghost use Rattle.klsm_board.specs.Entries.{both_released};
 
@@ -442,6 +442,7 @@ pub(crate) fn see_front<S: Holding>(
     ensures same { (seat.new.table_id ≡ seat.old.table_id) × (seat.new.id ≡ seat.old.id)
         × (seat.new.me ≡ seat.old.me) }
     ensures seen { SeesFront table.now.key thread (mine seat.old.me.0) result }
+    ensures known { HasFront table.now.key thread seat.old.me.0 result }
 {
     load_front_alone::<S, Brand>(table, seat, threads, thread)
 }

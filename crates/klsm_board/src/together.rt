@@ -14,7 +14,7 @@ ghost use Rattle.klsm_board.specs.Deleting.{AnswersDeletion};
 ghost use Rattle.klsm_board.specs.Finishing.{AreAll, AreListsAtEnd, IsLeastAbsent, lists_of};
 ghost use Rattle.klsm_board.specs.Knowing.{AreCounted, IsAtRest};
 ghost use Rattle.klsm_board.specs.Rule.{view};
-ghost use Rattle.klsm_board.specs.Together.{ActsFor, AreOf, PassesFewLeft, all_lists, left_after, left_of, sizes_of_all, steps_for};
+ghost use Rattle.klsm_board.specs.Together.{ActsFor, AreOf, IsFrontOf, PassesFewLeft, all_lists, left_after, left_of, sizes_of_all, steps_for};
 ghost use Rattle.klsm_board.specs.Turning.{HasList, left_behind, steps_known, turned};
 
 use crate::all_members::{AllMembers, GatherRefused};
@@ -144,6 +144,19 @@ impl<const CAP: usize, const LEVELS: usize> AllMembers<CAP, LEVELS> {
     {
         self.call(board, number);
         self.acting.delete_min(rt, board, picker)
+    }
+
+    /// The front that a member's own `front` would see now: the key of the least shared item, or the greatest number
+    /// where no item is shared. It changes nothing.
+    #[inline]
+    pub fn front(&mut self, board: &Board<CAP, LEVELS>) -> u64
+        requires of { AreOf self.old board.now }
+        ensures of { AreOf self.new board.now }
+        ensures sizes { sizes_of_all self.new ≡ sizes_of_all self.old }
+        ensures lists { (u : ℕ) → steps_for self.new u ≡ steps_for self.old u }
+        ensures front { IsFrontOf (sizes_of_all self.old) (all_lists self.old) result }
+    {
+        self.acting.front(board)
     }
 
     /// Gives the members back, in the order of their numbers, between two of their calls. It changes nothing on

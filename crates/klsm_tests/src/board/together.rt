@@ -42,16 +42,27 @@ fn deletes(
     found.map(|item| item.key) == key
 }
 
+// Whether the front that they see is this key.
+fn sees(board: &Board<64, 21>, all: &mut AllMembers<64, 21>, front: u64) -> bool
+    requires of { AreOf all.old board.now }
+    ensures of { AreOf all.new board.now }
+{
+    all.front(board) == front
+}
+
 // Whether two members who keep one item each go by turns: one deletes what the other inserted, and who has
-// nothing spies.
+// nothing spies. The one that is shared meanwhile is the front.
 fn go_by_turns(rt: &impl Wait, board: &Board<64, 21>, all: &mut AllMembers<64, 21>) -> bool
     requires of { AreOf all.old board.now }
     ensures of { AreOf all.new board.now }
 {
     inserts(rt, board, all, 0, 5)
+        && sees(board, all, u64::MAX)
         && inserts(rt, board, all, 0, 3)
         && inserts(rt, board, all, 1, 9)
+        && sees(board, all, 5)
         && deletes(rt, board, all, 1, Some(5))
+        && sees(board, all, u64::MAX)
         && deletes(rt, board, all, 0, Some(3))
         && deletes(rt, board, all, 0, Some(9))
         && deletes(rt, board, all, 1, None)

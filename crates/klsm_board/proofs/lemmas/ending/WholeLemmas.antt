@@ -37,8 +37,8 @@ use Rattle.klsm_board.specs.Finishing.{AreAll, AreListsAtEnd, HasMember, Knows, 
 use Rattle.klsm_board.specs.Knowing.{AreCounted, IsAtRest, IsWhole}
 use Rattle.klsm_board.specs.Members.{IsResting}
 use Rattle.klsm_board.specs.Rule.{own, view, world_limits}
-use Rattle.klsm_board.specs.Steps.{mine, rest_of, IsMine, AreReached}
-use Rattle.klsm_board.specs.Together.{PassesFewLeft}
+use Rattle.klsm_board.specs.Steps.{mine, rest_of, IsMine, AreReached, HasFront}
+use Rattle.klsm_board.specs.Together.{IsFrontOf, PassesFewLeft}
 use Rattle.klsm_board.specs.Turning.{steps_known, lists_known, HasList, left_behind, turned}
 use Rattle.klsm_board.proofs.lemmas.ending.EndLemmas.{found_first, place_within, same_lists}
 use Rattle.klsm_board.proofs.lemmas.ending.JoinLemmas.{at_end, at_front}
@@ -92,6 +92,10 @@ all_at_end m t v r each = record {
   in_order = λ u below. lists_have_events (world_limits m) r.schedule r.world u r.leads below;
   run = schedules_are_runs (world_limits m) r.schedule r.world r.leads;
 }
+
+pub front_at_end : (m : Sizes) (t : ℕ) (v : View) (front : ℕ) → HasFront m t v front → ((u : ℕ) → u < m.threads → HasList v.lists u) → IsFrontOf m (lists_known m.threads v.lists) front
+unfolding all_at_end
+front_at_end m t v front seen each = record { at_end = all_at_end m t v seen.reached each; front_is = seen.front_is }
 
 -- what is said of live items is said of their ascending list
 in_order : (m : Sizes) (event : Event) (items : List Item) → PassesFew m event items → PassesFew m event (sorted items)

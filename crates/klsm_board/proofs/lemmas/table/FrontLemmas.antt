@@ -18,7 +18,7 @@ use Rattle.klsm_world.specs.declared.step.Step.{Step as WorldStep}
 use Rattle.klsm_world.specs.declared.step.Step.TheVariants.{Commit}
 use Rattle.klsm_world.specs.OwnSteps.{Hand, Holds, found_in, content_in, own_part, shared_part, hand_of, inserted}
 use Rattle.klsm_world.specs.LegalSteps.{MayCommit}
-use Rattle.klsm_world.specs.Worlds.{Limits, World, steps_of, hand_in}
+use Rattle.klsm_world.specs.Worlds.{Limits, World, steps_of, hand_in, content_of}
 use Rattle.klsm_world.specs.LawfulWorlds.{IsLawful}
 use Rattle.klsm_world.specs.Schedules.{NamesFront, MayStep, front_after, Leads}
 use Rattle.klsm_world.proofs.lemmas.hands.PartContentLemmas.{content_held}
@@ -163,12 +163,16 @@ module _ {S : Type 0} (content : S → List Item) (suits : ℕ → ℕ → S →
     glances : Goes content suits m s id (m.threads + 1) cs (glanced m t (step slots (place (m.threads + 1)) 0 0 none) (acting content suits m t xs behind, cs)) (front_word m s.words)
     glances =
         let lawful : IsLawful (world_limits m) w0 = schedules_keep_lawful (world_limits m) r.schedule w0 r.leads in
-        let few = r.within in (
+        let few = r.within in let seen = reached_now content suits m s r id t xs behind at lt in (
           acting content suits m t xs behind,
           keeps,
           tt,
           unchanged,
-          (refl, record { world = w0; schedule = r.schedule; leads = r.leads; within = λ u ltu. each_within m.quota r.lists few u; list_is = same_steps content suits m s r id t xs behind at lt; front_is = lawful.front_is }),
+          (
+            refl,
+            record { world = w0; schedule = r.schedule; leads = r.leads; within = λ u ltu. each_within m.quota r.lists few u; list_is = same_steps content suits m s r id t xs behind at lt; front_is = lawful.front_is },
+            record { reached = seen.0; front_is = lawful.front_is ∙ ap (λ (w : World). front_of (content_of w shared_part)) (sym seen.1) },
+          ),
         )
 
   -- an event that sets the front is committed by the store of it

@@ -12,3 +12,6 @@ returns-clause-same g c = (c.load_front_alone.ensures.same.0, c.load_front_alone
 
 pub returns-clause-seen : goal.returns-clause-seen
 returns-clause-seen g c = c.load_front_alone.ensures.outcome.1
+
+pub returns-clause-known : goal.returns-clause-known
+returns-clause-known g c = c.load_front_alone.ensures.outcome.2
