@@ -71,14 +71,25 @@ module _ {S : Type 0} (p : Problem) where
       by_seat j u (inl (same, is)) = subst (λ (z : View). IsSeen p high z) is seen
       by_seat j u (inr (other, there)) = seen_more p (get_or s.words 0 0) high u le (rule.seen j u there)
 
-  pub load_allows : (slots id : ℕ) (me : Me S View) → Allows (IsHighest p) slots id me 0 (λ n. n) (finds (step slots 0 0 0 none) me)
+  -- the word is the value and the picks of a feasible selection
+  pub is_incumbent : (s : State S View) → IsHighest p s → IsIncumbent p (get_or s.words 0 0)
+  is_incumbent s rule = by_step rule.is_one
+    where
+      by_step : (get_or s.words 0 0 ≡ 0) ⊎ WasRaisedBy s.views (get_or s.words 0 0) → IsIncumbent p (get_or s.words 0 0)
+      by_step (inl still) =
+          let first = first_answer p in
+          let nothing : IsIncumbent p 0 = record { feasible = first.feasible; value = first.value } in
+          subst (λ (n : ℕ). IsIncumbent p n) (sym still) nothing
+      by_step (inr (j, u, found, has)) = (all_contained (λ n. (n ≤ get_or s.words 0 0) × IsIncumbent p n) u.raised (get_or s.words 0 0) (rule.seen j u found).raised has).1
+
+  pub load_allows : (slots id : ℕ) (me : Me S View) → Allows (IsHighest p) slots id me 0 (λ n. n) (finds p (step slots 0 0 0 none) me)
   load_allows slots id me s rule homes at small =
       let n = get_or s.words 0 0 in
       let seen = rule.seen id me.0 at in
       let w : View = record { raised = me.0.raised; found = n } in
-      (w, keeps, tt, changed s id n me.0 w rule at (omega arith) record { raised = seen.raised; found = omega arith } (λ k has. has) (inl refl), (seen.found, refl))
+      (w, keeps, tt, changed s id n me.0 w rule at (omega arith) record { raised = seen.raised; found = omega arith } (λ k has. has) (inl refl), (seen.found, is_incumbent s rule, refl))
 
-  pub max_allows : (slots id number : ℕ) (me : Me S View) → IsIncumbent p number → Allows (IsHighest p) slots id me 0 (λ n. max n number) (raises (step slots 0 number 0 none) me)
+  pub max_allows : (slots id number : ℕ) (me : Me S View) → IsIncumbent p number → Allows (IsHighest p) slots id me 0 (λ n. max n number) (raises p (step slots 0 number 0 none) me)
   max_allows slots id number me is s rule homes at small =
       let n = get_or s.words 0 0 in
       let seen = rule.seen id me.0 at in
@@ -88,7 +99,7 @@ module _ {S : Type 0} (p : Problem) where
         keeps,
         tt,
         changed s id (max n number) me.0 w rule at (omega arith) record { raised = ((omega arith, is), more.raised); found = omega arith } (λ k has. (suc has.0, omega (arith, has.1), has.2)) (by_order n (cases_lt n number)),
-        (seen.found, refl),
+        (seen.found, is_incumbent s rule, refl),
       )
     where
       by_order : (n : ℕ) → (n < number) ⊎ (number ≤ n) → (max n number ≡ n) ⊎ Contains (number ∷ me.0.raised) (max n number)
@@ -159,14 +170,3 @@ module _ {S : Type 0} (p : Problem) where
       only : (j : ℕ) (u : View) → get_elem? (nothing_yet ∷ []) j ≡ some u → IsSeen p 0 u
       only zero u found = subst (λ (z : View). IsSeen p 0 z) (some-injective nothing_yet u found) (seen_nothing p 0)
       only (suc j) u found = absurd (some-ne-none u (sym found))
-
-  -- the word is the value and the picks of a feasible selection
-  pub is_incumbent : (s : State S View) → IsHighest p s → IsIncumbent p (get_or s.words 0 0)
-  is_incumbent s rule = by_step rule.is_one
-    where
-      by_step : (get_or s.words 0 0 ≡ 0) ⊎ WasRaisedBy s.views (get_or s.words 0 0) → IsIncumbent p (get_or s.words 0 0)
-      by_step (inl still) =
-          let first = first_answer p in
-          let nothing : IsIncumbent p 0 = record { feasible = first.feasible; value = first.value } in
-          subst (λ (n : ℕ). IsIncumbent p n) (sym still) nothing
-      by_step (inr (j, u, found, has)) = (all_contained (λ n. (n ≤ get_or s.words 0 0) × IsIncumbent p n) u.raised (get_or s.words 0 0) (rule.seen j u found).raised has).1

@@ -37,14 +37,15 @@ pub record IsHighest {S : Type 0} (p : Problem) (s : State S View) : Type 0 wher
       → IsSeen p (slice_index s.words 0) v
 
 module _ {S : Type 0} where
-  -- a load notes the number
-  abbrev pub finds : Step S → Me S View → ℕ → Me S View → Type 0
-  finds st me n me' = (me.0.found ≤ n)
+  -- a load finds the value and the picks of a feasible selection, and notes the number
+  abbrev pub finds : Problem → Step S → Me S View → ℕ → Me S View → Type 0
+  finds p st me n me' = (me.0.found ≤ n) × IsIncumbent p n
       × (me' ≡ (record { raised = me.0.raised; found = n }, me.1))
 
-  -- a fetch-max notes the number that it raises the word by, and the number that the word then has
-  abbrev pub raises : Step S → Me S View → ℕ → Me S View → Type 0
-  raises st me n me' = (me.0.found ≤ n)
+  -- a fetch-max finds such a number too, and notes the one that it raises the word by, and the one that
+  -- the word then has
+  abbrev pub raises : Problem → Step S → Me S View → ℕ → Me S View → Type 0
+  raises p st me n me' = (me.0.found ≤ n) × IsIncumbent p n
       × (me' ≡ (record { raised = st.first ∷ me.0.raised; found = max n st.first }, me.1))
 
 -- the word had this number in a state under the rule in which this seat knew this

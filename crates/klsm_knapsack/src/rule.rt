@@ -2,6 +2,7 @@
 use atomic_table::{Join, Play, Split, TableRule};
 use klsm_instance::Instance;
 use std::collections::LinkedList;
+use std::marker::{Brand, PhantomData};
 
 /// What a seat knows. No value of it is made.
 pub struct View {
@@ -22,22 +23,40 @@ impl TableRule<(), View, Instance> for Highest {
     ghost first = { λ _. nothing_yet };
 }
 
-/// A load.
-pub(crate) struct Found;
+/// Which problem's selections a step is about. What a step tells is said by a type, which can name no
+/// value, so a type names the problem; the call that makes the step chooses it, by `Brand`.
+pub trait About {
+    ghost use Rattle.klsm_instance.specs.Selections.{Problem};
 
-impl Play<(), View> for Found {
+    ghost problem: { Problem };
+}
+
+impl About for Brand {
+    ghost use Rattle.std.specs.Prelude.{[]};
+
+    ghost problem = { record { capacity = 0; things = [] } };
+}
+
+/// A load.
+pub(crate) struct Found<D> {
+    of: PhantomData<D>,
+}
+
+impl<D: About> Play<(), View> for Found<D> {
     ghost use Rattle.klsm_knapsack.specs.Highest.{finds};
 
-    ghost then = { finds };
+    ghost then = { finds D.problem };
 }
 
 /// A fetch-max.
-pub(crate) struct Raised;
+pub(crate) struct Raised<D> {
+    of: PhantomData<D>,
+}
 
-impl Play<(), View> for Raised {
+impl<D: About> Play<(), View> for Raised<D> {
     ghost use Rattle.klsm_knapsack.specs.Highest.{raises};
 
-    ghost then = { raises };
+    ghost then = { raises D.problem };
 }
 
 /// A new seat knows nothing yet.

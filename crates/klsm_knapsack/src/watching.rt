@@ -8,10 +8,11 @@ ghost use Rattle.klsm_knapsack.specs.Highest.{nothing_yet, together, LastSeen};
 ghost use Rattle.klsm_knapsack.specs.Watching.{found_by, raised_by, IsWatchedBy, problem_of};
 
 use crate::incumbent::{Incumbent, Watcher};
-use crate::rule::{Another, Found, Raised, Together};
+use crate::rule::{About, Another, Found, Raised, Together};
 use atomic_table::Table;
 use klsm_instance::{Instance, Node, packed, unpacked};
 use std::alloc::{AllocError, Global};
+use std::marker::Brand;
 
 impl Incumbent {
     /// An incumbent of value 0 that takes nothing, and its first seat.
@@ -48,15 +49,16 @@ impl Incumbent {
             .join_seat::<Together>(&mut watcher.seat, seat);
     }
 
-    /// The number that the word has.
+    /// The number that the word has: the value and the picks of a feasible selection.
     #[inline]
     pub fn load(&self, watcher: &mut Watcher) -> u64
         requires { IsWatchedBy self.now watcher.old }
         ensures same { watcher.new.seat.table_id ≡ watcher.old.seat.table_id }
         ensures found { (found_by watcher.new ≡ result) × (found_by watcher.old ≤ result) }
         ensures raised { raised_by watcher.new ≡ raised_by watcher.old }
+        ensures incumbent { IsIncumbent (problem_of self.now) result }
     {
-        self.table.shared.load::<Found>(&mut watcher.seat, 0)
+        load_about::<Brand>(self, watcher)
     }
 
     /// Raises the word to a number, where that is greater, and answers what the word then has.
@@ -72,6 +74,7 @@ impl Incumbent {
             × (number ≤ result) }
         ensures raised { (raised_by watcher.new ≡ raised_by watcher.old)
             ⊎ (raised_by watcher.new ≡ number ∷ raised_by watcher.old) }
+        ensures incumbent { IsIncumbent (problem_of self.now) result }
     {
         let found = self.load(watcher);
         if number <= found {
@@ -106,11 +109,9 @@ impl Incumbent {
         ensures found { (found_by watcher.new ≡ result) × (found_by watcher.old ≤ result)
             × (number ≤ result) }
         ensures raised { raised_by watcher.new ≡ number ∷ raised_by watcher.old }
+        ensures incumbent { IsIncumbent (problem_of self.now) result }
     {
-        let before = self
-            .table
-            .shared
-            .fetch_max::<Raised>(&mut watcher.seat, 0, number);
+        let before = fetch_max_about::<Brand>(self, watcher, number);
         before.max(number)
     }
 
@@ -129,4 +130,35 @@ impl Incumbent {
         closed.free();
         number
     }
+}
+
+#[inline]
+fn load_about<D: About>(incumbent: &Incumbent, watcher: &mut Watcher) -> u64
+    requires problem { D.problem ≡ problem_of incumbent.now }
+    requires watcher { IsWatchedBy incumbent.now watcher.old }
+    ensures same { watcher.new.seat.table_id ≡ watcher.old.seat.table_id }
+    ensures found { (found_by watcher.new ≡ result) × (found_by watcher.old ≤ result) }
+    ensures raised { raised_by watcher.new ≡ raised_by watcher.old }
+    ensures incumbent { IsIncumbent (problem_of incumbent.now) result }
+{
+    incumbent
+        .table
+        .shared
+        .load::<Found<D>>(&mut watcher.seat, 0)
+}
+
+// It answers the number that the word had before.
+fn fetch_max_about<D: About>(incumbent: &Incumbent, watcher: &mut Watcher, number: u64) -> u64
+    requires problem { D.problem ≡ problem_of incumbent.now }
+    requires watcher { IsWatchedBy incumbent.now watcher.old }
+    requires number { IsIncumbent (problem_of incumbent.now) number }
+    ensures same { watcher.new.seat.table_id ≡ watcher.old.seat.table_id }
+    ensures found { (found_by watcher.new ≡ max result number) × (found_by watcher.old ≤ result) }
+    ensures raised { raised_by watcher.new ≡ number ∷ raised_by watcher.old }
+    ensures incumbent { IsIncumbent (problem_of incumbent.now) result }
+{
+    incumbent
+        .table
+        .shared
+        .fetch_max::<Raised<D>>(&mut watcher.seat, 0, number)
 }
