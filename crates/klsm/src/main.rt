@@ -7,6 +7,7 @@ use std::io::IsTerminal;
 
 fn main(rt: HostRuntime) -> Status {
     let terminals = Terminals {
+        input: rt.stdin().is_terminal(),
         output: rt.stdout().is_terminal(),
         error: rt.stderr().is_terminal(),
     };

@@ -22,16 +22,21 @@
 //!   does not tell is not written: the contracts of the private calls there.
 //! - **The words behind a number** are those of what is counted: the contract of `Counted::words`.
 //!
+//! A progress also hears that rows are read from now on, and of a run that refuses something a `Hint`, which
+//! says to a user what was expected. It goes to standard error where that is a terminal, and else nowhere.
+//!
 //! No contract speaks of what a progress does with what it hears. So it is tested only that a thread tells
 //! at each 4,096th, and what the line then says.
 #![tactic(auto)]
 
 mod grouped;
+mod hint;
 mod pace;
 mod progress;
 mod terminal_line;
 
 pub use grouped::Grouped;
+pub use hint::Hint;
 pub use pace::Pace;
 pub use progress::{Counted, Progress, Silent};
 pub use terminal_line::{TerminalLine, Terminals};

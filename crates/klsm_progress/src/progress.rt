@@ -2,6 +2,8 @@
 ghost use Rattle.std.specs.Prelude.{◌≡◌};
 ghost use Rattle.klsm_progress.specs.Words.{words_of};
 
+use crate::hint::Hint;
+
 /// What a run counts.
 #[derive(Clone, Copy, Debug, PartialEq, Eq)]
 pub enum Counted {
@@ -39,6 +41,12 @@ pub trait Progress: Sync {
 
     /// The run has ended.
     fn ended(&self);
+
+    /// Rows are read from now on.
+    fn reads(&self) {}
+
+    /// The run has refused something, and this is what was expected.
+    fn advise(&self, _hint: &Hint) {}
 }
 
 /// Tells nobody.

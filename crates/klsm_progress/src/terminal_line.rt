@@ -3,6 +3,7 @@ ghost use Rattle.std.specs.Prelude.{◌≡◌, ◌↔◌, IsTrue};
 ghost use Rattle.klsm_progress.specs.TerminalLine.{Tells, terminals_of};
 
 use crate::grouped::Grouped;
+use crate::hint::Hint;
 use crate::progress::{Counted, Progress};
 use std::io::Eprint;
 use std::rt::Clock;
@@ -18,16 +19,18 @@ const PAUSE: u64 = 200;
 /// Clears a terminal's line from the cursor on.
 const CLEAR: &str = "\x1b[K";
 
-/// Which of a process's outputs are terminals.
+/// Which of a process's streams are terminals.
 #[derive(Clone, Copy, Debug)]
 pub struct Terminals {
+    pub input: bool,
     pub output: bool,
     pub error: bool,
 }
 
 /// Keeps one line on standard error up to date, where that is a terminal and the run has lasted for
 /// more than a second, and takes the line away at the end. Of rows that are answered one by one it
-/// does not tell where standard output is a terminal too, since it would stand between the answers.
+/// does not tell where standard output is a terminal too, since it would stand between the answers. A hint
+/// has a line of its own there, and so has that rows are read from a terminal.
 #[derive(Drop)]
 pub struct TerminalLine<'a, P> {
     rt: &'a P,
@@ -128,6 +131,18 @@ impl<P: Eprint + Clock + Sync> Progress for TerminalLine<'_, P> {
     fn ended(&self) {
         if self.is_shown.load(Ordering::SeqCst) {
             let _ = eprint!(self.rt; "\r{CLEAR}");
+        }
+    }
+
+    fn reads(&self) {
+        if self.terminals.error && self.terminals.input {
+            let _ = eprint!(self.rt; "reads rows from the terminal; Ctrl-D ends\n");
+        }
+    }
+
+    fn advise(&self, hint: &Hint) {
+        if self.terminals.error {
+            let _ = eprint!(self.rt; "{hint}\n");
         }
     }
 }

@@ -33,6 +33,7 @@
 #![tactic(auto)]
 
 mod answer;
+mod hints;
 mod judge;
 mod line_text;
 mod output;
@@ -46,6 +47,7 @@ mod totals;
 mod watched;
 
 pub use answer::{Answer, Line, Printed};
+pub use hints::row_hint;
 pub use judge::request_of;
 pub use line_text::LineText;
 pub use output::{Output, write_last, write_text};

@@ -95,7 +95,7 @@ pub few_none : (threads k : ℕ) → IsFew threads k 0
 few_none threads k = (omega arith, λ one. refl)
 
 -- the shared part has room for more items than a script has rows
-pub has_room : (insertions k : ℕ) → insertions < row_limit → k ≤ 64 → limit_of 21 heap_room < insertions + max 1 k → ⊥
+pub has_room : (insertions k : ℕ) → insertions ≤ row_limit → k ≤ 64 → limit_of 21 heap_room < insertions + max 1 k → ⊥
 has_room insertions k few small full =
     let limit : limit_of 21 heap_room ≡ 1048576 = refl in
     let most : ℕ = max 1 k in let most_small : most ≤ 64 = omega (arith, small) in

@@ -10,4 +10,5 @@ pub mod ReplayLemmas
 pub mod TellingLemmas
 pub mod WorkLemmas  -- what a worker's rows are answered with
 pub mod TotalLemmas  -- the totals of a script that was run
+pub mod RoomLemmas  -- no worker finds the shared part full
 pub mod PlaceLemmas  -- the workers at their places

@@ -1,6 +1,8 @@
 -- The totals of a script that was run: the insertions of all threads are the script's.
-use Rattle.std.proofs.Common.{◌≡◌, ◌≢◌, ℕ, zero, suc, ◌+◌, ◌<◌, Bool, true, false, List, [], ◌∷◌, ◌++◌, length, length-append, Option, Some, None, Result, Ok, Err, refl, sym, ap, ap₂, ◌∙◌, subst, arith, cond, eqb}
+use Rattle.std.proofs.Common.{◌≡◌, ◌≢◌, ℕ, zero, suc, ◌+◌, ◌<◌, ◌≤◌, Bool, true, false, List, [], ◌∷◌, ◌++◌, length, length-append, Option, Some, None, Result, Ok, Err, refl, sym, ap, ap₂, ◌∙◌, subst, arith, cond, eqb}
 use Rattle.std.specs.Prelude.{nat_lt}
+use mathlib.Core.Logic.{dite}
+use native.Mathlib.Decide.{ℕ_discrete}
 use Rattle.std.specs.List.{flat_map}
 use Rattle.std.proofs.lemmas.List.Concat.{flat_map-cons}
 use Rattle.std.proofs.lemmas.Bool.Decides.{nat_tests}
@@ -39,7 +41,7 @@ insertion_answers (Deleted x ∷ answers) = insertion_answers answers
 insertion_answers (Nothing ∷ answers) = insertion_answers answers
 
 -- the items inserted are those of the answers shown
-inserted_shown : (es : List Entry) → length (inserted es) ≡ insertion_answers (shown_in es)
+pub inserted_shown : (es : List Entry) → length (inserted es) ≡ insertion_answers (shown_in es)
 inserted_shown es = by_events (flat_map event_at es)
   where
     more : (e : Event) (answers : List Answer) → insertion_answers (shown e ++ answers) ≡ length (inserted_by e) + insertion_answers answers
@@ -58,7 +60,7 @@ inserted_shown es = by_events (flat_map event_at es)
         ∙ (ap (λ n. length (inserted_by e) + n) (by_events all) ∙ (sym (more e (flat_map shown all)) ∙ ap insertion_answers (sym (flat_map-cons shown e all)))))
 
 -- and those of the rows that are answered
-answers_insert : (rows : List Asked) (answers : List Answer) → AreAnswers rows answers → insertion_answers answers ≡ insertions_in rows
+pub answers_insert : (rows : List Asked) (answers : List Answer) → AreAnswers rows answers → insertion_answers answers ≡ insertions_in rows
 answers_insert [] [] all = refl
 answers_insert [] (a ∷ answers) all = absurd all
 answers_insert (x ∷ rows) [] all = absurd all
@@ -138,7 +140,7 @@ accepted_asks threads earlier row request is = by_test (eqb (length earlier) row
     by_test true asks_for = absurd (let bad : Err refusal.Rows ≡ Ok request = asks_for in cc)
     by_test false asks_for = asks_for
 
-insertions_join : (rows more : List Asked) → insertions_in (rows ++ more) ≡ insertions_in rows + insertions_in more
+pub insertions_join : (rows more : List Asked) → insertions_in (rows ++ more) ≡ insertions_in rows + insertions_in more
 insertions_join [] more = omega arith
 insertions_join (x ∷ rows) more = omega (arith, insertions_join rows more)
 
@@ -168,6 +170,50 @@ insertions_are threads rows lists accepted many answers =
     all_inserted lists ∙ (ap (λ n. total n (λ t. length (inserted (steps_in lists t)))) many
     ∙ (total_alike threads (λ t. length (inserted (steps_in lists t))) (λ t. insertions_in (asked_of threads t rows)) (λ t below. inserted_shown (steps_in lists t) ∙ answers_insert (asked_of threads t rows) (shown_in (steps_in lists t)) (answers t below))
     ∙ script_insertions threads rows accepted))
+
+total_within : (n : ℕ) (f h : ℕ → ℕ) → ((t : ℕ) → t < n → f t ≤ h t) → total n f ≤ total n h
+total_within zero f h less = omega arith
+total_within (suc n) f h less =
+    let first = less 0 (omega arith) in
+    let rest = total_within n (λ t. f (suc t)) (λ t. h (suc t)) (λ t below. less (suc t) (omega (arith, below))) in
+    omega (arith, first, rest)
+
+-- and of lists that answer some of them
+pub insertions_within : (threads : ℕ) (rows : List Row) (lists : List (List Entry)) → AreAccepted threads rows → length lists ≡ threads → ((t : ℕ) → t < threads → length (inserted (steps_in lists t)) ≤ insertions_in (asked_of threads t rows))
+    → (account lists).inserted ≤ insertion_rows threads rows
+insertions_within threads rows lists accepted many less =
+    let all : length (flat_map inserted lists) ≡ total threads (λ t. length (inserted (steps_in lists t))) = all_inserted lists ∙ ap (λ n. total n (λ t. length (inserted (steps_in lists t)))) many in
+    let within = total_within threads (λ t. length (inserted (steps_in lists t))) (λ t. insertions_in (asked_of threads t rows)) less in
+    let script = script_insertions threads rows accepted in
+    omega (arith, all, within, script)
+
+-- a row inserts one item at most
+one_row : (request : Result Request Refusal) → insertions_of request ≤ 1
+one_row (Ok request) = by_operation request.operation
+  where
+    by_operation : (operation : Operation) → insertions_at operation ≤ 1
+    by_operation (Insert key load) = omega arith
+    by_operation Delete = omega arith
+one_row (Err why) = omega arith
+
+pub rows_insert : (threads : ℕ) (rows : List Row) → insertion_rows threads rows ≤ length rows
+rows_insert threads [] = omega arith
+rows_insert threads (row ∷ rows) = omega (arith, rows_insert threads rows, one_row (request_of threads row))
+
+-- and no more rows are accepted than a script can have
+pub accepted_few : (threads : ℕ) (rows : List Row) → AreAccepted threads rows → length rows ≤ row_limit
+accepted_few threads [] accepted = omega arith
+accepted_few threads (row ∷ rows) accepted =
+    let few = accepted_few threads rows accepted.1 in
+    let below : length rows < row_limit = dite (ℕ_discrete (length rows) row_limit)
+    (λ (all : length rows ≡ row_limit). absurd (none_beyond all)) (λ other. omega (arith, few, other)) in
+    omega (arith, below)
+  where
+    none_beyond : length rows ≡ row_limit → ⊥
+    none_beyond all =
+        let beyond : eqb (length rows) row_limit ≡ true = grind (arith, nat_tests) in
+        let refused : request_after threads rows row ≡ Err refusal.Rows = rw beyond refl in
+        let bad : Err refusal.Rows ≡ Ok accepted.0.0 = sym refused ∙ accepted.0.1 in cc
 
 -- what was inserted is deleted or left
 pub adds_up : (m : Sizes) (lists : List (List Entry)) → AreListsAtEnd m lists → (account lists).inserted ≡ (account lists).deleted + length (account lists).left

@@ -6,7 +6,7 @@ use Rattle.klsm_text.specs.declared.answer.Answer.{Answer}
 use Rattle.klsm_text.specs.declared.stop.Stop.{Stop}
 use Rattle.klsm_text.specs.declared.thread_rows.ThreadRow.{ThreadRow}
 use Rattle.klsm_text.specs.Keeping.{asked_in, operation_in}
-use Rattle.klsm_tool.specs.Live.{GaveUpAt}
+use Rattle.klsm_tool.specs.Working.{GaveUpAt}
 use Rattle.klsm_tool.specs.Shown.{shown_in}
 use Rattle.klsm_tool.specs.Turns.{AreAnswers}
 use Rattle.klsm_text.specs.ThreadRows.{Asked}

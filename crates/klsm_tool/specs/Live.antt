@@ -1,9 +1,8 @@
 -- What `live_over` promises: the rows of a script run by threads.
-use Rattle.std.specs.Prelude.{ℕ, ⊤, Bool, true, ◌≡◌, ◌+◌, ◌<◌, List, ◌∷◌, ◌++◌, length, Option, Result, Ok, Err}
+use Rattle.std.specs.Prelude.{ℕ, ⊤, Bool, true, ◌≡◌, ◌+◌, ◌<◌, List, length, Option, Result, Ok, Err}
 use Rattle.klsm_world.specs.declared.step.Entry.{Entry}
 use Rattle.klsm_world.specs.Account.{account}
 use Rattle.klsm_board.specs.declared.sizes.Sizes.{Sizes}
-use Rattle.klsm_board.specs.Rule.{IsReached}
 use Rattle.klsm_board.specs.Finishing.{AreListsAtEnd}
 use Rattle.klsm_text.specs.declared.report.End.{End}
 use Rattle.klsm_text.specs.declared.report.End.TheVariants as end
@@ -17,31 +16,9 @@ use Rattle.klsm_text.specs.AnswerText.{closing_text}
 use Rattle.klsm_text.specs.TotalsText.{totals_text}
 use Rattle.klsm_tool.specs.Shown.{shown_in}
 use Rattle.klsm_tool.specs.Crews.{steps_in}
-use Rattle.klsm_tool.specs.Turns.{StopsInsertion}
 use Rattle.klsm_text.specs.Reports.{GoesOrFails, end_of}
-use Rattle.klsm_text.specs.ThreadRows.{AreAccepted, Asked, StopsReading, asked_of, insertion_rows}
+use Rattle.klsm_text.specs.ThreadRows.{AreAccepted, StopsReading, asked_of, insertion_rows}
 use Rattle.klsm_tool.specs.Turns.{AreAnswers}
-
--- a thread's list answers what it was asked for up to a row of this number, at which it gave up
-pub record GaveUpAt (k t : ℕ) (asked : List Asked) (es : List Entry) (number : ℕ) (why : Stop)
-    : Type 0 where
-  pub earlier : List Asked
-  pub here : Asked
-  pub later : List Asked
-  pub all : asked ≡ earlier ++ here ∷ later
-  pub answers : AreAnswers earlier (shown_in es)
-  pub number_is : here.number ≡ number
-  pub gives_up : StopsInsertion 21 k t es why
-
--- of the threads that gave up this is the one of the least number: those before it answer all that
--- they were asked for
-pub record GivesUpFirst (threads k : ℕ) (rows : List Row) (lists : List (List Entry)) (number : ℕ)
-    (why : Stop) : Type 0 where
-  pub thread : ℕ
-  pub below : thread < threads
-  pub lesser : (t : ℕ) → t < thread
-      → AreAnswers (asked_of threads t rows) (shown_in (steps_in lists t))
-  pub gave_up : GaveUpAt k thread (asked_of threads thread rows) (steps_in lists thread) number why
 
 -- all rows were run over a board of these sizes: each thread's list answers its rows, one by one and
 -- in order, the lists are those of one world to which a schedule leads, and the totals are those of
@@ -61,16 +38,6 @@ pub record RunsAll (m : Sizes) (input : Option (List ℕ)) (totals : Totals) : T
   pub insertions : totals.inserted ≡ insertion_rows m.threads rows
   pub sum : totals.inserted ≡ totals.deleted + totals.left
 
--- a thread's insertion found no room: each list is that of a world to which a schedule leads
-pub record RunsUntilFull (m : Sizes) (input : Option (List ℕ)) (number : ℕ) : Type 0 where
-  pub rows : List Row
-  pub all : AreAllRows input rows
-  pub accepted : AreAccepted m.threads rows
-  pub lists : List (List Entry)
-  pub many : length lists ≡ m.threads
-  pub reached : (t : ℕ) → t < m.threads → ∥ IsReached m t (steps_in lists t) ∥₁
-  pub first : GivesUpFirst m.threads m.k rows lists number stop.Full
-
 -- the first row that is not accepted, or the one behind those that were read when reading failed
 pub record IsNotRun (threads : ℕ) (input : Option (List ℕ)) (number : ℕ) (why : Stop) : Type 0 where
   pub rows : List Row
@@ -78,13 +45,13 @@ pub record IsNotRun (threads : ℕ) (input : Option (List ℕ)) (number : ℕ) (
   pub stops : StopsReading threads input rows why
   pub number_is : number ≡ length rows + 1
 
--- why there are no totals. `failed` says here and below whether the reader has failed. Of want of memory
--- nothing is said
+-- why there are no totals. The shared part has room for all rows, so it is never full. `failed` says here and
+-- below whether the reader has failed. Of want of memory nothing is said
 abbrev pub HasNoTotals : Bool → Sizes → Option (List ℕ) → ℕ → Stop → Type 0
 HasNoTotals failed m input number stop.AtEnd = ⊥
 HasNoTotals failed m input number (stop.Refused why) =
     IsNotRun m.threads input number (stop.Refused why)
-HasNoTotals failed m input number stop.Full = RunsUntilFull m input number
+HasNoTotals failed m input number stop.Full = ⊥
 HasNoTotals failed m input number stop.NoMemory = ⊤
 HasNoTotals failed m input number stop.ReadFault =
     IsNotRun m.threads input number stop.ReadFault × (failed ≡ true)

@@ -1,5 +1,5 @@
 -- What the workers of a script do, each with a member of a board.
-use Rattle.std.specs.Prelude.{ℕ, ◌≡◌, List, [], length, Option, Some, None}
+use Rattle.std.specs.Prelude.{ℕ, ◌≡◌, List, [], ◌∷◌, ◌++◌, length, Option, Some, None}
 use Rattle.klsm_world.specs.declared.step.Entry.{Entry}
 use Rattle.klsm_world.specs.Account.{account}
 use Rattle.klsm_board.specs.declared.board.Board.{Board}
@@ -7,13 +7,24 @@ use Rattle.klsm_board.specs.declared.board.Member.{Member}
 use Rattle.klsm_board.specs.Boards.{IsOf, own_steps}
 use Rattle.klsm_board.specs.declared.sizes.Sizes.{Sizes}
 use Rattle.klsm_board.specs.Finishing.{AreListsAtEnd}
+use Rattle.klsm_text.specs.declared.stop.Stop.{Stop}
 use Rattle.klsm_text.specs.declared.totals.Totals.{Totals}
 use Rattle.klsm_tool.specs.declared.worker.GaveUp.{GaveUp}
 use Rattle.klsm_tool.specs.declared.worker.Worker.{Worker}
 use Rattle.klsm_tool.specs.Shown.{shown_in}
-use Rattle.klsm_tool.specs.Turns.{AreAnswers}
+use Rattle.klsm_tool.specs.Turns.{AreAnswers, StopsInsertion}
 use Rattle.klsm_text.specs.ThreadRows.{Asked}
-use Rattle.klsm_tool.specs.Live.{GaveUpAt}
+
+-- a thread's list answers what it was asked for up to a row of this number, at which it gave up
+pub record GaveUpAt (k t : ℕ) (asked : List Asked) (es : List Entry) (number : ℕ) (why : Stop)
+    : Type 0 where
+  pub earlier : List Asked
+  pub here : Asked
+  pub later : List Asked
+  pub all : asked ≡ earlier ++ here ∷ later
+  pub answers : AreAnswers earlier (shown_in es)
+  pub number_is : here.number ≡ number
+  pub gives_up : StopsInsertion 21 k t es why
 
 -- a list answers all that the thread was asked for, or up to where the thread gave up
 abbrev pub Works : ℕ → ℕ → List Asked → List Entry → Option GaveUp → Type 0
@@ -23,15 +34,6 @@ Works k t asked es (Some gave_up) = GaveUpAt k t asked es gave_up.row gave_up.st
 -- the worker that a member is before it begins
 abbrev pub ready : Member 64 21 → Option Worker
 ready member = Some (record { member = member; passed = None; gave_up = None })
-
--- and the one that it is when it has run all its rows, behind the gate
-abbrev pub back : Member 64 21 → Option Worker
-back member =
-    Some (record {
-      member = member;
-      passed = Some (record { worker = member.number });
-      gave_up = None;
-    })
 
 -- the member is thread t's of the board, and its list answers nothing
 pub record IsReady (board : Board 64 21) (t : ℕ) (member : Member 64 21) : Type 0 where
@@ -60,6 +62,12 @@ HasRunAt board t asked (Some worker) = HasRunRows board t asked worker
 abbrev pub steps_at : Option Worker → List Entry
 steps_at None = []
 steps_at (Some worker) = own_steps worker.member
+
+-- the members at their places
+abbrev pub members_in : List (Option Worker) → List (Member 64 21)
+members_in [] = []
+members_in (None ∷ crew) = members_in crew
+members_in (Some worker ∷ crew) = worker.member ∷ members_in crew
 
 -- where it gave up, if it did
 abbrev pub gave_up_at : Option Worker → Option GaveUp

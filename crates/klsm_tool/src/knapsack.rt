@@ -4,6 +4,7 @@ ghost use Rattle.klsm_instance.specs.Answers.{IsBestAnswer};
 ghost use Rattle.klsm_instance.specs.Format.{IsProblemIn, RefusesInput};
 ghost use Rattle.klsm_tool.specs.Knapsack.{Solves, SolvesProblem, RefusesIn, WritesBest};
 
+use crate::advising::advise_on_instance;
 use klsm_board::Gate;
 use klsm_knapsack::{Best, Instance, Listeners, ReadError, UnsolvedError, solve_to_the_end};
 use klsm_progress::{Progress, Silent};
@@ -56,7 +57,11 @@ pub fn knapsack_told<P: AllocGlobal + Wait + Threads + Sync, R: Read + Drop, W: 
             let listeners = Listeners { gate, progress };
             solve_read(rt, writer, &instance, search, &listeners)
         }
-        Err(why) => refuse(writer, why),
+        Err(why) => {
+            let report = refuse(writer, why);
+            advise_on_instance(progress, why);
+            report
+        }
     }
 }
 

@@ -23,7 +23,8 @@
 //! `live` has a `worker` for each, which goes through the gate by `passing`; `making` has the board of
 //! either, and `picking` the pickers. `knapsack` reads an instance, has it solved with the things of the
 //! greatest value for their weight first, and writes its answer by the rows. `program` runs what its
-//! words ask for, as `klsm_words` reads them.
+//! words ask for, as `klsm_words` reads them, and by `advising` a user at a terminal is told what was
+//! expected where something is refused.
 //!
 //! - **The text is that of the definition.** What goes out is the first `written` bytes of the
 //!   answer text of the rows that were read, and all of it unless the writer failed: `Replays`, the
@@ -41,7 +42,8 @@
 //!   of one schedule. And the shared part always has room for one item more: `Replays` too, by `shown`,
 //!   `greatest` and `stopped`.
 //! - **The totals of rows that threads run are those of some schedule**, which answers each thread's
-//!   rows in their order: `Lives`, the clause of `live_over` and `live_told`.
+//!   rows in their order, and the shared part has room for all of them: `Lives`, the clause of `live_over`
+//!   and `live_told`.
 //! - **The selection that is written is a best one**: `Solves`, the clause of `knapsack_over`.
 //! - **Words are a run or are answered with one text**, and each end has its status: clauses `runs` and
 //!   `replays` of `run_words`.
@@ -51,6 +53,7 @@
 //!   standard input and output carried, and how a replay picks.
 #![tactic(auto)]
 
+mod advising;
 mod beside;
 mod knapsack;
 mod live;

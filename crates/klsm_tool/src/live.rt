@@ -1,5 +1,5 @@
 //! `klsm live`: each thread's rows in a thread of its own.
-ghost use Rattle.std.specs.Prelude.{◌≡◌, ◌≢◌, ◌<◌, ◌≤◌, ℕ, Bool, List, [], length, map};
+ghost use Rattle.std.specs.Prelude.{◌≡◌, ◌≢◌, ◌<◌, ◌≤◌, ◌⊎◌, ℕ, Bool, List, [], length, map};
 ghost use Rattle.std.specs.Prelude.{slice_index_or, Option, Some, None, IfErr, IfOk, IfSome};
 ghost use Rattle.klsm_rows.specs.Rows.{Row, AreAllRows};
 ghost use Rattle.klsm_text.specs.Script.{row_limit};
@@ -10,12 +10,13 @@ ghost use Rattle.klsm_text.specs.declared.request.Refusal.{Refusal};
 ghost use Rattle.klsm_text.specs.declared.stop.Stop.TheVariants as stop;
 ghost use Rattle.klsm_text.specs.Keeping.{AreKept, kept_for};
 ghost use Rattle.klsm_text.specs.Reading.{HasReadScript, reader_failed};
-ghost use Rattle.klsm_tool.specs.Working.{AreAccounted, HasRunAt, IsReadyAt, back, gave_up_at, ready};
+ghost use Rattle.klsm_tool.specs.Working.{AreAccounted, HasRunAt, IsReadyAt, gave_up_at, members_in, ready};
 ghost use Rattle.klsm_tool.specs.Live.{Lives, LivesBy, RunsScript, outcome_end, outcome_text};
 ghost use Rattle.klsm_tool.specs.declared.worker.Worker.{Worker};
 ghost use Rattle.klsm_board.specs.Boards.{AreMembersOf};
-ghost use Rattle.klsm_board.specs.declared.board.Member.{Member};
+ghost use Rattle.klsm_board.specs.Finishing.{AreListsAtEnd};
 
+use crate::advising::advise_on_outcome;
 use crate::making::board_for;
 use crate::passing::pass;
 use crate::worker::{GaveUp, Worker};
@@ -34,10 +35,10 @@ use std::thread::Threads;
 /// Reads a whole script, then runs each thread's rows in a thread of its own over one board, each
 /// thread's in their order, and writes the totals. Each of these threads passes the gate first.
 ///
-/// A refused row is answered before any thread begins. A thread that finds no room or no memory
-/// stops at that row, and the others go on; then the line of the least numbered such thread is
-/// written in place of the totals. Where no thread can be made, the rows are run one thread after
-/// the other.
+/// A refused row is answered before any thread begins. A thread that finds no memory stops at that
+/// row, and the others go on; then the line of the least numbered such thread is written in place of
+/// the totals. There is always room, as the shared part can have more items than a script has rows.
+/// Where no thread can be made, the rows are run one thread after the other.
 pub fn live_over<P: AllocGlobal + Wait + Threads + Sync, R: Read + Drop, W: Write>(
     rt: &P,
     reader: R,
@@ -99,7 +100,17 @@ pub fn live_script<P: AllocGlobal + Wait + Threads + Sync, R: Read + Drop, W: Wr
 {
     let outcome = run_script(rt, script, settings, gate, progress);
     progress.ended();
-    write_outcome(writer, outcome)
+    let refused = refused_in(&outcome);
+    let report = write_outcome(writer, outcome);
+    advise_on_outcome(progress, refused, &script.row);
+    report
+}
+
+fn refused_in(outcome: &Result<Totals, Closing>) -> Option<Closing> {
+    match outcome {
+        Ok(_) => None,
+        Err(closing) => Some(*closing),
+    }
 }
 
 // Writes the line of a run that ended so.
@@ -179,7 +190,8 @@ fn run_rows<P: AllocGlobal + Wait + Threads + Sync>(
     };
     run_all(rt, &common, crew.as_mut_slice());
     if let Some(GaveUp { stop, row }) = first_to_give_up(crew.as_slice()) {
-        return Err(Closing::at(stop, row as u64));
+        let cause = cause_in_one_hand(rt.alloc(), &board, crew, stop);
+        return Err(Closing::at(cause, row as u64));
     }
     finish(rt.alloc(), board, crew)
 }
@@ -299,13 +311,33 @@ fn gave_up_of(place: &Option<Worker>) -> Option<GaveUp>
     }
 }
 
+// Why a run ends of which a worker gave up for this reason, once all members are in one hand: their lists
+// are then those of one schedule, by which no worker can have found the shared part full.
+fn cause_in_one_hand(
+    alloc: Global,
+    board: &Board<64, 21>,
+    crew: Vec<Option<Worker>>,
+    stop: Stop,
+) -> Stop
+    requires crew { AreMembersOf board.now (members_in crew.items) }
+    ensures { (result ≡ Stop.NoMemory) ⊎ ((result ≡ stop)
+        × AreListsAtEnd board.now.sizes (lists_in (members_in crew.items))) }
+{
+    let Ok(members) = members_of(alloc, crew) else {
+        return Stop::NoMemory;
+    };
+    // All members are back.
+    let Ok(_all) = board.gather(members) else {
+        unreachable!();
+    };
+    stop
+}
+
 // Ends the board, once its members have run all their rows.
 fn finish(alloc: Global, board: Board<64, 21>, crew: Vec<Option<Worker>>) -> Result<Totals, Closing>
-    requires crew { (members : List (Member 64 21)) × (crew.items ≡ map back members)
-        × AreMembersOf board members }
-    ensures totals { IfOk result (λ totals. (members : List (Member 64 21))
-        × (crew.items ≡ map back members) × AreMembersOf board members
-        × AreAccounted board.sizes (lists_in members) totals) }
+    requires crew { AreMembersOf board (members_in crew.items) }
+    ensures totals { IfOk result (λ totals.
+        AreAccounted board.sizes (lists_in (members_in crew.items)) totals) }
     ensures refused { IfErr result (λ closing. closing.stop ≡ Stop.NoMemory) }
 {
     let Ok(members) = members_of(alloc, crew) else {
@@ -323,8 +355,7 @@ fn finish(alloc: Global, board: Board<64, 21>, crew: Vec<Option<Worker>>) -> Res
 }
 
 fn members_of(alloc: Global, crew: Vec<Option<Worker>>) -> Result<Vec<Member<64, 21>>, AllocError>
-    requires { (members : List (Member 64 21)) × (crew.items ≡ map back members) }
-    ensures { IfOk result (λ members. crew.items ≡ map back members.items) }
+    ensures { IfOk result (λ members. members.items ≡ members_in crew.items) }
 {
     let mut members = Vec::with_capacity(alloc, crew.len())?;
     for place in crew {

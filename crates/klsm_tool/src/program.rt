@@ -6,13 +6,14 @@ ghost use Rattle.klsm_tool.specs.Program.{RefusesBytes, Runs, RunsKnapsack, Runs
 ghost use Rattle.klsm_tool.specs.Program.{RunsReplayOrLacksMemory, RunsSome, Says};
 ghost use Rattle.klsm_tool.specs.Program.{status_of as status_of_end};
 
+use crate::advising::advise_on_end;
 use crate::knapsack::knapsack_told;
 use crate::live::live_told;
 use crate::process_words::process_words;
 use crate::replay::replay_told;
 use crate::status::Status;
 use klsm_board::Open;
-use klsm_progress::{Progress, Silent};
+use klsm_progress::{Hint, Progress, Silent};
 use klsm_text::{End, NO_MEMORY, write_text};
 use klsm_words::{Action, Fault, Search, Settings, USAGE, parse};
 use std::io::{Read, Write};
@@ -72,9 +73,11 @@ fn run_told<R: Read + Drop, W: Write>(
         Ok(Action::Replay(settings)) => run_replay(rt, reader, writer, &settings, progress),
         Ok(Action::Live(settings)) => run_live(rt, reader, writer, &settings, progress),
         Ok(Action::Knapsack(search)) => run_knapsack(rt, reader, writer, &search, progress),
-        Err(Fault::Said { text, status }) => say(writer, text.as_bytes(), status),
-        Err(Fault::UnknownPick) => say(writer, UNKNOWN_PICK, USAGE),
-        Err(Fault::BadRefill) => say(writer, BAD_REFILL, USAGE),
+        Err(Fault::Said { text, status }) => {
+            refuse_words(writer, text.as_bytes(), status, progress, WORDS)
+        }
+        Err(Fault::UnknownPick) => refuse_words(writer, UNKNOWN_PICK, USAGE, progress, PICKS),
+        Err(Fault::BadRefill) => refuse_words(writer, BAD_REFILL, USAGE, progress, REFILLS),
         Err(Fault::NotText) => refuse_bytes(writer),
         Err(Fault::NoMemory) => say(writer, NO_MEMORY, EXHAUSTED),
     }
@@ -91,7 +94,10 @@ fn run_replay<R: Read + Drop, W: Write>(
     ensures { RunsReplay settings.now (R.remaining reader) (W.contents writer.old)
         (W.contents writer.new) result.code }
 {
-    status_of(replay_told(rt, reader, writer, settings, progress).end)
+    progress.reads();
+    let end = replay_told(rt, reader, writer, settings, progress).end;
+    advise_on_end(progress, end);
+    status_of(end)
 }
 
 fn run_live<R: Read + Drop, W: Write>(
@@ -105,7 +111,10 @@ fn run_live<R: Read + Drop, W: Write>(
     ensures { RunsLive settings.now (R.remaining reader) (W.contents writer.old)
         (W.contents writer.new) result.code }
 {
-    status_of(live_told(rt, reader, writer, settings, &Open, progress).end)
+    progress.reads();
+    let end = live_told(rt, reader, writer, settings, &Open, progress).end;
+    advise_on_end(progress, end);
+    status_of(end)
 }
 
 fn run_knapsack<R: Read + Drop, W: Write>(
@@ -119,13 +128,33 @@ fn run_knapsack<R: Read + Drop, W: Write>(
     ensures { RunsKnapsack search.now (R.remaining reader) (W.contents writer.old)
         (W.contents writer.new) result.code }
 {
-    status_of(knapsack_told(rt, reader, writer, search, &Open, progress).end)
+    progress.reads();
+    let end = knapsack_told(rt, reader, writer, search, &Open, progress).end;
+    advise_on_end(progress, end);
+    status_of(end)
 }
 
 fn refuse_bytes<W: Write>(writer: &mut W) -> Status
     ensures { RefusesBytes (W.contents writer.old) (W.contents writer.new) result.code }
 {
     say(writer, NOT_TEXT, USAGE)
+}
+
+// Answers words that are no run, and tells a user what was expected where they are at fault.
+fn refuse_words<W: Write>(
+    writer: &mut W,
+    text: &[u8],
+    status: u8,
+    progress: &impl Progress,
+    advice: &'static str,
+) -> Status
+    ensures { Says (W.contents writer.old) (W.contents writer.new) text.now status result.code }
+{
+    let answered = say(writer, text, status);
+    if status == USAGE {
+        progress.advise(&Hint::of(advice));
+    }
+    answered
 }
 
 fn say<W: Write>(writer: &mut W, text: &[u8], status: u8) -> Status
@@ -160,3 +189,10 @@ const NOT_TEXT: &[u8] = b"error: a word is not UTF-8\n\nFor more information, tr
 const UNKNOWN_PICK: &[u8] = b"refused: pick\n";
 
 const BAD_REFILL: &[u8] = b"refused: refill\n";
+
+const WORDS: &str = "rows come on standard input, as in: klsm replay < FILE; --threads is 1 to 16, \
+    --k 0 to 64, and --refill 0 to --k";
+
+const PICKS: &str = "--pick is first, last or random";
+
+const REFILLS: &str = "--refill is at most the number of --k";

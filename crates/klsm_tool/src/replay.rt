@@ -22,6 +22,7 @@ ghost use Rattle.klsm_tool.specs.Progress.{HasStopped, IsCutOff, IsTold, StandsA
 ghost use Rattle.klsm_tool.specs.Progress.{StopsBefore};
 ghost use Rattle.klsm_tool.specs.Replay.{Replays, ReplaysAlone};
 
+use crate::advising::advise_on_row;
 use crate::beside::Beside;
 use crate::making::board_for;
 use klsm_board::{AllMembers, Board, Member};
@@ -156,7 +157,9 @@ pub fn replay_script<P: AllocGlobal + Wait, R: Read + Drop, W: Write>(
     progress.begins(None);
     let closing = replay.answer_rows(rt, script, writer, board, all, settings, progress);
     progress.ended();
-    replay.output.close(writer, closing)
+    let report = replay.output.close(writer, closing);
+    advise_on_row(progress, &closing, &script.row);
+    report
 }
 
 // A replay on its way.

@@ -70,7 +70,6 @@ The line, and the status of the program:
                                   them deleted, and N are left
   refused row ROW: WHAT        1  The row is refused, and none is run; WHAT is
                                   rows, fields, thread, operation, key or load
-  full row ROW                 3  The row's insertion found no room
   no memory                    3  A growth of memory was refused
   read fault                   4  Reading failed
   (nothing more)               4  Writing failed

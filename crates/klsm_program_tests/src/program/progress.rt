@@ -88,18 +88,21 @@ enum Event {
 
 /// Standard error is a terminal, and standard output is none.
 const ERROR: Terminals = Terminals {
+    input: false,
     output: false,
     error: true,
 };
 
 /// Both are terminals.
 const BOTH: Terminals = Terminals {
+    input: false,
     output: true,
     error: true,
 };
 
 /// Standard error is none.
 const OUTPUT: Terminals = Terminals {
+    input: false,
     output: true,
     error: false,
 };

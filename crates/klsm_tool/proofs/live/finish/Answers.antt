@@ -1,35 +1,26 @@
 use Rattle.std.proofs.Common.{rules, ◌∙◌, List, length, sym, ap, subst}
 use Rattle.klsm_world.specs.declared.step.Entry.{Entry}
 use Rattle.klsm_world.specs.Account.{account}
-use Rattle.klsm_board.specs.Boards.{AreMembersOf}
 use Rattle.klsm_board.specs.declared.board.Member.{Member}
+use Rattle.klsm_board.specs.Boards.{AreMembersOf}
 use Rattle.klsm_board.specs.Finishing.{AreListsAtEnd}
+use Rattle.klsm_tool.specs.Crews.{lists_in}
 use Rattle.klsm_tool.proofs.CrewLemmas.{crew_all, crew_lists}
-use Rattle.klsm_tool.proofs.PlaceLemmas.{same_members}
 use Rattle.klsm_tool.proofs.live.finish.Goals as goal
-
-pub members_of-requires : goal.members_of-requires
-members_of-requires c = (c.requires.crew.0, c.requires.crew.1)
 
 pub finish-requires : goal.finish-requires
 finish-requires c =
-    let same = same_members c.requires.crew.0 c.in-Ok.members.items (sym c.requires.crew.1 ∙ c.in-Ok.ensures) in
-    let crew : AreMembersOf c.args.board c.in-Ok.members.items = subst (λ (z : List (Member 64 21)). AreMembersOf c.args.board z) same c.requires.crew.2 in
+    let crew : AreMembersOf c.args.board c.in-Ok.members.items = subst (λ (z : List (Member 64 21)). AreMembersOf c.args.board z) (sym c.in-Ok.ensures) c.requires.crew in
     (search rules, (search rules, (search rules, crew_all c.args.board c.in-Ok.members.items crew)))
 
 pub returns-in-Ok-finish-clause-totals : goal.returns-in-Ok-finish-clause-totals
 returns-in-Ok-finish-clause-totals c =
     let board = c.args.board in let members = c.in-Ok.members.items in
-    let same = same_members c.requires.crew.0 members (sym c.requires.crew.1 ∙ c.in-Ok.ensures) in
-    let crew : AreMembersOf board members = subst (λ (z : List (Member 64 21)). AreMembersOf board z) same c.requires.crew.2 in
-    let lists = sym (crew_lists board members crew) in let ok = c.in-Ok-finish.ensures.ok in (
-      members,
-      c.in-Ok.ensures,
-      crew,
-      record {
-        at_end = subst (λ (z : List (List Entry)). AreListsAtEnd board.sizes z) lists ok.1;
-        inserted_is = ok.2 ∙ ap (λ (z : List (List Entry)). (account z).inserted) lists;
-        deleted_is = ok.3 ∙ ap (λ (z : List (List Entry)). (account z).deleted) lists;
-        left_is = c.len.ensures ∙ (c.in-Ok-finish.account.left.ok.0 ∙ ap length (ok.4 ∙ ap (λ (z : List (List Entry)). (account z).left) lists));
-      },
-    )
+    let crew : AreMembersOf board members = subst (λ (z : List (Member 64 21)). AreMembersOf board z) (sym c.in-Ok.ensures) c.requires.crew in
+    let lists = sym (crew_lists board members crew) ∙ ap (λ (z : List (Member 64 21)). lists_in z) c.in-Ok.ensures in let ok = c.in-Ok-finish.ensures.ok in
+    record {
+      at_end = subst (λ (z : List (List Entry)). AreListsAtEnd board.sizes z) lists ok.1;
+      inserted_is = ok.2 ∙ ap (λ (z : List (List Entry)). (account z).inserted) lists;
+      deleted_is = ok.3 ∙ ap (λ (z : List (List Entry)). (account z).deleted) lists;
+      left_is = c.len.ensures ∙ (c.in-Ok-finish.account.left.ok.0 ∙ ap length (ok.4 ∙ ap (λ (z : List (List Entry)). (account z).left) lists));
+    }

@@ -79,7 +79,7 @@ returns-in-Ok-Knapsack-clause-replays g c are =
 pub returns-in-Err-UnknownPick-clause-runs : goal.returns-in-Err-UnknownPick-clause-runs
 returns-in-Err-UnknownPick-clause-runs g c =
     let fault = rw c.in-Err-UnknownPick.field-0-is at c.in-Err-UnknownPick.ensures.fault in
-    inl (fault.0, unknown _ _ _ _ c.say-in-Err-UnknownPick.result.code fault.1 c.say-in-Err-UnknownPick.ensures)
+    inl (fault.0, unknown _ _ _ _ c.refuse_words-in-Err-UnknownPick.result.code fault.1 c.refuse_words-in-Err-UnknownPick.ensures)
 
 pub returns-in-Err-UnknownPick-clause-replays : goal.returns-in-Err-UnknownPick-clause-replays
 returns-in-Err-UnknownPick-clause-replays g c are =
@@ -89,7 +89,7 @@ returns-in-Err-UnknownPick-clause-replays g c are =
 pub returns-in-Err-BadRefill-clause-runs : goal.returns-in-Err-BadRefill-clause-runs
 returns-in-Err-BadRefill-clause-runs g c =
     let fault = rw c.in-Err-BadRefill.field-0-is at c.in-Err-BadRefill.ensures.fault in
-    inl (fault.0, unfit _ fault.1.0 _ _ _ c.say-in-Err-BadRefill.result.code fault.1.1 fault.1.2 c.say-in-Err-BadRefill.ensures)
+    inl (fault.0, unfit _ fault.1.0 _ _ _ c.refuse_words-in-Err-BadRefill.result.code fault.1.1 fault.1.2 c.refuse_words-in-Err-BadRefill.ensures)
 
 -- a command is run, or the words are answered
 runs_command : (words : List (List ℕ)) (action : Action) (input before after : Option (List ℕ)) (n : ℕ) → IsCommand words → action_in words ≡ Some action → RunsBy (Some action) input before after n → Runs words input before after n
@@ -113,13 +113,13 @@ pub returns-in-Ok-Knapsack-clause-runs : goal.returns-in-Ok-Knapsack-clause-runs
 returns-in-Ok-Knapsack-clause-runs g c = runs_command _ (Knapsack c.in-Ok-Knapsack.search) _ _ _ c.run_knapsack.result.code c.in-Ok-Knapsack.ensures.asked (rw c.in-Ok-Knapsack.field-0-is at c.in-Ok-Knapsack.ensures.action) c.run_knapsack.ensures
 
 pub returns-in-Err-Said-clause-runs : goal.returns-in-Err-Said-clause-runs
-returns-in-Err-Said-clause-runs g c = answers_text _ c.as_bytes.result.now c.in-Err-Said.status _ _ _ c.say.result.code (rw c.in-Err-Said.field-0-is at c.in-Err-Said.ensures.fault) c.say.ensures
+returns-in-Err-Said-clause-runs g c = answers_text _ c.as_bytes.result.now c.in-Err-Said.status _ _ _ c.refuse_words.result.code (rw c.in-Err-Said.field-0-is at c.in-Err-Said.ensures.fault) c.refuse_words.ensures
 
 pub returns-in-Err-NotText-clause-runs : goal.returns-in-Err-NotText-clause-runs
 returns-in-Err-NotText-clause-runs g c = refuses _ _ _ _ c.refuse_bytes.result.code (rw c.in-Err-NotText.field-0-is at c.in-Err-NotText.ensures.fault) c.refuse_bytes.ensures
 
 pub returns-clause-runs : goal.returns-clause-runs
-returns-clause-runs g c = inr (inr (inr c.say-in-Err-NoMemory.ensures))
+returns-clause-runs g c = inr (inr (inr c.say.ensures))
 
 pub returns-clause-replays : goal.returns-clause-replays
-returns-clause-replays g c are = inr c.say-in-Err-NoMemory.ensures
+returns-clause-replays g c are = inr c.say.ensures

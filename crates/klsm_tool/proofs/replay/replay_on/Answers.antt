@@ -1,7 +1,6 @@
-use Rattle.std.proofs.Common.{ap, lit<, sym, subst, refl, ◌∙◌, List}
+use Rattle.std.proofs.Common.{ap, lit<, sym, subst, refl, List}
 use Rattle.klsm_board.specs.Boards.{AreNewMembersOf}
 use Rattle.klsm_board.specs.declared.board.Member.{Member}
-use Rattle.klsm_board.specs.declared.sizes.Sizes.{Sizes}
 use Rattle.klsm_board.proofs.lemmas.ending.MemberLemmas.{all_of_board, none_missing}
 use Rattle.klsm_tool.proofs.AloneLemmas.{replays_by, spread_lists}
 use Rattle.klsm_tool.proofs.CrewLemmas.{gathered_fresh}

@@ -30,25 +30,25 @@ pub returns-clause-replays : goal.returns-clause-replays
 returns-clause-replays g c = λ input read.
     let e = c.answer_rows-closing.ensures in let threads = c.args.settings.now.threads in let k = c.args.settings.now.k in let before = g.W.Write.contents c.args.writer.now in let new = c.in-Ok.ensures in
     let stands = first_stands g.R.Read.remaining threads c.args.settings.now.k (all_lists c.args.all.now) input c.args.script.now _ _ (none_shown c.args.all.now threads c.args.settings.now.k c.requires.fresh (sym (ap (λ (z : Sizes). z.threads) (c.requires.of.1 ∙ c.requires.sizes)))) read new.live new.most in
-    replays _ threads k (all_lists c.answer_rows-closing.new.all) input before (g.W.Write.contents c.answer_rows-closing.new.writer) (g.W.Write.contents c.close.new.writer) c.answer_rows-closing.result c.answer_rows-closing.new.self.output c.close.result
-    (e.stops input before stands (nothing_told before _ new.written new.empty)) e.bound c.close.ensures.closes
+    replays _ threads k (all_lists c.answer_rows-closing.new.all) input before (g.W.Write.contents c.answer_rows-closing.new.writer) (g.W.Write.contents c.close-report.new.writer) c.answer_rows-closing.result c.answer_rows-closing.new.self.output c.close-report.result
+    (e.stops input before stands (nothing_told before _ new.written new.empty)) e.bound c.close-report.ensures.closes
 
 pub returns-clause-fault : goal.returns-clause-fault
 returns-clause-fault g c = λ input read.
     let threads = c.args.settings.now.threads in let before = g.W.Write.contents c.args.writer.now in let new = c.in-Ok.ensures in
     let stands = first_stands g.R.Read.remaining threads c.args.settings.now.k (all_lists c.args.all.now) input c.args.script.now _ _ (none_shown c.args.all.now threads c.args.settings.now.k c.requires.fresh (sym (ap (λ (z : Sizes). z.threads) (c.requires.of.1 ∙ c.requires.sizes)))) read new.live new.most in
-    fault_failed _ threads c.args.settings.now.k _ input _ _ (g.W.Write.contents c.close.new.writer) c.answer_rows-closing.result c.answer_rows-closing.new.self.output c.close.result
-    (c.answer_rows-closing.ensures.stops input before stands (nothing_told before _ new.written new.empty)) c.close.ensures.closes
+    fault_failed _ threads c.args.settings.now.k _ input _ _ (g.W.Write.contents c.close-report.new.writer) c.answer_rows-closing.result c.answer_rows-closing.new.self.output c.close-report.result
+    (c.answer_rows-closing.ensures.stops input before stands (nothing_told before _ new.written new.empty)) c.close-report.ensures.closes
 
 pub returns-clause-refused : goal.returns-clause-refused
 returns-clause-refused g c = λ input read is.
     let threads = c.args.settings.now.threads in let before = g.W.Write.contents c.args.writer.now in let new = c.in-Ok.ensures in
     let stands = first_stands g.R.Read.remaining threads c.args.settings.now.k (all_lists c.args.all.now) input c.args.script.now _ _ (none_shown c.args.all.now threads c.args.settings.now.k c.requires.fresh (sym (ap (λ (z : Sizes). z.threads) (c.requires.of.1 ∙ c.requires.sizes)))) read new.live new.most in
-    let refusal = refused_closing _ _ c.answer_rows-closing.result c.answer_rows-closing.new.self.output c.close.result c.close.ensures.closes is in
+    let refusal = refused_closing _ _ c.answer_rows-closing.result c.answer_rows-closing.new.self.output c.close-report.result c.close-report.ensures.closes is in
     c.answer_rows-closing.ensures.refused input before stands (nothing_told before _ new.written new.empty) refusal.0 refusal.1
 
 pub returns-clause-written : goal.returns-clause-written
 returns-clause-written g c =
     let e = c.answer_rows-closing.ensures in
-    let few = c.close.ensures.few in
+    let few = c.close-report.ensures.few in
     omega (arith, few, e.put)

@@ -1,4 +1,4 @@
-use Rattle.std.proofs.Common.{rules, ap, sym, subst, refl, inl, inr, ◌∙◌, ◌≡◌, ◌≢◌, List}
+use Rattle.std.proofs.Common.{rules, sym, subst, refl, inl, inr, ◌∙◌, ◌≡◌, ◌≢◌, List}
 use Rattle.klsm_board.specs.Finishing.{AreListsAtEnd}
 use Rattle.klsm_world.specs.declared.step.Entry.{Entry}
 use Rattle.klsm_text.specs.declared.report.End.TheVariants as end

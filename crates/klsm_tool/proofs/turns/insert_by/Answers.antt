@@ -19,7 +19,7 @@ unreachable-requires g c =
 pub unreachable-requires-in-Err-Full : goal.unreachable-requires-in-Err-Full
 unreachable-requires-in-Err-Full g c =
     let all = c.args.all.now in
-    has_room _ _ c.requires.few all.acting.in_range.k (c.in-Err-Full.ensures.full c.in-Err-Full.field-0-is)
+    has_room _ _ (let few = c.requires.few in omega (arith, few)) all.acting.in_range.k (c.in-Err-Full.ensures.full c.in-Err-Full.field-0-is)
 
 pub returns-in-Ok-clause-goes : goal.returns-in-Ok-clause-goes
 returns-in-Ok-clause-goes g c =

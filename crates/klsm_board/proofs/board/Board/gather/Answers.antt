@@ -6,7 +6,7 @@ use Rattle.klsm_board.specs.declared.board.Member.{Member}
 use Rattle.klsm_board.specs.declared.rule.View.{View}
 use Rattle.klsm_board.specs.declared.sizes.Sizes.{Sizes}
 use Rattle.klsm_board.specs.Boards.{IsOf}
-use Rattle.klsm_board.specs.Finishing.{AreAll, AreListsAtEnd, IsLeastAbsent, lists_of, steps_among}
+use Rattle.klsm_board.specs.Finishing.{IsLeastAbsent, steps_among}
 use Rattle.klsm_board.specs.Knowing.{AreCounted, IsWhole}
 use Rattle.klsm_board.specs.Rule.{view}
 use Rattle.klsm_board.specs.Steps.{AreReached}
