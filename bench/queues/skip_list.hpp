@@ -6,9 +6,9 @@
 //   nodes, the bound offset, does it move the head's pointers behind them, all at once. A node whose insertion is
 //   under way at the upper levels stays in the list.
 // Taken is all of that, with a level more for each second node. Of its own: nodes may have equal keys, and one goes
-// before those of its key. Memory is freed at the end, and none is used again before: where a thread is stopped while it
-// moves the head's pointers, a live node may keep a pointer, at an upper level, to one that has left the list; a search
-// that follows it comes back to the list by the deleted nodes. It was not compared with its authors' program.
+// before those of its key. Memory is freed at the end, and none is used again before: where a thread is stopped while
+// it moves the head's pointers, a live node may keep a pointer, at an upper level, to one that has left the list; a
+// search that follows it comes back to the list by the deleted nodes. It was not compared with its authors' program.
 #ifndef BENCH_QUEUES_SKIP_LIST_HPP
 #define BENCH_QUEUES_SKIP_LIST_HPP
 
