@@ -1,0 +1,69 @@
+"""The pages and the names: what a link leads to is there, no line is wider than 120, a definition's name stands once in
+the `specs/` of all crates, an edit says first by which clause it is refused, and the libraries are as many as is said.
+"""
+
+import re
+from collections import defaultdict
+
+from process import ROOT
+from promises import anchors
+
+WIDTH = 120
+DEFINITION = re.compile(r"^ *(?:abbrev pub|pub record|pub data) ([^\s:]+)|^pub (?!record|data|mod)([^\s:]+) :", re.MULTILINE)
+NUMBERS = "no one two three four five six seven eight nine ten eleven twelve thirteen fourteen fifteen sixteen \
+seventeen eighteen nineteen twenty".split()
+
+
+def pages():
+    """Each page, with what it says outside its blocks of code."""
+    for page in sorted(ROOT.rglob("*.md")):
+        if "out" not in page.relative_to(ROOT).parts:
+            yield page, re.sub(r"^```.*?^```$", "", page.read_text(), flags=re.MULTILINE | re.DOTALL)
+
+
+def links():
+    dead = []
+    for page, text in pages():
+        for target in re.findall(r"\]\(([^)\s]+)\)", text):
+            path, _, anchor = target.partition("#")
+            if "://" in path:
+                continue
+            led = (page.parent / path).resolve() if path else page
+            if not led.exists() or anchor and led.suffix == ".md" and anchor not in anchors(led.read_text()):
+                dead.append(f"{page.relative_to(ROOT)}: {target}")
+    return f"lead nowhere: {dead}" if dead else None
+
+
+def widths():
+    wide = [f"{page.relative_to(ROOT)}: {line[:40]}.." for page, text in pages() for line in text.splitlines()
+            if len(line) > WIDTH and not line.startswith(("|", "    ", "![")) and "<!--" not in line]
+    return f"wider than {WIDTH}: {wide}" if wide else None
+
+
+def names():
+    places = defaultdict(set)
+    for file in ROOT.glob("crates/*/specs/*.antt"):
+        for one, other in DEFINITION.findall(file.read_text()):
+            places[one or other].add(file.relative_to(ROOT / "crates").as_posix())
+    twice = {name: sorted(files) for name, files in places.items() if len(files) > 1}
+    return f"stand more than once: {twice}" if twice else None
+
+
+def edits():
+    silent = [edit.name for edit in ROOT.glob("crates/*/must-fail/*.edit") if not edit.read_text().startswith("# refused by: ")]
+    return f"name no clause first: {silent}" if silent else None
+
+
+def libraries():
+    said = re.search(r"The project is (\w+) libraries", (ROOT / "docs/ARCHITECTURE.md").read_text())
+    shown = {crate.parent.parent.name for crate in ROOT.glob("crates/*/src/lib.rt")}
+    count = len([name for name in shown if not re.search(r"_(tests|test_support|bench|assignment)$", name)])
+    return None if said and said[1] == NUMBERS[count] else f"there are {NUMBERS[count]}"
+
+
+def checks():
+    yield "pages: links", links
+    yield "pages: widths", widths
+    yield "pages: a definition's name stands once", names
+    yield "pages: the clause that refuses an edit", edits
+    yield "pages: how many libraries there are", libraries
