@@ -90,26 +90,13 @@ struct timed_calls {
 template <class Queue>
 timed_calls timed_in_threads(const workload &given, double seconds, const placing &where,
                              typename Queue::setting setting) {
-    using placed = placed_worker<Queue, timed_calls>;
-    Queue queue(given.threads, given.room(), setting);
-    auto handles = handles_of(queue, given.threads);
-    plain_calls calls;
-    fill(given, handles, calls);
-    common_steps steps;
-    std::vector<std::unique_ptr<placed>> workers(given.threads);
-    repeat_for(
-        seconds, given.threads, where,
-        [&](std::size_t t) { workers[t].reset(new placed{{given, handles[t]}, own_steps(steps)}); },
-        [&](std::size_t t) { workers[t]->by.calls() = timed_calls(); },
-        [&](std::size_t t) {
-            workers[t]->by.run(workers[t]->steps.next());
-            return given.calls_of_a_step();
-        });
     timed_calls all;
-    for (const auto &one : workers) {
-        all.insertions.add_all(one->by.calls().insertions);
-        all.deletions.add_all(one->by.calls().deletions);
-    }
+    call_for<Queue, timed_calls>(
+        given, seconds, where, setting, [](timed_calls &calls) { calls = timed_calls(); },
+        [&](timed_calls &calls) {
+            all.insertions.add_all(calls.insertions);
+            all.deletions.add_all(calls.deletions);
+        });
     return all;
 }
 

@@ -64,27 +64,44 @@ private:
     std::atomic<std::size_t> missing_;
 };
 
+// Runs work(t) in thread t, where that belongs, and meanwhile() in this one, until all have ended.
+template <class Work, class Meanwhile>
+void in_threads(std::size_t threads, const placing &where, Work work, Meanwhile meanwhile) {
+    std::vector<std::thread> crew;
+    for (std::size_t t = 0; t < threads; t++)
+        crew.emplace_back([&, t] {
+            where.bind(t);
+            work(t);
+        });
+    meanwhile();
+    for (std::thread &thread : crew)
+        thread.join();
+}
+
+// Seconds from the first begin to the last end.
+inline double seconds_between(const std::vector<std::uint64_t> &begins, const std::vector<std::uint64_t> &ends) {
+    const std::uint64_t begin = *std::min_element(begins.begin(), begins.end());
+    return double(*std::max_element(ends.begin(), ends.end()) - begin) / 1e9;
+}
+
 // Runs prepare(t) and then, begun together, work(t) in thread t. Seconds from the first that begins its
 // work to the last that ends it.
 template <class Prepare, class Work>
 double time_of(std::size_t threads, const placing &where, Prepare prepare, Work work) {
     barrier start(threads);
     std::vector<std::uint64_t> begins(threads), ends(threads);
-    std::vector<std::thread> crew;
-    for (std::size_t t = 0; t < threads; t++)
-        crew.emplace_back([&, t] {
-            where.bind(t);
+    in_threads(
+        threads, where,
+        [&](std::size_t t) {
             prepare(t);
             start.wait();
             const std::uint64_t begin = now();
             work(t);
             ends[t] = now();
             begins[t] = begin;
-        });
-    for (std::thread &thread : crew)
-        thread.join();
-    const std::uint64_t begin = *std::min_element(begins.begin(), begins.end());
-    return double(*std::max_element(ends.begin(), ends.end()) - begin) / 1e9;
+        },
+        [] {});
+    return seconds_between(begins, ends);
 }
 
 // How much was done, and in which time.
@@ -102,10 +119,9 @@ done repeat_for(double seconds, std::size_t threads, const placing &where, Prepa
     alignas(128) std::atomic<int> phase{warms_up};
     barrier start(threads + 1);
     std::vector<std::uint64_t> begins(threads), finishes(threads), sums(threads);
-    std::vector<std::thread> crew;
-    for (std::size_t t = 0; t < threads; t++)
-        crew.emplace_back([&, t] {
-            where.bind(t);
+    in_threads(
+        threads, where,
+        [&](std::size_t t) {
             prepare(t);
             start.wait();
             while (phase.load(std::memory_order_relaxed) == warms_up)
@@ -118,17 +134,15 @@ done repeat_for(double seconds, std::size_t threads, const placing &where, Prepa
             finishes[t] = now();
             begins[t] = from;
             sums[t] = sum;
+        },
+        [&] {
+            start.wait();
+            std::this_thread::sleep_for(std::chrono::duration<double>(seconds / 10));
+            phase.store(counts);
+            std::this_thread::sleep_for(std::chrono::duration<double>(seconds));
+            phase.store(ends);
         });
-    start.wait();
-    std::this_thread::sleep_for(std::chrono::duration<double>(seconds / 10));
-    phase.store(counts);
-    std::this_thread::sleep_for(std::chrono::duration<double>(seconds));
-    phase.store(ends);
-    for (std::thread &thread : crew)
-        thread.join();
-    const std::uint64_t from = *std::min_element(begins.begin(), begins.end());
-    const std::uint64_t to = *std::max_element(finishes.begin(), finishes.end());
-    return {std::accumulate(sums.begin(), sums.end(), std::uint64_t(0)), double(to - from) / 1e9};
+    return {std::accumulate(sums.begin(), sums.end(), std::uint64_t(0)), seconds_between(begins, finishes)};
 }
 
 #endif

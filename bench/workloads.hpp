@@ -168,11 +168,12 @@ template <class Queue, class Calls> struct alignas(128) placed_worker {
     own_steps steps;
 };
 
-// Operations a second of all threads together: fills a queue, and counts the calls of so many seconds.
-template <class Queue>
-double operations_per_second(const workload &given, double seconds, const placing &where,
-                             typename Queue::setting setting) {
-    using placed = placed_worker<Queue, plain_calls>;
+// Fills a queue, and has each thread make calls for so many seconds. When they begin to count, begin(calls) is run for
+// the calls of each thread, and end(calls) when all have ended.
+template <class Queue, class Calls, class Begin, class End>
+done call_for(const workload &given, double seconds, const placing &where, typename Queue::setting setting, Begin begin,
+            End end) {
+    using placed = placed_worker<Queue, Calls>;
     Queue queue(given.threads, given.room(), setting);
     auto handles = handles_of(queue, given.threads);
     plain_calls calls;
@@ -182,11 +183,22 @@ double operations_per_second(const workload &given, double seconds, const placin
     const done all = repeat_for(
         seconds, given.threads, where,
         [&](std::size_t t) { workers[t].reset(new placed{{given, handles[t]}, own_steps(steps)}); },
-        [](std::size_t) {},
+        [&](std::size_t t) { begin(workers[t]->by.calls()); },
         [&](std::size_t t) {
             workers[t]->by.run(workers[t]->steps.next());
             return given.calls_of_a_step();
         });
+    for (const auto &one : workers)
+        end(one->by.calls());
+    return all;
+}
+
+// Operations a second of all threads together.
+template <class Queue>
+double operations_per_second(const workload &given, double seconds, const placing &where,
+                             typename Queue::setting setting) {
+    const auto nothing = [](plain_calls &) {};
+    const done all = call_for<Queue, plain_calls>(given, seconds, where, setting, nothing, nothing);
     return double(all.count) / all.seconds;
 }
 

@@ -6,7 +6,6 @@ import re
 from collections import defaultdict
 
 from process import ROOT
-from promises import anchors
 
 WIDTH = 120
 DEFINITION = re.compile(r"^ *(?:abbrev pub|pub record|pub data) ([^\s:]+)|^pub (?!record|data|mod)([^\s:]+) :", re.MULTILINE)
@@ -19,6 +18,12 @@ def pages():
     for page in sorted(ROOT.rglob("*.md")):
         if "out" not in page.relative_to(ROOT).parts:
             yield page, re.sub(r"^```.*?^```$", "", page.read_text(), flags=re.MULTILINE | re.DOTALL)
+
+
+def anchors(page):
+    """The anchors of the headings, as GitHub makes them."""
+    headings = re.findall(r"^#+ (.*)$", page, re.MULTILINE)
+    return {re.sub(r"[^\w -]", "", heading.lower()).replace(" ", "-") for heading in headings}
 
 
 def links():

@@ -11,12 +11,6 @@ PAGE = ROOT / "docs/PROMISES.md"
 STATUSES = ("proved", "in part", "by tests", "law")
 
 
-def anchors(page):
-    """The anchors of the headings, as GitHub makes them."""
-    headings = re.findall(r"^#+ (.*)$", page, re.MULTILINE)
-    return {re.sub(r"[^\w -]", "", heading.lower()).replace(" ", "-") for heading in headings}
-
-
 def counted():
     page = PAGE.read_text()
     counts = Counter(re.findall(r"^\| \[.*\]\([^)]*#[^)]*\) \|.*\| ([a-z ]+) \|$", page, re.MULTILINE))
