@@ -14,15 +14,15 @@
  *
  *     cc main.c -Iinclude libklsm.a -pthread
  *
- * An item has a key, of which the least is the most urgent, a load that the queue never reads, and a
+ * An item has a key, of which the smallest is the most urgent, a load that the queue never reads, and a
  * stamp: the number of the member that inserted it, and how many insertions that member had made
  * before. No two items of one queue have one stamp. Items are ordered by key, then owner, then
- * number; "smaller", "least" and "ascending" mean this order.
+ * number; "smaller", "smallest" and "ascending" mean this order.
  *
  * A queue has T members, one for each thread. Each keeps at most k items in a part of its own, and
  * all other items lie in one shared part.
  * - A deletion gives an item to which at most T*k smaller ones live when it takes effect. With k = 0
- *   that is the least item. It passes over none that its own member inserted and that lies in its
+ *   that is the smallest item. It passes over none that its own member inserted and that lies in its
  *   own or in the shared part.
  * - KLSM_NOTHING is answered only where at most (T-1)*k items live. So with one thread, or k = 0, it
  *   means that the queue is empty; otherwise it does not, and a program that ends by it has to count
@@ -104,7 +104,7 @@ extern "C" {
 #endif
 
 /* One member: what one thread inserts and deletes by. Its fields belong to the library. It has two
- * lines of the cache, since processors fetch lines in pairs, so threads do not disturb each other. */
+ * cache lines, since processors fetch lines in pairs, so threads do not disturb each other. */
 typedef struct klsm_member {
     KLSM_ALIGNED void *at;
     uint64_t live;
@@ -138,7 +138,7 @@ typedef struct klsm_options {
     size_t k;       /* 0 to 64, 0 written as KLSM_ZERO; the default is KLSM_DEFAULT_K */
     uint32_t pick;  /* one of klsm_pick; the default is KLSM_FIRST */
     uint64_t seed;  /* the default is 0 */
-    size_t refill;  /* 0 to k, 0 written as KLSM_ZERO; the default is the lesser of
+    size_t refill;  /* 0 to k, 0 written as KLSM_ZERO; the default is the smaller of
                      * KLSM_DEFAULT_REFILL and k */
 } klsm_options;
 
@@ -175,10 +175,10 @@ enum klsm_code {
     KLSM_BAD_REFILL = 12 /* opening: the refill is above k */
 };
 
-/* Which of the k + 1 least shared items a deletion takes where it takes a shared one. Of those up to
+/* Which of the k + 1 smallest shared items a deletion takes where it takes a shared one. Of those up to
  * the one that is picked, the first that its own member inserted goes before it. */
 enum klsm_pick {
-    KLSM_FIRST = 0, /* the least */
+    KLSM_FIRST = 0, /* the smallest */
     KLSM_LAST = 1,  /* the greatest: for tests, since the most items are passed over */
     KLSM_RANDOM = 2 /* any, by a generator of each member: PCG32, seeded with seed + t for member t */
 };
@@ -204,9 +204,9 @@ KLSM_MUST_USE KLSM_NOT_NULL(1)
 int32_t klsm_open(klsm_queue *queue, size_t threads, size_t k, uint32_t pick, uint64_t seed);
 
 /* Opens a closed queue as klsm_open does, with a refill, 0 to k. A deletion that took its item from
- * the shared part then moves the least shared items to its member's own part, at most `refill` of them
+ * the shared part then moves the smallest shared items to its member's own part, at most `refill` of them
  * and at most half as many as there is room for, rounded up, while it holds the shared lock; so the
- * member's next deletions need its own lock alone. In the mean more smaller items are passed over,
+ * member's next deletions need its own lock alone. On average more smaller items are passed over,
  * since what moved, as a rule up to `refill` items for each member, waits in own parts; the bound
  * stays T*k.
  * KLSM_OK, or the first of these that is true:
@@ -238,7 +238,7 @@ KLSM_MUST_USE KLSM_NOT_NULL(1)
 int32_t klsm_try_insert(klsm_member *member, uint64_t key, uint64_t load);
 
 /* Deletes a small item. Waits for nobody and takes no memory. The member's thread, one call at a
- * time. Costs no lock but the member's own where its least own key is below all shared ones;
+ * time. Costs no lock but the member's own where its smallest own key is below all shared ones;
  * otherwise the shared lock too, and where both parts are empty a look at the other members' parts.
  * KLSM_OK            *item is written
  * KLSM_NOTHING       the own part, the shared part, and each other part that was not held just then
@@ -249,10 +249,11 @@ int32_t klsm_try_insert(klsm_member *member, uint64_t key, uint64_t load);
 KLSM_NOT_NULL(1, 2)
 int32_t klsm_try_delete_min(klsm_member *member, klsm_item *item);
 
-/* The front: the key of the least shared item, and UINT64_MAX where no item is shared, or the member is not
- * open. No shared item has a lesser key at the moment at which it is looked at; items in members' own parts
- * may have, of which others have at most (T-1)*k. So it is a bound of what the shared part may still give.
- * The member's thread, one call at a time. Takes no lock and waits for nobody. */
+/* The front: the key of the smallest shared item, and UINT64_MAX where no item is shared, or the member is not
+ * open. Items in members' own parts may have smaller keys, of which others have at most (T-1)*k. So it is a
+ * bound of what the shared part may still give. The proof says it of a state of the queue that the member
+ * cannot tell from the present one. The member's thread, one call at a time. Takes no lock and waits for
+ * nobody. */
 KLSM_NOT_NULL(1) uint64_t klsm_front(klsm_member *member);
 
 /* How many insertions and deletions of the member answered KLSM_OK since the queue was opened; 0
@@ -298,7 +299,7 @@ KLSM_INLINE int32_t klsm_open_with(klsm_queue *queue, const klsm_options *option
                                  klsm_or_default(options->refill, most));
 }
 
-/* Keys for a search by bounds, of which the least is the most promising. The key orders items by the
+/* Keys for a search by bounds, of which the smallest is the most promising. The key orders items by the
  * bound, and those of one bound by the depth, the deepest first. Where thousands of items share a key,
  * nearly each deletion takes the shared lock, since a member's own item goes without it only where its
  * key is less than that of each shared item; so it pays to tell items of one bound apart, and the
@@ -354,7 +355,7 @@ KLSM_INLINE uint64_t klsm_left(klsm_queue *queue) {
     return left;
 }
 
-/* Closes a queue: writes the account, copies the least `room` of the items that are left to `left`,
+/* Closes a queue: writes the account, copies the smallest `room` of the items that are left to `left`,
  * ascending, and gives all memory back. The rest of that array is as it was. The items that have no
  * room there are gone, so size it by klsm_left first where they matter. Has the whole queue for
  * itself, so no thread is left that uses a member. Waits for nobody. Costs a sort of the items that
@@ -489,7 +490,7 @@ KLSM_INLINE int32_t klsm_delete_min(klsm_member *member, klsm_item *item) {
  * work is opened before its item is inserted, and done once all that follows from it was opened. Any thread, at
  * any time. What a thread wrote before its work was done is seen by those that see the end. */
 typedef struct klsm_work {
-    KLSM_ALIGNED uint64_t open; /* on two lines of the cache of its own, as a member is */
+    KLSM_ALIGNED uint64_t open; /* on two cache lines of its own, as a member is */
     uint64_t room[15];
 } klsm_work;
 

@@ -95,7 +95,7 @@ struct options {
     std::size_t k = KLSM_DEFAULT_K;
     pick how = pick::first;
     std::uint64_t seed = 0;
-    std::optional<std::size_t> refill = std::nullopt; // none: the lesser of KLSM_DEFAULT_REFILL and k
+    std::optional<std::size_t> refill = std::nullopt; // none: the smaller of KLSM_DEFAULT_REFILL and k
 };
 
 // What the constructors and close() throw.
@@ -173,7 +173,7 @@ public:
     [[nodiscard]] klsm::code try_delete_min(item &deleted) noexcept {
         return at_ == nullptr ? code::not_open : code(klsm_try_delete_min(at_, &deleted));
     }
-    // The front: no shared item has a lesser key just then. klsm.h says more at klsm_front.
+    // The front: the key of the smallest shared item. klsm.h says more at klsm_front.
     [[nodiscard]] std::uint64_t front() noexcept { return at_ == nullptr ? UINT64_MAX : klsm_front(at_); }
     // How many insertions and deletions were made by this number since the queue was opened.
     [[nodiscard]] std::uint64_t inserted() noexcept {

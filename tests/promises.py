@@ -1,4 +1,4 @@
-"""The promises: the numbers at the head of their page are those of its table, and the must-fail edits that the READMEs of
+"""The promises: the numbers at the head of their page are those of its table, and the must-fail edits that the pages of
 the crates name are those that there are.
 """
 
@@ -21,7 +21,7 @@ def counted():
 def edits():
     """A README names an edit of its crate by the name, and one of another crate with that before a slash."""
     named, listed = set(), set()
-    for readme in ROOT.glob("crates/*/README.md"):
+    for readme in ROOT.glob("crates/*/*.md"):
         page, crate = readme.read_text(), readme.parent.name
         for text in [page, *re.findall(r"^- Edits: (.*?)(?=^- |^#|\Z)", page, re.MULTILINE | re.DOTALL)]:
             found = {it if "/" in it else f"{crate}/{it}" for it in re.findall(r"`([\w/]+)`", text)}

@@ -86,8 +86,9 @@ static void picks(void) {
 static void limits(void) {
     is_number("crates/klsm_c/src/queue.rt", "slots: [Slot; ", KLSM_MAX_THREADS);
     is_number("crates/klsm_board/src/making.rt", "const MOST_THREADS: usize = ", KLSM_MAX_THREADS);
-    is_number("crates/klsm_owned/src/owned.rt", "Board<", KLSM_MAX_K);
-    is_number("crates/klsm_owned/src/owned.rt", "Board<64, ", 20 + 1);
+    says("crates/klsm_owned/src/owned.rt", "board: Arc<StandardBoard, Global>,");
+    is_number("crates/klsm_board/src/board.rt", "StandardBoard = Board<", KLSM_MAX_K);
+    is_number("crates/klsm_board/src/board.rt", "StandardBoard = Board<64, ", 20 + 1);
     is_number("crates/klsm_board/src/making.rt", "const MOST_INSERTIONS: u64 = ", KLSM_MAX_INSERTIONS);
     says("include/klsm.h", "the shared part, of 2^20 items, has no room");
     says("include/klsm.h", "the member has made 2^48 insertions");

@@ -9,9 +9,9 @@ const DEFAULT_REFILL: usize = 16;
 
 /// The numbers of a queue that is to be opened: what [`Queue::builder`] gives.
 ///
-/// A deletion that took its item from the shared part moves the least shared items to its member's own
+/// A deletion that took its item from the shared part moves the smallest shared items to its member's own
 /// part, at most `refill` of them and at most half as many as there is room for, rounded up, so that the
-/// member's next deletions need its own lock alone. In the mean more smaller items are passed over,
+/// member's next deletions need its own lock alone. On average more smaller items are passed over,
 /// since what moved, as a rule up to `refill` items for each member, waits in own parts; the bound
 /// stays T·k.
 #[derive(Clone, Debug)]
@@ -52,7 +52,7 @@ impl Builder {
         self
     }
 
-    /// How many items a deletion moves at most, 0 to k. It is the lesser of 16 and k until it is named.
+    /// How many items a deletion moves at most, 0 to k. It is the smaller of 16 and k until it is named.
     pub fn refill(&mut self, refill: usize) -> &mut Builder {
         self.refill = Some(refill);
         self

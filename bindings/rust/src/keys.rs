@@ -3,7 +3,7 @@
 const MOST_BOUND: u64 = (1 << 48) - 1;
 const MOST_DEPTH: u32 = 65_535;
 
-/// A key that orders items by a bound, of which the least is the most promising, and items of one bound
+/// A key that orders items by a bound, of which the smallest is the most promising, and items of one bound
 /// by their depth, the deepest first.
 ///
 /// Where thousands of items share a key, nearly each deletion takes the shared lock, since a member's own
@@ -43,10 +43,10 @@ const SIGN: u64 = 1 << 63;
 /// The bits of the one NaN that has a key: quiet, positive, and nothing else.
 const NAN: u64 = 0x7ff8_0000_0000_0000;
 
-/// A key that orders items by a double, the least first. `!key_of_f64(x)` orders them with the greatest
+/// A key that orders items by a double, the smallest first. `!key_of_f64(x)` orders them with the greatest
 /// first.
 ///
-/// Of numbers the lesser has the lesser key, and equal ones, which 0 and -0 are, have the same. Each NaN
+/// Of numbers the smaller has the smaller key, and equal ones, which 0 and -0 are, have the same. Each NaN
 /// has one key above that of infinity.
 ///
 /// ```
@@ -77,7 +77,7 @@ pub fn f64_of_key(key: u64) -> f64 {
     f64::from_bits(if key & SIGN == 0 { !key } else { key & !SIGN })
 }
 
-/// A key that orders items by a whole number with a sign, the least first. `!key_of_i64(x)` orders them
+/// A key that orders items by a whole number with a sign, the smallest first. `!key_of_i64(x)` orders them
 /// with the greatest first.
 ///
 /// ```

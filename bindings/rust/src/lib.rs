@@ -1,10 +1,10 @@
 //! A k-LSM relaxed concurrent priority queue, for up to sixteen threads.
 //!
-//! An [`Item`] has a 64-bit key, of which the least is the most urgent, and a 64-bit load, which the
+//! An [`Item`] has a 64-bit key, of which the smallest is the most urgent, and a 64-bit load, which the
 //! queue never reads. A [`Queue`] of T threads and k has T members. Each [`Member`] is used by one
 //! thread at a time, and keeps up to k items for itself; all share the others. A deletion gives one
 //! of the small items: at most T·k smaller ones are in the queue at that moment. With k = 0 it gives
-//! the least.
+//! the smallest.
 //!
 //! ```
 //! use klsm::Queue;

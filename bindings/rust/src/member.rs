@@ -11,7 +11,7 @@ use std::slice::IterMut;
 /// One member of a [`Queue`](crate::Queue), which it borrows. Send each to a thread of its own.
 ///
 /// An insertion needs the member's own lock, and the shared one where the member already keeps k
-/// items. A deletion needs the own lock, and the shared one unless the least key that the member
+/// items. A deletion needs the own lock, and the shared one unless the smallest key that the member
 /// keeps is below all shared ones. A call that waits for a lock looks away for some pauses between
 /// two tries, and after some tries lets other threads run. How long it waits is not promised.
 pub struct Member<'queue> {
@@ -101,10 +101,11 @@ impl<'queue> Member<'queue> {
         }
     }
 
-    /// The front: the key of the least shared item, and `u64::MAX` where no item is shared.
+    /// The front: the key of the smallest shared item, and `u64::MAX` where no item is shared.
     ///
-    /// No shared item has a lesser key at the moment at which it is looked at. Items that members keep
-    /// for themselves may have: those of the others are at most (T-1)·k. It takes no lock.
+    /// Items that members keep for themselves may have smaller keys: those of the others are at most
+    /// (T-1)·k. The proof says it of a state of the queue that the member cannot tell from the present one.
+    /// It takes no lock.
     #[must_use]
     pub fn front(&mut self) -> u64 {
         // SAFETY: as in `insertion`.

@@ -149,7 +149,7 @@ impl OwnedMember {
         self.lend().try_delete_min()
     }
 
-    /// The front, the key of the least shared item: [`Member::front`].
+    /// The front, the key of the smallest shared item: [`Member::front`].
     #[must_use]
     pub fn front(&mut self) -> u64 {
         self.lend().front()

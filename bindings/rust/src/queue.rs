@@ -9,12 +9,12 @@ use crate::sys::{self, code, Item, Slot, Slots, Totals};
 use std::fmt;
 use std::ptr::NonNull;
 
-/// Which of the k+1 least shared items a deletion takes, where it takes a shared one. Of those up to
+/// Which of the k+1 smallest shared items a deletion takes, where it takes a shared one. Of those up to
 /// the one that is picked, the first that its own member inserted goes before it.
 #[derive(Clone, Copy, Debug, Default, PartialEq, Eq, Hash)]
 #[repr(u32)]
 pub enum Pick {
-    /// The least of them.
+    /// The smallest of them.
     #[default]
     First = 0,
     /// The greatest of them.
@@ -52,7 +52,7 @@ unsafe impl Sync for Queue {}
 
 impl Queue {
     /// Opens a queue for `threads` threads, 1 to 16, each of which keeps at most `k` items for itself,
-    /// 0 to 64. Where a deletion takes a shared item, it is the least, and it moves no others. It takes
+    /// 0 to 64. Where a deletion takes a shared item, it is the smallest, and it moves no others. It takes
     /// memory, and no lock. [`builder`](Queue::builder) names more.
     ///
     /// # Errors

@@ -30,7 +30,7 @@ pub(crate) mod code {
     pub(crate) const BAD_REFILL: i32 = 12;
 }
 
-/// One member's slot, on two lines of the cache, since processors fetch two at once.
+/// One member's slot, on two cache lines, since processors fetch two at once.
 ///
 /// The library writes to it in each call, also where it only reads a count: it takes the member out and
 /// puts it back. So all of it is in a cell.
@@ -82,7 +82,7 @@ impl Slots {
 #[repr(C)]
 #[derive(Clone, Copy, Debug, Default, PartialEq, Eq, Hash)]
 pub struct Item {
-    /// What the items are ordered by first: the least key is the most urgent.
+    /// What the items are ordered by first: the smallest key is the most urgent.
     pub key: u64,
     /// What the item carries for its user. The queue never reads it.
     pub load: u64,

@@ -3,7 +3,7 @@ ghost use Rattle.std.specs.Prelude.{All};
 ghost use Rattle.klsm_board.specs.Boards.{IsOf};
 
 use crate::node::Node;
-use klsm_board::{Board, InsertError, Member};
+use klsm_board::{InsertError, StandardBoard, StandardMember};
 use klsm_parts::First;
 use std::alloc::{AllocError, Global};
 use std::sync::Wait;
@@ -47,8 +47,8 @@ impl Search {
 #[derive(Drop)]
 pub(crate) struct Worker<'a, R> {
     rt: &'a R,
-    board: &'a Board<64, 21>,
-    member: Member<64, 21>,
+    board: &'a StandardBoard,
+    member: StandardMember,
     search: &'a Search,
     ghost of: { IsOf member board.now },
 }
@@ -105,8 +105,8 @@ impl<R: Wait> Worker<'_, R> {
 pub(crate) fn workers_on<'a, R: Wait>(
     rt: &'a R,
     alloc: Global,
-    board: &'a Board<64, 21>,
-    mut members: Vec<Member<64, 21>>,
+    board: &'a StandardBoard,
+    mut members: Vec<StandardMember>,
     search: &'a Search,
 ) -> Result<Vec<Worker<'a, R>>, AllocError>
     requires { All (λ member. IsOf member board.now) members.items }

@@ -3,7 +3,7 @@ ghost use Rattle.std.specs.Prelude.{IfSome};
 ghost use Rattle.klsm_board.specs.Boards.{IsOf};
 
 use crate::contenders::Contender;
-use klsm_board::{Board, Member};
+use klsm_board::{Board, StandardBoard, StandardMember};
 use klsm_parts::Picker;
 use klsm_run::Item;
 use std::alloc::Global;
@@ -13,7 +13,7 @@ use std::sync::Wait;
 const QUOTA: u64 = 1 << 32;
 
 /// A board of one member, and that member.
-pub(crate) fn board_of_one(alloc: Global, k: usize) -> Option<(Board<64, 21>, Member<64, 21>)>
+pub(crate) fn board_of_one(alloc: Global, k: usize) -> Option<(StandardBoard, StandardMember)>
     ensures { IfSome result (λ made. IsOf made.1 made.0) }
 {
     let Ok((board, mut members)) = Board::new(alloc, 1, k, QUOTA) else {
@@ -29,8 +29,8 @@ pub(crate) fn board_of_one(alloc: Global, k: usize) -> Option<(Board<64, 21>, Me
 #[derive(Drop)]
 pub(crate) struct OnBoard<'a, R, P> {
     pub(crate) rt: &'a R,
-    pub(crate) board: &'a Board<64, 21>,
-    pub(crate) member: Member<64, 21>,
+    pub(crate) board: &'a StandardBoard,
+    pub(crate) member: StandardMember,
     pub(crate) picker: P,
     pub(crate) ghost of: { IsOf member board.now },
 }

@@ -26,6 +26,9 @@ pub struct AllMembers<const CAP: usize, const LEVELS: usize> {
     pub ghost roomy: { acting.sizes.threads ≤ vec_capacity room },
 }
 
+/// All members of a `StandardBoard`.
+pub type AllStandardMembers = AllMembers<64, 21>;
+
 /// Which member is missing, and the members.
 #[derive(Drop)]
 pub struct GatherRefused<const CAP: usize, const LEVELS: usize> {

@@ -46,6 +46,13 @@ pub struct Member<const CAP: usize, const LEVELS: usize> {
     pub ghost levels: { IsLevelCount LEVELS },
 }
 
+/// The board of the program and of the library for C: own parts of at most 64 items, and 21 levels, by which the
+/// shared part has room for 1,048,576.
+pub type StandardBoard = Board<64, 21>;
+
+/// One of its members.
+pub type StandardMember = Member<64, 21>;
+
 /// A member that holds one part. No other member can acquire that part. A `Held` that is dropped leaves
 /// the lock held for good.
 #[derive(Drop)]

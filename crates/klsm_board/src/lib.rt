@@ -16,7 +16,7 @@
 //! k items in any case.
 //!
 //! ```text
-//! let (board, mut members) = Board::<64, 21>::new(alloc, 4, 16, 1 << 40)?;
+//! let (board, mut members) = StandardBoard::new(alloc, 4, 16, 1 << 40)?;
 //! // each member in a thread of its own, all with the one board and the number of open nodes
 //! while open.load(SeqCst) > 0 {
 //!     let Some(item) = member.delete_min(&wait, &board, &mut picker) else { continue };
@@ -98,8 +98,8 @@ mod steps;
 mod tally;
 mod together;
 
-pub use all_members::{AllMembers, GatherRefused};
-pub use board::{Board, Held, HoldRefused, Member};
+pub use all_members::{AllMembers, AllStandardMembers, GatherRefused};
+pub use board::{Board, Held, HoldRefused, Member, StandardBoard, StandardMember};
 pub use errors::{Busy, FinishError, HoldError, InsertError, MakeError, TryInsertError};
 pub use finishing::{Account, FinishRefused};
 pub use gate::{Gate, Open};

@@ -49,9 +49,11 @@ impl<const CAP: usize, const LEVELS: usize> Member<CAP, LEVELS> {
         self.deleted
     }
 
-    /// The front: the key of the least shared item, and the greatest number where no item is shared. No
-    /// shared item has a lesser key at the moment at which it is looked at; the items in members' own
-    /// parts may have. It takes no lock, waits for nobody, and changes nothing.
+    /// The front: the key of the least shared item, and the greatest number where no item is shared. The items in
+    /// members' own parts may have lesser keys. It takes no lock, waits for nobody, and changes nothing.
+    ///
+    /// The clauses say so of a lawful world in which the lists that the member knows are what they are. That it is
+    /// the world of the moment of the look is kept by the rule of the board's table, and is no clause.
     #[inline]
     pub fn front(&mut self, board: &Board<CAP, LEVELS>) -> u64
         requires { IsOf self.old board.now }

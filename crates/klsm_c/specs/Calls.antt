@@ -1,5 +1,5 @@
 -- What the calls of a slot tell, by what it has before and after.
-use Rattle.std.specs.Prelude.{◌≡◌, ℕ, ℤ, pos, List, [], ◌∷◌, length, Result, Ok, Err, Option, Some, None}
+use Rattle.std.specs.Prelude.{◌≡◌, ℕ, ℤ, List, [], ◌∷◌, length, Result, Ok, Err, Option, Some, None}
 use Rattle.std.specs.Prelude.{slice_set}
 use mathlib.Core.Option.{some}
 use lib.ListN.{get_elem?}
@@ -17,6 +17,7 @@ use Rattle.klsm_owned.specs.Trying.{LooksAtFront, TriesInsert, TriesDelete}
 use Rattle.klsm_c.specs.declared.item.PlainItem.{PlainItem}
 use Rattle.klsm_c.specs.declared.slot.Slot.{Slot}
 use Rattle.klsm_c.specs.Items.{plain_of}
+use Rattle.klsm_c.specs.Codes as codes
 
 -- how many items the member of a slot has, of those that its list has by this measure
 abbrev pub count_in : (List Entry → List Item) → List OwnedMember → ℕ
@@ -32,16 +33,16 @@ deleted_in xs = count_in deleted xs
 
 -- the code of an answer
 abbrev pub insert_code : Result Stamp TryInsertError → ℤ
-insert_code (Ok stamp) = pos 0
-insert_code (Err (Busy busy)) = pos 2
-insert_code (Err Full) = pos 3
-insert_code (Err NoMemory) = pos 4
-insert_code (Err Spent) = pos 5
+insert_code (Ok stamp) = codes.ok
+insert_code (Err (Busy busy)) = codes.busy
+insert_code (Err Full) = codes.full
+insert_code (Err NoMemory) = codes.no_memory
+insert_code (Err Spent) = codes.spent
 
 abbrev pub delete_code : Result (Option Item) IsBusy → ℤ
-delete_code (Ok (Some item)) = pos 0
-delete_code (Ok None) = pos 1
-delete_code (Err busy) = pos 2
+delete_code (Ok (Some item)) = codes.ok
+delete_code (Ok None) = codes.nothing
+delete_code (Err busy) = codes.busy
 
 -- what is written for an answer
 abbrev pub written : PlainItem → Result (Option Item) IsBusy → PlainItem
@@ -49,16 +50,16 @@ written old (Ok (Some item)) = plain_of item
 written old (Ok None) = old
 written old (Err busy) = old
 
--- An insertion: 6 exactly where there is no member. Else the member is the same afterwards, its list
+-- An insertion: `not_open` exactly where there is no member. Else the member is the same afterwards, its list
 -- tells what it did, and the code says which answer it was.
 abbrev pub InsertsBySlot : List OwnedMember → List OwnedMember → ℕ → ℕ → ℤ → Type 0
-InsertsBySlot [] new key load code = (code ≡ pos 6) × (new ≡ [])
+InsertsBySlot [] new key load code = (code ≡ codes.not_open) × (new ≡ [])
 InsertsBySlot (x ∷ xs) new key load code = (y : OwnedMember) × (new ≡ y ∷ []) × IsSameOwned x y
     × (answer : Result Stamp TryInsertError) × (code ≡ insert_code answer) × TriesInsert x y key load answer
 
--- A deletion, as an insertion. An item is written exactly where the code is 0.
+-- A deletion, as an insertion. An item is written exactly where the code is `ok`.
 abbrev pub DeletesBySlot : List OwnedMember → List OwnedMember → PlainItem → PlainItem → ℤ → Type 0
-DeletesBySlot [] new item item' code = (code ≡ pos 6) × (new ≡ []) × (item' ≡ item)
+DeletesBySlot [] new item item' code = (code ≡ codes.not_open) × (new ≡ []) × (item' ≡ item)
 DeletesBySlot (x ∷ xs) new item item' code = (y : OwnedMember) × (new ≡ y ∷ []) × IsSameOwned x y
     × (answer : Result (Option Item) IsBusy) × (code ≡ delete_code answer) × (item' ≡ written item answer)
     × TriesDelete x y answer

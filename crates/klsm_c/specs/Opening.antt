@@ -1,7 +1,7 @@
 -- A queue that was just opened.
 use Rattle.std.specs.Prelude.{◌≡◌, ℕ, zero, suc, ◌-◌, ◌++◌, [], List, map, replicate}
-use Rattle.klsm_choice.specs.declared.choice.Pick.{Pick}
-use Rattle.klsm_choice.specs.declared.choice.Pick.TheVariants as pick
+use Rattle.klsm_parts.specs.declared.choice.Pick.{Pick}
+use Rattle.klsm_parts.specs.declared.choice.Pick.TheVariants as pick
 use Rattle.klsm_owned.specs.Owned.{AreNew}
 use Rattle.klsm_c.specs.declared.slot.Slot.{Slot}
 use Rattle.klsm_c.specs.Slots.{alone, held_in, owned_in}

@@ -48,8 +48,8 @@ pub extern "C" fn klsm_try_delete_min(alloc: Global, slot: &mut Slot, item: &mut
     }
 }
 
-/// The front: no shared item of the slot's queue has a lesser key at that moment. The greatest number where no
-/// item is shared, and where the slot is not open.
+/// The front, the key of the least shared item of the slot's queue. The greatest number where no item is shared,
+/// and where the slot is not open.
 #[unsafe(no_mangle)]
 pub extern "C" fn klsm_front(alloc: Global, slot: &mut Slot) -> u64
     ensures { LooksAt slot.old.handle.held slot.new.handle.held result }

@@ -1,5 +1,5 @@
 //! How C closes a queue.
-ghost use Rattle.std.specs.Prelude.{◌≡◌, ◌≢◌, ◌↔◌, ◌⊎◌, ◌≤◌, ◌+◌, ◌++◌, ◌∷◌, [], pos, false, length, map, IfOk, IfErr, IsErrAnd, IfSome, MatchOption, None, OnOk, OnErr, vec_capacity};
+ghost use Rattle.std.specs.Prelude.{◌≡◌, ◌≢◌, ◌↔◌, ◌⊎◌, ◌≤◌, ◌+◌, ◌++◌, ◌∷◌, [], false, length, map, IfOk, IfErr, IsErrAnd, IfSome, MatchOption, None, OnOk, OnErr, vec_capacity};
 ghost use Rattle.std.specs.Arc.{arc_value};
 ghost use Rattle.std.specs.List.{flat_map};
 ghost use mathlib.Core.Option.{some};
@@ -10,6 +10,7 @@ ghost use Rattle.klsm_board.specs.Members.{most_deletions, most_insertions};
 ghost use Rattle.klsm_owned.specs.Owned.{AreAllOfTheirBoard, member_of, members_of};
 ghost use Rattle.klsm_c.specs.Slots.{AreClosed, held_in, owned_in, some_open};
 ghost use Rattle.klsm_c.specs.Calls.{deleted_in, inserted_in};
+ghost use Rattle.klsm_c.specs.Codes as codes;
 ghost use Rattle.klsm_c.specs.Closing.{HasOneOf, IsAccount, all_steps};
 
 use crate::calls::{klsm_deleted, klsm_inserted};
@@ -18,7 +19,7 @@ use crate::item::{PlainItem, copy_items};
 use crate::opening::some_is_open;
 use crate::queue::Queue;
 use crate::slot::Slot;
-use klsm_board::{Board, Member};
+use klsm_board::{Member, StandardBoard, StandardMember};
 use klsm_run::Item;
 use std::alloc::Global;
 use std::sync::Arc;
@@ -45,14 +46,15 @@ pub extern "C" fn klsm_close_into(
     account: &mut Account,
     left: &mut [PlainItem],
 ) -> i32
-    ensures not_open { (result ≡ pos 6) ↔ (some_open queue.old.slots ≡ false) }
-    ensures ok { result ≡ pos 0 → IsAccount (members_of (owned_in queue.old.slots))
+    ensures not_open { (result ≡ codes.not_open) ↔ (some_open queue.old.slots ≡ false) }
+    ensures ok { result ≡ codes.ok → IsAccount (members_of (owned_in queue.old.slots))
         account.new left.old left.new }
-    ensures closed { (result ≡ pos 0) ⊎ (result ≡ pos 11) → AreClosed queue.new.slots }
-    ensures refused { (result ≡ pos 4) ⊎ (result ≡ pos 6)
+    ensures closed { (result ≡ codes.ok) ⊎ (result ≡ codes.shared) → AreClosed queue.new.slots }
+    ensures refused { (result ≡ codes.no_memory) ⊎ (result ≡ codes.not_open)
         → held_in queue.new.slots ≡ held_in queue.old.slots }
-    ensures untouched { result ≢ pos 0 → (account.new ≡ account.old) × (left.new ≡ left.old) }
-    ensures codes { (result ≡ pos 0) ⊎ (result ≡ pos 4) ⊎ (result ≡ pos 6) ⊎ (result ≡ pos 11) }
+    ensures untouched { result ≢ codes.ok → (account.new ≡ account.old) × (left.new ≡ left.old) }
+    ensures codes { (result ≡ codes.ok) ⊎ (result ≡ codes.no_memory) ⊎ (result ≡ codes.not_open)
+        ⊎ (result ≡ codes.shared) }
 {
     match close_slots(alloc, &mut queue.slots, left) {
         Ok(totals) => {
@@ -157,8 +159,8 @@ fn counts_of(alloc: Global, slot: &mut Slot) -> (u64, u64)
 fn take_members(
     alloc: Global,
     slots: &mut [Slot],
-    members: &mut Vec<Member<64, 21>>,
-) -> Option<Arc<Board<64, 21>, Global>>
+    members: &mut Vec<StandardMember>,
+) -> Option<Arc<StandardBoard, Global>>
     requires empty { members.old.items ≡ [] }
     requires room { length slots.old ≤ vec_capacity members.old }
     ensures closed { AreClosed slots.new }
@@ -179,8 +181,8 @@ fn take_members(
 fn take_member(
     alloc: Global,
     slot: &mut Slot,
-    members: &mut Vec<Member<64, 21>>,
-) -> Option<Arc<Board<64, 21>, Global>>
+    members: &mut Vec<StandardMember>,
+) -> Option<Arc<StandardBoard, Global>>
     requires room { length members.old.items + 1 ≤ vec_capacity members.old }
     ensures closed { slot.new.handle.held ≡ [] }
     ensures members { members.new.items ≡ members.old.items ++ members_of slot.old.handle.held }
@@ -197,8 +199,8 @@ fn take_member(
 
 // Ends the board, whose members these are, and copies what is left. `None` where it has another owner.
 fn finish(
-    board: Arc<Board<64, 21>, Global>,
-    members: Vec<Member<64, 21>>,
+    board: Arc<StandardBoard, Global>,
+    members: Vec<StandardMember>,
     items: Vec<Item>,
     left: &mut [PlainItem],
 ) -> Option<Account>

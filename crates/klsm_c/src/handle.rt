@@ -5,8 +5,8 @@ ghost use Rattle.klsm_owned.specs.contracts.owned.OwnedMember.{the_row};
 ghost use Rattle.klsm_owned.specs.declared.owned.OwnedMember.{OwnedMember as Owned};
 ghost use Rattle.klsm_c.specs.Held.{held_owns};
 
+use crate::raw_box::RawBox;
 use klsm_owned::OwnedMember;
-use klsm_raw_box::RawBox;
 use std::alloc::Global;
 use std::marker::Model;
 

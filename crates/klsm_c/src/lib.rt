@@ -26,9 +26,10 @@ mod closing;
 mod codes;
 mod handle;
 mod item;
-mod lending;
 mod opening;
 mod queue;
+mod queue_calls;
+mod raw_box;
 mod slot;
 
 pub use calls::{klsm_deleted, klsm_front, klsm_inserted, klsm_try_delete_min, klsm_try_insert};
@@ -38,4 +39,5 @@ pub use handle::Handle;
 pub use item::PlainItem;
 pub use opening::{klsm_open, klsm_open_with_refill};
 pub use queue::Queue;
+pub use raw_box::RawBox;
 pub use slot::Slot;

@@ -1,6 +1,7 @@
 //! How C opens a queue.
-ghost use Rattle.std.specs.Prelude.{◌≡◌, ◌≢◌, ◌<◌, ◌≤◌, ◌⊎◌, ◌↔◌, ◌++◌, pos, true, false, length, map, drop, IfSome, None};
+ghost use Rattle.std.specs.Prelude.{◌≡◌, ◌≢◌, ◌<◌, ◌≤◌, ◌⊎◌, ◌↔◌, ◌++◌, true, false, length, map, drop, IfSome, None};
 ghost use Rattle.klsm_c.specs.Slots.{alone, held_in, some_open};
+ghost use Rattle.klsm_c.specs.Codes as codes;
 ghost use Rattle.klsm_c.specs.Opening.{AreOpened, pick_by};
 
 use crate::codes::{BAD_COUNT, BAD_K, BAD_PICK, BAD_REFILL, NO_MEMORY, OK, OPEN};
@@ -21,16 +22,19 @@ pub extern "C" fn klsm_open(
     pick: u32,
     seed: u64,
 ) -> i32
-    ensures ok { result ≡ pos 0 → AreOpened threads k pick seed 0 queue.new.slots }
-    ensures refused { result ≢ pos 0 → queue.new ≡ queue.old }
-    ensures open { (result ≡ pos 7) ↔ (some_open queue.old.slots ≡ true) }
-    ensures bad_pick { (result ≡ pos 10) ↔ ((some_open queue.old.slots ≡ false) × (2 < pick)) }
-    ensures bad_count { (result ≡ pos 8) ↔ ((some_open queue.old.slots ≡ false) × (pick ≤ 2)
+    ensures ok { result ≡ codes.ok → AreOpened threads k pick seed 0 queue.new.slots }
+    ensures refused { result ≢ codes.ok → queue.new ≡ queue.old }
+    ensures open { (result ≡ codes.already_open) ↔ (some_open queue.old.slots ≡ true) }
+    ensures bad_pick { (result ≡ codes.bad_pick)
+        ↔ ((some_open queue.old.slots ≡ false) × (2 < pick)) }
+    ensures bad_count { (result ≡ codes.bad_count)
+        ↔ ((some_open queue.old.slots ≡ false) × (pick ≤ 2)
         × ((threads ≡ 0) ⊎ (16 < threads))) }
-    ensures bad_k { (result ≡ pos 9) ↔ ((some_open queue.old.slots ≡ false) × (pick ≤ 2)
+    ensures bad_k { (result ≡ codes.bad_k)
+        ↔ ((some_open queue.old.slots ≡ false) × (pick ≤ 2)
         × (1 ≤ threads) × (threads ≤ 16) × (64 < k)) }
-    ensures codes { (result ≡ pos 0) ⊎ (result ≡ pos 4) ⊎ (result ≡ pos 7) ⊎ (result ≡ pos 8)
-        ⊎ (result ≡ pos 9) ⊎ (result ≡ pos 10) }
+    ensures codes { (result ≡ codes.ok) ⊎ (result ≡ codes.no_memory) ⊎ (result ≡ codes.already_open)
+        ⊎ (result ≡ codes.bad_count) ⊎ (result ≡ codes.bad_k) ⊎ (result ≡ codes.bad_pick) }
 {
     klsm_open_with_refill(alloc, queue, threads, k, pick, seed, 0)
 }
@@ -47,18 +51,22 @@ pub extern "C" fn klsm_open_with_refill(
     seed: u64,
     refill: usize,
 ) -> i32
-    ensures ok { result ≡ pos 0 → AreOpened threads k pick seed refill queue.new.slots }
-    ensures refused { result ≢ pos 0 → queue.new ≡ queue.old }
-    ensures open { (result ≡ pos 7) ↔ (some_open queue.old.slots ≡ true) }
-    ensures bad_pick { (result ≡ pos 10) ↔ ((some_open queue.old.slots ≡ false) × (2 < pick)) }
-    ensures bad_count { (result ≡ pos 8) ↔ ((some_open queue.old.slots ≡ false) × (pick ≤ 2)
+    ensures ok { result ≡ codes.ok → AreOpened threads k pick seed refill queue.new.slots }
+    ensures refused { result ≢ codes.ok → queue.new ≡ queue.old }
+    ensures open { (result ≡ codes.already_open) ↔ (some_open queue.old.slots ≡ true) }
+    ensures bad_pick { (result ≡ codes.bad_pick)
+        ↔ ((some_open queue.old.slots ≡ false) × (2 < pick)) }
+    ensures bad_count { (result ≡ codes.bad_count)
+        ↔ ((some_open queue.old.slots ≡ false) × (pick ≤ 2)
         × ((threads ≡ 0) ⊎ (16 < threads))) }
-    ensures bad_k { (result ≡ pos 9) ↔ ((some_open queue.old.slots ≡ false) × (pick ≤ 2)
+    ensures bad_k { (result ≡ codes.bad_k)
+        ↔ ((some_open queue.old.slots ≡ false) × (pick ≤ 2)
         × (1 ≤ threads) × (threads ≤ 16) × (64 < k)) }
-    ensures bad_refill { (result ≡ pos 12) ↔ ((some_open queue.old.slots ≡ false) × (pick ≤ 2)
+    ensures bad_refill { (result ≡ codes.bad_refill)
+        ↔ ((some_open queue.old.slots ≡ false) × (pick ≤ 2)
         × (1 ≤ threads) × (threads ≤ 16) × (k ≤ 64) × (k < refill)) }
-    ensures codes { (result ≡ pos 0) ⊎ (result ≡ pos 4) ⊎ (result ≡ pos 7) ⊎ (result ≡ pos 8)
-        ⊎ (result ≡ pos 9) ⊎ (result ≡ pos 10) ⊎ (result ≡ pos 12) }
+    ensures codes { (result ≡ codes.ok) ⊎ (result ≡ codes.no_memory) ⊎ (result ≡ codes.already_open)
+        ⊎ (result ≡ codes.bad_count) ⊎ (result ≡ codes.bad_k) ⊎ (result ≡ codes.bad_pick) ⊎ (result ≡ codes.bad_refill) }
 {
     if some_is_open(&queue.slots) {
         return OPEN;

@@ -2,8 +2,8 @@
 ghost use Rattle.std.specs.Prelude.{◌≡◌, ◌∷◌, [], ◌≤◌, nat_lt, length, MatchOption};
 
 use crate::handle::Handle;
+use crate::raw_box::RawBox;
 use klsm_owned::OwnedMember;
-use klsm_raw_box::RawBox;
 use std::alloc::Global;
 
 /// What C keeps for one member. All bytes 0 is a closed slot. It fills two lines of the cache, which a

@@ -14,13 +14,13 @@ use Rattle.klsm_board.specs.declared.board.Member.{Member}
 use Rattle.klsm_board.specs.Boards.{IsOf, own_steps}
 use Rattle.klsm_board.proofs.lemmas.ending.EndLemmas.{each_of, place_within}
 use Rattle.klsm_board.proofs.lemmas.ending.MemberLemmas.{stands_mapped, stands_unmapped}
-use Rattle.klsm_knapsack.specs.declared.common.Common.{Common}
-use Rattle.klsm_knapsack.specs.declared.common.NoRoom.{NoRoom}
-use Rattle.klsm_knapsack.specs.declared.common.Worker.{Worker}
+use Rattle.klsm_knapsack.specs.declared.search_state.SearchState.{SearchState}
+use Rattle.klsm_knapsack.specs.declared.search_state.NoRoom.{NoRoom}
+use Rattle.klsm_knapsack.specs.declared.search_state.Worker.{Worker}
 use Rattle.klsm_knapsack.specs.declared.errors.Refusal.{Refusal}
 use Rattle.klsm_instance.specs.Selections.{Problem}
 use Rattle.klsm_instance.specs.Nodes.{level_in, picks_in}
-use Rattle.klsm_knapsack.specs.Watching.{found_by}
+use Rattle.klsm_knapsack.specs.IncumbentSeats.{found_by}
 use Rattle.klsm_knapsack.specs.Work.{HasNode, HasWorked, IsNodeItem}
 use Rattle.klsm_knapsack.specs.Ends.{EndsAnswered, HasEnded, first_refusal}
 use Rattle.klsm_knapsack.specs.Answers.{GainsOthers}
@@ -52,11 +52,11 @@ module _ {LEVELS : ℕ} where
   -- a worker that has not begun has done all that it began
   pub new_at_work : (m : NoRoom) (p : Problem) (w : Worker LEVELS) → HasNotBegun w → IsAtWork m p w
   new_at_work m p w new = record {
-    worked = subst (λ (es : List Entry). HasWorked p record { inserted = inserted es; deleted = deleted es; found = found_by w.watcher }) (sym new.steps) none;
+    worked = subst (λ (es : List Entry). HasWorked p record { inserted = inserted es; deleted = deleted es; found = found_by w.seat }) (sym new.steps) none;
     answered = λ refuses. inl new.steps;
   }
     where
-      none : HasWorked p record { inserted = []; deleted = []; found = found_by w.watcher }
+      none : HasWorked p record { inserted = []; deleted = []; found = found_by w.seat }
       none = record { inserts_nodes = λ x there. absurd (omega (arith, there.1)); is_done = λ x there node. absurd (omega (arith, there.1)) }
 
   -- and has ended without a refusal
@@ -130,20 +130,20 @@ module _ {LEVELS : ℕ} where
       by_place (here, later) others (suc k) d lt = others later k d (omega (arith, lt))
 
   -- one worker more is sent home
-  pub sent_home : (before : List (Worker LEVELS)) (w : Worker LEVELS) → map (λ (v : Worker LEVELS). v.member) before ++ w.member ∷ [] ≡ map (λ (v : Worker LEVELS). v.member) (before ++ w ∷ [])
-  sent_home [] w = refl
-  sent_home (v ∷ before) w = ap (λ (ms : List (Member 64 LEVELS)). v.member ∷ ms) (sent_home before w)
+  pub member_appended : (before : List (Worker LEVELS)) (w : Worker LEVELS) → map (λ (v : Worker LEVELS). v.member) before ++ w.member ∷ [] ≡ map (λ (v : Worker LEVELS). v.member) (before ++ w ∷ [])
+  member_appended [] w = refl
+  member_appended (v ∷ before) w = ap (λ (ms : List (Member 64 LEVELS)). v.member ∷ ms) (member_appended before w)
 
   -- and what its seat found is known too
-  pub found_too : (before : List (Worker LEVELS)) (w : Worker LEVELS) (m n : ℕ) → m ≤ n → found_by w.watcher ≤ n → All (λ (v : Worker LEVELS). found_by v.watcher ≤ m) before → All (λ (v : Worker LEVELS). found_by v.watcher ≤ n) (before ++ w ∷ [])
+  pub found_too : (before : List (Worker LEVELS)) (w : Worker LEVELS) (m n : ℕ) → m ≤ n → found_by w.seat ≤ n → All (λ (v : Worker LEVELS). found_by v.seat ≤ m) before → All (λ (v : Worker LEVELS). found_by v.seat ≤ n) (before ++ w ∷ [])
   found_too [] w m n le here all = alone
     where
-      alone : (k : ℕ) (d : Worker LEVELS) → k < length (w ∷ []) → found_by (get_or (w ∷ []) k d).watcher ≤ n
+      alone : (k : ℕ) (d : Worker LEVELS) → k < length (w ∷ []) → found_by (get_or (w ∷ []) k d).seat ≤ n
       alone zero d lt = here
       alone (suc k) d lt = absurd (omega (arith, lt))
   found_too (v ∷ before) w m n le here all = by_place (found_too before w m n le here (λ k d lt. all (suc k) d (omega (arith, lt))))
     where
-      by_place : All (λ (u : Worker LEVELS). found_by u.watcher ≤ n) (before ++ w ∷ []) → (k : ℕ) (d : Worker LEVELS) → k < length (v ∷ (before ++ w ∷ [])) → found_by (get_or (v ∷ (before ++ w ∷ [])) k d).watcher ≤ n
+      by_place : All (λ (u : Worker LEVELS). found_by u.seat ≤ n) (before ++ w ∷ []) → (k : ℕ) (d : Worker LEVELS) → k < length (v ∷ (before ++ w ∷ [])) → found_by (get_or (v ∷ (before ++ w ∷ [])) k d).seat ≤ n
       by_place others zero d lt = omega (arith, le, all 0 d (omega arith))
       by_place others (suc k) d lt = others k d (omega (arith, lt))
 
@@ -181,48 +181,48 @@ module _ {LEVELS : ℕ} where
   all_idle m p idle old new many runs gains none = λ k e lt.
       idle_from_first idle (own_steps (get_or old k e).member) (get_or new k e) (gains k e (omega (arith, lt, many))) ((runs k e (omega (arith, lt, many))).idles (none k e lt))
 
-  module _ (common : Common LEVELS) where
-    pub same_of : (before after : Worker LEVELS) → IsWorkerOf common before → IsSameWorker before after → IsWorkerOf common after
+  module _ (state : SearchState LEVELS) where
+    pub same_of : (before after : Worker LEVELS) → IsWorkerOf state before → IsSameWorker before after → IsWorkerOf state after
     same_of before after of same = record {
       member = (same.member.2 ∙ of.member.0, same.member.1 ∙ of.member.1);
-      watcher = same.watcher ∙ of.watcher;
+      seat = same.seat ∙ of.seat;
     }
 
     -- workers of the search, each at its number, and as many as the board has threads
-    pub are_workers : (crew : List (Worker LEVELS)) → All (IsWorkerOf common) crew → length crew ≡ common.board.sizes.threads → 0 < length crew
-        → ((i : ℕ) (w : Worker LEVELS) → get_elem? crew i ≡ some w → w.member.number ≡ i) → AreWorkersOf common crew
+    pub are_workers : (crew : List (Worker LEVELS)) → All (IsWorkerOf state) crew → length crew ≡ state.board.sizes.threads → 0 < length crew
+        → ((i : ℕ) (w : Worker LEVELS) → get_elem? crew i ≡ some w → w.member.number ≡ i) → AreWorkersOf state crew
     are_workers crew of many some_worker numbered = record {
       members = record {
         of = λ i member there.
             let at = stands_unmapped member_of crew i member there in
-            subst (λ (z : Member 64 LEVELS). IsOf z common.board) at.2 (each_of (IsWorkerOf common) crew of i at.0 at.1).member;
+            subst (λ (z : Member 64 LEVELS). IsOf z state.board) at.2 (each_of (IsWorkerOf state) crew of i at.0 at.1).member;
         many = length-map crew member_of ∙ many;
         numbered = λ i member there.
             let at = stands_unmapped member_of crew i member there in
             ap (λ (z : Member 64 LEVELS). z.number) (sym at.2) ∙ numbered i at.0 at.1;
       };
-      watchers = λ k d lt. (of k d lt).watcher;
+      seats = λ k d lt. (of k d lt).seat;
       some_worker = some_worker;
     }
 
     -- and back
-    pub each_worker : (crew : List (Worker LEVELS)) → AreWorkersOf common crew → All (IsWorkerOf common) crew
+    pub each_worker : (crew : List (Worker LEVELS)) → AreWorkersOf state crew → All (IsWorkerOf state) crew
     each_worker crew is k d lt =
         let w = get_or crew k d in
-        record { member = is.members.of k w.member (stands_mapped member_of crew k w (stands_at crew k d lt)); watcher = is.watchers k d lt }
+        record { member = is.members.of k w.member (stands_mapped member_of crew k w (stands_at crew k d lt)); seat = is.seats k d lt }
 
-    pub so_many_workers : (crew : List (Worker LEVELS)) → AreWorkersOf common crew → length crew ≡ common.board.sizes.threads
+    pub so_many_workers : (crew : List (Worker LEVELS)) → AreWorkersOf state crew → length crew ≡ state.board.sizes.threads
     so_many_workers crew is = sym (length-map crew member_of) ∙ is.members.many
 
-    pub worker_number : (crew : List (Worker LEVELS)) → AreWorkersOf common crew → (i : ℕ) (w : Worker LEVELS) → get_elem? crew i ≡ some w → w.member.number ≡ i
+    pub worker_number : (crew : List (Worker LEVELS)) → AreWorkersOf state crew → (i : ℕ) (w : Worker LEVELS) → get_elem? crew i ≡ some w → w.member.number ≡ i
     worker_number crew is i w there = is.members.numbered i w.member (stands_mapped member_of crew i w there)
 
     -- the first worker has begun
-    pub crew_begun : (crew : List (Worker LEVELS)) (d after : Worker LEVELS) → AreWorkersOf common crew → IsSameWorker (get_or crew 0 d) after → AreWorkersOf common (set crew 0 after)
+    pub crew_begun : (crew : List (Worker LEVELS)) (d after : Worker LEVELS) → AreWorkersOf state crew → IsSameWorker (get_or crew 0 d) after → AreWorkersOf state (set crew 0 after)
     crew_begun [] d after is same = absurd (omega (arith, is.some_worker))
     crew_begun (w ∷ crew) d after is same = are_workers (after ∷ crew) of (so_many_workers (w ∷ crew) is) is.some_worker numbered
       where
-        of : (k : ℕ) (e : Worker LEVELS) → k < length (after ∷ crew) → IsWorkerOf common (get_or (after ∷ crew) k e)
+        of : (k : ℕ) (e : Worker LEVELS) → k < length (after ∷ crew) → IsWorkerOf state (get_or (after ∷ crew) k e)
         of zero e lt = same_of w after (each_worker (w ∷ crew) is 0 e lt) same
         of (suc k) e lt = each_worker (w ∷ crew) is (suc k) e lt
 
@@ -231,18 +231,18 @@ module _ {LEVELS : ℕ} where
         numbered (suc i) v there = worker_number (w ∷ crew) is (suc i) v there
 
     -- and all are ready to run
-    pub crew_ready : (m : NoRoom) (p : Problem) (crew : List (Worker LEVELS)) (d after : Worker LEVELS) → AreWorkersOf common crew → All HasNotBegun crew → IsSameWorker (get_or crew 0 d) after → IsAtWork m p after
-        → All (λ (w : Worker LEVELS). IsWorkerOf common w × IsAtWork m p w) (set crew 0 after)
+    pub crew_ready : (m : NoRoom) (p : Problem) (crew : List (Worker LEVELS)) (d after : Worker LEVELS) → AreWorkersOf state crew → All HasNotBegun crew → IsSameWorker (get_or crew 0 d) after → IsAtWork m p after
+        → All (λ (w : Worker LEVELS). IsWorkerOf state w × IsAtWork m p w) (set crew 0 after)
     crew_ready m p [] d after is new same begun = absurd (omega (arith, is.some_worker))
     crew_ready m p (w ∷ crew) d after is new same begun = ready
       where
-        ready : (k : ℕ) (e : Worker LEVELS) → k < length (after ∷ crew) → IsWorkerOf common (get_or (after ∷ crew) k e) × IsAtWork m p (get_or (after ∷ crew) k e)
+        ready : (k : ℕ) (e : Worker LEVELS) → k < length (after ∷ crew) → IsWorkerOf state (get_or (after ∷ crew) k e) × IsAtWork m p (get_or (after ∷ crew) k e)
         ready zero e lt = (same_of w after (each_worker (w ∷ crew) is 0 e lt) same, begun)
         ready (suc k) e lt = (each_worker (w ∷ crew) is (suc k) e lt, new_at_work m p (get_or crew k e) (new (suc k) e lt))
 
     -- a crew that ran is one still
     pub crew_run : (m : NoRoom) (p : Problem) (idle : ℕ) (old new : List (Worker LEVELS)) → length new ≡ length old → ((i : ℕ) (e : Worker LEVELS) → i < length old → HasRun m p idle (get_or old i e) (get_or new i e))
-        → AreWorkersOf common old → AreWorkersOf common new
+        → AreWorkersOf state old → AreWorkersOf state new
     crew_run m p idle old new many runs is =
         are_workers new (λ k e lt. same_of (get_or old k e) (get_or new k e) (each_worker old is k e (omega (arith, lt, many))) (runs k e (omega (arith, lt, many))).same)
         (many ∙ so_many_workers old is) (omega (arith, many, is.some_worker))

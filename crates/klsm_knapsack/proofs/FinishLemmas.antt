@@ -20,15 +20,15 @@ use Rattle.klsm_board.specs.Boards.{AreMembersOf, AreNewMembersOf, IsOf, own_ste
 use Rattle.klsm_board.specs.Finishing.{AreEachOnce, lists_of}
 use Rattle.klsm_board.proofs.lemmas.ending.EndLemmas.{each_of}
 use Rattle.klsm_board.proofs.lemmas.ending.MemberLemmas.{all_of_board, lists_in_order, stands_mapped, stands_unmapped}
-use Rattle.klsm_knapsack.specs.declared.common.Common.{Common}
-use Rattle.klsm_knapsack.specs.declared.common.NoRoom.TheVariants.{Refuses}
-use Rattle.klsm_knapsack.specs.declared.common.Worker.{Worker}
+use Rattle.klsm_knapsack.specs.declared.search_state.SearchState.{SearchState}
+use Rattle.klsm_knapsack.specs.declared.search_state.NoRoom.TheVariants.{Refuses}
+use Rattle.klsm_knapsack.specs.declared.search_state.Worker.{Worker}
 use Rattle.klsm_knapsack.specs.declared.errors.Refusal.{Refusal}
 use Rattle.klsm_knapsack.specs.declared.errors.Refusal.TheVariants as refusal
 use Rattle.klsm_knapsack.specs.declared.errors.SolveError.{SolveError}
 use Rattle.klsm_knapsack.specs.declared.errors.SolveError.TheVariants.{BadThreads, BadK, BadRefill, Full, NoMemory}
 use Rattle.klsm_instance.specs.Selections.{Problem}
-use Rattle.klsm_knapsack.specs.Watching.{IsWatchedBy, found_by}
+use Rattle.klsm_knapsack.specs.IncumbentSeats.{IsSeatAt, found_by}
 use Rattle.klsm_knapsack.specs.Work.{HasNode, HasWorked, all_inserted, all_deleted}
 use Rattle.klsm_knapsack.specs.Ends.{End, HasEnded, IsLeastRefusal, first_refusal}
 use Rattle.klsm_knapsack.specs.Workers.{HasEndedSo, HaveWorked, AreWorkersOf, HasNotBegun, IsSearched, IsWorkerOf, work_of}
@@ -98,17 +98,17 @@ refused_as_any levels threads k refill Full fits is = is
 refused_as_any levels threads k refill NoMemory fits is = is
 
 module _ {LEVELS : ℕ} where
-  module _ (common : Common LEVELS) (crew : List (Worker LEVELS)) (members : List (Member 64 LEVELS)) (are : map (λ (w : Worker LEVELS). w.member) crew ≡ members)
-      (new : AreNewMembersOf common.board members) (some_thread : 0 < common.board.sizes.threads)
-      (seats : All (λ (w : Worker LEVELS). IsWatchedBy common.incumbent w.watcher × (found_by w.watcher ≡ 0) × (w.refused ≡ None)) crew) where
+  module _ (state : SearchState LEVELS) (crew : List (Worker LEVELS)) (members : List (Member 64 LEVELS)) (are : map (λ (w : Worker LEVELS). w.member) crew ≡ members)
+      (new : AreNewMembersOf state.board members) (some_thread : 0 < state.board.sizes.threads)
+      (seats : All (λ (w : Worker LEVELS). IsSeatAt state.incumbent w.seat × (found_by w.seat ≡ 0) × (w.refused ≡ None)) crew) where
     stands : (i : ℕ) (w : Worker LEVELS) → get_elem? crew i ≡ some w → get_elem? members i ≡ some w.member
     stands i w there = ap (λ ms. get_elem? ms i) (sym are) ∙ stands_mapped member_of crew i w there
 
-    -- the workers that were recruited are a crew
-    pub recruited : AreWorkersOf common crew
-    recruited = record {
-      members = subst (λ (ms : List (Member 64 LEVELS)). AreMembersOf common.board ms) (sym are) new.are;
-      watchers = λ i d lt. (seats i d lt).0;
+    -- the workers that were made are a crew
+    pub workers_made : AreWorkersOf state crew
+    workers_made = record {
+      members = subst (λ (ms : List (Member 64 LEVELS)). AreMembersOf state.board ms) (sym are) new.are;
+      seats = λ i d lt. (seats i d lt).0;
       some_worker = (let long : length crew ≡ length members = sym (length-map crew member_of) ∙ ap length are in omega (arith, long, new.are.many, some_thread));
     }
 
@@ -119,50 +119,50 @@ module _ {LEVELS : ℕ} where
         let there = stands i w (stands_at crew i d lt) in
         record { steps = new.new i w.member there; found = (seats i d lt).1; refused = (seats i d lt).2 }
 
-  module _ (common : Common LEVELS) (crew : List (Worker LEVELS)) (is : AreWorkersOf common crew) where
+  module _ (state : SearchState LEVELS) (crew : List (Worker LEVELS)) (is : AreWorkersOf state crew) where
     -- the members are those of the board
-    pub members_of : All (λ (m : Member 64 LEVELS). IsOf m common.board) (map (λ (w : Worker LEVELS). w.member) crew)
-    members_of = all_of_board common.board (map member_of crew) is.members
+    pub members_of : All (λ (m : Member 64 LEVELS). IsOf m state.board) (map (λ (w : Worker LEVELS). w.member) crew)
+    members_of = all_of_board state.board (map member_of crew) is.members
 
     abbrev end_of : Worker LEVELS → End
     end_of w = record { steps = own_steps w.member; refused = w.refused }
 
-    worker_at : (t : ℕ) (w : Worker LEVELS) → get_elem? crew t ≡ some w → IsWorkerOf common w
-    worker_at t w there = each_of (IsWorkerOf common) crew (each_worker common crew is) t w there
+    worker_at : (t : ℕ) (w : Worker LEVELS) → get_elem? crew t ≡ some w → IsWorkerOf state w
+    worker_at t w there = each_of (IsWorkerOf state) crew (each_worker state crew is) t w there
 
-    reached_by : (t : ℕ) (w : Worker LEVELS) → get_elem? crew t ≡ some w → ∥ IsReached common.board.sizes t (own_steps w.member) ∥₁
+    reached_by : (t : ℕ) (w : Worker LEVELS) → get_elem? crew t ≡ some w → ∥ IsReached state.board.sizes t (own_steps w.member) ∥₁
     reached_by t w there =
         subst (λ (m : Sizes). ∥ IsReached m t (own_steps w.member) ∥₁) (worker_at t w there).member.1
-        (subst (λ (n : ℕ). ∥ IsReached w.member.sizes n (own_steps w.member) ∥₁) (worker_number common crew is t w there) (each_reached w.member.sizes w.member.number w.member.seat.me.0 w.member.rests.reached))
+        (subst (λ (n : ℕ). ∥ IsReached w.member.sizes n (own_steps w.member) ∥₁) (worker_number state crew is t w there) (each_reached w.member.sizes w.member.number w.member.seat.me.0 w.member.rests.reached))
 
-    ended_by : (t : ℕ) (w : Worker LEVELS) → get_elem? crew t ≡ some w → HasEndedSo Refuses w → HasEnded LEVELS common.board.sizes.k t (own_steps w.member) w.refused
+    ended_by : (t : ℕ) (w : Worker LEVELS) → get_elem? crew t ≡ some w → HasEndedSo Refuses w → HasEnded LEVELS state.board.sizes.k t (own_steps w.member) w.refused
     ended_by t w there ended =
         subst (λ (m : Sizes). HasEnded LEVELS m.k t (own_steps w.member) w.refused) (worker_at t w there).member.1
-        (subst (λ (n : ℕ). HasEnded LEVELS w.member.sizes.k n (own_steps w.member) w.refused) (worker_number common crew is t w there) (ended refl))
+        (subst (λ (n : ℕ). HasEnded LEVELS w.member.sizes.k n (own_steps w.member) w.refused) (worker_number state crew is t w there) (ended refl))
 
     refusals : (ws : List (Worker LEVELS)) → map (λ (end : End). end.refused) (map end_of ws) ≡ map (λ (w : Worker LEVELS). w.refused) ws
     refusals [] = refl
     refusals (w ∷ ws) = ap (λ (rs : List (Option Refusal)). w.refused ∷ rs) (refusals ws)
 
     -- the first refusal is that of the least numbered worker that met one
-    pub least_refusal : (why : Refusal) → All (HasEndedSo Refuses) crew → first_refusal (map (λ (w : Worker LEVELS). w.refused) crew) ≡ Some why → IsLeastRefusal LEVELS common.board.sizes why
+    pub least_refusal : (why : Refusal) → All (HasEndedSo Refuses) crew → first_refusal (map (λ (w : Worker LEVELS). w.refused) crew) ≡ Some why → IsLeastRefusal LEVELS state.board.sizes why
     least_refusal why ended first = record {
       ends = map end_of crew;
-      many = length-map crew end_of ∙ so_many_workers common crew is;
+      many = length-map crew end_of ∙ so_many_workers state crew is;
       reached = λ t end there.
           let at = stands_unmapped end_of crew t end there in
-          subst (λ (e : End). ∥ IsReached common.board.sizes t e.steps ∥₁) at.2 (reached_by t at.0 at.1);
+          subst (λ (e : End). ∥ IsReached state.board.sizes t e.steps ∥₁) at.2 (reached_by t at.0 at.1);
       ended = λ t end there.
           let at = stands_unmapped end_of crew t end there in
-          subst (λ (e : End). HasEnded LEVELS common.board.sizes.k t e.steps e.refused) at.2 (ended_by t at.0 at.1 (each_of (HasEndedSo Refuses) crew ended t at.0 at.1));
+          subst (λ (e : End). HasEnded LEVELS state.board.sizes.k t e.steps e.refused) at.2 (ended_by t at.0 at.1 (each_of (HasEndedSo Refuses) crew ended t at.0 at.1));
       first = ap first_refusal (refusals crew) ∙ first;
     }
 
     -- by the account of the board, all nodes but those left are done with
     pub searched : (p : Problem) (found number : ℕ) (members : List (Member 64 LEVELS)) (left : List Item) → members ≡ map (λ (w : Worker LEVELS). w.member) crew → HaveWorked p crew
-        → All (λ (w : Worker LEVELS). found_by w.watcher ≤ found) crew → found ≤ number
-        → AreEachOnce (lists_of common.board.sizes.threads members)
-        → left ≡ (account (lists_of common.board.sizes.threads members)).left → IsSearched p number left
+        → All (λ (w : Worker LEVELS). found_by w.seat ≤ found) crew → found ≤ number
+        → AreEachOnce (lists_of state.board.sizes.threads members)
+        → left ≡ (account (lists_of state.board.sizes.threads members)).left → IsSearched p number left
     searched p found number members left back worked below le once left_is = record {
       works = map work_of crew;
       root = subst (λ (xs : List Item). HasNode xs 0 0) (sym (flat_of_map work_of (λ w. w.inserted) crew)) worked.root;
@@ -171,13 +171,13 @@ module _ {LEVELS : ℕ} where
       found = recursion_from_All (λ w. w.found ≤ number) (map work_of crew) (All-map (λ w. w.found ≤ number) work_of crew (λ k d lt. omega (arith, below k d lt, le)));
     }
       where
-        lists_are : map (λ (w : Worker LEVELS). own_steps w.member) crew ≡ lists_of common.board.sizes.threads members
-        lists_are = mapped_twice member_of own_steps crew ∙ (lists_in_order common.board (map member_of crew) is.members ∙ ap (lists_of common.board.sizes.threads) (sym back))
+        lists_are : map (λ (w : Worker LEVELS). own_steps w.member) crew ≡ lists_of state.board.sizes.threads members
+        lists_are = mapped_twice member_of own_steps crew ∙ (lists_in_order state.board (map member_of crew) is.members ∙ ap (lists_of state.board.sizes.threads) (sym back))
 
-        inserted_are : all_inserted (map work_of crew) ≡ flat_map inserted (lists_of common.board.sizes.threads members)
+        inserted_are : all_inserted (map work_of crew) ≡ flat_map inserted (lists_of state.board.sizes.threads members)
         inserted_are = flat_of_map work_of (λ w. w.inserted) crew ∙ (sym (flat_of_map (λ (w : Worker LEVELS). own_steps w.member) inserted crew) ∙ ap (λ ls. flat_map inserted ls) lists_are)
 
-        deleted_are : all_deleted (map work_of crew) ≡ flat_map deleted (lists_of common.board.sizes.threads members)
+        deleted_are : all_deleted (map work_of crew) ≡ flat_map deleted (lists_of state.board.sizes.threads members)
         deleted_are = flat_of_map work_of (λ w. w.deleted) crew ∙ (sym (flat_of_map (λ (w : Worker LEVELS). own_steps w.member) deleted crew) ∙ ap (λ ls. flat_map deleted ls) lists_are)
 
         by_count : (x : Item) (n : ℕ) → times x (all_deleted (map work_of crew)) ≡ n → 0 < n + times x left → Contains (all_deleted (map work_of crew)) x ⊎ Contains left x
@@ -186,7 +186,7 @@ module _ {LEVELS : ℕ} where
 
         none_lost : (x : Item) → Contains (all_inserted (map work_of crew)) x → Contains (all_deleted (map work_of crew)) x ⊎ Contains left x
         none_lost x there =
-            let counted : 0 < times x (flat_map inserted (lists_of common.board.sizes.threads members)) = subst (λ (xs : List Item). 0 < times x xs) inserted_are (times_contained x (all_inserted (map work_of crew)) there) in
-            let gone : times x (all_deleted (map work_of crew)) ≡ times x (flat_map deleted (lists_of common.board.sizes.threads members)) = ap (times x) deleted_are in
-            let rest : times x left ≡ times x (account (lists_of common.board.sizes.threads members)).left = ap (times x) left_is in
+            let counted : 0 < times x (flat_map inserted (lists_of state.board.sizes.threads members)) = subst (λ (xs : List Item). 0 < times x xs) inserted_are (times_contained x (all_inserted (map work_of crew)) there) in
+            let gone : times x (all_deleted (map work_of crew)) ≡ times x (flat_map deleted (lists_of state.board.sizes.threads members)) = ap (times x) deleted_are in
+            let rest : times x left ≡ times x (account (lists_of state.board.sizes.threads members)).left = ap (times x) left_is in
             by_count x (times x (all_deleted (map work_of crew))) refl (omega (arith, counted, gone, rest, (once x).1))

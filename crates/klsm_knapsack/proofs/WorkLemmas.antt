@@ -6,7 +6,7 @@ use Rattle.std.proofs.lemmas.List.Elements.{Contains-append_left, Contains-push,
 use Rattle.std.proofs.Math.Pow.{shr_mono}
 use Rattle.klsm_run.specs.declared.item.Item.{Item}
 use Rattle.klsm_board.specs.declared.sizes.Sizes.{Sizes}
-use Rattle.klsm_knapsack.specs.declared.common.Worker.{Worker}
+use Rattle.klsm_knapsack.specs.declared.search_state.Worker.{Worker}
 use Rattle.klsm_instance.specs.Selections.{Problem}
 use Rattle.klsm_instance.specs.Nodes.{NoneAbove, level_in, picks_in}
 use Rattle.klsm_knapsack.specs.Numbers.{value_in}
@@ -101,5 +101,5 @@ module _ {LEVELS : ℕ} where
   pub same_both : (before between after : Worker LEVELS) → IsSameWorker before between → IsSameWorker between after → IsSameWorker before after
   same_both before between after first second = record {
     member = (second.member.0 ∙ first.member.0, second.member.1 ∙ first.member.1, second.member.2 ∙ first.member.2);
-    watcher = second.watcher ∙ first.watcher;
+    seat = second.seat ∙ first.seat;
   }

@@ -1,7 +1,7 @@
 -- The definitions, in the order in which they are best read.
 pub mod Numbers  -- the numbers of the incumbent
 pub mod Highest  -- the rule of the incumbent's word
-pub mod Watching  -- what a thread knows of it
+pub mod IncumbentSeats  -- what a thread's seat at it knows
 pub mod Work  -- nodes as items, what workers do with them, and that nothing is missed
 pub mod Ends  -- how workers end
 pub mod Answers  -- what a worker's calls answered, in the order of its list

@@ -5,13 +5,13 @@ use Rattle.klsm_run.specs.declared.item.Item.{Item}
 use Rattle.klsm_world.specs.declared.step.Entry.{Entry}
 use Rattle.klsm_world.specs.OwnSteps.{inserted, deleted}
 use Rattle.klsm_board.specs.Boards.{AreMembersOf, IsOf, IsSame, own_steps}
-use Rattle.klsm_knapsack.specs.declared.common.Common.{Common}
-use Rattle.klsm_knapsack.specs.declared.common.NoRoom.{NoRoom}
-use Rattle.klsm_knapsack.specs.declared.common.NoRoom.TheVariants.{Refuses}
-use Rattle.klsm_knapsack.specs.declared.common.Worker.{Worker}
+use Rattle.klsm_knapsack.specs.declared.search_state.SearchState.{SearchState}
+use Rattle.klsm_knapsack.specs.declared.search_state.NoRoom.{NoRoom}
+use Rattle.klsm_knapsack.specs.declared.search_state.NoRoom.TheVariants.{Refuses}
+use Rattle.klsm_knapsack.specs.declared.search_state.Worker.{Worker}
 use Rattle.klsm_instance.specs.Selections.{Problem}
 use Rattle.klsm_instance.specs.Nodes.{NoneAbove, level_in, picks_in}
-use Rattle.klsm_knapsack.specs.Watching.{IsWatchedBy, found_by}
+use Rattle.klsm_knapsack.specs.IncumbentSeats.{IsSeatAt, found_by}
 use Rattle.klsm_knapsack.specs.Work.{Work, HasNode, HasWorked, IsNodeItem, all_inserted, all_deleted}
 use Rattle.klsm_knapsack.specs.Ends.{EndsAnswered, HasEnded}
 use Rattle.klsm_knapsack.specs.Answers.{EndsIdle}
@@ -33,18 +33,18 @@ module _ {LEVELS : ℕ} where
   work_of w = record {
     inserted = inserted (own_steps w.member);
     deleted = deleted (own_steps w.member);
-    found = found_by w.watcher;
+    found = found_by w.seat;
   }
 
   -- the worker's member is one of the board, and its seat one at the incumbent
-  pub record IsWorkerOf (common : Common LEVELS) (w : Worker LEVELS) : Type 0 where
-    pub member : IsOf w.member common.board
-    pub watcher : IsWatchedBy common.incumbent w.watcher
+  pub record IsWorkerOf (state : SearchState LEVELS) (w : Worker LEVELS) : Type 0 where
+    pub member : IsOf w.member state.board
+    pub seat : IsSeatAt state.incumbent w.seat
 
   -- it is the same worker
   pub record IsSameWorker (before after : Worker LEVELS) : Type 0 where
     pub member : IsSame before.member after.member
-    pub watcher : after.watcher.seat.table_id ≡ before.watcher.seat.table_id
+    pub seat : after.seat.table_seat.table_id ≡ before.seat.table_seat.table_id
 
   -- the worker is done with all nodes that it deleted, and its last call was answered, where it does not
   -- go on without room
@@ -75,15 +75,15 @@ module _ {LEVELS : ℕ} where
 
   -- the workers of a search: theirs are the members of its board, in the order of their numbers, and seats
   -- at its incumbent
-  pub record AreWorkersOf (common : Common LEVELS) (crew : List (Worker LEVELS)) : Type 0 where
-    pub members : AreMembersOf common.board (map (λ w. w.member) crew)
-    pub watchers : All (λ w. IsWatchedBy common.incumbent w.watcher) crew
+  pub record AreWorkersOf (state : SearchState LEVELS) (crew : List (Worker LEVELS)) : Type 0 where
+    pub members : AreMembersOf state.board (map (λ w. w.member) crew)
+    pub seats : All (λ w. IsSeatAt state.incumbent w.seat) crew
     pub some_worker : 0 < length crew
 
   -- a worker that has not begun
   pub record HasNotBegun (w : Worker LEVELS) : Type 0 where
     pub steps : own_steps w.member ≡ []
-    pub found : found_by w.watcher ≡ 0
+    pub found : found_by w.seat ≡ 0
     pub refused : w.refused ≡ None
 
   -- no worker was refused, and together they are done with all nodes but those left, the root first

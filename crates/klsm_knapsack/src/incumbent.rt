@@ -1,4 +1,4 @@
-//! The incumbent, and the seats that watch it.
+//! The incumbent, and the seats at it.
 ghost use Rattle.std.specs.Prelude.{◌≡◌, []};
 
 use crate::rule::{Highest, View};
@@ -17,7 +17,7 @@ pub struct Incumbent {
 
 /// One thread's seat at the incumbent.
 #[derive(Drop)]
-pub struct Watcher {
-    pub(crate) seat: Seat<(), View>,
-    pub ghost empty_handed: { seat.me.1 ≡ [] },
+pub struct IncumbentSeat {
+    pub(crate) table_seat: Seat<(), View>,
+    pub ghost empty_handed: { table_seat.me.1 ≡ [] },
 }

@@ -42,22 +42,22 @@
 #![tactic(auto)]
 
 mod alone;
-mod common;
 mod crew;
 mod ending;
 mod errors;
 mod incumbent;
+mod incumbent_seat;
 pub mod laws;
 mod rule;
+mod search_state;
 mod solving;
 mod to_the_end;
-mod watching;
 mod worker;
 
-pub use common::Listeners;
 pub use errors::{SolveError, UnsolvedError};
-pub use incumbent::{Incumbent, Watcher};
+pub use incumbent::{Incumbent, IncumbentSeat};
 pub use klsm_instance::{Best, Instance, Node, ReadError, Reordered, Thing, solve_in_turn};
 pub use rule::{Highest, View};
-pub use solving::{solve, solve_told, solve_with_refill};
+pub use search_state::Listeners;
+pub use solving::{solve, solve_with_progress, solve_with_refill};
 pub use to_the_end::{solve_to_the_end, solve_to_the_end_with_refill};

@@ -6,11 +6,11 @@ ghost use Rattle.klsm_board.specs.Boards.{AreNewMembersOf, IsOf};
 ghost use Rattle.klsm_instance.specs.Answers.{IsBestAnswer};
 ghost use Rattle.klsm_knapsack.specs.Refusals.{RefusesSearch, RefusesWithRefill};
 
-use crate::common::{Common, Listeners, NoRoom};
-use crate::crew::{dismiss, recruit, search};
+use crate::crew::{join_workers, make_workers, search};
 use crate::ending::conclude;
 use crate::errors::SolveError;
 use crate::incumbent::Incumbent;
+use crate::search_state::{Listeners, NoRoom, SearchState};
 use klsm_board::{Board, Gate, MOST_INSERTIONS, MakeError, Member};
 use klsm_instance::{Best, Instance};
 use klsm_progress::{Progress, Silent};
@@ -50,11 +50,11 @@ pub fn solve<const LEVELS: usize>(
         gate,
         progress: &Silent,
     };
-    solve_told::<_, _, LEVELS>(rt, alloc, instance, threads, k, idle, &listeners)
+    solve_with_progress::<_, _, LEVELS>(rt, alloc, instance, threads, k, idle, &listeners)
 }
 
 /// The same, and tells of a long search while it lasts.
-pub fn solve_told<G: Gate, P: Progress, const LEVELS: usize>(
+pub fn solve_with_progress<G: Gate, P: Progress, const LEVELS: usize>(
     rt: &(impl Threads + Wait + Sync),
     alloc: Global,
     instance: &Instance,
@@ -135,23 +135,23 @@ pub(crate) fn solve_on_board<G: Gate, P: Progress, const LEVELS: usize>(
     let Ok(mut back) = Vec::with_capacity(alloc, threads) else {
         return Err(SolveError::NoMemory);
     };
-    let Ok(mut crew) = recruit(alloc, &incumbent, &mut first, members) else {
+    let Ok(mut crew) = make_workers(alloc, &incumbent, &mut first, members) else {
         return Err(SolveError::NoMemory);
     };
-    let common = Common {
+    let state = SearchState {
         board,
         incumbent,
         no_room,
     };
-    search(rt, &common, instance, crew.as_mut_slice(), idle, listeners);
-    if let Err(why) = dismiss(&common.incumbent, &mut first, crew, &mut back) {
+    search(rt, &state, instance, crew.as_mut_slice(), idle, listeners);
+    if let Err(why) = join_workers(&state.incumbent, &mut first, crew, &mut back) {
         return Err(why.error());
     }
-    let Common {
+    let SearchState {
         board,
         incumbent,
         ..
-    } = common;
+    } = state;
     let number = incumbent.finish(first);
     let Ok(account) = board.finish(alloc, back) else {
         return Err(SolveError::NoMemory);

@@ -3,8 +3,8 @@ ghost use Rattle.std.specs.Prelude.{◌≡◌, ◌≤◌, ◌<◌, ◌⊎◌, �
 ghost use Rattle.klsm_parts.specs.Limit.{IsLevelCount};
 ghost use Rattle.klsm_instance.specs.Answers.{IsBestAnswer};
 
-use crate::common::{Listeners, NoRoom};
 use crate::errors::{SolveError, UnsolvedError};
+use crate::search_state::{Listeners, NoRoom};
 use crate::solving::{REFILL, solve_on_board};
 use klsm_board::Gate;
 use klsm_instance::{Best, Instance, solve_in_turn};
@@ -15,7 +15,7 @@ use std::thread::Threads;
 
 /// A best selection, also where the board has no room for all open nodes.
 ///
-/// The workers search as those of `solve_told`, until a child finds no room. The worker that wanted to
+/// The workers search as those of `solve_with_progress`, until a child finds no room. The worker that wanted to
 /// insert it then searches the node depth first, without memory, and so it does with each node that it
 /// takes from the board from then on. What it finds raises the incumbent at once.
 pub fn solve_to_the_end<G: Gate, P: Progress, const LEVELS: usize>(

@@ -7,14 +7,14 @@ ghost use Rattle.klsm_instance.specs.Selections.{value_of, weight_of};
 ghost use Rattle.klsm_instance.specs.Limits.{IsInRange};
 ghost use Rattle.klsm_instance.specs.Nodes.{IsNode, IsNodeOf, NoneAbove, level_in, picks_in};
 ghost use Rattle.klsm_knapsack.specs.Numbers.{value_in};
-ghost use Rattle.klsm_knapsack.specs.Watching.{problem_of};
+ghost use Rattle.klsm_knapsack.specs.IncumbentSeats.{problem_of};
 ghost use Rattle.klsm_knapsack.specs.Work.{ClosesBounded, HasNode, IsNodeItem, IsSplit, IsDone, HasWorked};
 ghost use Rattle.klsm_knapsack.specs.Ends.{EndsAnswered, EndsRefused};
 ghost use Rattle.klsm_knapsack.specs.Answers.{GainsNothing, GainsOthers, GainsSome};
 ghost use Rattle.klsm_knapsack.specs.Workers.{Extends, HasEndedSo, HasRun, InsertsNodes, IsAtWork, IsIdle, HasNotBegun, IsSameWorker, IsWorkerOf, work_of};
 
-use crate::common::{Common, Listeners, NoRoom, Worker};
 use crate::errors::Refusal;
+use crate::search_state::{Listeners, NoRoom, SearchState, Worker};
 use klsm_board::{Gate, InsertError};
 use klsm_instance::{Instance, Node};
 use klsm_progress::Progress;
@@ -25,21 +25,21 @@ impl<const LEVELS: usize> Worker<LEVELS> {
     pub(crate) fn begin(
         &mut self,
         rt: &impl Wait,
-        common: &Common<LEVELS>,
+        state: &SearchState<LEVELS>,
         instance: &Instance,
     ) -> bool
-        requires of { IsWorkerOf common.now self.old }
+        requires of { IsWorkerOf state.now self.old }
         requires new { HasNotBegun self.old }
         requires room { 2 ≤ self.old.member.sizes.quota }
         ensures same { IsSameWorker self.old self.new }
-        ensures ended { HasEndedSo common.now.no_room self.new }
+        ensures ended { HasEndedSo state.now.no_room self.new }
         ensures begun { MatchBool result
-            (IsAtWork common.now.no_room instance.now self.new × HasNode (work_of self.new).inserted 0 0)
+            (IsAtWork state.now.no_room instance.now self.new × HasNode (work_of self.new).inserted 0 0)
             (self.new.refused ≡ None → ⊥) }
         ensures gains { IsTrue result →
             GainsOthers (own_steps self.old.member) (own_steps self.new.member) }
     {
-        match self.insert(rt, common, instance, &instance.root()) {
+        match self.insert(rt, state, instance, &instance.root()) {
             Ok(()) => true,
             Err(why) => {
                 self.refused = Some(why);
@@ -52,19 +52,19 @@ impl<const LEVELS: usize> Worker<LEVELS> {
     pub(crate) fn run<G: Gate, P: Progress>(
         &mut self,
         rt: &impl Wait,
-        common: &Common<LEVELS>,
+        state: &SearchState<LEVELS>,
         instance: &Instance,
         idle: u32,
         listeners: &Listeners<G, P>,
     )
-        requires of { IsWorkerOf common.now self.old }
-        requires problem { problem_of common.now.incumbent ≡ instance.now }
-        requires begins { IsAtWork common.now.no_room instance.now self.old }
-        ensures { HasRun common.now.no_room instance.now idle self.old self.new }
+        requires of { IsWorkerOf state.now self.old }
+        requires problem { problem_of state.now.incumbent ≡ instance.now }
+        requires begins { IsAtWork state.now.no_room instance.now self.old }
+        ensures { HasRun state.now.no_room instance.now idle self.old self.new }
     {
         listeners.gate.pass(self.member.number() as usize);
         let progress = listeners.progress;
-        self.refused = self.work(rt, common, instance, idle, progress).err();
+        self.refused = self.work(rt, state, instance, idle, progress).err();
     }
 
     // Takes nodes until the board answers `idle` times in a row that it has none, or the member has
@@ -72,16 +72,16 @@ impl<const LEVELS: usize> Worker<LEVELS> {
     fn work(
         &mut self,
         rt: &impl Wait,
-        common: &Common<LEVELS>,
+        state: &SearchState<LEVELS>,
         instance: &Instance,
         idle: u32,
         progress: &impl Progress,
     ) -> Result<(), Refusal>
-        requires of { IsWorkerOf common.now self.old }
-        requires problem { problem_of common.now.incumbent ≡ instance.now }
-        requires begins { IsAtWork common.now.no_room instance.now self.old }
+        requires of { IsWorkerOf state.now self.old }
+        requires problem { problem_of state.now.incumbent ≡ instance.now }
+        requires begins { IsAtWork state.now.no_room instance.now self.old }
         ensures same { IsSameWorker self.old self.new }
-        ensures goes_on { IfOk result (λ _. IsAtWork common.now.no_room instance.now self.new) }
+        ensures goes_on { IfOk result (λ _. IsAtWork state.now.no_room instance.now self.new) }
         ensures inserts { IfOk result (λ _. InsertsNodes instance.now
             (work_of self.old).inserted (work_of self.new).inserted) }
         ensures idle { IfOk result (λ _. IsIdle idle (own_steps self.old.member) self.new) }
@@ -90,10 +90,10 @@ impl<const LEVELS: usize> Worker<LEVELS> {
     {
         let mut nothings = 0;
         for _ in rt.forever() {
-            if nothings == idle || !self.may_split(common) {
+            if nothings == idle || !self.may_split(state) {
                 return Ok(());
             }
-            if self.turn(rt, common, instance, progress)? {
+            if self.turn(rt, state, instance, progress)? {
                 nothings = 0;
             } else {
                 nothings += 1;
@@ -103,29 +103,29 @@ impl<const LEVELS: usize> Worker<LEVELS> {
     }
 
     // Whether the member may insert the children of one more node.
-    fn may_split(&self, common: &Common<LEVELS>) -> bool
-        requires { IsWorkerOf common.now self.now }
+    fn may_split(&self, state: &SearchState<LEVELS>) -> bool
+        requires { IsWorkerOf state.now self.now }
         ensures { IsTrue result ↔ (length (inserted (own_steps self.now.member)) + 2
             ≤ self.now.member.sizes.quota) }
     {
-        self.member.inserted_count() + 2 <= common.board.quota()
+        self.member.inserted_count() + 2 <= state.board.quota()
     }
 
     // Takes one node, where there is one.
     fn turn(
         &mut self,
         rt: &impl Wait,
-        common: &Common<LEVELS>,
+        state: &SearchState<LEVELS>,
         instance: &Instance,
         progress: &impl Progress,
     ) -> Result<bool, Refusal>
-        requires of { IsWorkerOf common.now self.old }
+        requires of { IsWorkerOf state.now self.old }
         requires room { length (inserted (own_steps self.old.member)) + 2
             ≤ self.old.member.sizes.quota }
-        requires problem { problem_of common.now.incumbent ≡ instance.now }
-        requires begins { IsAtWork common.now.no_room instance.now self.old }
+        requires problem { problem_of state.now.incumbent ≡ instance.now }
+        requires begins { IsAtWork state.now.no_room instance.now self.old }
         ensures same { IsSameWorker self.old self.new }
-        ensures goes_on { IfOk result (λ _. IsAtWork common.now.no_room instance.now self.new) }
+        ensures goes_on { IfOk result (λ _. IsAtWork state.now.no_room instance.now self.new) }
         ensures inserts { IfOk result (λ _. InsertsNodes instance.now
             (work_of self.old).inserted (work_of self.new).inserted) }
         ensures answers { IfOk result (λ some. MatchBool some
@@ -134,11 +134,11 @@ impl<const LEVELS: usize> Worker<LEVELS> {
         ensures refused { IfErr result (λ why. EndsRefused LEVELS self.new.member.sizes.k
             self.new.member.number (own_steps self.new.member) why) }
     {
-        let Some(item) = self.member.delete_min(rt, &common.board, &mut self.picker) else {
+        let Some(item) = self.member.delete_min(rt, &state.board, &mut self.picker) else {
             return Ok(false);
         };
         self.pace.count(progress);
-        self.examine(rt, common, instance, item.load, progress)?;
+        self.examine(rt, state, instance, item.load, progress)?;
         Ok(true)
     }
 
@@ -146,19 +146,19 @@ impl<const LEVELS: usize> Worker<LEVELS> {
     fn examine(
         &mut self,
         rt: &impl Wait,
-        common: &Common<LEVELS>,
+        state: &SearchState<LEVELS>,
         instance: &Instance,
         load: u64,
         progress: &impl Progress,
     ) -> Result<(), Refusal>
-        requires of { IsWorkerOf common.now self.old }
+        requires of { IsWorkerOf state.now self.old }
         requires room { length (inserted (own_steps self.old.member)) + 2
             ≤ self.old.member.sizes.quota }
-        requires problem { problem_of common.now.incumbent ≡ instance.now }
-        requires answered { common.now.no_room ≡ NoRoom.Refuses
+        requires problem { problem_of state.now.incumbent ≡ instance.now }
+        requires answered { state.now.no_room ≡ NoRoom.Refuses
             → EndsAnswered self.old.member.number (own_steps self.old.member) }
         ensures same { IsSameWorker self.old self.new }
-        ensures answered { IfOk result (λ _. common.now.no_room ≡ NoRoom.Refuses
+        ensures answered { IfOk result (λ _. state.now.no_room ≡ NoRoom.Refuses
             → EndsAnswered self.new.member.number (own_steps self.new.member)) }
         ensures extends { IfOk result (λ _.
             Extends instance.now (work_of self.old) (work_of self.new)) }
@@ -171,7 +171,7 @@ impl<const LEVELS: usize> Worker<LEVELS> {
             → ClosesBounded instance.now load (work_of self.old) (work_of self.new) }
         ensures alone { IsTrue self.old.is_alone → IsTrue self.new.is_alone
             × ((work_of self.new).inserted ≡ (work_of self.old).inserted) }
-        ensures keeps { common.now.no_room ≡ NoRoom.Refuses
+        ensures keeps { state.now.no_room ≡ NoRoom.Refuses
             → self.new.is_alone ≡ self.old.is_alone }
         ensures gains { IfOk result (λ _.
             GainsOthers (own_steps self.old.member) (own_steps self.new.member)) }
@@ -181,13 +181,11 @@ impl<const LEVELS: usize> Worker<LEVELS> {
         let Some(node) = instance.node_of(load) else {
             return Ok(());
         };
-        let found = common
-            .incumbent
-            .raise_to(&mut self.watcher, instance, &node);
+        let found = state.incumbent.raise_to(&mut self.seat, instance, &node);
         if node.level == instance.len() || instance.bound_of(&node) <= found {
             return Ok(());
         }
-        self.expand(rt, common, instance, node, progress)
+        self.expand(rt, state, instance, node, progress)
     }
 
     // Splits a node. Where the board has no room for a child, and the search goes on without it, the node
@@ -195,22 +193,22 @@ impl<const LEVELS: usize> Worker<LEVELS> {
     fn expand(
         &mut self,
         rt: &impl Wait,
-        common: &Common<LEVELS>,
+        state: &SearchState<LEVELS>,
         instance: &Instance,
         node: Node,
         progress: &impl Progress,
     ) -> Result<(), Refusal>
-        requires of { IsWorkerOf common.now self.old }
+        requires of { IsWorkerOf state.now self.old }
         requires room { length (inserted (own_steps self.old.member)) + 2
             ≤ self.old.member.sizes.quota }
-        requires problem { problem_of common.now.incumbent ≡ instance.now }
+        requires problem { problem_of state.now.incumbent ≡ instance.now }
         requires range { IsInRange instance.now }
         requires node { IsNodeOf instance.now node }
         requires free { node.level < length instance.now.things }
-        requires answered { common.now.no_room ≡ NoRoom.Refuses
+        requires answered { state.now.no_room ≡ NoRoom.Refuses
             → EndsAnswered self.old.member.number (own_steps self.old.member) }
         ensures same { IsSameWorker self.old self.new }
-        ensures answered { IfOk result (λ _. common.now.no_room ≡ NoRoom.Refuses
+        ensures answered { IfOk result (λ _. state.now.no_room ≡ NoRoom.Refuses
             → EndsAnswered self.new.member.number (own_steps self.new.member)) }
         ensures extends { IfOk result (λ _.
             Extends instance.now (work_of self.old) (work_of self.new)) }
@@ -222,9 +220,9 @@ impl<const LEVELS: usize> Worker<LEVELS> {
             → (work_of self.new).found ≡ (work_of self.old).found }
         ensures alone { IsTrue self.old.is_alone → IsTrue self.new.is_alone
             × ((work_of self.new).inserted ≡ (work_of self.old).inserted) }
-        ensures keeps { common.now.no_room ≡ NoRoom.Refuses
+        ensures keeps { state.now.no_room ≡ NoRoom.Refuses
             → self.new.is_alone ≡ self.old.is_alone }
-        ensures goes_on { common.now.no_room ≡ NoRoom.SearchesAlone
+        ensures goes_on { state.now.no_room ≡ NoRoom.SearchesAlone
             → IfErr result (λ why. why ≡ Refusal.NoMemory) }
         ensures gains { IfOk result (λ _.
             GainsOthers (own_steps self.old.member) (own_steps self.new.member)) }
@@ -232,13 +230,15 @@ impl<const LEVELS: usize> Worker<LEVELS> {
             self.new.member.number (own_steps self.new.member) why) }
     {
         if !self.is_alone {
-            match self.split(rt, common, instance, &node) {
-                Err(Refusal::Full) if common.no_room == NoRoom::SearchesAlone => {}
+            match self.split(rt, state, instance, &node) {
+                Err(Refusal::Full) if state.no_room == NoRoom::SearchesAlone => {}
                 told => return told,
             }
             self.is_alone = true;
         }
-        common.incumbent.search_alone(&mut self.watcher, instance, node, &mut self.pace, progress);
+        state
+            .incumbent
+            .search_alone(&mut self.seat, instance, node, &mut self.pace, progress);
         Ok(())
     }
 
@@ -246,11 +246,11 @@ impl<const LEVELS: usize> Worker<LEVELS> {
     fn split(
         &mut self,
         rt: &impl Wait,
-        common: &Common<LEVELS>,
+        state: &SearchState<LEVELS>,
         instance: &Instance,
         node: &Node,
     ) -> Result<(), Refusal>
-        requires of { IsWorkerOf common.now self.old }
+        requires of { IsWorkerOf state.now self.old }
         requires room { length (inserted (own_steps self.old.member)) + 2
             ≤ self.old.member.sizes.quota }
         requires node { IsNodeOf instance.now node.now }
@@ -267,9 +267,9 @@ impl<const LEVELS: usize> Worker<LEVELS> {
         ensures refused { IfErr result (λ why. EndsRefused LEVELS self.new.member.sizes.k
             self.new.member.number (own_steps self.new.member) why) }
     {
-        self.insert(rt, common, instance, &instance.leaving(node))?;
+        self.insert(rt, state, instance, &instance.leaving(node))?;
         if let Some(child) = instance.taking(node) {
-            self.insert(rt, common, instance, &child)?;
+            self.insert(rt, state, instance, &child)?;
         }
         Ok(())
     }
@@ -278,11 +278,11 @@ impl<const LEVELS: usize> Worker<LEVELS> {
     pub(crate) fn insert(
         &mut self,
         rt: &impl Wait,
-        common: &Common<LEVELS>,
+        state: &SearchState<LEVELS>,
         instance: &Instance,
         node: &Node,
     ) -> Result<(), Refusal>
-        requires of { IsWorkerOf common.now self.old }
+        requires of { IsWorkerOf state.now self.old }
         requires room { length (inserted (own_steps self.old.member))
             < self.old.member.sizes.quota }
         requires node { IsNodeOf instance.now node.now }
@@ -304,7 +304,7 @@ impl<const LEVELS: usize> Worker<LEVELS> {
     {
         let key = instance.key_of(node);
         let load = instance.load_of(node);
-        match self.member.insert(rt, &common.board, key, load) {
+        match self.member.insert(rt, &state.board, key, load) {
             Ok(_) => Ok(()),
             Err(InsertError::Spent) => unreachable!(),
             Err(InsertError::Full) => Err(Refusal::Full),

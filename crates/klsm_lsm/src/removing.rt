@@ -5,7 +5,7 @@ ghost use Rattle.klsm_lsm.specs.Adding.{cut};
 ghost use Rattle.klsm_lsm.specs.Slots.{FallsToNext};
 
 use crate::Lsm;
-use crate::slots::{close_gap, take_out, take_out_and_unite};
+use crate::slots::{close_gap, take_from_run, take_from_run_and_unite};
 use klsm_run::{Item, Run};
 
 impl<R: Run, const LEVELS: usize> Lsm<R, LEVELS> {
@@ -34,7 +34,7 @@ impl<R: Run, const LEVELS: usize> Lsm<R, LEVELS> {
     {
         self.len -= 1;
         let slots = self.slots.as_mut_slice();
-        let item = take_out_and_unite(slots, block, index);
+        let item = take_from_run_and_unite(slots, block, index);
         close_gap(slots, block + 1, self.count);
         self.count -= 1;
         item
@@ -53,7 +53,7 @@ impl<R: Run, const LEVELS: usize> Lsm<R, LEVELS> {
         let len = self.block(block).len();
         self.len -= 1;
         let slots = self.slots.as_mut_slice();
-        let item = take_out(slots, block, index);
+        let item = take_from_run(slots, block, index);
         if len == 1 {
             close_gap(slots, block, self.count);
             self.count -= 1;

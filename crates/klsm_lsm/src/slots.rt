@@ -46,7 +46,7 @@ pub(crate) fn replace<R: Run, const LEVELS: usize>(
 }
 
 // Takes an item out of the run in a slot.
-pub(crate) fn take_out<R: Run>(slots: &mut [Option<R>], at: usize, index: usize) -> Item
+pub(crate) fn take_from_run<R: Run>(slots: &mut [Option<R>], at: usize, index: usize) -> Item
     requires at { at < length slots.old }
     requires index { index < length (slice_index_or (blocks_in R.items slots.old) at []) }
     ensures item { slice_get (slice_index_or (blocks_in R.items slots.old) at []) index
@@ -61,7 +61,11 @@ pub(crate) fn take_out<R: Run>(slots: &mut [Option<R>], at: usize, index: usize)
 }
 
 // Takes an item out of the run in a slot, and unites it with that of the next slot, in place.
-pub(crate) fn take_out_and_unite<R: Run>(slots: &mut [Option<R>], at: usize, index: usize) -> Item
+pub(crate) fn take_from_run_and_unite<R: Run>(
+    slots: &mut [Option<R>],
+    at: usize,
+    index: usize,
+) -> Item
     requires at { at + 1 < length slots.old }
     requires index { index < length (slice_index_or (blocks_in R.items slots.old) at []) }
     requires some { 0 < length (slice_index_or (blocks_in R.items slots.old) (at + 1) []) }

@@ -1,7 +1,7 @@
 -- All members of one board.
 use Rattle.std.proofs.Common.{ℕ, List, sym, ap, ◌∙◌}
 use Rattle.klsm_board.specs.declared.sizes.Sizes.{Sizes}
-use Rattle.klsm_choice.specs.declared.choice.Pick.{Pick}
+use Rattle.klsm_parts.specs.declared.choice.Pick.{Pick}
 use Rattle.klsm_owned.specs.declared.owned.OwnedMember.{OwnedMember}
 use Rattle.klsm_owned.specs.Owned.{AreAllOfTheirBoard, AreNew, members_of}
 

@@ -8,10 +8,10 @@ use Rattle.klsm_board.specs.declared.board.Member.{Member}
 use Rattle.klsm_board.specs.Boards.{AreMembersOf, AreNewMembersOf, IsOf, IsSame}
 use Rattle.klsm_board.specs.declared.sizes.Sizes.{Sizes}
 use Rattle.klsm_board.specs.Members.{most_insertions}
-use Rattle.klsm_choice.specs.declared.choice.Choice.{Choice}
-use Rattle.klsm_choice.specs.declared.choice.Pick.{Pick}
+use Rattle.klsm_parts.specs.declared.choice.Choice.{Choice}
+use Rattle.klsm_parts.specs.declared.choice.Pick.{Pick}
 use Rattle.klsm_owned.specs.declared.owned.OwnedMember.{OwnedMember}
-use Rattle.klsm_choice.specs.Choices.{choice_by}
+use Rattle.klsm_parts.specs.Choices.{choice_by}
 
 abbrev pub member_of : OwnedMember → Member 64 21
 member_of owned = owned.member

@@ -12,7 +12,7 @@ use Rattle.klsm_board.specs.Rule.{SeesFront}
 use Rattle.klsm_board.specs.Inserting.{Inserts, RefusesInsert, stamp_of, stamped}
 use Rattle.klsm_board.specs.Deleting.{AnswersDeletion, MissesDeletion}
 use Rattle.klsm_owned.specs.declared.owned.OwnedMember.{OwnedMember}
-use Rattle.klsm_choice.specs.Choices.{may_choose}
+use Rattle.klsm_parts.specs.Choices.{may_choose}
 use Rattle.klsm_owned.specs.Owned.{choice_of, member_of}
 
 -- An insertion: its item is the member's next, and a refusal has its cause. The picker stays.

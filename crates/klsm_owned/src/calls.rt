@@ -8,7 +8,7 @@ ghost use Rattle.klsm_owned.specs.Owned.{IsSameOwned, board_of, member_of};
 ghost use Rattle.klsm_owned.specs.Trying.{LooksAtFront, TriesInsert, TriesDelete};
 
 use crate::owned::OwnedMember;
-use klsm_board::{Board, Busy, Member, TryInsertError};
+use klsm_board::{Busy, StandardBoard, StandardMember, TryInsertError};
 use klsm_run::{Item, Stamp};
 use std::alloc::Global;
 use std::sync::Arc;
@@ -32,7 +32,7 @@ impl OwnedMember {
         self.member.try_delete_min(&self.board, &mut self.choice)
     }
 
-    /// The front, as `Member::front`: no shared item has a lesser key at that moment.
+    /// The front, the key of the least shared item, as `Member::front`.
     #[inline]
     pub fn front(&mut self) -> u64
         ensures same { IsSameOwned self.old self.new }
@@ -60,7 +60,7 @@ impl OwnedMember {
     }
 
     /// The share of the board, and the member.
-    pub fn into_parts(self) -> (Arc<Board<64, 21>, Global>, Member<64, 21>)
+    pub fn into_parts(self) -> (Arc<StandardBoard, Global>, StandardMember)
         ensures board { arc_value result.0 ≡ board_of self }
         ensures member { result.1 ≡ member_of self }
         ensures fits { IsOf result.1 (arc_value result.0) }

@@ -20,6 +20,6 @@ mod calls;
 mod opening;
 mod owned;
 
-pub use klsm_choice::{Choice, Pick};
+pub use klsm_parts::{Choice, Pick};
 pub use opening::open_board;
 pub use owned::OwnedMember;

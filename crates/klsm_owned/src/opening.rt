@@ -5,8 +5,8 @@ ghost use Rattle.klsm_board.specs.Boards.{IsOf};
 ghost use Rattle.klsm_owned.specs.Owned.{AreAllOfTheirBoard, AreNew, PickBy, members_of};
 
 use crate::owned::OwnedMember;
-use klsm_board::{Board, MOST_INSERTIONS, MakeError, Member};
-use klsm_choice::{Choice, Pick};
+use klsm_board::{Board, MOST_INSERTIONS, MakeError, StandardBoard, StandardMember};
+use klsm_parts::{Choice, Pick};
 use std::alloc::{AllocError, Global};
 use std::sync::Arc;
 
@@ -48,8 +48,8 @@ pub fn open_board(
 // Each member of a new board in a box, with a share of the board and a picker of its own.
 fn box_members(
     alloc: Global,
-    board: &Arc<Board<64, 21>, Global>,
-    mut members: Vec<Member<64, 21>>,
+    board: &Arc<StandardBoard, Global>,
+    mut members: Vec<StandardMember>,
     pick: Pick,
     seed: u64,
 ) -> Result<Vec<Box<OwnedMember, Global>>, AllocError>

@@ -90,13 +90,13 @@ local_fits n capacity = part_fits _ (lsm_is_small _ (run_is_small n capacity)) w
 pub shared_lsm_fits : (n : ℕ) → IsLevelCount n → lsm n 56 < 9223372036854775808
 shared_lsm_fits n levels = omega (arith, levels.at_most)
 
--- of a row of bytes
-abbrev row : ℕ
-row = up 8 (up 1 (up 8 (up 8 (0 + 8) + 8) + 192))
+-- of the bytes of a ranking
+abbrev bytes : ℕ
+bytes = up 8 (up 1 (up 8 (up 8 (0 + 8) + 8) + 192))
 
--- what is known of the least items: the first, and two rows of bytes for the ranking
+-- what is known of the least items: the first, and two lists of bytes for the ranking
 abbrev least_items : ℕ
-least_items = up 8 (up 8 (0 + option 32) + up 8 (up 8 (0 + row) + row))
+least_items = up 8 (up 8 (0 + option 32) + up 8 (up 8 (0 + bytes) + bytes))
 
 -- the shared part
 pub shared_fits : (n : ℕ) → IsLevelCount n → up 8 (up 1 (up 8 (up 8 (up 8 (0 + lsm n 56) + 8) + array_vec n 8) + least_items) + 0) < 9223372036854775808

@@ -17,12 +17,12 @@ pub mod PairLemmas
 pub mod PivotLemmas
 pub mod PivotListLemmas
 pub mod QueueLemmas
+pub mod RankByteLemmas
 pub mod RankingCutLemmas
 pub mod RankingLemmas
 pub mod RefillLemmas
 pub mod RefilledLemmas
 pub mod RisingLemmas
-pub mod RowLemmas
 pub mod SpyLemmas
 pub mod TakeLemmas
 pub mod UnitedLemmas

@@ -6,12 +6,14 @@ pub mod Events  -- the events: when each may happen, and what it leaves
 pub mod Flushing  -- what moves at a flush
 pub mod Refilling  -- what moves at a refill
 pub mod Taking  -- how a deletion chooses
+pub mod Generators  -- the generator of random picks
+pub mod Choices  -- how a picker picks that is chosen while a program runs
 pub mod EitherPart  -- a part of either kind
 pub mod Queues  -- the queue for one thread
 pub mod Laws  -- what follows from the definitions alone
 pub mod LeastPlaces  -- where the least item stands; no public contract cites it
 pub mod Ranking  -- the order of the candidates; no public contract cites it
-pub mod Rows  -- a row of bytes in its store; no public contract cites it
+pub mod RankBytes  -- the bytes of a rank in their store; no public contract cites it
 pub mod Leaving  -- what becomes of pivots and ranking where blocks lose their first items; no public contract cites it
 pub mod Mending  -- how pivots change with the blocks; no public contract cites it
 -- Callers name these by this crate.

@@ -61,6 +61,7 @@
 #![tactic(auto)]
 
 mod appending;
+mod choice;
 mod flushing;
 pub mod laws;
 mod leaving;
@@ -70,14 +71,15 @@ mod merging;
 mod part;
 mod picker;
 mod queue;
+mod rank_bytes;
 mod ranking;
 mod ranks;
 mod refilling;
-mod row;
 mod shared;
 mod spying;
 mod taking;
 
+pub use choice::{Choice, Pick};
 pub use flushing::flush;
 pub use klsm_lsm::LsmError;
 pub use local::{Local, put, take_least};

@@ -1,8 +1,7 @@
 //! Pickers, which choose among the candidates of a deletion.
 ghost use Rattle.std.specs.Prelude.{◌≡◌, ⊤, ℕ, ◌-◌, ◌%◌, ◌<◌};
-ghost use Rattle.rand_core.specs.Pcg32Seed.{pcg32_seed};
 ghost use Rattle.rand_core.specs.Stream.{next_u64};
-ghost use Rattle.rand_pcg.specs.Pcg.{pcg32_of_seed};
+ghost use Rattle.klsm_parts.specs.Generators.{generator_of};
 
 use rand_core::{Rng, SeedableRng};
 use rand_pcg::Pcg32;
@@ -101,7 +100,7 @@ impl<R: Rng> Picker for Random<R> {
 /// statistically good algorithms for random number generation", 2014), at this seed. The same seed
 /// gives the same picks.
 pub fn random_of(seed: u64) -> Random<Pcg32>
-    ensures { result ≡ pcg32_of_seed (pcg32_seed 16 seed) }
+    ensures { result ≡ generator_of seed }
 {
     Random::new(Pcg32::seed_from_u64(seed))
 }

@@ -6,8 +6,8 @@ ghost use Rattle.klsm_lsm.specs.Lsm.{content, IsLsm};
 ghost use Rattle.klsm_parts.specs.Taking.{own_first};
 ghost use Rattle.klsm_parts.specs.Ranking.{IsRanking, AreRanked, closes_up, cut_ranking, place_after_cut};
 
+use crate::rank_bytes::RankBytes;
 use crate::ranks::{Place, Ranked};
-use crate::row::Row;
 use klsm_lsm::Lsm;
 use klsm_run::{Item, Run};
 
@@ -26,9 +26,9 @@ pub(crate) struct LeastItems {
 #[derive(Drop)]
 pub(crate) struct Ranking {
     // With room for the k+1 candidates.
-    pub(crate) blocks: Row,
+    pub(crate) blocks: RankBytes,
     // The low bytes of the owners, so that a search for an owner's candidate reads no other item.
-    pub(crate) owners: Row,
+    pub(crate) owners: RankBytes,
 }
 
 impl Ranking {
@@ -38,8 +38,8 @@ impl Ranking {
         ensures owners { result.owners.items ≡ [] }
     {
         Ranking {
-            blocks: Row::new(),
-            owners: Row::new(),
+            blocks: RankBytes::new(),
+            owners: RankBytes::new(),
         }
     }
 

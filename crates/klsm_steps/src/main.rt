@@ -3,7 +3,7 @@
 
 ghost use Rattle.klsm_board.specs.Boards.{IsOf};
 
-use klsm_board::{Board, Member};
+use klsm_board::{Board, StandardBoard, StandardMember};
 use klsm_parts::First;
 use std::alloc::Global;
 use std::sync::Wait;
@@ -29,8 +29,8 @@ struct Search {
 #[derive(Drop)]
 struct Worker<'a, R> {
     rt: &'a R,
-    board: &'a Board<64, 21>,
-    member: Member<64, 21>,
+    board: &'a StandardBoard,
+    member: StandardMember,
     search: &'a Search,
     ghost of: { IsOf member board.now },
 }
@@ -78,7 +78,7 @@ impl<R: Wait> Worker<'_, R> {
 }
 
 /// What the thread of a member does.
-fn take_part<R: Wait>(rt: &R, board: &Board<64, 21>, member: Member<64, 21>, search: &Search)
+fn take_part<R: Wait>(rt: &R, board: &StandardBoard, member: StandardMember, search: &Search)
     requires { IsOf member board.now }
 {
     let is_first = member.number() == 0;
@@ -126,7 +126,7 @@ fn fewest<R: Threads + Wait + Sync>(
     thread::map_vec(
         rt,
         members,
-        &|member: Member<64, 21>| {
+        &|member: StandardMember| {
             take_part(rt, &board, member, &search);
         },
     )?;

@@ -2,13 +2,13 @@
 ghost use Rattle.std.specs.Prelude.{◌≡◌, length, All, IfOk};
 ghost use Rattle.klsm_board.specs.Boards.{AreNewMembersOf, IsOf};
 
-use klsm_board::{Board, MakeError, Member};
+use klsm_board::{Board, MakeError, StandardBoard, StandardMember};
 use std::alloc::Global;
 
 /// A board and all its members.
 pub struct Made {
-    pub board: Board<64, 21>,
-    pub members: Vec<Member<64, 21>>,
+    pub board: StandardBoard,
+    pub members: Vec<StandardMember>,
 }
 
 // Written out for the same reason as that of a crew.

@@ -5,11 +5,11 @@ use Rattle.klsm_rows.specs.Rows.{Row, AreFirstRows, AreAllRows, HasRead}
 use Rattle.klsm_text.specs.declared.script.Script.{Script}
 use Rattle.klsm_text.specs.declared.stop.Stop.{Stop}
 use Rattle.klsm_text.specs.declared.stop.Stop.TheVariants as stop
-use Rattle.klsm_text.specs.declared.watched.Watched.{Watched}
+use Rattle.klsm_text.specs.declared.row_ends.RowEnds.{RowEnds}
 
--- what is known of the bytes that a watched reader has left: that of the reader within
-abbrev pub left_within : {R : Type 0} → (R → Option (List ℕ)) → Watched R → Option (List ℕ)
-left_within rem watched = rem watched.inner
+-- what is known of the bytes that such a reader has left: that of the reader within
+abbrev pub left_within : {R : Type 0} → (R → Option (List ℕ)) → RowEnds R → Option (List ℕ)
+left_within rem ends = rem ends.inner
 
 -- the rows are the first of the input, and the script stands behind them
 abbrev pub HasReadScript : {R : Type 0} → (R → Option (List ℕ)) → Option (List ℕ) → List Row → Script R

@@ -14,7 +14,7 @@
 //! ```
 //!
 //! `script` reads a row into a record that is used again, and `judge` says what it asks for, a
-//! `Request`, or what is wrong with it: `watched` knows how far the whole rows go that were read. A
+//! `Request`, or what is wrong with it: `row_ends` knows how far the whole rows go that were read. A
 //! script that threads are to run is read whole, and `thread_rows` keeps its rows for them. An `answer`,
 //! the `totals`, a `selection` and a `Stop` each have their text, a `LineText`, and `output` sends it and
 //! says in a `Report` how the run ended. `klsm_tool` gives the answers.
@@ -39,12 +39,12 @@ mod line_text;
 mod output;
 mod report;
 mod request;
+mod row_ends;
 mod script;
 mod selection;
 mod stop;
 mod thread_rows;
 mod totals;
-mod watched;
 
 pub use answer::{Answer, Line, Printed};
 pub use hints::row_hint;

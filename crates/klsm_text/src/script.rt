@@ -6,8 +6,8 @@ ghost use Rattle.klsm_text.specs.Reading.{HasReadScript, ReadStops, reader_faile
 ghost use Rattle.klsm_text.specs.Waiting.{HasSentBefore, knows_no_row};
 
 use crate::output::Output;
+use crate::row_ends::RowEnds;
 use crate::stop::Stop;
-use crate::watched::Watched;
 use csv::{ByteRecord, Reader};
 use klsm_rows::{RowFault, read_row, rows_of};
 use std::alloc::Global;
@@ -16,7 +16,7 @@ use std::io::Read;
 /// A script that is read row by row, each into the same record.
 #[derive(Drop)]
 pub struct Script<R> {
-    rows: Reader<Watched<R>>,
+    rows: Reader<RowEnds<R>>,
     /// How many bytes of the script there are up to where the next row is looked for.
     place: u64,
     pub row: ByteRecord,
@@ -28,7 +28,7 @@ impl<R: Read + Drop> Script<R> {
         ensures { HasReadScript R.remaining (R.remaining reader) [] result }
     {
         Script {
-            rows: rows_of(alloc, Watched::new(reader)),
+            rows: rows_of(alloc, RowEnds::new(reader)),
             place: 0,
             row: ByteRecord::new(alloc),
         }

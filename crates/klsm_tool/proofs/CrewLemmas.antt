@@ -1,7 +1,6 @@
 -- One member of a board goes on, and the others stay as they are.
 use Rattle.std.proofs.Common.{◌≡◌, ℕ, zero, suc, ◌<◌, List, [], ◌∷◌, ◌++◌, length, take, sym, ap, subst, ◌∙◌, arith, IfOk, IfErr, Result, Ok, Err}
 use Rattle.std.proofs.Math.Seq.{take-append_seam}
-use Rattle.std.specs.List.{All}
 use mathlib.Core.Option.{some, some-injective, some-ne-none}
 use lib.ListN.{get_elem?}
 use Rattle.klsm_world.specs.declared.step.Entry.{Entry}
@@ -15,7 +14,7 @@ use Rattle.klsm_board.specs.declared.all_members.AllMembers.{AllMembers}
 use Rattle.klsm_board.specs.declared.sizes.Sizes.{Sizes}
 use Rattle.klsm_board.specs.Together.{all_lists, sizes_of_all, steps_for}
 use Rattle.klsm_board.proofs.lemmas.ending.EndLemmas.{found_first, list_at}
-use Rattle.klsm_board.proofs.lemmas.ending.MemberLemmas.{all_of_board, lists_in_order, stands_mapped, stands_within}
+use Rattle.klsm_board.proofs.lemmas.ending.MemberLemmas.{stands_mapped, stands_within}
 use Rattle.klsm_board.proofs.lemmas.ending.WholeLemmas.{known_at}
 use Rattle.klsm_tool.specs.Crews.{HaveNoSteps, lists_in, steps_in}
 
@@ -35,15 +34,7 @@ list_is (l ∷ lists) zero es there = some-injective l es there
 list_is (l ∷ lists) (suc t) es there = list_is lists t es there
 
 module _ {CAP LEVELS : ℕ} where
-  -- the members of a crew are those of the board
-  pub crew_all : (board : Board CAP LEVELS) (members : List (Member CAP LEVELS)) → AreMembersOf board members → All (λ member. IsOf member board) members
-  crew_all board members crew = all_of_board board members crew
-
   module _ (board : Board CAP LEVELS) (members : List (Member CAP LEVELS)) (crew : AreMembersOf board members) where
-    -- and their lists by number are theirs in order
-    pub crew_lists : lists_in members ≡ lists_of board.sizes.threads members
-    crew_lists = lists_in_order board members crew
-
     -- each list is that of a world to which a schedule leads
     pub crew_reached : (t : ℕ) → t < board.sizes.threads → ∥ IsReached board.sizes t (steps_in (lists_in members) t) ∥₁
     crew_reached t below =

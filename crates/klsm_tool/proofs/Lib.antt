@@ -1,7 +1,7 @@
 pub mod AloneLemmas  -- a replay over a board of its own
 pub mod ClosingLemmas
 pub mod NotRunLemmas  -- scripts that are not run, and how far they were read
-pub mod LiveItemLemmas  -- what joins and leaves the live items
+pub mod SkipCounterLemmas  -- what joins and leaves the live items
 pub mod AllLemmas  -- one of all members goes on
 pub mod CrewLemmas  -- one member goes on, and the others stay
 pub mod ShownLemmas  -- what the calls of a member show in the text

@@ -25,7 +25,7 @@ use Rattle.klsm_rows.specs.Rows.{AreAllRows, Row}
 use Rattle.klsm_tool.specs.Shown.{shown_in}
 use Rattle.klsm_text.specs.Script.{row_limit}
 use Rattle.klsm_text.specs.ThreadRows.{AreAccepted, Asked, asked_of}
-use Rattle.klsm_tool.specs.Turns.{AreAnswers, StopsInsertion}
+use Rattle.klsm_tool.specs.MemberCalls.{AreAnswers, StopsInsertion}
 use Rattle.klsm_tool.specs.Working.{AreAccounted, HasRunRows, HasRunAt, IsReady, IsReadyAt, Works, gave_up_at, members_in, ready, steps_at}
 use Rattle.klsm_tool.proofs.RoomLemmas.{all_few, never_full, works_few}
 use Rattle.klsm_tool.proofs.TotalLemmas.{adds_up, insertions_are}

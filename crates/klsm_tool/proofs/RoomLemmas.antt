@@ -17,7 +17,7 @@ use Rattle.klsm_text.specs.ThreadRows.{AreAccepted, Asked, asked_of, insertion_r
 use Rattle.klsm_tool.specs.declared.worker.GaveUp.{GaveUp}
 use Rattle.klsm_tool.specs.Crews.{steps_in}
 use Rattle.klsm_tool.specs.Shown.{shown_in}
-use Rattle.klsm_tool.specs.Turns.{EndsFull}
+use Rattle.klsm_tool.specs.MemberCalls.{EndsFull}
 use Rattle.klsm_tool.specs.Working.{Works}
 use Rattle.klsm_tool.proofs.AllLemmas.{has_room}
 use Rattle.klsm_tool.proofs.TotalLemmas.{accepted_few, answers_insert, inserted_shown, insertions_join, insertions_within, rows_insert}

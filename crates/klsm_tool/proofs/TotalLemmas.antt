@@ -28,9 +28,9 @@ use Rattle.klsm_rows.specs.Rows.{Row}
 use Rattle.klsm_text.specs.Script.{asked, asked_below, request_after, request_of, row_limit}
 use Rattle.klsm_tool.specs.Crews.{steps_in}
 use Rattle.klsm_tool.specs.Shown.{shown, shown_in}
-use Rattle.klsm_tool.specs.Turns.{IsAnswerTo}
+use Rattle.klsm_tool.specs.MemberCalls.{IsAnswerTo}
 use Rattle.klsm_text.specs.ThreadRows.{AreAccepted, Asked, asked_of, asks, insertion_rows, insertions_at, insertions_in, insertions_of}
-use Rattle.klsm_tool.specs.Turns.{AreAnswers}
+use Rattle.klsm_tool.specs.MemberCalls.{AreAnswers}
 
 -- ---- one thread
 

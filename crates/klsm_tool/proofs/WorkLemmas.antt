@@ -8,9 +8,9 @@ use Rattle.klsm_text.specs.declared.thread_rows.ThreadRow.{ThreadRow}
 use Rattle.klsm_text.specs.Keeping.{asked_in, operation_in}
 use Rattle.klsm_tool.specs.Working.{GaveUpAt}
 use Rattle.klsm_tool.specs.Shown.{shown_in}
-use Rattle.klsm_tool.specs.Turns.{AreAnswers}
+use Rattle.klsm_tool.specs.MemberCalls.{AreAnswers}
 use Rattle.klsm_text.specs.ThreadRows.{Asked}
-use Rattle.klsm_tool.specs.Turns.{StopsInsertion, IsAnswerTo}
+use Rattle.klsm_tool.specs.MemberCalls.{StopsInsertion, IsAnswerTo}
 
 -- one answer more
 pub answers_more : (asked : List Asked) (answers : List Answer) (next : Asked) (answer : Answer) → AreAnswers asked answers → IsAnswerTo next.operation answer → AreAnswers (asked ++ next ∷ []) (answers ++ answer ∷ [])

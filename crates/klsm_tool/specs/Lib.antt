@@ -1,10 +1,10 @@
 -- The definitions, in the order in which they are best read.
 pub mod Shown  -- what a member's list shows in the text
 pub mod Crews  -- the members that answer rows
-pub mod LiveItems  -- the live items beside a board
+pub mod SkipCounters  -- the live items, by which skips are counted
 pub mod Picking  -- how the deletions of each thread pick
-pub mod Turns  -- what a member answers to a row
-pub mod Answering  -- what is kept beside the board, and how a row is answered
+pub mod MemberCalls  -- what a member answers to a row
+pub mod Answering  -- what a replay keeps beside the board, and how a row is answered
 pub mod Replay  -- what `replay_over` promises
 pub mod Live  -- what `live_over` promises
 pub mod Knapsack  -- what `knapsack_over` promises

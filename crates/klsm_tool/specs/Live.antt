@@ -18,7 +18,7 @@ use Rattle.klsm_tool.specs.Shown.{shown_in}
 use Rattle.klsm_tool.specs.Crews.{steps_in}
 use Rattle.klsm_text.specs.Reports.{GoesOrFails, end_of}
 use Rattle.klsm_text.specs.ThreadRows.{AreAccepted, StopsReading, asked_of, insertion_rows}
-use Rattle.klsm_tool.specs.Turns.{AreAnswers}
+use Rattle.klsm_tool.specs.MemberCalls.{AreAnswers}
 
 -- all rows were run over a board of these sizes: each thread's list answers its rows, one by one and
 -- in order, the lists are those of one world to which a schedule leads, and the totals are those of

@@ -1,7 +1,7 @@
 -- How the deletions of each thread pick.
 use Rattle.std.specs.Prelude.{ℕ, ◌≡◌, ◌+◌, ◌%◌, ◌^◌, ◌<◌, List, length, slice_index_or}
-use Rattle.klsm_choice.specs.Choices.{choice_by, may_choose}
-use Rattle.klsm_choice.specs.declared.choice.Choice.{Choice}
+use Rattle.klsm_parts.specs.Choices.{choice_by, may_choose}
+use Rattle.klsm_parts.specs.declared.choice.Choice.{Choice}
 use Rattle.klsm_words.specs.declared.settings.Settings.{Settings}
 use Rattle.klsm_tool.specs.declared.picking.ThreadPicker.{ThreadPicker}
 

@@ -16,7 +16,7 @@ use Rattle.klsm_text.specs.Script.{request_after}
 use Rattle.klsm_text.specs.Reports.{GoesOrFails, end_of}
 use Rattle.klsm_text.specs.AnswerText.{greatest_skip, text_of}
 use Rattle.klsm_tool.specs.Shown.{IsFew, Show}
-use Rattle.klsm_tool.specs.Turns.{IsAnswerTo}
+use Rattle.klsm_tool.specs.MemberCalls.{IsAnswerTo}
 
 -- each row is answered by its line: rows and lines, the latest first
 abbrev pub Answered : ℕ → List Row → List Line → Type 0

@@ -12,7 +12,7 @@ use Rattle.klsm_text.specs.declared.totals.Totals.{Totals}
 use Rattle.klsm_tool.specs.declared.worker.GaveUp.{GaveUp}
 use Rattle.klsm_tool.specs.declared.worker.Worker.{Worker}
 use Rattle.klsm_tool.specs.Shown.{shown_in}
-use Rattle.klsm_tool.specs.Turns.{AreAnswers, StopsInsertion}
+use Rattle.klsm_tool.specs.MemberCalls.{AreAnswers, StopsInsertion}
 use Rattle.klsm_text.specs.ThreadRows.{Asked}
 
 -- a thread's list answers what it was asked for up to a row of this number, at which it gave up

@@ -34,11 +34,11 @@ pub fn knapsack_over<P: AllocGlobal + Wait + Threads + Sync, R: Read + Drop, W: 
         (W.contents writer.new) result }
 {
     let search = Search { threads, k, idle };
-    knapsack_told(rt, reader, writer, &search, gate, &Silent)
+    knapsack_with_progress(rt, reader, writer, &search, gate, &Silent)
 }
 
 /// The same, and tells of a long search while it lasts.
-pub fn knapsack_told<P: AllocGlobal + Wait + Threads + Sync, R: Read + Drop, W: Write>(
+pub fn knapsack_with_progress<P: AllocGlobal + Wait + Threads + Sync, R: Read + Drop, W: Write>(
     rt: &P,
     reader: R,
     writer: &mut W,
@@ -78,7 +78,7 @@ fn solve_read<P: AllocGlobal + Wait + Threads + Sync, W: Write, G: Gate, H: Prog
     requires k { search.now.k ≤ 64 }
     ensures { SolvesProblem instance.now (W.contents writer.old) (W.contents writer.new) result }
 {
-    match solve_in_any_order(rt, instance, search, listeners) {
+    match solve_reordered(rt, instance, search, listeners) {
         Ok(best) => write_selection(rt.alloc(), writer, instance, &best),
         Err(_) => write_last(writer, NO_MEMORY, 0, End::NoMemory),
     }
@@ -86,7 +86,7 @@ fn solve_read<P: AllocGlobal + Wait + Threads + Sync, W: Write, G: Gate, H: Prog
 
 // Solves an instance, whatever the order of its things: the search goes over them with those of the
 // greatest value for their weight first, since bounds are closer then.
-fn solve_in_any_order<P: AllocGlobal + Wait + Threads + Sync, G: Gate, H: Progress>(
+fn solve_reordered<P: AllocGlobal + Wait + Threads + Sync, G: Gate, H: Progress>(
     rt: &P,
     instance: &Instance,
     search: &Search,

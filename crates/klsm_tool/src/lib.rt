@@ -13,12 +13,12 @@
 //! ```
 //!
 //! A board of the caller's own, and its members, go to `replay_on`; where they are in one hand, and the
-//! caller keeps its script, to `replay_script`. `live_over` runs a script's rows in threads, `live_told`
+//! caller keeps its script, to `replay_script`. `live_over` runs a script's rows in threads, `live_with_progress`
 //! tells of a long run while it lasts, and `live_script` leaves the caller its script. `knapsack_over`
 //! solves an instance.
 //!
 //! Rows are read and judged by `klsm_text`, which also makes the lines and sends them. `replay` reads
-//! a row, `beside` lets the member of its thread answer and counts the skip among `live_items`, and
+//! a row, `replay_state` lets the member of its thread answer and has `skip_counter` count the skip, and
 //! the line goes out with others before a further row is waited for. Where threads run the rows,
 //! `live` has a `worker` for each, which goes through the gate by `passing`; `making` has the board of
 //! either, and `picking` the pickers. `knapsack` reads an instance, has it solved with the things of the
@@ -43,7 +43,7 @@
 //!   `greatest` and `stopped`.
 //! - **The totals of rows that threads run are those of some schedule**, which answers each thread's
 //!   rows in their order, and the shared part has room for all of them: `Lives`, the clause of `live_over`
-//!   and `live_told`.
+//!   and `live_with_progress`.
 //! - **The selection that is written is a best one**: `Solves`, the clause of `knapsack_over`.
 //! - **Words are a run or are answered with one text**, and each end has its status: clauses `runs` and
 //!   `replays` of `run_words`.
@@ -54,25 +54,25 @@
 #![tactic(auto)]
 
 mod advising;
-mod beside;
 mod knapsack;
 mod live;
-mod live_items;
 mod making;
+mod member_calls;
 mod passing;
 mod picking;
 mod process_words;
 mod program;
 mod replay;
+mod replay_state;
+mod skip_counter;
 mod status;
-mod turns;
 mod worker;
 
 pub use klsm_progress::{Counted, Progress, Silent, TerminalLine, Terminals};
 pub use klsm_text::{End, Report, Script};
-pub use klsm_words::{Pick, Settings};
-pub use knapsack::{knapsack_over, knapsack_told};
-pub use live::{live_over, live_script, live_told};
+pub use klsm_words::{Pick, Search, Settings};
+pub use knapsack::{knapsack_over, knapsack_with_progress};
+pub use live::{live_over, live_script, live_with_progress};
 pub use program::{run_program, run_words};
-pub use replay::{replay_on, replay_over, replay_script, replay_told};
+pub use replay::{replay_on, replay_over, replay_script, replay_with_progress};
 pub use status::Status;

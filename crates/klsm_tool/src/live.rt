@@ -20,7 +20,7 @@ use crate::advising::advise_on_outcome;
 use crate::making::board_for;
 use crate::passing::pass;
 use crate::worker::{GaveUp, Worker};
-use klsm_board::{Board, Gate, Member};
+use klsm_board::{Gate, StandardBoard, StandardMember};
 use klsm_progress::{Progress, Silent};
 use klsm_text::{
     Closing, End, Report, Script, Stop, ThreadRow, Totals, keep_rows, no_rows, write_last,
@@ -53,11 +53,11 @@ pub fn live_over<P: AllocGlobal + Wait + Threads + Sync, R: Read + Drop, W: Writ
     ensures { Lives (board_sizes settings.now) (R.remaining reader)
         (W.contents writer.old) (W.contents writer.new) result }
 {
-    live_told(rt, reader, writer, settings, gate, &Silent)
+    live_with_progress(rt, reader, writer, settings, gate, &Silent)
 }
 
 /// The same, and tells of a long run while it lasts.
-pub fn live_told<P: AllocGlobal + Wait + Threads + Sync, R: Read + Drop, W: Write>(
+pub fn live_with_progress<P: AllocGlobal + Wait + Threads + Sync, R: Read + Drop, W: Write>(
     rt: &P,
     reader: R,
     writer: &mut W,
@@ -200,7 +200,7 @@ fn run_rows<P: AllocGlobal + Wait + Threads + Sync>(
 // who is told of them.
 #[derive(Drop)]
 struct Common<'a, G, P> {
-    board: &'a Board<64, 21>,
+    board: &'a StandardBoard,
     rows: &'a [Vec<ThreadRow>],
     settings: &'a Settings,
     gate: &'a G,
@@ -271,7 +271,7 @@ fn run_at<G: Gate, P: Progress>(
     ));
 }
 
-fn crew_of(alloc: Global, members: Vec<Member<64, 21>>) -> Result<Vec<Option<Worker>>, AllocError>
+fn crew_of(alloc: Global, members: Vec<StandardMember>) -> Result<Vec<Option<Worker>>, AllocError>
     ensures { IfOk result (λ crew. crew.items ≡ map ready members.items) }
 {
     let mut crew = Vec::with_capacity(alloc, members.len())?;
@@ -315,7 +315,7 @@ fn gave_up_of(place: &Option<Worker>) -> Option<GaveUp>
 // are then those of one schedule, by which no worker can have found the shared part full.
 fn cause_in_one_hand(
     alloc: Global,
-    board: &Board<64, 21>,
+    board: &StandardBoard,
     crew: Vec<Option<Worker>>,
     stop: Stop,
 ) -> Stop
@@ -334,7 +334,7 @@ fn cause_in_one_hand(
 }
 
 // Ends the board, once its members have run all their rows.
-fn finish(alloc: Global, board: Board<64, 21>, crew: Vec<Option<Worker>>) -> Result<Totals, Closing>
+fn finish(alloc: Global, board: StandardBoard, crew: Vec<Option<Worker>>) -> Result<Totals, Closing>
     requires crew { AreMembersOf board (members_in crew.items) }
     ensures totals { IfOk result (λ totals.
         AreAccounted board.sizes (lists_in (members_in crew.items)) totals) }
@@ -354,7 +354,7 @@ fn finish(alloc: Global, board: Board<64, 21>, crew: Vec<Option<Worker>>) -> Res
     }
 }
 
-fn members_of(alloc: Global, crew: Vec<Option<Worker>>) -> Result<Vec<Member<64, 21>>, AllocError>
+fn members_of(alloc: Global, crew: Vec<Option<Worker>>) -> Result<Vec<StandardMember>, AllocError>
     ensures { IfOk result (λ members. members.items ≡ members_in crew.items) }
 {
     let mut members = Vec::with_capacity(alloc, crew.len())?;

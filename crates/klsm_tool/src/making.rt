@@ -3,7 +3,7 @@ ghost use Rattle.std.specs.Prelude.{All, ◌≡◌, ◌≤◌, IfOk, length};
 ghost use Rattle.klsm_board.specs.Boards.{AreNewMembersOf, IsOf};
 ghost use Rattle.klsm_tool.specs.Crews.{board_sizes};
 
-use klsm_board::{Board, MOST_INSERTIONS, Member};
+use klsm_board::{Board, MOST_INSERTIONS, StandardBoard, StandardMember};
 use klsm_words::Settings;
 use std::alloc::{AllocError, Global};
 
@@ -11,7 +11,7 @@ use std::alloc::{AllocError, Global};
 pub(crate) fn board_for(
     alloc: Global,
     settings: &Settings,
-) -> Result<(Board<64, 21>, Vec<Member<64, 21>>), AllocError>
+) -> Result<(StandardBoard, Vec<StandardMember>), AllocError>
     requires some_thread { 1 ≤ settings.now.threads }
     requires threads { settings.now.threads ≤ 16 }
     requires k { settings.now.k ≤ 64 }

@@ -2,8 +2,7 @@
 ghost use Rattle.std.specs.Prelude.{◌≡◌, IfOk};
 ghost use Rattle.klsm_tool.specs.Picking.{ArePickers, may_pick_for, picker_of};
 
-use klsm_choice::Choice;
-use klsm_parts::Picker;
+use klsm_parts::{Choice, Picker};
 use klsm_words::Settings;
 use std::alloc::{AllocError, Global};
 

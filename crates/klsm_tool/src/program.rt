@@ -7,10 +7,10 @@ ghost use Rattle.klsm_tool.specs.Program.{RunsReplayOrLacksMemory, RunsSome, Say
 ghost use Rattle.klsm_tool.specs.Program.{status_of as status_of_end};
 
 use crate::advising::advise_on_end;
-use crate::knapsack::knapsack_told;
-use crate::live::live_told;
+use crate::knapsack::knapsack_with_progress;
+use crate::live::live_with_progress;
 use crate::process_words::process_words;
-use crate::replay::replay_told;
+use crate::replay::replay_with_progress;
 use crate::status::Status;
 use klsm_board::Open;
 use klsm_progress::{Hint, Progress, Silent};
@@ -32,7 +32,7 @@ pub fn run_program<P: Env + AllocGlobal + Wait + Threads + Sync, R: Read + Drop,
         result.code }
 {
     match process_words(rt) {
-        Ok(words) => run_told(rt, words.as_slice(), reader, writer, progress),
+        Ok(words) => run_with_progress(rt, words.as_slice(), reader, writer, progress),
         Err(_) => say(writer, NO_MEMORY, EXHAUSTED),
     }
 }
@@ -52,11 +52,11 @@ pub fn run_words<R: Read + Drop, W: Write>(
         → RunsReplayOrLacksMemory (R.remaining reader)
         (W.contents writer.old) (W.contents writer.new) result.code }
 {
-    run_told(rt, words, reader, writer, &Silent)
+    run_with_progress(rt, words, reader, writer, &Silent)
 }
 
 // The same, and tells of a long run.
-fn run_told<R: Read + Drop, W: Write>(
+fn run_with_progress<R: Read + Drop, W: Write>(
     rt: &(impl AllocGlobal + Wait + Threads + Sync),
     words: &[Vec<u8>],
     reader: R,
@@ -95,7 +95,7 @@ fn run_replay<R: Read + Drop, W: Write>(
         (W.contents writer.new) result.code }
 {
     progress.reads();
-    let end = replay_told(rt, reader, writer, settings, progress).end;
+    let end = replay_with_progress(rt, reader, writer, settings, progress).end;
     advise_on_end(progress, end);
     status_of(end)
 }
@@ -112,7 +112,7 @@ fn run_live<R: Read + Drop, W: Write>(
         (W.contents writer.new) result.code }
 {
     progress.reads();
-    let end = live_told(rt, reader, writer, settings, &Open, progress).end;
+    let end = live_with_progress(rt, reader, writer, settings, &Open, progress).end;
     advise_on_end(progress, end);
     status_of(end)
 }
@@ -129,7 +129,7 @@ fn run_knapsack<R: Read + Drop, W: Write>(
         (W.contents writer.new) result.code }
 {
     progress.reads();
-    let end = knapsack_told(rt, reader, writer, search, &Open, progress).end;
+    let end = knapsack_with_progress(rt, reader, writer, search, &Open, progress).end;
     advise_on_end(progress, end);
     status_of(end)
 }

@@ -13,7 +13,7 @@ ghost use Rattle.klsm_text.specs.declared.stop.Stop.TheVariants as stop;
 ghost use Rattle.klsm_rows.specs.Rows.{Row};
 ghost use Rattle.klsm_text.specs.Script.{row_limit};
 ghost use Rattle.klsm_tool.specs.Crews.{AreFew, HaveNoSteps, board_sizes, lists_in};
-ghost use Rattle.klsm_tool.specs.Answering.{live_beside, picker_count, pickers_beside};
+ghost use Rattle.klsm_tool.specs.Answering.{live_kept, picker_count, pickers_kept};
 ghost use Rattle.klsm_tool.specs.Picking.{ArePickers};
 ghost use Rattle.klsm_text.specs.Reading.{HasReadScript, reader_failed};
 ghost use Rattle.klsm_text.specs.ThreadRows.{AreAccepted, HasReadToRefusal, StandsAtRefusal};
@@ -23,9 +23,9 @@ ghost use Rattle.klsm_tool.specs.Progress.{StopsBefore};
 ghost use Rattle.klsm_tool.specs.Replay.{Replays, ReplaysAlone};
 
 use crate::advising::advise_on_row;
-use crate::beside::Beside;
 use crate::making::board_for;
-use klsm_board::{AllMembers, Board, Member};
+use crate::replay_state::ReplayState;
+use klsm_board::{AllStandardMembers, StandardBoard, StandardMember};
 use klsm_progress::{Counted, Pace, Progress, Silent};
 use klsm_text::{
     Closing, End, NO_MEMORY, Output, Printed, ROW_LIMIT, Refusal, Report, Script, Stop, request_of,
@@ -51,11 +51,11 @@ pub fn replay_over<P: AllocGlobal + Wait, R: Read + Drop, W: Write>(
     ensures { ReplaysAlone (board_sizes settings.now) (R.remaining reader)
         (W.contents writer.old) (W.contents writer.new) result }
 {
-    replay_told(rt, reader, writer, settings, &Silent)
+    replay_with_progress(rt, reader, writer, settings, &Silent)
 }
 
 /// The same, and tells of a long run while it lasts.
-pub fn replay_told<P: AllocGlobal + Wait, R: Read + Drop, W: Write>(
+pub fn replay_with_progress<P: AllocGlobal + Wait, R: Read + Drop, W: Write>(
     rt: &P,
     reader: R,
     writer: &mut W,
@@ -105,8 +105,8 @@ pub fn replay_on<P: AllocGlobal + Wait, R: Read + Drop, W: Write>(
     reader: R,
     writer: &mut W,
     settings: &Settings,
-    board: &Board<64, 21>,
-    members: &mut Vec<Member<64, 21>>,
+    board: &StandardBoard,
+    members: &mut Vec<StandardMember>,
 ) -> Report
     requires sizes { board.now.sizes ≡ board_sizes settings.now }
     requires crew { AreNewMembersOf board.now members.old.items }
@@ -133,8 +133,8 @@ pub fn replay_script<P: AllocGlobal + Wait, R: Read + Drop, W: Write>(
     script: &mut Script<R>,
     writer: &mut W,
     settings: &Settings,
-    board: &Board<64, 21>,
-    all: &mut AllMembers<64, 21>,
+    board: &StandardBoard,
+    all: &mut AllStandardMembers,
     progress: &impl Progress,
 ) -> Report
     requires sizes { board.now.sizes ≡ board_sizes settings.now }
@@ -165,24 +165,24 @@ pub fn replay_script<P: AllocGlobal + Wait, R: Read + Drop, W: Write>(
 // A replay on its way.
 #[derive(Drop)]
 struct Replay {
-    beside: Beside,
+    state: ReplayState,
     output: Output,
 }
 
 impl Replay {
     fn new(alloc: Global, settings: &Settings) -> Result<Self, AllocError>
         ensures pickers { IfOk result (λ replay.
-            picker_count replay.beside ≡ settings.now.threads) }
+            picker_count replay.state ≡ settings.now.threads) }
         ensures choices { IfOk result (λ replay.
-            ArePickers settings.now (pickers_beside replay.beside)) }
-        ensures live { IfOk result (λ replay. live_beside replay.beside ≡ []) }
-        ensures most { IfOk result (λ replay. replay.beside.most ≡ 0) }
+            ArePickers settings.now (pickers_kept replay.state)) }
+        ensures live { IfOk result (λ replay. live_kept replay.state ≡ []) }
+        ensures most { IfOk result (λ replay. replay.state.most ≡ 0) }
         ensures written { IfOk result (λ replay. replay.output.written ≡ 0) }
         ensures empty { IfOk result (λ replay. pending replay.output ≡ []) }
     {
-        let beside = Beside::new(alloc, settings)?;
+        let state = ReplayState::new(alloc, settings)?;
         let output = Output::new(alloc)?;
-        Ok(Replay { beside, output })
+        Ok(Replay { state, output })
     }
 
     // Answers rows until there is a reason to stop, and says what the last line is.
@@ -191,15 +191,15 @@ impl Replay {
         rt: &impl Wait,
         script: &mut Script<R>,
         writer: &mut W,
-        board: &Board<64, 21>,
-        all: &mut AllMembers<64, 21>,
+        board: &StandardBoard,
+        all: &mut AllStandardMembers,
         settings: &Settings,
         progress: &impl Progress,
     ) -> Closing
         requires sizes { board.now.sizes ≡ board_sizes settings.now }
         requires of { AreOf all.old board.now }
-        requires pickers { picker_count self.old.beside ≡ board.now.sizes.threads }
-        requires choices { ArePickers settings.now (pickers_beside self.old.beside) }
+        requires pickers { picker_count self.old.state ≡ board.now.sizes.threads }
+        requires choices { ArePickers settings.now (pickers_kept self.old.state) }
         requires few { AreFew 0 (all_lists all.old) }
         requires put { put_count self.old.output ≡ 0 }
         ensures of { AreOf all.new board.now }
@@ -208,14 +208,14 @@ impl Replay {
         ensures bound { result.bound ≡ settings.now.threads * settings.now.k }
         ensures stops { (input before : Option (List ℕ)) →
             StandsAfter R.remaining settings.now.threads settings.now.k (all_lists all.old) input [] []
-            script.old (live_beside self.old.beside) self.old.beside.most
+            script.old (live_kept self.old.state) self.old.state.most
             → IsTold before (W.contents writer.old) [] self.old.output
             → HasStopped (reader_failed script.new) settings.now.threads settings.now.k
             (all_lists all.new) input before (W.contents writer.new) result.row result.most
             self.new.output result.stop }
         ensures refused { (input before : Option (List ℕ)) →
             StandsAfter R.remaining settings.now.threads settings.now.k (all_lists all.old) input [] []
-            script.old (live_beside self.old.beside) self.old.beside.most
+            script.old (live_kept self.old.state) self.old.state.most
             → IsTold before (W.contents writer.old) [] self.old.output
             → StandsAtRefusal R.remaining settings.now.threads input script.new result.stop }
     {
@@ -226,7 +226,7 @@ impl Replay {
                 return Closing {
                     stop,
                     row: answered + 1,
-                    most: self.beside.most,
+                    most: self.state.most,
                     bound,
                 };
             }
@@ -235,7 +235,7 @@ impl Replay {
         Closing {
             stop: stop_behind(script, &mut self.output, writer),
             row: ROW_LIMIT + 1,
-            most: self.beside.most,
+            most: self.state.most,
             bound,
         }
     }
@@ -246,39 +246,39 @@ impl Replay {
         rt: &impl Wait,
         script: &mut Script<R>,
         writer: &mut W,
-        board: &Board<64, 21>,
-        all: &mut AllMembers<64, 21>,
+        board: &StandardBoard,
+        all: &mut AllStandardMembers,
     ) -> Result<(), Stop>
         requires of { AreOf all.old board.now }
         requires quota { row_limit < board.now.sizes.quota }
         requires few { (account (all_lists all.old)).inserted < row_limit }
-        requires pickers { picker_count self.old.beside ≡ board.now.sizes.threads }
+        requires pickers { picker_count self.old.state ≡ board.now.sizes.threads }
         requires put { put_count self.old.output < 2 ^ 63 }
         ensures of { AreOf all.new board.now }
-        ensures pickers { picker_count self.new.beside ≡ board.now.sizes.threads }
+        ensures pickers { picker_count self.new.state ≡ board.now.sizes.threads }
         ensures few { (n : ℕ) → AreFew n (all_lists all.old)
             → AreFew (n + 1) (all_lists all.new) }
         ensures put { put_count self.new.output ≤ put_count self.old.output + 160 }
         ensures step { (input before : Option (List ℕ)) (rows : List Row) (lines : List Line) →
             StandsAfter R.remaining board.now.sizes.threads board.now.sizes.k (all_lists all.old) input rows lines
-            script.old (live_beside self.old.beside) self.old.beside.most
+            script.old (live_kept self.old.state) self.old.state.most
             → length rows < row_limit
             → IsTold before (W.contents writer.old) lines self.old.output
             → MatchResult result
             (λ _. (row : Row) × (line : Line)
             × StandsAfter R.remaining board.now.sizes.threads board.now.sizes.k (all_lists all.new) input (row ∷ rows)
-            (line ∷ lines) script.new (live_beside self.new.beside) self.new.beside.most
+            (line ∷ lines) script.new (live_kept self.new.state) self.new.state.most
             × IsTold before (W.contents writer.new) (line ∷ lines) self.new.output)
             (λ why. HasStopped (reader_failed script.new) board.now.sizes.threads
             board.now.sizes.k (all_lists all.new) input before (W.contents writer.new)
-            (length rows + 1) self.new.beside.most self.new.output why) }
+            (length rows + 1) self.new.state.most self.new.output why) }
         ensures refused { (input : Option (List ℕ)) (rows : List Row)
             → HasReadScript R.remaining input rows script.old
             → AreAccepted board.now.sizes.threads rows → length rows < row_limit
             → IfErr result (StandsAtRefusal R.remaining board.now.sizes.threads input script.new) }
     {
         send_before_wait(script, &mut self.output, writer)?;
-        let line = next_line(rt, script, &self.output, &mut self.beside, board, all)?;
+        let line = next_line(rt, script, &self.output, &mut self.state, board, all)?;
         self.output.put(writer, line.text().as_bytes())
     }
 }
@@ -312,30 +312,30 @@ fn next_line<R: Read + Drop>(
     rt: &impl Wait,
     script: &mut Script<R>,
     output: &Output,
-    beside: &mut Beside,
-    board: &Board<64, 21>,
-    all: &mut AllMembers<64, 21>,
+    state: &mut ReplayState,
+    board: &StandardBoard,
+    all: &mut AllStandardMembers,
 ) -> Result<Printed, Stop>
     requires sent { HasSentBefore script.old output.now }
     requires of { AreOf all.old board.now }
-    requires pickers { picker_count beside.old ≡ board.now.sizes.threads }
+    requires pickers { picker_count state.old ≡ board.now.sizes.threads }
     requires quota { row_limit < board.now.sizes.quota }
     requires few { (account (all_lists all.old)).inserted < row_limit }
     ensures of { AreOf all.new board.now }
-    ensures pickers { picker_count beside.new ≡ board.now.sizes.threads }
+    ensures pickers { picker_count state.new ≡ board.now.sizes.threads }
     ensures few { (n : ℕ) → AreFew n (all_lists all.old)
         → AreFew (n + 1) (all_lists all.new) }
     ensures step { (input : Option (List ℕ)) (rows : List Row) (lines : List Line) →
         StandsAfter R.remaining board.now.sizes.threads board.now.sizes.k (all_lists all.old) input rows lines
-        script.old (live_beside beside.old) beside.old.most
+        script.old (live_kept state.old) state.old.most
         → length rows < row_limit
         → MatchResult result
         (λ printed. (row : Row)
         × StandsAfter R.remaining board.now.sizes.threads board.now.sizes.k (all_lists all.new) input (row ∷ rows)
-        (printed.line ∷ lines) script.new (live_beside beside.new) beside.new.most
+        (printed.line ∷ lines) script.new (live_kept state.new) state.new.most
         × (printed.skip ≡ skip_of (live_by lines) printed.line.answer))
         (StopsBefore (reader_failed script.new) board.now.sizes.threads board.now.sizes.k
-        (all_lists all.new) input rows lines beside.new.most) }
+        (all_lists all.new) input rows lines state.new.most) }
     ensures refused { (input : Option (List ℕ)) (rows : List Row)
         → HasReadScript R.remaining input rows script.old
         → AreAccepted board.now.sizes.threads rows → length rows < row_limit
@@ -343,7 +343,7 @@ fn next_line<R: Read + Drop>(
 {
     script.advance(output)?;
     match request_of(&script.row, board.threads()) {
-        Ok(request) => beside.answer(rt, board, all, request),
+        Ok(request) => state.answer(rt, board, all, request),
         Err(why) => Err(Stop::Refused(why)),
     }
 }

@@ -3,15 +3,15 @@ ghost use Rattle.std.specs.Prelude.{◌≡◌, ◌<◌, ◌++◌, [], ◌∷◌,
 ghost use Rattle.klsm_world.specs.OwnSteps.{inserted};
 ghost use Rattle.klsm_board.specs.Boards.{IsOf, IsSame, own_steps};
 ghost use Rattle.klsm_tool.specs.Shown.{shown_in};
-ghost use Rattle.klsm_tool.specs.Turns.{StopsInsertion, IsAnswerTo};
+ghost use Rattle.klsm_tool.specs.MemberCalls.{StopsInsertion, IsAnswerTo};
 ghost use Rattle.klsm_text.specs.Keeping.{asked_in};
 ghost use Rattle.klsm_tool.specs.Picking.{picker_of};
 ghost use Rattle.klsm_tool.specs.Working.{HasRunRows, IsReady, Works};
 
+use crate::member_calls::{delete, insert};
 use crate::passing::Passed;
 use crate::picking::ThreadPicker;
-use crate::turns::{delete, insert};
-use klsm_board::{Board, Member};
+use klsm_board::{StandardBoard, StandardMember};
 use klsm_progress::{Counted, Pace, Progress};
 use klsm_text::{Answer, Operation, Stop, ThreadRow};
 use klsm_words::Settings;
@@ -20,7 +20,7 @@ use std::sync::Wait;
 /// A member, that it has passed the gate, once it has, and at which row it gave up, if it did.
 #[derive(Drop)]
 pub(crate) struct Worker {
-    pub member: Member<64, 21>,
+    pub member: StandardMember,
     pub passed: Option<Passed>,
     pub gave_up: Option<GaveUp>,
 }
@@ -38,7 +38,7 @@ impl Worker {
     pub(crate) fn run(
         self,
         rt: &impl Wait,
-        board: &Board<64, 21>,
+        board: &StandardBoard,
         rows: &[ThreadRow],
         settings: &Settings,
         passed: Passed,
@@ -71,8 +71,8 @@ impl Worker {
 // The settings are only looked at by the premise that they chose the picker.
 fn answer_all(
     rt: &impl Wait,
-    board: &Board<64, 21>,
-    member: &mut Member<64, 21>,
+    board: &StandardBoard,
+    member: &mut StandardMember,
     settings: &Settings,
     picker: &mut ThreadPicker,
     rows: &[ThreadRow],
@@ -101,8 +101,8 @@ fn answer_all(
 
 fn answer(
     rt: &impl Wait,
-    board: &Board<64, 21>,
-    member: &mut Member<64, 21>,
+    board: &StandardBoard,
+    member: &mut StandardMember,
     picker: &mut ThreadPicker,
     operation: Operation,
 ) -> Result<Answer, Stop>

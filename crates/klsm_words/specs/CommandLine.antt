@@ -12,7 +12,7 @@ use Rattle.klsm_words.specs.declared.command_line.Action.{Action}
 use Rattle.klsm_words.specs.declared.command_line.Action.TheVariants.{Replay, Live, Knapsack}
 use Rattle.klsm_words.specs.declared.command_line.Fault.{Fault}
 use Rattle.klsm_words.specs.declared.command_line.Fault.TheVariants.{Said, UnknownPick, BadRefill, NotText, NoMemory}
-use Rattle.klsm_choice.specs.declared.choice.Pick.TheVariants.{First}
+use Rattle.klsm_parts.specs.declared.choice.Pick.TheVariants.{First}
 use Rattle.klsm_words.specs.declared.settings.Settings.{Settings}
 use Rattle.klsm_words.specs.Options.{AreInRange, IsSearchInRange, search_at, settings_at, with_options, with_search_options}
 

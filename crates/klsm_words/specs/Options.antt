@@ -8,8 +8,8 @@ use Rattle.clap.specs.Walk.{Row, Rule, Text, first_of, one_of}
 use Rattle.clap.specs.Words.{App, new_rule, with_rule}
 use Rattle.clap.specs.declared.builder.value_parser.ValueParser.{ValueParser}
 use Rattle.clap.specs.declared.builder.value_parser.ValueParser.TheVariants as parser
-use Rattle.klsm_choice.specs.declared.choice.Pick.{Pick}
-use Rattle.klsm_choice.specs.declared.choice.Pick.TheVariants as pick
+use Rattle.klsm_parts.specs.declared.choice.Pick.{Pick}
+use Rattle.klsm_parts.specs.declared.choice.Pick.TheVariants as pick
 use Rattle.klsm_words.specs.declared.settings.Search.{Search}
 use Rattle.klsm_words.specs.declared.settings.Settings.{Settings}
 

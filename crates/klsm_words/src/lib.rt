@@ -25,5 +25,5 @@ mod settings;
 mod version;
 
 pub use command_line::{Action, Fault, USAGE, parse};
-pub use klsm_choice::Pick;
+pub use klsm_parts::Pick;
 pub use settings::{Search, Settings};

@@ -13,7 +13,7 @@ ghost use Rattle.klsm_words.specs.Options.{with_threads as with_threads_of};
 use crate::settings::{Search, Settings};
 use clap::builder::ValueParser;
 use clap::{Arg, ArgMatches, Command, value_parser};
-use klsm_choice::Pick;
+use klsm_parts::Pick;
 use std::alloc::{AllocError, Global};
 
 /// A command over scripts, with its options.

@@ -1,6 +1,6 @@
 //! How a script is run, and how an instance is solved.
 
-use klsm_choice::Pick;
+use klsm_parts::Pick;
 
 /// How a script is run.
 #[derive(Clone, Copy, Debug, PartialEq, Eq)]

@@ -90,12 +90,12 @@ pub(crate) fn without_all<A: Allocator>(
     ensures refused { IfErr result (λ why. why ≡ StepError.NoMemory) }
 {
     let mut rest = copied(alloc, items)?;
-    take_all_out(&mut rest, leaving);
+    remove_all_from(&mut rest, leaving);
     Ok(rest)
 }
 
 /// Takes an item out, where it is there.
-pub(crate) fn take_out<A: Allocator>(items: &mut Vec<Item, A>, item: Item)
+pub(crate) fn remove_from<A: Allocator>(items: &mut Vec<Item, A>, item: Item)
     ensures { items.new.items ≡ without item items.old.items }
 {
     if let Some(at) = place_of(items, item) {
@@ -111,11 +111,11 @@ fn place_of(items: &[Item], item: Item) -> Option<usize>
 }
 
 /// Takes items out.
-pub(crate) fn take_all_out<A: Allocator>(items: &mut Vec<Item, A>, leaving: &[Item])
+pub(crate) fn remove_all_from<A: Allocator>(items: &mut Vec<Item, A>, leaving: &[Item])
     ensures { items.new.items ≡ minus items.old.items leaving.now }
 {
     for item in leaving {
-        take_out(items, *item);
+        remove_from(items, *item);
     }
 }
 

@@ -6,7 +6,9 @@ use super::repeated::repeated;
 use super::run;
 use klsm_board::Gate;
 use klsm_test_support::{Counting, Meeting};
-use klsm_tool::{Counted, End, Pick, Progress, Settings, knapsack_over, live_over, live_told};
+use klsm_tool::{
+    Counted, End, Pick, Progress, Settings, knapsack_over, live_over, live_with_progress,
+};
 use std::alloc::Global;
 use std::cell::Cell;
 use std::io;
@@ -196,7 +198,7 @@ fn come_before_rows(rt: &(impl AllocGlobal + Wait + Threads + Sync)) -> Option<b
     let script = repeated(rt.alloc(), b"0,d,,\n1,d,,\n", STRIDE)?;
     let hall = Hall::new();
     let mut text = Vec::new(rt.alloc());
-    let report = live_told(rt, script.as_slice(), &mut text, &OF_TWO, &hall, &hall);
+    let report = live_with_progress(rt, script.as_slice(), &mut text, &OF_TWO, &hall, &hall);
     let [first, second] = &hall.heard;
     let heard = (first.load(Ordering::SeqCst), second.load(Ordering::SeqCst));
     let rows = hall.rows.load(Ordering::SeqCst);

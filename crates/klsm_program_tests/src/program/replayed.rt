@@ -1,7 +1,7 @@
 //! Scripts that are run with settings of the test's own, over a board of their own or over one that
 //! is given.
 
-use klsm_board::Member;
+use klsm_board::StandardMember;
 use klsm_test_support::Made;
 use klsm_tool::{End, Report, Settings, replay_on, replay_over};
 use std::alloc::Global;
@@ -76,13 +76,13 @@ pub(super) fn run_on(
     Some((Run { text, report }, counts))
 }
 
-fn counts_of(alloc: Global, members: &[Member<64, 21>]) -> Option<Vec<Counts>> {
+fn counts_of(alloc: Global, members: &[StandardMember]) -> Option<Vec<Counts>> {
     let mut counts = Vec::new(alloc);
     add_counts(&mut counts, members)?;
     Some(counts)
 }
 
-fn add_counts(counts: &mut Vec<Counts>, members: &[Member<64, 21>]) -> Option<()> {
+fn add_counts(counts: &mut Vec<Counts>, members: &[StandardMember]) -> Option<()> {
     for member in members {
         let of_member = (member.inserted_count(), member.deleted_count());
         counts.push(of_member).ok()?;

@@ -3,7 +3,7 @@
 ghost use Rattle.std.specs.Prelude.{◌≡◌, All, IfSome};
 ghost use Rattle.klsm_board.specs.Boards.{IsOf};
 
-use klsm_board::{Account, Board, Member};
+use klsm_board::{Account, StandardBoard, StandardMember};
 use klsm_parts::Last;
 use klsm_run::{Item, Stamp};
 use klsm_test_support::Crew;
@@ -80,7 +80,7 @@ impl Team {
 // A member, and what it noted of its insertions and deletions.
 #[derive(Drop)]
 struct Worker {
-    member: Member<64, 21>,
+    member: StandardMember,
     mix: Pcg32,
     inserted: Vec<Item>,
     deleted: Vec<Item>,
@@ -89,7 +89,7 @@ struct Worker {
 }
 
 impl Worker {
-    fn new(alloc: Global, member: Member<64, 21>) -> Self
+    fn new(alloc: Global, member: StandardMember) -> Self
         ensures { result.member ≡ member }
     {
         let mix = Pcg32::seed_from_u64(u64::from(member.number()));
@@ -123,7 +123,7 @@ impl Worker {
     }
 
     // Inserts an item of a key, by a call that may wait or by one that does not.
-    fn insert(&mut self, rt: &impl Wait, board: &Board<64, 21>, waits: bool, key: u64)
+    fn insert(&mut self, rt: &impl Wait, board: &StandardBoard, waits: bool, key: u64)
         requires { IsOf self.old.member board.now }
         ensures { IsOf self.new.member board.now }
     {
@@ -137,7 +137,7 @@ impl Worker {
     }
 
     // Deletes an item likewise.
-    fn delete(&mut self, rt: &impl Wait, board: &Board<64, 21>, waits: bool)
+    fn delete(&mut self, rt: &impl Wait, board: &StandardBoard, waits: bool)
         requires { IsOf self.old.member board.now }
         ensures { IsOf self.new.member board.now }
     {
@@ -150,7 +150,7 @@ impl Worker {
     }
 
     // Holds a part, if it is free, and puts it back.
-    fn hold(self, board: &Board<64, 21>, lock: usize) -> Self
+    fn hold(self, board: &StandardBoard, lock: usize) -> Self
         requires { IsOf self.member board.now }
         ensures { IsOf result.member board.now }
     {
@@ -175,7 +175,7 @@ impl Worker {
     }
 
     // Makes a call of some kind. Deletions are more than insertions, so that parts are often empty.
-    fn mix(mut self, rt: &impl Wait, board: &Board<64, 21>) -> Self
+    fn mix(mut self, rt: &impl Wait, board: &StandardBoard) -> Self
         requires { IsOf self.member board.now }
         ensures { IsOf result.member board.now }
     {
@@ -194,7 +194,7 @@ impl Worker {
     }
 
     // Makes a call that may wait. Insertions and deletions are alike in number.
-    fn wait(mut self, rt: &impl Wait, board: &Board<64, 21>) -> Self
+    fn wait(mut self, rt: &impl Wait, board: &StandardBoard) -> Self
         requires { IsOf self.member board.now }
         ensures { IsOf result.member board.now }
     {
@@ -209,7 +209,7 @@ impl Worker {
 
     // Inserts an item whose key is below all shared ones and deletes it, by calls that may wait or by
     // others.
-    fn stay_below(mut self, rt: &impl Wait, board: &Board<64, 21>, waits: bool) -> Self
+    fn stay_below(mut self, rt: &impl Wait, board: &StandardBoard, waits: bool) -> Self
         requires { IsOf self.member board.now }
         ensures { IsOf result.member board.now }
     {
@@ -221,7 +221,7 @@ impl Worker {
     }
 
     // Inserts an item that may be shared, and then stays below.
-    fn share(mut self, rt: &impl Wait, board: &Board<64, 21>) -> Self
+    fn share(mut self, rt: &impl Wait, board: &StandardBoard) -> Self
         requires { IsOf self.member board.now }
         ensures { IsOf result.member board.now }
     {
@@ -231,7 +231,7 @@ impl Worker {
     }
 
     // Does what there is to do in a round.
-    fn go_on(self, rt: &impl Wait, board: &Board<64, 21>, kind: Kind, round: u32) -> Self
+    fn go_on(self, rt: &impl Wait, board: &StandardBoard, kind: Kind, round: u32) -> Self
         requires { IsOf self.member board.now }
         ensures { IsOf result.member board.now }
     {
@@ -245,7 +245,7 @@ impl Worker {
     }
 
     // Does what there is to do in each of its rounds.
-    fn run(self, rt: &impl Wait, board: &Board<64, 21>, team: &Team) -> Self
+    fn run(self, rt: &impl Wait, board: &StandardBoard, team: &Team) -> Self
         requires { IsOf self.member board.now }
         ensures { IsOf result.member board.now }
     {
@@ -269,8 +269,8 @@ impl Worker {
 fn run_all<R: Threads + Wait + Sync>(
     rt: &R,
     alloc: Global,
-    board: &Board<64, 21>,
-    members: Vec<Member<64, 21>>,
+    board: &StandardBoard,
+    members: Vec<StandardMember>,
     team: &Team,
 ) -> Option<Vec<Worker>>
     requires { All (λ member. IsOf member board.now) members.items }

@@ -3,7 +3,7 @@ ghost use Rattle.std.specs.Prelude.{All};
 ghost use Rattle.klsm_board.specs.Boards.{IsOf};
 ghost use Rattle.klsm_board.specs.Together.{AreOf};
 
-use klsm_board::{AllMembers, Board, GatherRefused, Member};
+use klsm_board::{AllStandardMembers, Board, GatherRefused, StandardBoard, StandardMember};
 use klsm_parts::First;
 use std::sync::Wait;
 
@@ -13,8 +13,8 @@ const MANY: u64 = 1_000_000;
 // Whether the member of this number inserts a key.
 fn inserts(
     rt: &impl Wait,
-    board: &Board<64, 21>,
-    all: &mut AllMembers<64, 21>,
+    board: &StandardBoard,
+    all: &mut AllStandardMembers,
     number: u32,
     key: u64,
 ) -> bool
@@ -27,8 +27,8 @@ fn inserts(
 // Whether the member of this number deletes this key, or finds nothing.
 fn deletes(
     rt: &impl Wait,
-    board: &Board<64, 21>,
-    all: &mut AllMembers<64, 21>,
+    board: &StandardBoard,
+    all: &mut AllStandardMembers,
     number: u32,
     key: Option<u64>,
 ) -> bool
@@ -43,7 +43,7 @@ fn deletes(
 }
 
 // Whether the front that they see is this key.
-fn sees(board: &Board<64, 21>, all: &mut AllMembers<64, 21>, front: u64) -> bool
+fn sees(board: &StandardBoard, all: &mut AllStandardMembers, front: u64) -> bool
     requires of { AreOf all.old board.now }
     ensures of { AreOf all.new board.now }
 {
@@ -52,7 +52,7 @@ fn sees(board: &Board<64, 21>, all: &mut AllMembers<64, 21>, front: u64) -> bool
 
 // Whether two members who keep one item each go by turns: one deletes what the other inserted, and who has
 // nothing spies. The one that is shared meanwhile is the front.
-fn go_by_turns(rt: &impl Wait, board: &Board<64, 21>, all: &mut AllMembers<64, 21>) -> bool
+fn go_by_turns(rt: &impl Wait, board: &StandardBoard, all: &mut AllStandardMembers) -> bool
     requires of { AreOf all.old board.now }
     ensures of { AreOf all.new board.now }
 {
@@ -70,7 +70,7 @@ fn go_by_turns(rt: &impl Wait, board: &Board<64, 21>, all: &mut AllMembers<64, 2
 }
 
 // Whether this member has this number and these counts.
-fn is(members: &[Member<64, 21>], number: u32, inserted: u64, deleted: u64) -> bool {
+fn is(members: &[StandardMember], number: u32, inserted: u64, deleted: u64) -> bool {
     match members.get(number as usize) {
         Some(member) => {
             member.number() == number

@@ -10,7 +10,7 @@ ghost use Rattle.klsm_world.specs.Schedules.{MayStep};
 use super::World;
 use super::checking::{SHARED, own_part};
 use crate::conditions::has;
-use crate::contents::{copied, take_all_out, with_all, without_all};
+use crate::contents::{copied, remove_all_from, with_all, without_all};
 use crate::errors::StepError;
 use crate::items::Items;
 use crate::own_steps::{KeptStep, OwnSteps};
@@ -99,7 +99,7 @@ impl<A: Allocator + Copy> World<A> {
     {
         let own = own_part(thread);
         let mut own_after = with_all(self.alloc, self.contents[own].as_slice(), &[item])?;
-        take_all_out(&mut own_after, moved);
+        remove_all_from(&mut own_after, moved);
         let shared_after = with_all(self.alloc, self.contents[SHARED].as_slice(), moved)?;
         let listed = Items::new(copied(self.alloc, moved)?);
         note(&mut self.lists, thread, KeptStep::Flush(item), listed)?;

@@ -5,13 +5,13 @@ use Rattle.klsm_board.specs.Boards.{AreMembersOf}
 use Rattle.klsm_board.specs.Finishing.{AreListsAtEnd}
 use Rattle.klsm_board.proofs.lemmas.ending.MemberLemmas.{none_missing}
 use Rattle.klsm_tool.specs.Crews.{lists_in}
-use Rattle.klsm_tool.proofs.CrewLemmas.{crew_all, crew_lists}
+use Rattle.klsm_board.proofs.lemmas.ending.MemberLemmas.{all_of_board, lists_in_order}
 use Rattle.klsm_tool.proofs.live.cause_in_one_hand.Goals as goal
 
 pub gather-requires : goal.gather-requires
 gather-requires c =
     let crew : AreMembersOf c.args.board.now c.in-Ok.members.items = subst (λ (z : List (Member 64 21)). AreMembersOf c.args.board.now z) (sym c.in-Ok.ensures) c.requires.crew in
-    let all = crew_all c.args.board.now c.in-Ok.members.items crew in
+    let all = all_of_board c.args.board.now c.in-Ok.members.items crew in
     (search rules, (search rules, (search rules, (search rules, all))))
 
 pub unreachable-requires : goal.unreachable-requires
@@ -24,5 +24,5 @@ pub returns : goal.returns
 returns c =
     let board = c.args.board.now in let members = c.in-Ok.members.items in
     let crew : AreMembersOf board members = subst (λ (z : List (Member 64 21)). AreMembersOf board z) (sym c.in-Ok.ensures) c.requires.crew in
-    let lists = c.in-Ok-gather.ensures.same.1 ∙ (sym (crew_lists board members crew) ∙ ap (λ (z : List (Member 64 21)). lists_in z) c.in-Ok.ensures) in
+    let lists = c.in-Ok-gather.ensures.same.1 ∙ (sym (lists_in_order board members crew) ∙ ap (λ (z : List (Member 64 21)). lists_in z) c.in-Ok.ensures) in
     inr (refl, subst (λ (z : List (List Entry)). AreListsAtEnd board.sizes z) lists c.in-Ok-gather.ensures.lists)

@@ -5,19 +5,19 @@ use Rattle.klsm_board.specs.declared.board.Member.{Member}
 use Rattle.klsm_board.specs.Boards.{AreMembersOf}
 use Rattle.klsm_board.specs.Finishing.{AreListsAtEnd}
 use Rattle.klsm_tool.specs.Crews.{lists_in}
-use Rattle.klsm_tool.proofs.CrewLemmas.{crew_all, crew_lists}
+use Rattle.klsm_board.proofs.lemmas.ending.MemberLemmas.{all_of_board, lists_in_order}
 use Rattle.klsm_tool.proofs.live.finish.Goals as goal
 
 pub finish-requires : goal.finish-requires
 finish-requires c =
     let crew : AreMembersOf c.args.board c.in-Ok.members.items = subst (λ (z : List (Member 64 21)). AreMembersOf c.args.board z) (sym c.in-Ok.ensures) c.requires.crew in
-    (search rules, (search rules, (search rules, crew_all c.args.board c.in-Ok.members.items crew)))
+    (search rules, (search rules, (search rules, all_of_board c.args.board c.in-Ok.members.items crew)))
 
 pub returns-in-Ok-finish-clause-totals : goal.returns-in-Ok-finish-clause-totals
 returns-in-Ok-finish-clause-totals c =
     let board = c.args.board in let members = c.in-Ok.members.items in
     let crew : AreMembersOf board members = subst (λ (z : List (Member 64 21)). AreMembersOf board z) (sym c.in-Ok.ensures) c.requires.crew in
-    let lists = sym (crew_lists board members crew) ∙ ap (λ (z : List (Member 64 21)). lists_in z) c.in-Ok.ensures in let ok = c.in-Ok-finish.ensures.ok in
+    let lists = sym (lists_in_order board members crew) ∙ ap (λ (z : List (Member 64 21)). lists_in z) c.in-Ok.ensures in let ok = c.in-Ok-finish.ensures.ok in
     record {
       at_end = subst (λ (z : List (List Entry)). AreListsAtEnd board.sizes z) lists ok.1;
       inserted_is = ok.2 ∙ ap (λ (z : List (List Entry)). (account z).inserted) lists;

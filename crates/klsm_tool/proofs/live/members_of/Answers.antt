@@ -1,4 +1,4 @@
-use Rattle.std.proofs.Common.{rules, ◌≡◌, ◌∙◌, ◌∷◌, ◌++◌, [], List, map-id, Option, Some, None, ap, sym, refl}
+use Rattle.std.proofs.Common.{rules, ◌≡◌, ◌∙◌, ◌∷◌, ◌++◌, [], List, map-id, append-nil, Option, Some, None, ap, sym, refl}
 use Rattle.std.proofs.lemmas.Iterator.Consumers.{YieldsList-end}
 use Rattle.std.proofs.lemmas.Iterator.Adapters.{YieldsList-from_vec}
 use Rattle.klsm_board.specs.declared.board.Member.{Member}
@@ -16,12 +16,8 @@ members_more : (crew : List (Option Worker)) (place : Option Worker) (worker : W
 members_more crew place worker is = ap (λ (z : Option Worker). members_in (crew ++ z ∷ [])) is ∙ members_join crew (Some worker ∷ [])
 
 -- or none
-nil_behind : (members : List (Member 64 21)) → members ++ [] ≡ members
-nil_behind [] = refl
-nil_behind (m ∷ members) = ap (λ (z : List (Member 64 21)). m ∷ z) (nil_behind members)
-
 members_same : (crew : List (Option Worker)) (place : Option Worker) → ((w : Worker) → place ≡ Some w → ⊥) → members_in (crew ++ place ∷ []) ≡ members_in crew
-members_same crew None none = members_join crew (None ∷ []) ∙ nil_behind (members_in crew)
+members_same crew None none = members_join crew (None ∷ []) ∙ append-nil (members_in crew)
 members_same crew (Some worker) none = absurd (none worker refl)
 
 pub loop-place-preserved-in-Continue-branch-2 : goal.loop-place-preserved-in-Continue-branch-2

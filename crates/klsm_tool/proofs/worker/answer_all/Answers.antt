@@ -3,8 +3,8 @@ use Rattle.std.proofs.lemmas.List.{take_all}
 use Rattle.klsm_board.specs.Boards.{own_steps}
 use Rattle.klsm_text.specs.declared.thread_rows.ThreadRow.{ThreadRow}
 use Rattle.klsm_tool.specs.declared.picking.ThreadPicker.{ThreadPicker}
-use Rattle.klsm_tool.specs.Turns.{AreAnswers}
-use Rattle.klsm_tool.specs.Turns.{StopsInsertion, IsAnswerTo}
+use Rattle.klsm_tool.specs.MemberCalls.{AreAnswers}
+use Rattle.klsm_tool.specs.MemberCalls.{StopsInsertion, IsAnswerTo}
 use Rattle.klsm_tool.proofs.ShownLemmas.{inserted_within}
 use Rattle.klsm_tool.proofs.WorkLemmas.{row_answered, row_given_up, so_many}
 use Rattle.klsm_tool.proofs.worker.answer_all.Goals as goal

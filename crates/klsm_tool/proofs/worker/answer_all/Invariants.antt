@@ -2,7 +2,7 @@ use Rattle.std.proofs.Common.{◌≡◌, map, take}
 use Rattle.klsm_board.specs.Boards.{IsSame, own_steps}
 use Rattle.klsm_tool.specs.Shown.{shown_in}
 use Rattle.klsm_text.specs.Keeping.{asked_in}
-use Rattle.klsm_tool.specs.Turns.{AreAnswers}
+use Rattle.klsm_tool.specs.MemberCalls.{AreAnswers}
 use Rattle.klsm_tool.proofs.worker.answer_all.Given as goal
 
 -- the rows so far are answered

@@ -27,7 +27,7 @@ use Rattle.std_heap.specs.contracts.GlobalAllocator.TheImpl.{ghosts}
 use Rattle.std_heap.proofs.Handle.{heap_val, heap_Tells}
 use Rattle.std_alloc.specs.Box.Ownership.{box_owns}
 use Rattle.klsm_owned.specs.contracts.owned.OwnedMember as owned
-use Rattle.klsm_raw_box.specs.contracts.RawBox as raw_box
+use Rattle.klsm_c.specs.contracts.raw_box.RawBox as raw_box
 use Rattle.klsm_c.specs.Held.{held_owns}
 use Rattle.klsm_c.specs.contracts.handle.Handle as handle
 use Rattle.klsm_c.specs.contracts.handle.Handle.seal as f

@@ -4,7 +4,7 @@ use Rattle.klsm_instance.specs.Nodes.{NoneAbove}
 use Rattle.klsm_instance.proofs.NodeLemmas.{completed_fits}
 use Rattle.klsm_instance.proofs.SearchLemmas.{covers_last, covers_more}
 use Rattle.klsm_knapsack.specs.Numbers.{value_in}
-use Rattle.klsm_knapsack.specs.Watching.{found_by}
+use Rattle.klsm_knapsack.specs.IncumbentSeats.{found_by}
 use Rattle.klsm_knapsack.proofs.incumbent.Incumbent.+search_alone.Goals as goal
 use Rattle.klsm_knapsack.proofs.incumbent.Incumbent.+search_alone.Goals.{then-node-len-via-then-node-len, then-node-len-via-else-node-len+then-is_bounded_by, in-Some, in_default}
 
@@ -25,13 +25,13 @@ returns-clause-covers g t c =
     let p = c.args.instance.now in
     let l : ℕ = c.args.node.level in
     let q : ℕ = c.args.node.picks in
-    let n : ℕ = value_in (found_by c.search_alone-2.new.watcher) in
+    let n : ℕ = value_in (found_by c.search_alone-2.new.seat) in
     let rest : NoneAbove p c.leaving_alike-rest.result.level q n = rw c.leaving_alike-rest.ensures.picks at c.search_alone-2.ensures.covers in
     let take : NoneAbove p (l + 1) (q + 2 ^ l) n = elim c.match-taking.branch [
       | in-Some w ↦
           let child = w.in-Some.ensures in
           let covers = rw (child.1, child.2) at w.search_alone.ensures.covers in
-          covers_more p (l + 1) (q + 2 ^ l) (value_in (found_by w.search_alone.new.watcher)) n (shr_mono 32 (rw w.watcher-is at c.search_alone-2.ensures.found)) covers
+          covers_more p (l + 1) (q + 2 ^ l) (value_in (found_by w.search_alone.new.seat)) n (shr_mono 32 (rw w.seat-is at c.search_alone-2.ensures.found)) covers
       | in_default w ↦ λ s completion. absurd (omega (arith, completed_fits p (l + 1) (q + 2 ^ l) s completion, w.in_default.ensures))
     ] in
     c.leaving_alike-rest.ensures.covers n take rest

@@ -17,7 +17,7 @@ returns-clause-found c =
     let final = c.close_with-closed.ensures.values.2 in
     let s = final.0 in
     let is : get_or s.words 0 0 ≡ c.word-number.result = read_at s.words 0 c.word-number.result (ap (λ ws. get_elem? ws 0) final.2 ∙ c.word-number.ensures) in
-    let seen = final.1.0.seen c.args.watcher.seat.id c.args.watcher.seat.me.0 final.1.1 in
+    let seen = final.1.0.seen c.args.seat.table_seat.id c.args.seat.table_seat.me.0 final.1.1 in
     omega (arith, seen.found, is)
 
 pub returns-clause-rule : goal.returns-clause-rule

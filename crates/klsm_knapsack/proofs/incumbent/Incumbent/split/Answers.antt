@@ -5,7 +5,7 @@ use Rattle.klsm_knapsack.proofs.incumbent.Incumbent.split.Goals as goal
 pub split_seat-requires : goal.split_seat-requires
 split_seat-requires c =
     let i = c.args.self.now in
-    let seat = c.args.watcher.now.seat in
+    let seat = c.args.seat.now.table_seat in
     (c.requires, omega (arith, i.one_word), divides i.table.shared.key seat.id seat.me.0)
 
 pub returns-clause-kept : goal.returns-clause-kept

@@ -11,8 +11,8 @@ overflow_sub-self g c =
     let some : 0 < length (content c.args.self.now) = some_item c.args.self.now c.args.block c.args.index c.requires.index in
     omega (arith, c.self.invariant.stored.counted, ap (λ bs. length (content bs)) c.self.view_is, some)
 
-pub take_out_and_unite-item-requires : goal.take_out_and_unite-item-requires
-take_out_and_unite-item-requires g c =
+pub take_from_run_and_unite-item-requires : goal.take_from_run_and_unite-item-requires
+take_from_run_and_unite-item-requires g c =
     let value = c.as_mut_slice-slots.ensures.value in
     let falls = c.requires.falls in
     let sl = blocks_in g.R.Run.items c.self.inside.slots.items in
@@ -37,8 +37,8 @@ invariant_of-self g c =
     let sl = blocks_in g.R.Run.items c.self.inside.slots.items in
     let one : get_or sl c.args.block [] ≡ get_or c.args.self.now c.args.block [] = block_in_place c.args.self.now c.args.block c.self.invariant c.self.view_is (omega (arith, falls.within)) in
     let two : get_or sl (c.args.block + 1) [] ≡ get_or c.args.self.now (c.args.block + 1) [] = block_in_place c.args.self.now (c.args.block + 1) c.self.invariant c.self.view_is falls.within in
-    let rest = fallen sl _ _ c.args.self.now c.args.block c.args.index _ c.self.invariant c.self.view_is falls c.requires.others c.requires.index (rw value at c.take_out_and_unite-item.ensures.rest) (rw (one, two) refl) c.close_gap.ensures.moved in
-    let len : length c.take_out_and_unite-item.new.slots ≡ length c.self.inside.slots.items = c.take_out_and_unite-item.auto.slots ∙ ap length value in
+    let rest = fallen sl _ _ c.args.self.now c.args.block c.args.index _ c.self.invariant c.self.view_is falls c.requires.others c.requires.index (rw value at c.take_from_run_and_unite-item.ensures.rest) (rw (one, two) refl) c.close_gap.ensures.moved in
+    let len : length c.take_from_run_and_unite-item.new.slots ≡ length c.self.inside.slots.items = c.take_from_run_and_unite-item.auto.slots ∙ ap length value in
     slots_back g.R.Run.items _ _ _ _ c.self.inside.slots.items c.close_gap.new.slots _ (c.close_gap.ensures.len ∙ len) (omega (arith, rw length-map at c.self.invariant.within)) rest
     (cut_stored c.args.self.now c.args.block c.args.index c.self.invariant c.self.view_is c.requires.index)
 
@@ -47,7 +47,7 @@ returns-clause-item g c =
     let value = c.as_mut_slice-slots.ensures.value in
     let sl = blocks_in g.R.Run.items c.self.inside.slots.items in
     let one : get_or sl c.args.block [] ≡ get_or c.args.self.now c.args.block [] = block_in_place c.args.self.now c.args.block c.self.invariant c.self.view_is (omega (arith, c.requires.falls.within)) in
-    rw (value, one) at c.take_out_and_unite-item.ensures.item
+    rw (value, one) at c.take_from_run_and_unite-item.ensures.item
 
 pub returns-clause-rest : goal.returns-clause-rest
 returns-clause-rest g c =
@@ -56,15 +56,15 @@ returns-clause-rest g c =
     let sl = blocks_in g.R.Run.items c.self.inside.slots.items in
     let one : get_or sl c.args.block [] ≡ get_or c.args.self.now c.args.block [] = block_in_place c.args.self.now c.args.block c.self.invariant c.self.view_is (omega (arith, falls.within)) in
     let two : get_or sl (c.args.block + 1) [] ≡ get_or c.args.self.now (c.args.block + 1) [] = block_in_place c.args.self.now (c.args.block + 1) c.self.invariant c.self.view_is falls.within in
-    let rest = fallen sl _ _ c.args.self.now c.args.block c.args.index _ c.self.invariant c.self.view_is falls c.requires.others c.requires.index (rw value at c.take_out_and_unite-item.ensures.rest) (rw (one, two) refl) c.close_gap.ensures.moved in
-    let len : length c.take_out_and_unite-item.new.slots ≡ length c.self.inside.slots.items = c.take_out_and_unite-item.auto.slots ∙ ap length value in
+    let rest = fallen sl _ _ c.args.self.now c.args.block c.args.index _ c.self.invariant c.self.view_is falls c.requires.others c.requires.index (rw value at c.take_from_run_and_unite-item.ensures.rest) (rw (one, two) refl) c.close_gap.ensures.moved in
+    let len : length c.take_from_run_and_unite-item.new.slots ≡ length c.self.inside.slots.items = c.take_from_run_and_unite-item.auto.slots ∙ ap length value in
     view_back g.R.Run.items _ c.self.inside.slots.items c.close_gap.new.slots _ (c.close_gap.ensures.len ∙ len) rest
 
 pub overflow_add-block : goal.overflow_add-block
 overflow_add-block g c = omega (arith, few_blocks c.self.invariant, count_blocks c.self.invariant, ap length c.self.view_is, c.requires.falls.within, c.self.invariant.stored.within.levels_in_range.at_most)
 
 pub close_gap-requires-clause-within : goal.close_gap-requires-clause-within
-close_gap-requires-clause-within g c = omega (arith, c.take_out_and_unite-item.auto.slots, ap length c.as_mut_slice-slots.ensures.value, rw length-map at c.self.invariant.within)
+close_gap-requires-clause-within g c = omega (arith, c.take_from_run_and_unite-item.auto.slots, ap length c.as_mut_slice-slots.ensures.value, rw length-map at c.self.invariant.within)
 
 pub way_back_following-self : goal.way_back_following-self
 way_back_following-self g c = (refl, refl)

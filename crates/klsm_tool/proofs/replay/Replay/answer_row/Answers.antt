@@ -11,14 +11,14 @@ returns-in_err-send_before_wait-clause-step g c input before rows lines now belo
     let sizes = c.args.board.now.sizes in
     let p = err_from_is_err_and c.from_residual.result c.from_residual.ensures.1 in
     let failed = c.in_err-send_before_wait.ensures.told before lines told in
-    rw (p.1, p.2, failed.0) (stops_cut g.R.Read.remaining _ sizes.threads sizes.k (all_lists c.args.all.now) input before _ rows lines c.args.script.now _ c.args.self.now.beside.most _ now.answered now.shown now.read failed.1)
+    rw (p.1, p.2, failed.0) (stops_cut g.R.Read.remaining _ sizes.threads sizes.k (all_lists c.args.all.now) input before _ rows lines c.args.script.now _ c.args.self.now.state.most _ now.answered now.shown now.read failed.1)
 
 pub returns-in_err-line-clause-step : goal.returns-in_err-line-clause-step
 returns-in_err-line-clause-step g c input before rows lines now below told =
     let sizes = c.args.board.now.sizes in
     let p = err_from_is_err_and c.from_residual-in_err-line.result c.from_residual-in_err-line.ensures.1 in
     let h = c.in_err-line.ensures.step input rows lines now below in
-    rw (p.1, p.2) (stops_told _ sizes.threads sizes.k (all_lists c.next_line.new.all) input before _ rows lines c.next_line.new.beside.most _ c.in_err-line.field-0.0 now.answered h (c.in_ok-send_before_wait.ensures.told before lines told))
+    rw (p.1, p.2) (stops_told _ sizes.threads sizes.k (all_lists c.next_line.new.all) input before _ rows lines c.next_line.new.state.most _ c.in_err-line.field-0.0 now.answered h (c.in_ok-send_before_wait.ensures.told before lines told))
 
 pub returns-clause-put : goal.returns-clause-put
 returns-clause-put g c =

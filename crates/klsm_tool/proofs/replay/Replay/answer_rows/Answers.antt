@@ -1,5 +1,5 @@
 use Rattle.std.proofs.Common.{◌≡◌, ℕ, ◌+◌, ◌<◌, [], ◌∷◌, refl, ap, sym, length, subst, arith}
-use Rattle.klsm_tool.specs.Answering.{live_beside}
+use Rattle.klsm_tool.specs.Answering.{live_kept}
 use Rattle.klsm_board.specs.Together.{all_lists}
 use Rattle.klsm_board.specs.declared.sizes.Sizes.{Sizes}
 use Rattle.klsm_text.specs.Script.{row_limit}
@@ -20,8 +20,8 @@ returns-in-Err-clause-stops g c input before stands told =
     let k = c.loop-answered.invariant.stands input before stands told in
     let sizes = c.requires.sizes in
     let stopped = c.in-Err.ensures.step input before k.0 k.1 k.3 (let few : length k.0 < row_limit = omega (arith, k.2, c.loop-answered-test.true) in few) k.4 in
-    subst (λ (n : ℕ). HasStopped (reader_failed c.answer_row.new.script) c.args.settings.now.threads c.args.settings.now.k (all_lists c.answer_row.new.all) input before (g.W.Write.contents c.answer_row.new.writer) (n + 1) c.answer_row.new.self.beside.most c.answer_row.new.self.output c.in-Err.stop) k.2
-    (subst (λ z. HasStopped (reader_failed c.answer_row.new.script) z.threads z.k (all_lists c.answer_row.new.all) input before (g.W.Write.contents c.answer_row.new.writer) (length k.0 + 1) c.answer_row.new.self.beside.most c.answer_row.new.self.output c.in-Err.stop) sizes stopped)
+    subst (λ (n : ℕ). HasStopped (reader_failed c.answer_row.new.script) c.args.settings.now.threads c.args.settings.now.k (all_lists c.answer_row.new.all) input before (g.W.Write.contents c.answer_row.new.writer) (n + 1) c.answer_row.new.self.state.most c.answer_row.new.self.output c.in-Err.stop) k.2
+    (subst (λ z. HasStopped (reader_failed c.answer_row.new.script) z.threads z.k (all_lists c.answer_row.new.all) input before (g.W.Write.contents c.answer_row.new.writer) (length k.0 + 1) c.answer_row.new.self.state.most c.answer_row.new.self.output c.in-Err.stop) sizes stopped)
 
 pub loop-answered-preserved : goal.loop-answered-preserved
 loop-answered-preserved g c = record {
@@ -42,16 +42,16 @@ loop-answered-init g c = record {
   few = c.requires.few;
   short = omega (arith, c.requires.put);
   stands = λ input before stands told.
-      ([], [], refl, subst (λ (z : Sizes). StandsAfter g.R.Read.remaining z.threads z.k (all_lists c.args.all.now) input [] [] c.args.script.now (live_beside c.args.self.now.beside) c.args.self.now.beside.most) (sym c.requires.sizes) stands, told);
+      ([], [], refl, subst (λ (z : Sizes). StandsAfter g.R.Read.remaining z.threads z.k (all_lists c.args.all.now) input [] [] c.args.script.now (live_kept c.args.self.now.state) c.args.self.now.state.most) (sym c.requires.sizes) stands, told);
 }
 
 pub returns-clause-stops : goal.returns-clause-stops
 returns-clause-stops g c input before stands told =
     let k = c.loop-answered.invariant.stands input before stands told in
     let all : length k.0 ≡ row_limit = omega (arith, k.2, c.loop-answered-test.false) in
-    let now = subst (λ (z : Sizes). StandsAfter g.R.Read.remaining z.threads z.k (all_lists c.loop-answered.all) input k.0 k.1 c.loop-answered.script (live_beside c.loop-answered.self.beside) c.loop-answered.self.beside.most) c.requires.sizes k.3 in
+    let now = subst (λ (z : Sizes). StandsAfter g.R.Read.remaining z.threads z.k (all_lists c.loop-answered.all) input k.0 k.1 c.loop-answered.script (live_kept c.loop-answered.self.state) c.loop-answered.self.state.most) c.requires.sizes k.3 in
     let stops = c.stop_behind.ensures.stops c.args.settings.now.threads c.args.settings.now.k (all_lists c.loop-answered.all) input before k.0 k.1 _ _ now all k.4 in
-    subst (λ (n : ℕ). HasStopped (reader_failed c.stop_behind.new.script) c.args.settings.now.threads c.args.settings.now.k (all_lists c.loop-answered.all) input before (g.W.Write.contents c.stop_behind.new.writer) (n + 1) c.loop-answered.self.beside.most c.stop_behind.new.output c.stop_behind.result) all stops
+    subst (λ (n : ℕ). HasStopped (reader_failed c.stop_behind.new.script) c.args.settings.now.threads c.args.settings.now.k (all_lists c.loop-answered.all) input before (g.W.Write.contents c.stop_behind.new.writer) (n + 1) c.loop-answered.self.state.most c.stop_behind.new.output c.stop_behind.result) all stops
 
 pub returns-in-Err-clause-refused : goal.returns-in-Err-clause-refused
 returns-in-Err-clause-refused g c input before stands told =

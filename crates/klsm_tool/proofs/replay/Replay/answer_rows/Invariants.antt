@@ -1,6 +1,6 @@
 use Rattle.std.proofs.Common.{◌≡◌, ℕ, ◌*◌, ◌≤◌, List, [], length, Option}
 use Rattle.klsm_text.specs.declared.answer.Line.{Line}
-use Rattle.klsm_tool.specs.Answering.{live_beside, picker_count}
+use Rattle.klsm_tool.specs.Answering.{live_kept, picker_count}
 use Rattle.klsm_board.specs.Together.{AreOf, all_lists}
 use Rattle.klsm_tool.specs.Crews.{AreFew}
 use Rattle.klsm_rows.specs.Rows.{Row}
@@ -12,11 +12,11 @@ use Rattle.klsm_tool.proofs.replay.Replay.answer_rows.Given as goal
 abbrev pub invariant-loop-answered : goal.invariant-loop-answered
 invariant-loop-answered g l = record {
   of : AreOf l.all l.board;
-  pickers : picker_count l.self.beside ≡ l.board.sizes.threads;
+  pickers : picker_count l.self.state ≡ l.board.sizes.threads;
   few : AreFew l.answered (all_lists l.all);
   short : put_count l.self.output ≤ 160 * l.answered;
-  stands : (input before : Option (List ℕ)) → StandsAfter g.R.Read.remaining l.settings.threads l.settings.k (all_lists l.initial.all) input [] [] l.initial.script (live_beside l.initial.self.beside) l.initial.self.beside.most
+  stands : (input before : Option (List ℕ)) → StandsAfter g.R.Read.remaining l.settings.threads l.settings.k (all_lists l.initial.all) input [] [] l.initial.script (live_kept l.initial.self.state) l.initial.self.state.most
       → IsTold before (g.W.Write.contents l.initial.writer) [] l.initial.self.output
-      → (rows : List Row) × (lines : List Line) × (length rows ≡ l.answered) × StandsAfter g.R.Read.remaining l.board.sizes.threads l.board.sizes.k (all_lists l.all) input rows lines l.script (live_beside l.self.beside) l.self.beside.most
+      → (rows : List Row) × (lines : List Line) × (length rows ≡ l.answered) × StandsAfter g.R.Read.remaining l.board.sizes.threads l.board.sizes.k (all_lists l.all) input rows lines l.script (live_kept l.self.state) l.self.state.most
       × IsTold before (g.W.Write.contents l.writer) lines l.self.output;
 }

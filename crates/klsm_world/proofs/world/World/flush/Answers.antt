@@ -18,7 +18,7 @@ invariant_of-self-2 g c =
     (flush_taken c.args.self.now limits c.self.inside.words.items c.self.inside.contents.items c.self.inside.lists.items c.note.new.lists.items c.args.thread c.self.view_is c.self.invariant
     c.args.item c.args.moved.now c.new-listed.result c.own_part-own.result c.index.result.now c.as_slice.result.now c.new.result c.index-2.result.now c.as_slice-2.result.now c.new-2.result
     c.requires c.in_ok-note.ensures.noted (c.new-listed.ensures ∙ c.in_ok-copied.ensures.copy) c.own_part-own.ensures c.index.ensures c.as_slice.ensures
-    (c.new.ensures ∙ (c.take_all_out.ensures ∙ ap (λ xs. minus xs c.args.moved.now) c.in_ok-own_after.ensures.with_all))
+    (c.new.ensures ∙ (c.remove_all_from.ensures ∙ ap (λ xs. minus xs c.args.moved.now) c.in_ok-own_after.ensures.with_all))
     c.index-2.ensures c.as_slice-2.ensures (c.new-2.ensures ∙ c.in_ok-shared_after.ensures.with_all)).0
 
 pub returns : goal.returns
@@ -27,7 +27,7 @@ returns g c =
     (flush_taken c.args.self.now limits c.self.inside.words.items c.self.inside.contents.items c.self.inside.lists.items c.note.new.lists.items c.args.thread c.self.view_is c.self.invariant
     c.args.item c.args.moved.now c.new-listed.result c.own_part-own.result c.index.result.now c.as_slice.result.now c.new.result c.index-2.result.now c.as_slice-2.result.now c.new-2.result
     c.requires c.in_ok-note.ensures.noted (c.new-listed.ensures ∙ c.in_ok-copied.ensures.copy) c.own_part-own.ensures c.index.ensures c.as_slice.ensures
-    (c.new.ensures ∙ (c.take_all_out.ensures ∙ ap (λ xs. minus xs c.args.moved.now) c.in_ok-own_after.ensures.with_all))
+    (c.new.ensures ∙ (c.remove_all_from.ensures ∙ ap (λ xs. minus xs c.args.moved.now) c.in_ok-own_after.ensures.with_all))
     c.index-2.ensures c.as_slice-2.ensures (c.new-2.ensures ∙ c.in_ok-shared_after.ensures.with_all)).1
 
 pub returns-in_err-own_after : goal.returns-in_err-own_after

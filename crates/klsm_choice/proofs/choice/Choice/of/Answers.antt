@@ -1,5 +1,0 @@
-use Rattle.std.proofs.Common.{rules}
-use Rattle.klsm_choice.proofs.choice.Choice.of.Goals as goal
-
-pub returns-in-Last : goal.returns-in-Last
-returns-in-Last c = search rules

@@ -1,5 +1,0 @@
-use Rattle.std.proofs.Common.{rules}
-use Rattle.klsm_choice.proofs.choice.ChoicePicker.pick.Goals as goal
-
-pub returns-in-Last-clause-picked : goal.returns-in-Last-clause-picked
-returns-in-Last-clause-picked c = search rules

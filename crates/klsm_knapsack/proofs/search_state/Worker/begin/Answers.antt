@@ -1,0 +1,12 @@
+use Rattle.std.proofs.Common.{◌∙◌, lit<}
+use Rattle.klsm_knapsack.proofs.CrewLemmas.{new_room, root_at_work}
+use Rattle.klsm_knapsack.proofs.search_state.Worker.begin.Goals as goal
+
+pub insert-requires : goal.insert-requires
+insert-requires g c = (lit< tt, (lit< tt, (c.requires.of, (new_room c.args.self.now c.requires.new c.requires.room, c.root.ensures.node))))
+
+pub returns-in-Ok-clause-begun : goal.returns-in-Ok-clause-begun
+returns-in-Ok-clause-begun g c =
+    let root = c.root.ensures.root in
+    let one = c.in-Ok.ensures.inserts in
+    root_at_work c.args.state.now.no_room c.args.instance.now c.args.self.now c.insert.new.self one.0 c.requires.new one.1 (one.2 ∙ root.0) (one.3 ∙ root.1) one.4 c.in-Ok.ensures.deletes c.in-Ok.ensures.answered

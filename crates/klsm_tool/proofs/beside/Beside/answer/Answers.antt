@@ -1,8 +1,0 @@
-use Rattle.std.proofs.Common.{rules}
-use Rattle.klsm_tool.proofs.beside.Beside.answer.Goals as goal
-
-pub returns-in-Delete-clause-ok : goal.returns-in-Delete-clause-ok
-returns-in-Delete-clause-ok g c = search rules
-
-pub delete_by-answer-requires : goal.delete_by-answer-requires
-delete_by-answer-requires g c = search rules

@@ -1,5 +1,0 @@
-use Rattle.std.proofs.Common.{rules}
-use Rattle.klsm_tool.proofs.knapsack.solve_in_any_order.Goals as goal
-
-pub returns : goal.returns
-returns g c = search rules

@@ -1,0 +1,143 @@
+//! What a replay keeps beside the board whose members answer its rows.
+ghost use Rattle.klsm_tool.specs.Picking.{ArePlaced};
+
+use crate::member_calls::{delete_by, insert_by};
+use crate::picking::{ThreadPicker, pickers_of};
+use crate::skip_counter::SkipCounter;
+use klsm_board::{AllStandardMembers, StandardBoard};
+use klsm_run::Item;
+use klsm_text::{Answer, Line, Operation, Printed, Request, Stop};
+use klsm_words::Settings;
+use std::alloc::{AllocError, Global};
+use std::sync::Wait;
+
+/// The picker of each thread, at the thread's place, the live items, and the greatest skip so far.
+#[derive(Drop)]
+pub(crate) struct ReplayState {
+    pickers: Vec<ThreadPicker>,
+    live: SkipCounter,
+    pub most: usize,
+    ghost placed: { ArePlaced pickers.items },
+}
+
+impl ReplayState {
+    ghost use Rattle.std.specs.Prelude.{◌≡◌, ◌<◌, [], ◌∷◌, max, IfOk, IfErr};
+    ghost use Rattle.klsm_run.specs.Content.{sorted};
+    ghost use Rattle.klsm_world.specs.Account.{account};
+    ghost use Rattle.klsm_text.specs.AnswerText.{live_after, skip_of};
+    ghost use Rattle.klsm_tool.specs.Crews.{Goes};
+    ghost use Rattle.klsm_tool.specs.Answering.{Answers, picker_count, pickers_kept, live_kept};
+    ghost use Rattle.klsm_tool.specs.Picking.{ArePickers};
+    ghost use Rattle.klsm_tool.specs.MemberCalls.{IsDeletion};
+    ghost use Rattle.klsm_board.specs.Together.{AreOf, all_lists};
+    ghost use Rattle.klsm_text.specs.Script.{row_limit};
+    ghost use Rattle.klsm_text.specs.declared.stop.Stop.TheVariants as stop;
+    ghost use Rattle.klsm_text.specs.declared.answer.Answer.TheVariants.{Inserted};
+
+    pub(crate) fn new(alloc: Global, settings: &Settings) -> Result<Self, AllocError>
+        ensures pickers { IfOk result (λ state. picker_count state ≡ settings.now.threads) }
+        ensures choices { IfOk result (λ state.
+            ArePickers settings.now (pickers_kept state)) }
+        ensures live { IfOk result (λ state. live_kept state ≡ []) }
+        ensures most { IfOk result (λ state. state.most ≡ 0) }
+    {
+        Ok(ReplayState {
+            pickers: pickers_of(alloc, settings)?,
+            live: SkipCounter::new(alloc),
+            most: 0,
+        })
+    }
+
+    /// Lets the member of a row's thread do what the row asks for.
+    pub(crate) fn answer(
+        &mut self,
+        rt: &impl Wait,
+        board: &StandardBoard,
+        all: &mut AllStandardMembers,
+        request: Request,
+    ) -> Result<Printed, Stop>
+        requires of { AreOf all.old board.now }
+        requires pickers { picker_count self.old ≡ board.now.sizes.threads }
+        requires thread { request.thread < board.now.sizes.threads }
+        requires quota { row_limit < board.now.sizes.quota }
+        requires few { (account (all_lists all.old)).inserted < row_limit }
+        ensures of { AreOf all.new board.now }
+        ensures pickers { picker_count self.new ≡ board.now.sizes.threads }
+        ensures ok { IfOk result (Answers board.now.sizes.threads board.now.sizes.k request
+            (all_lists all.old) (all_lists all.new) (live_kept self.old) (live_kept self.new)
+            self.old.most self.new.most) }
+        ensures refused { IfErr result (λ why. (why ≡ stop.NoMemory)
+            × Goes request.thread (all_lists all.old) (all_lists all.new) []
+            × (self.new.most ≡ self.old.most)) }
+    {
+        let Request { thread, operation } = request;
+        match operation {
+            Operation::Insert { key, load } => {
+                let item = self.insert(rt, board, all, thread, key, load)?;
+                let answer = Answer::Inserted(item);
+                Ok(Printed {
+                    line: Line { thread, answer },
+                    skip: 0,
+                })
+            }
+            Operation::Delete => {
+                let picker = &mut self.pickers[thread as usize];
+                let answer = delete_by(rt, board, all, thread, picker);
+                let skip = self.count_skip(answer);
+                Ok(Printed {
+                    line: Line { thread, answer },
+                    skip,
+                })
+            }
+        }
+    }
+
+    fn insert(
+        &mut self,
+        rt: &impl Wait,
+        board: &StandardBoard,
+        all: &mut AllStandardMembers,
+        thread: u32,
+        key: u64,
+        load: u64,
+    ) -> Result<Item, Stop>
+        requires of { AreOf all.old board.now }
+        requires thread { thread < board.now.sizes.threads }
+        requires quota { row_limit < board.now.sizes.quota }
+        requires few { (account (all_lists all.old)).inserted < row_limit }
+        ensures of { AreOf all.new board.now }
+        ensures pickers { picker_count self.new ≡ picker_count self.old }
+        ensures most { self.new.most ≡ self.old.most }
+        ensures item { IfOk result (λ x. (x.key ≡ key) × (x.load ≡ load)) }
+        ensures goes { IfOk result (λ x.
+            Goes thread (all_lists all.old) (all_lists all.new) (Inserted x ∷ [])) }
+        ensures live { IfOk result (λ x. sorted (live_kept self.new)
+            ≡ sorted (x ∷ live_kept self.old)) }
+        ensures refused { IfErr result (λ why. (why ≡ stop.NoMemory)
+            × Goes thread (all_lists all.old) (all_lists all.new) []) }
+    {
+        if self.live.reserve().is_err() {
+            return Err(Stop::NoMemory);
+        }
+        let item = insert_by(rt, board, all, thread, key, load)?;
+        self.live.insert(item);
+        Ok(item)
+    }
+
+    // How many items a deletion skips. Its item lives no longer.
+    fn count_skip(&mut self, answer: Answer) -> usize
+        requires { IsDeletion answer }
+        ensures pickers { picker_count self.new ≡ picker_count self.old }
+        ensures skip { result ≡ skip_of (live_kept self.old) answer }
+        ensures live { sorted (live_kept self.new)
+            ≡ sorted (live_after (live_kept self.old) answer) }
+        ensures most { self.new.most ≡ max self.old.most result }
+    {
+        let Answer::Deleted(item) = answer else {
+            return 0;
+        };
+        let skip = self.live.remove(item);
+        self.most = self.most.max(skip);
+        skip
+    }
+}
