@@ -1,8 +1,11 @@
 """The pages and the names: what a link leads to is there, no line is wider than 120, a definition's name stands once in
-the `specs/` of all crates, an edit says first by which clause it is refused, and the libraries are as many as is said.
+the `specs/` of all crates, an edit says first by which clause it is refused, the libraries are as many as is said, and
+the tables of figures are those of bench/results.csv.
 """
 
 import re
+import subprocess
+import sys
 from collections import defaultdict
 
 from process import ROOT
@@ -66,9 +69,15 @@ def libraries():
     return None if said and said[1] == NUMBERS[count] else f"there are {NUMBERS[count]}"
 
 
+def figures():
+    run = subprocess.run([sys.executable, ROOT / "bench/pages", "--check"], capture_output=True, text=True)
+    return None if run.returncode == 0 else run.stdout + run.stderr
+
+
 def checks():
     yield "pages: links", links
     yield "pages: widths", widths
     yield "pages: a definition's name stands once", names
     yield "pages: the clause that refuses an edit", edits
     yield "pages: how many libraries there are", libraries
+    yield "pages: the tables of figures", figures
