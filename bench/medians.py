@@ -35,6 +35,10 @@ class Medians:
         value = self.values.get(key)
         return self.spreads.get(key, (value, value))
 
+    def heap_alone(self, what, workload, items):
+        """The median of a heap without a lock, by one thread."""
+        return self.get(what, "heap alone", "-", 1, workload, items)
+
     def all(self, *names, **given):
         """The different entries at these places of the keys, in the order of the file, where others are as given."""
         found = {}

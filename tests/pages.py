@@ -3,6 +3,7 @@ the `specs/` of all crates, an edit says first by which clause it is refused, th
 the tables of figures are those of bench/results.csv.
 """
 
+import functools
 import re
 import subprocess
 import sys
@@ -23,9 +24,10 @@ def pages():
             yield page, re.sub(r"^```.*?^```$", "", page.read_text(), flags=re.MULTILINE | re.DOTALL)
 
 
+@functools.cache
 def anchors(page):
-    """The anchors of the headings, as GitHub makes them."""
-    headings = re.findall(r"^#+ (.*)$", page, re.MULTILINE)
+    """The anchors of the headings of a page, as GitHub makes them."""
+    headings = re.findall(r"^#+ (.*)$", page.read_text(), re.MULTILINE)
     return {re.sub(r"[^\w -]", "", heading.lower()).replace(" ", "-") for heading in headings}
 
 
@@ -37,7 +39,7 @@ def links():
             if "://" in path:
                 continue
             led = (page.parent / path).resolve() if path else page
-            if not led.exists() or anchor and led.suffix == ".md" and anchor not in anchors(led.read_text()):
+            if not led.exists() or anchor and led.suffix == ".md" and anchor not in anchors(led):
                 dead.append(f"{page.relative_to(ROOT)}: {target}")
     return f"lead nowhere: {dead}" if dead else None
 
