@@ -39,8 +39,12 @@ exit 1
 IS_STOPPED = BUILDS + "kill -TERM $PPID\nexit 1\n"
 
 
+# The libraries that the script builds before the program.
+LIBRARIES = ("klsm_board", "klsm_instance", "klsm_progress")
+
+
 class Checkout:
-    """A folder with the script and one source file, and a folder with the stand-in."""
+    """A folder with the script, one source file and the folders of libraries, and a folder with the stand-in."""
 
     def __init__(self, room, script):
         self.room = room
@@ -48,6 +52,8 @@ class Checkout:
         self.source = f"{self.root}/crates/klsm/src/main.rt"
         os.makedirs(os.path.dirname(self.source))
         os.makedirs(f"{room}/path")
+        for library in LIBRARIES:
+            os.makedirs(f"{self.root}/crates/{library}/src")
         for file in (self.source, f"{self.root}/crates.txt"):
             with open(file, "w"):
                 pass
@@ -92,15 +98,11 @@ def check_passing_on(checkout):
     assert checkout.builds() == 1
 
 
-def check_libraries_beside(checkout):
+def check_libraries_first(checkout):
     checkout.use(BUILDS)
-    for library in ("klsm_text", "klsm_words"):
-        os.makedirs(f"{checkout.root}/crates/{library}/src")
     assert checkout.run()[0] == 3
-    deadline = time.time() + 5
-    while len(checkout.asked()) < 3 and time.time() < deadline:
-        time.sleep(0.05)
-    assert sorted(checkout.asked()) == ["lib klsm_text", "lib klsm_words", "run klsm"]
+    asked = checkout.asked()
+    assert sorted(asked[:-1]) == [f"lib {library}" for library in LIBRARIES] and asked[-1] == "run klsm"
 
 
 def check_newer_source(checkout):
@@ -115,7 +117,7 @@ def check_newer_source(checkout):
 def check_failed_build(checkout):
     checkout.use(FAILS)
     status, output, errors = checkout.run()
-    assert (status, output) == (70, "") and errors.startswith("no proof\nklsm: the program could not be built;")
+    assert (status, output) == (70, "") and "no proof\nklsm: the program could not be built;" in errors
 
 
 def check_no_rt(checkout):
@@ -147,7 +149,7 @@ def check_stopped_build(checkout):
 def main(script):
     checks = (
         check_passing_on,
-        check_libraries_beside,
+        check_libraries_first,
         check_newer_source,
         check_failed_build,
         check_no_rt,

@@ -181,14 +181,14 @@ fn run_rows<P: AllocGlobal + Wait + Threads + Sync>(
     let Ok(mut crew) = crew_of(rt.alloc(), members) else {
         return Err(Closing::at(Stop::NoMemory, 1));
     };
-    let common = Common {
+    let live = LiveRun {
         board: &board,
         rows,
         settings,
         gate,
         progress,
     };
-    run_all(rt, &common, crew.as_mut_slice());
+    run_all(rt, &live, crew.as_mut_slice());
     if let Some(GaveUp { stop, row }) = first_to_give_up(crew.as_slice()) {
         let cause = cause_in_one_hand(rt.alloc(), &board, crew, stop);
         return Err(Closing::at(cause, row as u64));
@@ -199,7 +199,7 @@ fn run_rows<P: AllocGlobal + Wait + Threads + Sync>(
 // What all threads of a run are given: their board, the rows of each, how they pick, their gate, and
 // who is told of them.
 #[derive(Drop)]
-struct Common<'a, G, P> {
+struct LiveRun<'a, G, P> {
     board: &'a StandardBoard,
     rows: &'a [Vec<ThreadRow>],
     settings: &'a Settings,
@@ -211,19 +211,19 @@ struct Common<'a, G, P> {
 // each row lies on its own stack, and not beside what the next one changes.
 fn run_all<R: Wait + Threads + Sync, G: Gate, P: Progress>(
     rt: &R,
-    common: &Common<G, P>,
+    live: &LiveRun<G, P>,
     crew: &mut [Option<Worker>],
 )
     requires some { 0 < length crew.old }
-    requires many { length common.now.rows.now ≡ length crew.old }
+    requires many { length live.now.rows.now ≡ length crew.old }
     requires few { (t : ℕ)
-        → length (kept_for (map (λ list. list.items) common.now.rows.now) t) ≤ row_limit }
-    requires quota { row_limit < common.now.board.now.sizes.quota }
+        → length (kept_for (map (λ list. list.items) live.now.rows.now) t) ≤ row_limit }
+    requires quota { row_limit < live.now.board.now.sizes.quota }
     requires ready { (t : ℕ) (d : Option Worker) → t < length crew.old
-        → IsReadyAt common.now.board.now t (slice_index_or crew.old t d) }
+        → IsReadyAt live.now.board.now t (slice_index_or crew.old t d) }
     ensures { (t : ℕ) (d : Option Worker) → t < length crew.old
-        → HasRunAt common.now.board.now t
-        (kept_for (map (λ list. list.items) common.now.rows.now) t)
+        → HasRunAt live.now.board.now t
+        (kept_for (map (λ list. list.items) live.now.rows.now) t)
         (slice_index_or crew.new t d) }
 {
     let threads = crew.len();
@@ -232,43 +232,36 @@ fn run_all<R: Wait + Threads + Sync, G: Gate, P: Progress>(
         crew,
         threads,
         &|index, place: &mut Option<Worker>|
-            requires { (index < length common.now.rows.now)
-                × IsReadyAt common.now.board.now index place.old
-                × (length (kept_for (map (λ list. list.items) common.now.rows.now) index)
-                < common.now.board.now.sizes.quota) }
-            ensures { HasRunAt common.entry.now.board.now index
-                (kept_for (map (λ list. list.items) common.entry.now.rows.now) index) place.new }
-        { run_at(rt, common, place, index) },
+            requires { (index < length live.now.rows.now)
+                × IsReadyAt live.now.board.now index place.old
+                × (length (kept_for (map (λ list. list.items) live.now.rows.now) index)
+                < live.now.board.now.sizes.quota) }
+            ensures { HasRunAt live.entry.now.board.now index
+                (kept_for (map (λ list. list.items) live.entry.now.rows.now) index) place.new }
+        { run_at(rt, live, place, index) },
     );
 }
 
 // The worker at its place, which passes the gate and then runs its rows.
 fn run_at<G: Gate, P: Progress>(
     rt: &impl Wait,
-    common: &Common<G, P>,
+    live: &LiveRun<G, P>,
     place: &mut Option<Worker>,
     index: usize,
 )
-    requires below { index < length common.now.rows.now }
-    requires ready { IsReadyAt common.now.board.now index place.old }
-    requires few { length (kept_for (map (λ list. list.items) common.now.rows.now) index)
-        < common.now.board.now.sizes.quota }
-    ensures { HasRunAt common.now.board.now index
-        (kept_for (map (λ list. list.items) common.now.rows.now) index) place.new }
+    requires below { index < length live.now.rows.now }
+    requires ready { IsReadyAt live.now.board.now index place.old }
+    requires few { length (kept_for (map (λ list. list.items) live.now.rows.now) index)
+        < live.now.board.now.sizes.quota }
+    ensures { HasRunAt live.now.board.now index
+        (kept_for (map (λ list. list.items) live.now.rows.now) index) place.new }
 {
-    let rows = common.rows[index].as_slice();
-    let passed = pass(common.gate, index);
+    let rows = live.rows[index].as_slice();
+    let passed = pass(live.gate, index);
     let Some(worker) = place.take() else {
         unreachable!();
     };
-    *place = Some(worker.run(
-        rt,
-        common.board,
-        rows,
-        common.settings,
-        passed,
-        common.progress,
-    ));
+    *place = Some(worker.run(rt, live.board, rows, live.settings, passed, live.progress));
 }
 
 fn crew_of(alloc: Global, members: Vec<StandardMember>) -> Result<Vec<Option<Worker>>, AllocError>

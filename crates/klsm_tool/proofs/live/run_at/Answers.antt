@@ -11,20 +11,20 @@ rows_at lists list t rows below same = ap (map asked_in) (same ∙ sym (get_or-m
 
 pub run-requires-clause-few : goal.run-requires-clause-few
 run-requires-clause-few g c =
-    let same = rows_at c.args.common.now.rows.now c.index-common-index.result c.args.index c.as_slice-rows.result.now c.requires.below c.as_slice-rows.ensures.value in
+    let same = rows_at c.args.live.now.rows.now c.index-live-index.result c.args.index c.as_slice-rows.result.now c.requires.below c.as_slice-rows.ensures.value in
     λ _ _. omega (arith, c.requires.few, length-map c.as_slice-rows.result.now asked_in, ap length same)
 
 pub returns : goal.returns
 returns g c =
-    let same = rows_at c.args.common.now.rows.now c.index-common-index.result c.args.index c.as_slice-rows.result.now c.requires.below c.as_slice-rows.ensures.value in
-    let there = subst (IsReadyAt c.args.common.now.board.now c.args.index) (sym c.in-Some.ensures.value) c.requires.ready in
-    subst (λ t. HasRunRows c.args.common.now.board.now t (kept_for (map (λ list. list.items) c.args.common.now.rows.now) c.args.index) c.run.result) there.number
-    (subst (λ asked. HasRunRows c.args.common.now.board.now c.in-Some.worker.member.number asked c.run.result) same c.run.ensures)
+    let same = rows_at c.args.live.now.rows.now c.index-live-index.result c.args.index c.as_slice-rows.result.now c.requires.below c.as_slice-rows.ensures.value in
+    let there = subst (IsReadyAt c.args.live.now.board.now c.args.index) (sym c.in-Some.ensures.value) c.requires.ready in
+    subst (λ t. HasRunRows c.args.live.now.board.now t (kept_for (map (λ list. list.items) c.args.live.now.rows.now) c.args.index) c.run.result) there.number
+    (subst (λ asked. HasRunRows c.args.live.now.board.now c.in-Some.worker.member.number asked c.run.result) same c.run.ensures)
 
 pub unreachable-unreachable : goal.unreachable-unreachable
 unreachable-unreachable g c = c.unreachable.type_inv
 
 pub run-requires-clause-passed : goal.run-requires-clause-passed
 run-requires-clause-passed g c =
-    let there = subst (IsReadyAt c.args.common.now.board.now c.args.index) (sym c.in-Some.ensures.value) c.requires.ready in
+    let there = subst (IsReadyAt c.args.live.now.board.now c.args.index) (sym c.in-Some.ensures.value) c.requires.ready in
     λ _ _. c.pass-passed.ensures ∙ sym there.number
