@@ -1,5 +1,5 @@
 -- The least items of a shared part on their way to an own one.
-use Rattle.std.proofs.Common.{◌≡◌, ◌≢◌, ℕ, ◌+◌, ◌<◌, ◌≤◌, cond, zero, suc, List, [], ◌∷◌, ◌++◌, length, take, drop, refl, sym, ap, ◌∙◌, subst, arith}
+use Rattle.std.proofs.Common.{◌≡◌, ◌≢◌, ℕ, ◌+◌, ◌-◌, ◌/◌, min, ◌<◌, ◌≤◌, cond, zero, suc, List, [], ◌∷◌, ◌++◌, length, take, drop, refl, sym, ap, ◌∙◌, subst, arith}
 use Rattle.std.specs.List.{AllByRecursion, Contains, count_by}
 use Rattle.std.proofs.lemmas.List.{drop-drop, drop-take, length-drop, length-take, take-append-drop}
 use Rattle.std.proofs.lemmas.Slice.{take-put_mid}
@@ -17,7 +17,20 @@ use Rattle.klsm_run.proofs.HalfLemmas.{ascending_take, ascending_drop}
 use Rattle.klsm_run.proofs.OrderLemmas.{not_smaller_than_itself}
 use Rattle.klsm_run.proofs.SortedLemmas.{length_sorted, sorted_ascending}
 use Rattle.klsm_parts.specs.Events.{MayRefill, plus, own_after_refill, shared_after_refill}
+use Rattle.klsm_parts.specs.Refilling.{refill_count}
 use Rattle.klsm_parts.proofs.EventLemmas.{minus_moved}
+
+-- how many may move, reckoned from the sizes
+pub counted : (most k : ℕ) (own shared : List Item) (limit held size first n : ℕ) → limit ≡ k → held ≡ length own → size ≡ length shared
+    → first ≡ min most ((limit - held) - (limit - held) / 2) → n ≡ min first size → n ≡ refill_count most k own shared
+counted most k own shared limit held size first n limited holds sized halved is = omega (arith, limited, holds, sized, halved, is)
+
+-- what may move is there, and has room
+pub refill_within : (most k : ℕ) (own shared : List Item) → refill_count most k own shared ≤ length shared
+refill_within most k own shared = omega arith
+
+pub refill_room : (most k : ℕ) (own shared : List Item) → length own ≤ k → length own + refill_count most k own shared ≤ k
+refill_room most k own shared few = omega (arith, few)
 
 -- the n least items of an ascending content are moved to a run
 pub record AreMoved (n : ℕ) (shared run left : List Item) : Type 0 where

@@ -3,7 +3,7 @@
 ghost use Rattle.std.specs.Prelude.{◌≡◌, ◌<◌, ◌≤◌, length, take, drop};
 ghost use Rattle.klsm_run.specs.Capacity.{IsCapacity};
 ghost use Rattle.klsm_run.specs.Content.{ShareNone};
-ghost use Rattle.klsm_lsm.specs.Lsm.{content};
+ghost use Rattle.klsm_lsm.specs.Lsm.{content, IsLsm};
 ghost use Rattle.klsm_parts.specs.Parts.{items_in};
 ghost use Rattle.klsm_parts.specs.Events.{MayRefill, own_after_refill, shared_after_refill};
 ghost use Rattle.klsm_parts.specs.Refilling.{refill_count, refill_of};
@@ -38,8 +38,7 @@ pub fn refill<const CAP: usize, const LEVELS: usize, A: Allocator + Copy>(
         × (items_in shared.new ≡ shared_after_refill (items_in shared.old)
         (refill_of most own.old.k (items_in own.old) (items_in shared.old))) }
 {
-    let room = own.k() - own.len();
-    let count = most.min(room - room / 2).min(shared.len());
+    let count = count_to_move(own, shared, most);
     if count == 0 {
         return 0;
     }
@@ -48,6 +47,21 @@ pub fn refill<const CAP: usize, const LEVELS: usize, A: Allocator + Copy>(
     move_least(shared, moved);
     own.absorb(moved);
     count
+}
+
+// How many items may move.
+fn count_to_move<const CAP: usize, const LEVELS: usize, A: Allocator + Copy>(
+    own: &Local<CAP>,
+    shared: &Shared<LEVELS, A>,
+    most: usize,
+) -> usize
+    ensures count { result ≡ refill_count most own.now.k (items_in own.now) (items_in shared.now) }
+    ensures few { length (items_in own.now) ≤ own.now.k }
+    ensures within { own.now.k ≤ CAP }
+    ensures lawful { IsLsm shared.now.blocks }
+{
+    let room = own.k() - own.len();
+    most.min(room - room / 2).min(shared.len())
 }
 
 // Moves the least shared items to places, in their order: as many at a time as are candidates, so that

@@ -8,33 +8,34 @@ use Rattle.klsm_lsm.proofs.ContentLemmas.{ascending_content}
 use Rattle.klsm_parts.specs.Parts.{items_in}
 use Rattle.klsm_parts.specs.Events.{MayRefill, own_after_refill, shared_after_refill}
 use Rattle.klsm_parts.specs.Refilling.{refill_count}
-use Rattle.klsm_parts.proofs.RefillLemmas.{AreMoved, run_shares_none, may_refill, refill_leaves}
+use Rattle.klsm_parts.proofs.RefillLemmas.{AreMoved, refill_within, refill_room, run_shares_none, may_refill, refill_leaves}
 use Rattle.klsm_parts.proofs.refilling.refill.Goals as goal
 
 pub returns-then-count-eq0-clause-count : goal.returns-then-count-eq0-clause-count
-returns-then-count-eq0-clause-count g c =
-    omega (arith, c.if-count-eq0.true, c.min-count.ensures, c.min.ensures, c.k.ensures.k, c.len.ensures.len, c.len-2.ensures.len, length_sorted (content c.args.own.now.blocks), length_sorted (content c.args.shared.now.blocks))
+returns-then-count-eq0-clause-count g c = sym c.if-count-eq0.true ∙ c.count_to_move-count.ensures.count
 
 pub move_least-requires : goal.move_least-requires
 move_least-requires g c =
     let own = items_in c.args.own.now in let shared = items_in c.args.shared.now in
-    let n = c.min-count.result in
-    let up = ascending_content c.args.shared.now.blocks c.len-2.ensures.lawful in
-    let within : n ≤ length shared = omega (arith, c.min-count.ensures, c.len-2.ensures.len, length_sorted (content c.args.shared.now.blocks)) in
-    let fits : n ≤ g.row.CAP = omega (arith, c.min-count.ensures, c.min.ensures, c.k.ensures.k, c.k.ensures.within) in
+    let k = c.args.own.now.k in let n = c.count_to_move-count.result in
+    let count : n ≡ refill_count c.args.most k own shared = c.count_to_move-count.ensures.count in
+    let up = ascending_content c.args.shared.now.blocks c.count_to_move-count.ensures.lawful in
+    let within : n ≤ length shared = subst (λ m. m ≤ length shared) (sym count) (refill_within c.args.most k own shared) in
+    let room : length own + n ≤ k = subst (λ m. length own + m ≤ k) (sym count) (refill_room c.args.most k own shared c.count_to_move-count.ensures.few) in
     let places = replicate g.row.CAP c.default-places.result in
-    let lent : length (take n places) ≡ n = omega (arith, length-take n places, length-replicate g.row.CAP c.default-places.result, fits) in
+    let lent : length (take n places) ≡ n = omega (arith, length-take n places, length-replicate g.row.CAP c.default-places.result, room, c.count_to_move-count.ensures.within) in
     (search, omega (arith, lent, within))
 
 pub absorb-requires : goal.absorb-requires
 absorb-requires g c =
     let own = items_in c.args.own.now in let shared = items_in c.args.shared.now in
-    let n = c.min-count.result in
-    let up = ascending_content c.args.shared.now.blocks c.len-2.ensures.lawful in
-    let within : n ≤ length shared = omega (arith, c.min-count.ensures, c.len-2.ensures.len, length_sorted (content c.args.shared.now.blocks)) in
-    let fits : n ≤ g.row.CAP = omega (arith, c.min-count.ensures, c.min.ensures, c.k.ensures.k, c.k.ensures.within) in
+    let k = c.args.own.now.k in let n = c.count_to_move-count.result in
+    let count : n ≡ refill_count c.args.most k own shared = c.count_to_move-count.ensures.count in
+    let up = ascending_content c.args.shared.now.blocks c.count_to_move-count.ensures.lawful in
+    let within : n ≤ length shared = subst (λ m. m ≤ length shared) (sym count) (refill_within c.args.most k own shared) in
+    let room : length own + n ≤ k = subst (λ m. length own + m ≤ k) (sym count) (refill_room c.args.most k own shared c.count_to_move-count.ensures.few) in
     let places = replicate g.row.CAP c.default-places.result in
-    let lent : length (take n places) ≡ n = omega (arith, length-take n places, length-replicate g.row.CAP c.default-places.result, fits) in
+    let lent : length (take n places) ≡ n = omega (arith, length-take n places, length-replicate g.row.CAP c.default-places.result, room, c.count_to_move-count.ensures.within) in
     let moved : AreMoved n shared c.move_least.new.places (items_in c.move_least.new.shared) = record {
       run_is = c.move_least.ensures.moved ∙ ap (λ i. take i shared) lent;
       left_is = c.move_least.ensures.left ∙ ap (λ i. drop i shared) lent;
@@ -42,32 +43,28 @@ absorb-requires g c =
     let size : length c.move_least.new.places ≡ n = omega (arith, ap length moved.run_is, length-take n shared, within) in
     let ascending : IsAscending c.move_least.new.places = subst IsAscending (sym moved.run_is) (ascending_take n shared up) in
     let apart : ShareNone (content c.args.own.now.blocks) c.move_least.new.places = run_shares_none n (content c.args.own.now.blocks) (content c.args.shared.now.blocks) c.move_least.new.places (items_in c.move_least.new.shared) c.requires.apart moved in
-    let room : length (content c.args.own.now.blocks) + length c.move_least.new.places ≤ c.args.own.now.k =
-    omega (arith, size, c.min-count.ensures, c.min.ensures, c.k.ensures.k, c.len.ensures.len, c.len.ensures.few) in
-    (search, (c.requires.capacity, (omega (arith, size, c.if-count-eq0.false), (ascending, (apart, room)))))
+    let enough : length (content c.args.own.now.blocks) + length c.move_least.new.places ≤ k = omega (arith, size, room, length_sorted (content c.args.own.now.blocks)) in
+    (search, (c.requires.capacity, (omega (arith, size, c.if-count-eq0.false), (ascending, (apart, enough)))))
 
 pub returns-clause-count : goal.returns-clause-count
-returns-clause-count g c =
-    omega (arith, c.min-count.ensures, c.min.ensures, c.k.ensures.k, c.len.ensures.len, c.len-2.ensures.len, length_sorted (content c.args.own.now.blocks), length_sorted (content c.args.shared.now.blocks))
+returns-clause-count g c = c.count_to_move-count.ensures.count
 
 pub returns-clause-event : goal.returns-clause-event
 returns-clause-event g c some =
     let own = items_in c.args.own.now in let shared = items_in c.args.shared.now in
-    let n = c.min-count.result in
-    let up = ascending_content c.args.shared.now.blocks c.len-2.ensures.lawful in
-    let within : n ≤ length shared = omega (arith, c.min-count.ensures, c.len-2.ensures.len, length_sorted (content c.args.shared.now.blocks)) in
-    let fits : n ≤ g.row.CAP = omega (arith, c.min-count.ensures, c.min.ensures, c.k.ensures.k, c.k.ensures.within) in
+    let k = c.args.own.now.k in let n = c.count_to_move-count.result in
+    let count : n ≡ refill_count c.args.most k own shared = c.count_to_move-count.ensures.count in
+    let up = ascending_content c.args.shared.now.blocks c.count_to_move-count.ensures.lawful in
+    let within : n ≤ length shared = subst (λ m. m ≤ length shared) (sym count) (refill_within c.args.most k own shared) in
+    let room : length own + n ≤ k = subst (λ m. length own + m ≤ k) (sym count) (refill_room c.args.most k own shared c.count_to_move-count.ensures.few) in
     let places = replicate g.row.CAP c.default-places.result in
-    let lent : length (take n places) ≡ n = omega (arith, length-take n places, length-replicate g.row.CAP c.default-places.result, fits) in
+    let lent : length (take n places) ≡ n = omega (arith, length-take n places, length-replicate g.row.CAP c.default-places.result, room, c.count_to_move-count.ensures.within) in
     let moved : AreMoved n shared c.move_least.new.places (items_in c.move_least.new.shared) = record {
       run_is = c.move_least.ensures.moved ∙ ap (λ i. take i shared) lent;
       left_is = c.move_least.ensures.left ∙ ap (λ i. drop i shared) lent;
     } in
-    let k = c.args.own.now.k in
     let bs = c.args.shared.now.blocks in
-    let count : n ≡ refill_count c.args.most k own shared = omega (arith, c.min-count.ensures, c.min.ensures, c.k.ensures.k, c.len.ensures.len, c.len-2.ensures.len, length_sorted (content c.args.own.now.blocks), length_sorted (content c.args.shared.now.blocks)) in
-    let may = may_refill k n own (content bs) some (omega (arith, c.min-count.ensures, c.len-2.ensures.len))
-    (omega (arith, c.min-count.ensures, c.min.ensures, c.k.ensures.k, c.len.ensures.len, c.len.ensures.few, length_sorted (content c.args.own.now.blocks))) up in
+    let may = may_refill k n own (content bs) some (omega (arith, within, length_sorted (content bs))) room up in
     let leaves = refill_leaves n own (items_in c.absorb.new.self) (content bs) c.move_least.new.places (items_in c.move_least.new.shared) up moved c.absorb.ensures.items in
     subst (λ m. MayRefill k own shared (take m shared) × (items_in c.absorb.new.self ≡ own_after_refill own (take m shared)) × (items_in c.move_least.new.shared ≡ shared_after_refill shared (take m shared))) count
     (may, leaves.0, leaves.1)
