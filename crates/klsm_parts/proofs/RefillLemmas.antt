@@ -1,7 +1,7 @@
 -- The least items of a shared part on their way to an own one.
-use Rattle.std.proofs.Common.{◌≡◌, ◌≢◌, ℕ, ◌+◌, ◌-◌, ◌/◌, min, ◌<◌, ◌≤◌, cond, zero, suc, List, [], ◌∷◌, ◌++◌, length, take, drop, refl, sym, ap, ◌∙◌, subst, arith}
+use Rattle.std.proofs.Common.{◌≡◌, ◌≢◌, ℕ, ◌+◌, ◌-◌, ◌/◌, min, ◌<◌, ◌≤◌, cond, zero, suc, List, [], ◌∷◌, ◌++◌, length, take, drop, replicate, refl, sym, ap, ◌∙◌, subst, arith}
 use Rattle.std.specs.List.{AllByRecursion, Contains, count_by}
-use Rattle.std.proofs.lemmas.List.{drop-drop, drop-take, length-drop, length-take, take-append-drop}
+use Rattle.std.proofs.lemmas.List.{drop-drop, drop-take, length-drop, length-replicate, length-take, take-append-drop}
 use Rattle.std.proofs.lemmas.Slice.{take-put_mid}
 use borrow.Rule.Slice.PartMut.{put_mid, same_len_mid}
 use Rattle.std.proofs.lemmas.List.Elements.{Contains-append_left}
@@ -25,17 +25,30 @@ pub counted : (most k : ℕ) (own shared : List Item) (limit held size first n :
     → first ≡ min most ((limit - held) - (limit - held) / 2) → n ≡ min first size → n ≡ refill_count most k own shared
 counted most k own shared limit held size first n limited holds sized halved is = omega (arith, limited, holds, sized, halved, is)
 
--- what may move is there, and has room
-pub refill_within : (most k : ℕ) (own shared : List Item) → refill_count most k own shared ≤ length shared
-refill_within most k own shared = omega arith
+-- so many items are there, and have room in the own part and places to lie in meanwhile
+pub record HaveRoom (cap k n : ℕ) (own shared : List Item) (d : Item) : Type 0 where
+  pub within : n ≤ length shared
+  pub room : length own + n ≤ k
+  pub lent : length (take n (replicate cap d)) ≡ n
 
-pub refill_room : (most k : ℕ) (own shared : List Item) → length own ≤ k → length own + refill_count most k own shared ≤ k
-refill_room most k own shared few = omega (arith, few)
+pub have_room : (cap most k n : ℕ) (own shared : List Item) (d : Item) → n ≡ refill_count most k own shared → length own ≤ k → k ≤ cap → HaveRoom cap k n own shared d
+have_room cap most k n own shared d is few fits = record {
+  within = omega (arith, is);
+  room = omega (arith, is, few);
+  lent = omega (arith, length-take n (replicate cap d), length-replicate cap d, is, few, fits);
+}
 
 -- the n least items of an ascending content are moved to a run
 pub record AreMoved (n : ℕ) (shared run left : List Item) : Type 0 where
   pub run_is : run ≡ take n shared
   pub left_is : left ≡ drop n shared
+
+-- where that many places were lent
+pub are_moved : (n places : ℕ) (shared run left : List Item) → places ≡ n → run ≡ take places shared → left ≡ drop places shared → AreMoved n shared run left
+are_moved n places shared run left is moved rest = record {
+  run_is = moved ∙ ap (λ i. take i shared) is;
+  left_is = rest ∙ ap (λ i. drop i shared) is;
+}
 
 -- the first ones, told in two parts
 take_parts : (n m : ℕ) (xs : List Item) → take (n + m) xs ≡ take n xs ++ take m (drop n xs)
