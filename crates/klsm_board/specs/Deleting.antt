@@ -13,7 +13,7 @@ use Rattle.klsm_board.specs.declared.sizes.Sizes.{Sizes}
 use Rattle.klsm_board.specs.Rule.{world_limits}
 use Rattle.klsm_board.specs.Entries.{own_acquired, both_acquired, both_released}
 use Rattle.klsm_board.specs.declared.errors.Busy.{Busy}
-use Rattle.klsm_board.specs.Inserting.{MissesOwn, MissesShared}
+use Rattle.klsm_board.specs.Inserting.{Misses, Waits}
 use Rattle.klsm_board.specs.Choosing.{Chooses}
 
 -- the member n places behind thread t, in the round of all
@@ -108,18 +108,21 @@ Deletes may_pick before after m t own shared acquired es' x =
     (TakesOut m t own shared acquired es' x × Chooses may_pick before after m.k t own shared x)
     ⊎ (TakesSpied m t own shared acquired es' x × (after ≡ before))
 
--- A deletion answered, after these tries in vain of its locks. It deleted the least own item by
--- the front, with the own part in hand alone, and did not ask the picker. Or it acquired both parts.
-abbrev pub AnswersDeletion : {P : Type 0} → (P → ℕ → ℕ → P → Type 0) → P → P → Sizes → ℕ → List ℕ → List ℕ → List Entry → List Entry → Option Item → Type 0
-AnswersDeletion may_pick before after m t own_misses shared_misses es es' answer = (own : List Item)
-    × ((IsSomeAnd answer (λ x. TakesEarly m t own (own_acquired t own_misses own es) es' x)
+-- A deletion answered. It deleted the least own item by the front, with the own part in hand alone, and
+-- did not ask the picker. Or it acquired both parts.
+abbrev pub AnswersDeletion : {P : Type 0} → (P → ℕ → ℕ → P → Type 0) → P → P → Sizes → ℕ → List Entry → List Entry → Option Item → Type 0
+AnswersDeletion may_pick before after m t es es' answer = (own : List Item)
+    × ((IsSomeAnd answer (λ x. TakesEarly m t own (own_acquired t own es) es' x)
     × (after ≡ before))
     ⊎ ((shared : List Item) × MatchOption answer
-    (FindsNothing m t own shared (both_acquired t own_misses shared_misses own shared es) es'
-    × (after ≡ before))
-    (Deletes may_pick before after m t own shared
-    (both_acquired t own_misses shared_misses own shared es) es')))
+    (FindsNothing m t own shared (both_acquired t own shared es) es' × (after ≡ before))
+    (Deletes may_pick before after m t own shared (both_acquired t own shared es) es')))
 
 -- A lock was not free: the own one, or the shared one, and then the own part was released.
 abbrev pub MissesDeletion : ℕ → List Entry → List Entry → Busy → Type 0
-MissesDeletion t es es' busy = MissesOwn t es es' busy ⊎ MissesShared t es es' busy (λ own. Unit {0})
+MissesDeletion t es es' busy = Misses t (λ own. Unit {0}) es es' busy
+
+-- A deletion that may wait: some tries are refused for a lock, and the next one is not.
+abbrev pub AnswersWaiting : {P : Type 0} → (P → ℕ → ℕ → P → Type 0) → P → P → Sizes → ℕ → List Entry → List Entry → Option Item → Type 0
+AnswersWaiting may_pick before after m t es es' answer = (now : List Entry)
+    × Waits t (λ own. Unit {0}) es now × AnswersDeletion may_pick before after m t now es' answer

@@ -1,5 +1,5 @@
 -- What an insertion adds to its member's list.
-use Rattle.std.specs.Prelude.{◌≡◌, ℕ, ◌+◌, ◌<◌, ◌≤◌, ◌⊎◌, max, List, [], ◌∷◌, ◌++◌, length}
+use Rattle.std.specs.Prelude.{◌≡◌, ℕ, zero, suc, ◌+◌, ◌<◌, ◌≤◌, ◌⊎◌, max, List, [], ◌∷◌, ◌++◌, length}
 use Rattle.klsm_run.specs.declared.item.Item.{Item}
 use Rattle.klsm_run.specs.declared.item.Stamp.{Stamp}
 use Rattle.klsm_run.specs.Capacity.{heap_room}
@@ -24,33 +24,32 @@ abbrev pub stamped : ℕ → Stamp → ℕ → Item
 stamped key stamp load = record { key = key; stamp = stamp; load = load }
 
 -- The own part was found with room, and the item was put there: the shared lock was not tried.
-pub record Puts (k t : ℕ) (misses : List ℕ) (es es' : List Entry) (x : Item) : Type 0 where
+pub record Puts (k t : ℕ) (es es' : List Entry) (x : Item) : Type 0 where
   pub own : List Item
   pub room : MayPut k own
-  pub steps : es' ≡ own_acquired t misses own es ++ Committed (Put x) ∷ Released (own_part t) ∷ []
+  pub steps : es' ≡ own_acquired t own es ++ Committed (Put x) ∷ Released (own_part t) ∷ []
 
 -- The own part was found with k items, and some moved to the shared part, which had room for them.
-pub record Flushes (levels k t : ℕ) (own_misses shared_misses : List ℕ) (es es' : List Entry) (x : Item) : Type 0 where
+pub record Flushes (levels k t : ℕ) (es es' : List Entry) (x : Item) : Type 0 where
   pub own : List Item
   pub shared : List Item
   pub moved : List Item
   pub full : length own ≡ k
   pub may : MayFlush k own x moved
   pub within : length shared + length moved ≤ limit_of levels heap_room
-  pub steps : es' ≡ both_acquired t own_misses shared_misses own shared es ++ Committed (Flush x moved) ∷ both_released t
+  pub steps : es' ≡ both_acquired t own shared es ++ Committed (Flush x moved) ∷ both_released t
 
--- an insertion after so many misses
-abbrev pub Inserts : ℕ → ℕ → ℕ → List ℕ → List ℕ → List Entry → List Entry → Item → Type 0
-Inserts levels k t own_misses shared_misses es es' x =
-    Puts k t own_misses es es' x ⊎ Flushes levels k t own_misses shared_misses es es' x
+-- an insertion
+abbrev pub Inserts : ℕ → ℕ → ℕ → List Entry → List Entry → Item → Type 0
+Inserts levels k t es es' x = Puts k t es es' x ⊎ Flushes levels k t es es' x
 
 -- The own part was found with k items; both parts were acquired and released.
-pub record GivesUp (k t : ℕ) (own_misses shared_misses : List ℕ) (es es' : List Entry) (Found : List Item → Type 0) : Type 0 where
+pub record GivesUp (k t : ℕ) (es es' : List Entry) (Found : List Item → Type 0) : Type 0 where
   pub own : List Item
   pub shared : List Item
   pub full : length own ≡ k
   pub found : Found shared
-  pub steps : es' ≡ both_acquired t own_misses shared_misses own shared es ++ both_released t
+  pub steps : es' ≡ both_acquired t own shared es ++ both_released t
 
 -- the shared part has no room for a whole own part, or for the item where k is 0
 abbrev pub LacksRoom : ℕ → ℕ → List Item → Type 0
@@ -70,20 +69,40 @@ pub record MissesShared (t : ℕ) (es es' : List Entry) (busy : Busy) (Found : L
   pub own : List Item
   pub found : Found own
   pub lock : busy.lock ≡ shared_part
-  pub steps : es' ≡ own_acquired t [] own es ++ Missed shared_part busy.by ∷ Released (own_part t) ∷ []
+  pub steps : es' ≡ own_acquired t own es ++ Missed shared_part busy.by ∷ Released (own_part t) ∷ []
+
+-- one of the two was not, and all is released
+abbrev pub Misses : ℕ → (List Item → Type 0) → List Entry → List Entry → Busy → Type 0
+Misses t Found es es' busy = MissesOwn t es es' busy ⊎ MissesShared t es es' busy Found
+
+-- so many tries that met a lock that was not free, one after another
+abbrev pub MissesTimes : ℕ → ℕ → (List Item → Type 0) → List Entry → List Entry → Type 0
+MissesTimes zero t Found es es' = es' ≡ es
+MissesTimes (suc n) t Found es es' = (before : List Entry) × (busy : Busy)
+    × MissesTimes n t Found es before × Misses t Found before es' busy
+
+-- any number of them
+pub record Waits (t : ℕ) (Found : List Item → Type 0) (es es' : List Entry) : Type 0 where
+  pub tries : ℕ
+  pub missed : MissesTimes tries t Found es es'
 
 -- why an insertion that waits for nobody is refused
 abbrev pub RefusesInsert : Type 0 → ℕ → ℕ → ℕ → List Entry → List Entry → TryInsertError → Type 0
 RefusesInsert IsSpent levels k t es es' try_insert.Spent = IsSpent × (es' ≡ es)
 RefusesInsert IsSpent levels k t es es' (try_insert.Busy busy) =
-    MissesOwn t es es' busy ⊎ MissesShared t es es' busy (λ own. length own ≡ k)
-RefusesInsert IsSpent levels k t es es' try_insert.Full = GivesUp k t [] [] es es' (LacksRoom levels k)
-RefusesInsert IsSpent levels k t es es' try_insert.NoMemory = GivesUp k t [] [] es es' (IsBelowLimit levels)
+    Misses t (λ own. length own ≡ k) es es' busy
+RefusesInsert IsSpent levels k t es es' try_insert.Full = GivesUp k t es es' (LacksRoom levels k)
+RefusesInsert IsSpent levels k t es es' try_insert.NoMemory = GivesUp k t es es' (IsBelowLimit levels)
 
--- why one that may wait is refused
+-- an insertion that may wait: some tries are refused for a lock, and the next one is not
+abbrev pub InsertsWaiting : ℕ → ℕ → ℕ → List Entry → List Entry → Item → Type 0
+InsertsWaiting levels k t es es' x = (now : List Entry)
+    × Waits t (λ own. length own ≡ k) es now × Inserts levels k t now es' x
+
+-- why it is refused
 abbrev pub RefusesInsertWaiting : Type 0 → ℕ → ℕ → ℕ → List Entry → List Entry → InsertError → Type 0
 RefusesInsertWaiting IsSpent levels k t es es' insert.Spent = IsSpent × (es' ≡ es)
 RefusesInsertWaiting IsSpent levels k t es es' insert.Full =
-    (own_misses : List ℕ) × (shared_misses : List ℕ) × GivesUp k t own_misses shared_misses es es' (LacksRoom levels k)
+    (now : List Entry) × Waits t (λ own. length own ≡ k) es now × GivesUp k t now es' (LacksRoom levels k)
 RefusesInsertWaiting IsSpent levels k t es es' insert.NoMemory =
-    (own_misses : List ℕ) × (shared_misses : List ℕ) × GivesUp k t own_misses shared_misses es es' (IsBelowLimit levels)
+    (now : List Entry) × Waits t (λ own. length own ≡ k) es now × GivesUp k t now es' (IsBelowLimit levels)

@@ -2,6 +2,7 @@
 pub mod Rule  -- the rule of the table
 pub mod Entries  -- what stands in a list where parts are acquired
 pub mod Inserting  -- what an insertion adds to its member's list
+pub mod Pausing  -- what comes between two tries of a call that may wait
 pub mod Choosing  -- how a deletion chooses
 pub mod Deleting  -- what a deletion adds
 pub mod Effects  -- where a deletion takes effect, and in which world

@@ -17,7 +17,7 @@ ghost use Rattle.klsm_board.specs.Choosing.{Chooses};
 ghost use Rattle.klsm_board.specs.Effects.{TakesEffect};
 ghost use Rattle.klsm_board.specs.Deleting.{AnswersDeletion, Deletes, FindsNothing, MissesDeletion, refilled, refilled_after};
 
-use crate::acquiring::{acquire_waiting, try_acquire};
+use crate::acquiring::try_acquire;
 use crate::early::delete_early;
 use crate::errors::Busy;
 use crate::lending::{lend_shared, return_shared};
@@ -30,7 +30,6 @@ use crate::steps::{
 use klsm_parts::Picker;
 use klsm_run::Item;
 use klsm_world::Event;
-use std::sync::Wait;
 
 /// Deletes an item, if the locks that it needs are free.
 pub(crate) fn delete_now<S: PartSlot, P: Picker>(
@@ -50,7 +49,7 @@ pub(crate) fn delete_now<S: PartSlot, P: Picker>(
     ensures others { rest_of seat.new.me.0 ≡ rest_of seat.old.me.0 }
     ensures has { Has S.content S.suits table.now.key thread [] seat.new.me }
     ensures ok { IfOk result (λ answer. AnswersDeletion P.may_pick picker.old picker.new
-        table.now.key thread [] [] (mine seat.old.me.0) (mine seat.new.me.0) answer) }
+        table.now.key thread (mine seat.old.me.0) (mine seat.new.me.0) answer) }
     ensures effect { IfOk result (TakesEffect table.now.key thread (rest_of seat.old.me.0)
         (mine seat.old.me.0) (mine seat.new.me.0)) }
     ensures busy { IfErr result (λ busy. (picker.new ≡ picker.old)
@@ -65,38 +64,6 @@ pub(crate) fn delete_now<S: PartSlot, P: Picker>(
         return Err(busy);
     }
     Ok(delete_under_both(table, seat, thread, threads, refill, picker))
-}
-
-/// Deletes an item, and waits for the locks that it needs.
-pub(crate) fn delete_waiting<S: PartSlot, P: Picker>(
-    rt: &impl Wait,
-    table: &Locks<S>,
-    seat: &mut MemberSeat<S>,
-    thread: usize,
-    threads: usize,
-    refill: usize,
-    picker: &mut P,
-) -> Option<Item>
-    requires sized { S.is_sized }
-    requires seat { IsSeatOf seat.old.table_id table.now.table_id table.now.key thread }
-    requires threads { threads ≡ table.now.key.threads }
-    requires refill { refill ≡ table.now.key.refill }
-    requires stands { Stands S.content S.suits table.now.key thread [] seat.old.me }
-    ensures same { seat.new.table_id ≡ seat.old.table_id }
-    ensures others { rest_of seat.new.me.0 ≡ rest_of seat.old.me.0 }
-    ensures has { Has S.content S.suits table.now.key thread [] seat.new.me }
-    ensures ok { (own_misses : List ℕ) × (shared_misses : List ℕ)
-        × AnswersDeletion P.may_pick picker.old picker.new table.now.key thread own_misses
-        shared_misses (mine seat.old.me.0) (mine seat.new.me.0) result }
-    ensures effect { TakesEffect table.now.key thread (rest_of seat.old.me.0)
-        (mine seat.old.me.0) (mine seat.new.me.0) result }
-{
-    acquire_waiting(rt, table, seat, thread + 1, thread);
-    if let Some(item) = delete_early(table, seat, thread, threads) {
-        return Some(item);
-    }
-    acquire_waiting(rt, table, seat, 0, thread);
-    delete_under_both(table, seat, thread, threads, refill, picker)
 }
 
 // Deletes an item, with both parts in hand, and releases them. Where they are empty, others' parts

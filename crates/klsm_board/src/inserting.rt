@@ -14,10 +14,10 @@ ghost use Rattle.klsm_world.specs.LegalSteps.{BearsStamp};
 ghost use Rattle.klsm_board.specs.Steps.{mine, rest_of};
 ghost use Rattle.klsm_board.specs.Seats.{Carries, Stands, Has, CarriedOut, IsSeatOf, own_in_hand, both_in_hand};
 ghost use Rattle.klsm_board.specs.Entries.{both_released};
-ghost use Rattle.klsm_board.specs.Inserting.{Inserts, LacksRoom, IsBelowLimit, RefusesInsert, RefusesInsertWaiting};
+ghost use Rattle.klsm_board.specs.Inserting.{Inserts, LacksRoom, IsBelowLimit, RefusesInsert};
 
-use crate::acquiring::{acquire_waiting, try_acquire};
-use crate::errors::{InsertError, TryInsertError};
+use crate::acquiring::try_acquire;
+use crate::errors::TryInsertError;
 use crate::lending::{lend_shared, return_shared};
 use crate::rule::{Locks, MemberSeat};
 use crate::slot::PartSlot;
@@ -25,7 +25,6 @@ use crate::steps::{commit_event, commit_moving_by_front, release_both, release_p
 use klsm_parts::LsmError;
 use klsm_run::Item;
 use klsm_world::Event;
-use std::sync::Wait;
 
 /// Inserts an item, if no lock that it needs is held.
 pub(crate) fn insert_now<S: PartSlot>(
@@ -44,7 +43,7 @@ pub(crate) fn insert_now<S: PartSlot>(
     ensures same { seat.new.table_id ≡ seat.old.table_id }
     ensures others { rest_of seat.new.me.0 ≡ rest_of seat.old.me.0 }
     ensures has { Has S.content S.suits table.now.key thread [] seat.new.me }
-    ensures ok { OnOk result (Inserts S.levels table.now.key.k thread [] [] (mine seat.old.me.0)
+    ensures ok { OnOk result (Inserts S.levels table.now.key.k thread (mine seat.old.me.0)
         (mine seat.new.me.0) item) }
     ensures refused { IfErr result (RefusesInsert ⊥ S.levels table.now.key.k thread
         (mine seat.old.me.0) (mine seat.new.me.0)) }
@@ -63,42 +62,6 @@ pub(crate) fn insert_now<S: PartSlot>(
         Ok(()) => Ok(()),
         Err(LsmError::Full) => Err(TryInsertError::Full),
         Err(LsmError::NoMemory) => Err(TryInsertError::NoMemory),
-    }
-}
-
-/// Inserts an item, and waits for the locks that it needs.
-pub(crate) fn insert_waiting<S: PartSlot>(
-    rt: &impl Wait,
-    table: &Locks<S>,
-    seat: &mut MemberSeat<S>,
-    thread: usize,
-    threads: usize,
-    item: Item,
-) -> Result<(), InsertError>
-    requires sized { S.is_sized }
-    requires seat { IsSeatOf seat.old.table_id table.now.table_id table.now.key thread }
-    requires threads { threads ≡ table.now.key.threads }
-    requires stamp { BearsStamp thread (length (inserted (mine seat.old.me.0))) item }
-    requires room { length (inserted (mine seat.old.me.0)) < table.now.key.quota }
-    requires stands { Stands S.content S.suits table.now.key thread [] seat.old.me }
-    ensures same { seat.new.table_id ≡ seat.old.table_id }
-    ensures others { rest_of seat.new.me.0 ≡ rest_of seat.old.me.0 }
-    ensures has { Has S.content S.suits table.now.key thread [] seat.new.me }
-    ensures ok { OnOk result ((own_misses : List ℕ) × (shared_misses : List ℕ)
-        × Inserts S.levels table.now.key.k thread own_misses shared_misses (mine seat.old.me.0)
-        (mine seat.new.me.0) item) }
-    ensures refused { IfErr result (RefusesInsertWaiting ⊥ S.levels table.now.key.k thread
-        (mine seat.old.me.0) (mine seat.new.me.0)) }
-{
-    acquire_waiting(rt, table, seat, thread + 1, thread);
-    if put_own(table, seat, thread, item) {
-        return Ok(());
-    }
-    acquire_waiting(rt, table, seat, 0, thread);
-    match flush_both(table, seat, thread, threads, item) {
-        Ok(()) => Ok(()),
-        Err(LsmError::Full) => Err(InsertError::Full),
-        Err(LsmError::NoMemory) => Err(InsertError::NoMemory),
     }
 }
 

@@ -89,6 +89,7 @@ mod inserting;
 mod lending;
 mod making;
 mod member;
+mod pausing;
 mod plays;
 mod rule;
 mod sizes;

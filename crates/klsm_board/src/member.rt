@@ -8,13 +8,14 @@ ghost use Rattle.klsm_board.specs.Steps.{HasFront};
 ghost use Rattle.klsm_board.specs.Members.{most_deletions};
 ghost use Rattle.klsm_board.specs.Boards.{Adds, IsOf, IsSame, known_of_others, own_steps};
 ghost use Rattle.klsm_board.specs.Effects.{TakesEffect};
-ghost use Rattle.klsm_board.specs.Inserting.{Inserts, RefusesInsert, RefusesInsertWaiting, stamp_of, stamped};
-ghost use Rattle.klsm_board.specs.Deleting.{AnswersDeletion, MissesDeletion};
+ghost use Rattle.klsm_board.specs.Inserting.{Inserts, InsertsWaiting, RefusesInsert, RefusesInsertWaiting, stamp_of, stamped};
+ghost use Rattle.klsm_board.specs.Deleting.{AnswersDeletion, AnswersWaiting, MissesDeletion};
 
 use crate::board::{Board, Member};
-use crate::deleting::{delete_now, delete_waiting};
+use crate::deleting::delete_now;
 use crate::errors::{Busy, InsertError, TryInsertError};
-use crate::inserting::{insert_now, insert_waiting};
+use crate::inserting::insert_now;
+use crate::pausing::Pause;
 use crate::steps::see_front;
 use klsm_parts::Picker;
 use klsm_run::{Item, Stamp};
@@ -101,7 +102,7 @@ impl<const CAP: usize, const LEVELS: usize> Member<CAP, LEVELS> {
         ensures others { known_of_others self.new ≡ known_of_others self.old }
         ensures stamp { IfOk result (λ stamp.
             stamp ≡ stamp_of self.old.number (length (inserted (own_steps self.old)))) }
-        ensures ok { IfOk result (λ stamp. Inserts LEVELS self.old.sizes.k self.old.number [] []
+        ensures ok { IfOk result (λ stamp. Inserts LEVELS self.old.sizes.k self.old.number
             (own_steps self.old) (own_steps self.new) (stamped key stamp load)) }
         ensures adds { IfOk result (λ stamp. Adds self.old self.new
             (stamped key stamp load ∷ []) []) }
@@ -124,8 +125,8 @@ impl<const CAP: usize, const LEVELS: usize> Member<CAP, LEVELS> {
 
     /// Inserts a key with a load, and answers the item's stamp. It may wait for a lock.
     ///
-    /// While a lock is held, it looks away and tries again, longer each time, and then lets other
-    /// threads run.
+    /// It is `try_insert`, again and again, as long as that meets a lock that is held. Between two tries it looks
+    /// away, longer each time, and then lets other threads run.
     pub fn insert(
         &mut self,
         rt: &impl Wait,
@@ -138,8 +139,7 @@ impl<const CAP: usize, const LEVELS: usize> Member<CAP, LEVELS> {
         ensures others { known_of_others self.new ≡ known_of_others self.old }
         ensures stamp { IfOk result (λ stamp.
             stamp ≡ stamp_of self.old.number (length (inserted (own_steps self.old)))) }
-        ensures ok { IfOk result (λ stamp. (own_misses : List ℕ) × (shared_misses : List ℕ)
-            × Inserts LEVELS self.old.sizes.k self.old.number own_misses shared_misses
+        ensures ok { IfOk result (λ stamp. InsertsWaiting LEVELS self.old.sizes.k self.old.number
             (own_steps self.old) (own_steps self.new) (stamped key stamp load)) }
         ensures adds { IfOk result (λ stamp. Adds self.old self.new
             (stamped key stamp load ∷ []) []) }
@@ -150,22 +150,17 @@ impl<const CAP: usize, const LEVELS: usize> Member<CAP, LEVELS> {
         ensures spent { IsErrAnd result (λ why. why ≡ InsertError.Spent)
             ↔ (length (inserted (own_steps self.old)) ≡ self.old.sizes.quota) }
     {
-        if self.inserted == self.sizes.quota {
-            return Err(InsertError::Spent);
+        let mut pause = Pause::new();
+        for _ in rt.forever() {
+            match self.try_insert(board, key, load) {
+                Ok(stamp) => return Ok(stamp),
+                Err(TryInsertError::Spent) => return Err(InsertError::Spent),
+                Err(TryInsertError::Busy(busy)) => pause.wait(rt, &board.table.shared, busy),
+                Err(TryInsertError::Full) => return Err(InsertError::Full),
+                Err(TryInsertError::NoMemory) => return Err(InsertError::NoMemory),
+            }
         }
-        let item = self.next_item(key, load);
-        let thread = self.number as usize;
-        let threads = self.sizes.threads;
-        insert_waiting(
-            rt,
-            &board.table.shared,
-            &mut self.seat,
-            thread,
-            threads,
-            item,
-        )?;
-        self.inserted += 1;
-        Ok(item.stamp)
+        unreachable!()
     }
 
     /// Deletes a small item and answers it. It waits for nobody. `None` where the own part, the
@@ -187,7 +182,7 @@ impl<const CAP: usize, const LEVELS: usize> Member<CAP, LEVELS> {
         ensures same { IsSame self.old self.new }
         ensures others { known_of_others self.new ≡ known_of_others self.old }
         ensures ok { IfOk result (λ answer. AnswersDeletion P.may_pick picker.old picker.new
-            self.old.sizes self.old.number [] [] (own_steps self.old) (own_steps self.new) answer) }
+            self.old.sizes self.old.number (own_steps self.old) (own_steps self.new) answer) }
         ensures effect { IfOk result (TakesEffect self.old.sizes self.old.number
             (known_of_others self.old) (own_steps self.old) (own_steps self.new)) }
         ensures adds { IfOk result (λ answer. Adds self.old self.new [] (option_to_list answer)) }
@@ -206,8 +201,8 @@ impl<const CAP: usize, const LEVELS: usize> Member<CAP, LEVELS> {
         Ok(answer)
     }
 
-    /// Deletes a small item and answers it, as `try_delete_min`. It may wait for the own lock and,
-    /// where it needs that, for the shared one, as `insert` does.
+    /// Deletes a small item and answers it. It is `try_delete_min`, again and again, as long as that meets a lock
+    /// that is held, and it waits between two tries as `insert` does.
     pub fn delete_min<P: Picker>(
         &mut self,
         rt: &impl Wait,
@@ -217,28 +212,19 @@ impl<const CAP: usize, const LEVELS: usize> Member<CAP, LEVELS> {
         requires { IsOf self.old board.now }
         ensures same { IsSame self.old self.new }
         ensures others { known_of_others self.new ≡ known_of_others self.old }
-        ensures ok { (own_misses : List ℕ) × (shared_misses : List ℕ)
-            × AnswersDeletion P.may_pick picker.old picker.new self.old.sizes self.old.number
-            own_misses shared_misses (own_steps self.old) (own_steps self.new) result }
+        ensures ok { AnswersWaiting P.may_pick picker.old picker.new self.old.sizes self.old.number
+            (own_steps self.old) (own_steps self.new) result }
         ensures effect { TakesEffect self.old.sizes self.old.number (known_of_others self.old)
             (own_steps self.old) (own_steps self.new) result }
         ensures adds { Adds self.old self.new [] (option_to_list result) }
     {
-        let thread = self.number as usize;
-        let threads = self.sizes.threads;
-        let refill = self.sizes.refill;
-        let answer = delete_waiting(
-            rt,
-            &board.table.shared,
-            &mut self.seat,
-            thread,
-            threads,
-            refill,
-            picker,
-        );
-        if answer.is_some() {
-            self.deleted += 1;
+        let mut pause = Pause::new();
+        for _ in rt.forever() {
+            match self.try_delete_min(board, picker) {
+                Ok(answer) => return answer,
+                Err(busy) => pause.wait(rt, &board.table.shared, busy),
+            }
         }
-        answer
+        unreachable!()
     }
 }

@@ -9,8 +9,8 @@ ghost use lib.ListN.{get_elem?};
 ghost use Rattle.klsm_world.specs.Account.{account};
 ghost use Rattle.klsm_world.specs.OwnSteps.{inserted};
 ghost use Rattle.klsm_board.specs.Boards.{AreMembersOf, Gains, IsOf, own_steps};
-ghost use Rattle.klsm_board.specs.Inserting.{Inserts, RefusesInsertWaiting, stamp_of, stamped};
-ghost use Rattle.klsm_board.specs.Deleting.{AnswersDeletion};
+ghost use Rattle.klsm_board.specs.Inserting.{InsertsWaiting, RefusesInsertWaiting, stamp_of, stamped};
+ghost use Rattle.klsm_board.specs.Deleting.{AnswersWaiting};
 ghost use Rattle.klsm_board.specs.Finishing.{AreAll, AreListsAtEnd, IsLeastAbsent, lists_of};
 ghost use Rattle.klsm_board.specs.Knowing.{AreCounted, IsAtRest};
 ghost use Rattle.klsm_board.specs.Rule.{view};
@@ -92,8 +92,7 @@ impl<const CAP: usize, const LEVELS: usize> AllMembers<CAP, LEVELS> {
         ensures same { ActsFor number self.old self.new }
         ensures stamp { IfOk result (λ stamp.
             stamp ≡ stamp_of number (length (inserted (steps_for self.old number)))) }
-        ensures ok { IfOk result (λ stamp. (own_misses : List ℕ) × (shared_misses : List ℕ)
-            × Inserts LEVELS (sizes_of_all self.old).k number own_misses shared_misses
+        ensures ok { IfOk result (λ stamp. InsertsWaiting LEVELS (sizes_of_all self.old).k number
             (steps_for self.old number) (steps_for self.new number) (stamped key stamp load)) }
         ensures adds { IfOk result (λ stamp. Gains (steps_for self.old number)
             (steps_for self.new number) (stamped key stamp load ∷ []) []) }
@@ -130,10 +129,8 @@ impl<const CAP: usize, const LEVELS: usize> AllMembers<CAP, LEVELS> {
         requires of { AreOf self.old board.now }
         requires number { number < (sizes_of_all self.old).threads }
         ensures same { ActsFor number self.old self.new }
-        ensures ok { (own_misses : List ℕ) × (shared_misses : List ℕ)
-            × AnswersDeletion P.may_pick picker.old picker.new (sizes_of_all self.old) number
-            own_misses shared_misses (steps_for self.old number) (steps_for self.new number)
-            result }
+        ensures ok { AnswersWaiting P.may_pick picker.old picker.new (sizes_of_all self.old) number
+            (steps_for self.old number) (steps_for self.new number) result }
         ensures adds { Gains (steps_for self.old number) (steps_for self.new number) []
             (option_to_list result) }
         ensures left { left_of self.new ≡ left_after (left_of self.old) result }

@@ -1,5 +1,5 @@
 -- What a call of a member leaves at the end of its list, and which events the list gains.
-use Rattle.std.proofs.Common.{◌≡◌, ◌≢◌, ℕ, suc, inl, inr, List, [], ◌∷◌, ◌++◌, Option, Some, None, sym, ap, ◌∙◌, append_assoc, arith}
+use Rattle.std.proofs.Common.{◌≡◌, ◌≢◌, ℕ, suc, inl, inr, List, [], ◌∷◌, ◌++◌, Option, Some, None, length, sym, ap, ◌∙◌, append_assoc, arith}
 use Rattle.std.specs.List.{AllByRecursion}
 use Rattle.klsm_run.specs.declared.item.Item.{Item}
 use Rattle.klsm_world.specs.declared.step.Event.TheVariants.{Put, Flush, Take, Early, Nothing, Spy, Refill}
@@ -7,19 +7,20 @@ use Rattle.klsm_world.specs.declared.step.Entry.{Entry}
 use Rattle.klsm_world.specs.declared.step.Entry.TheVariants.{Committed, Released}
 use Rattle.klsm_world.specs.OwnSteps.{own_part}
 use Rattle.klsm_board.specs.declared.sizes.Sizes.{Sizes}
-use Rattle.klsm_board.specs.Inserting.{GivesUp, Inserts}
-use Rattle.klsm_board.specs.Deleting.{Deletes, FindsNothing, AnswersDeletion, victim_of, refilled}
+use Rattle.klsm_board.specs.Inserting.{GivesUp, Inserts, InsertsWaiting, Waits}
+use Rattle.klsm_board.specs.Deleting.{Deletes, FindsNothing, AnswersDeletion, AnswersWaiting, victim_of, refilled}
 use Rattle.klsm_board.specs.Entries.{own_acquired, both_acquired, both_released}
 use Rattle.klsm_board.proofs.lemmas.calls.AddLemmas.{goes_on, own_quiet, both_quiet}
 use Rattle.klsm_board.specs.Effects.{committed_in}
+use Rattle.klsm_board.proofs.lemmas.calls.MissLemmas.{waits_quiet}
 use Rattle.klsm_board.proofs.lemmas.calls.RefillLemmas.{is_refilled}
 use Rattle.klsm_board.proofs.lemmas.calls.DeletedLemmas.{takes_events, spied_events, nothing_events, early_events}
 use Rattle.klsm_knapsack.specs.Ends.{EndsAnswered}
 use Rattle.klsm_knapsack.specs.Answers.{GainsNothing, GainsOthers, GainsSome}
 
-pub after_insertion : (levels k t : ℕ) (own_misses shared_misses : List ℕ) (es es' : List Entry) (x : Item) → Inserts levels k t own_misses shared_misses es es' x → EndsAnswered t es'
-after_insertion levels k t own_misses shared_misses es es' x (inl puts) = inr (own_acquired t own_misses puts.own es, Put x, inl puts.steps)
-after_insertion levels k t own_misses shared_misses es es' x (inr flushes) = inr (both_acquired t own_misses shared_misses flushes.own flushes.shared es, Flush x flushes.moved, inr flushes.steps)
+pub after_insertion : (levels k t : ℕ) (es es' : List Entry) (x : Item) → Inserts levels k t es es' x → EndsAnswered t es'
+after_insertion levels k t es es' x (inl puts) = inr (own_acquired t puts.own es, Put x, inl puts.steps)
+after_insertion levels k t es es' x (inr flushes) = inr (both_acquired t flushes.own flushes.shared es, Flush x flushes.moved, inr flushes.steps)
 
 -- items may have moved behind a Take
 after_take : (t : ℕ) (taken es' : List Entry) (x : Item) (moved : List Item) → es' ≡ taken ++ Committed (Take x) ∷ (refilled moved ++ both_released t) → EndsAnswered t es'
@@ -37,37 +38,47 @@ after_nothing : (m : Sizes) (t : ℕ) (own shared : List Item) (taken es' : List
 after_nothing m t own shared taken es' finds = inr (taken ++ finds.added, Nothing, inr finds.steps)
 
 -- the same of a deletion, however it went
-pub after_answer : {P : Type 0} (may_pick : P → ℕ → ℕ → P → Type 0) (before after : P) (m : Sizes) (t : ℕ) (own_misses shared_misses : List ℕ) (es es' : List Entry) (answer : Option Item) → AnswersDeletion may_pick before after m t own_misses shared_misses es es' answer → EndsAnswered t es'
-after_answer may_pick before after m t own_misses shared_misses es es' None (own, inl early) = absurd early.0
-after_answer may_pick before after m t own_misses shared_misses es es' (Some x) (own, inl early) = inr (own_acquired t own_misses own es, Early x early.0.front, inl early.0.steps)
-after_answer may_pick before after m t own_misses shared_misses es es' None (own, inr both) = after_nothing m t own both.0 (both_acquired t own_misses shared_misses own both.0 es) es' both.1.0
-after_answer may_pick before after m t own_misses shared_misses es es' (Some x) (own, inr both) =
-    after_deletion may_pick before after m t own both.0 (both_acquired t own_misses shared_misses own both.0 es) es' x both.1
+pub after_answer : {P : Type 0} (may_pick : P → ℕ → ℕ → P → Type 0) (before after : P) (m : Sizes) (t : ℕ) (es es' : List Entry) (answer : Option Item) → AnswersDeletion may_pick before after m t es es' answer → EndsAnswered t es'
+after_answer may_pick before after m t es es' None (own, inl early) = absurd early.0
+after_answer may_pick before after m t es es' (Some x) (own, inl early) = inr (own_acquired t own es, Early x early.0.front, inl early.0.steps)
+after_answer may_pick before after m t es es' None (own, inr both) = after_nothing m t own both.0 (both_acquired t own both.0 es) es' both.1.0
+after_answer may_pick before after m t es es' (Some x) (own, inr both) =
+    after_deletion may_pick before after m t own both.0 (both_acquired t own both.0 es) es' x both.1
 
 -- and of one that gave an item
-pub after_item : {P : Type 0} (may_pick : P → ℕ → ℕ → P → Type 0) (before after : P) (m : Sizes) (t : ℕ) (own_misses shared_misses : List ℕ) (es es' : List Entry) (x : Item) → AnswersDeletion may_pick before after m t own_misses shared_misses es es' (Some x) → EndsAnswered t es'
-after_item may_pick before after m t own_misses shared_misses es es' x told = after_answer may_pick before after m t own_misses shared_misses es es' (Some x) told
+pub after_item : {P : Type 0} (may_pick : P → ℕ → ℕ → P → Type 0) (before after : P) (m : Sizes) (t : ℕ) (es es' : List Entry) (x : Item) → AnswersWaiting may_pick before after m t es es' (Some x) → EndsAnswered t es'
+after_item may_pick before after m t es es' x told = after_answer may_pick before after m t told.0 es' (Some x) told.2
+
+-- a list that goes on quietly gains what it gains later
+later : (es now es' : List Entry) → committed_in now ≡ committed_in es → GainsOthers now es' → GainsOthers es es'
+later es now es' same gains = record { gained = gains.gained; others = gains.others; events = gains.events ∙ ap (λ z. z ++ gains.gained) same }
 
 -- an insertion gains one event, and no answer "nothing"
-pub insertion_gains : (levels k t : ℕ) (own_misses shared_misses : List ℕ) (es es' : List Entry) (x : Item) → Inserts levels k t own_misses shared_misses es es' x → GainsOthers es es'
-insertion_gains levels k t own_misses shared_misses es es' x (inl puts) = record {
+one_insertion : (levels k t : ℕ) (es es' : List Entry) (x : Item) → Inserts levels k t es es' x → GainsOthers es es'
+one_insertion levels k t es es' x (inl puts) = record {
   gained = Put x ∷ [];
   others = (λ is. cc, tt);
-  events = goes_on es (own_acquired t own_misses puts.own es) (Committed (Put x) ∷ Released (own_part t) ∷ []) es' (own_quiet t own_misses puts.own es) puts.steps;
+  events = goes_on es (own_acquired t puts.own es) (Committed (Put x) ∷ Released (own_part t) ∷ []) es' (own_quiet t puts.own es) puts.steps;
 }
-insertion_gains levels k t own_misses shared_misses es es' x (inr flushes) = record {
+one_insertion levels k t es es' x (inr flushes) = record {
   gained = Flush x flushes.moved ∷ [];
   others = (λ is. cc, tt);
-  events = goes_on es (both_acquired t own_misses shared_misses flushes.own flushes.shared es) (Committed (Flush x flushes.moved) ∷ both_released t) es' (both_quiet t own_misses shared_misses flushes.own flushes.shared es) flushes.steps;
+  events = goes_on es (both_acquired t flushes.own flushes.shared es) (Committed (Flush x flushes.moved) ∷ both_released t) es' (both_quiet t flushes.own flushes.shared es) flushes.steps;
 }
 
+pub insertion_gains : (levels k t : ℕ) (es es' : List Entry) (x : Item) → InsertsWaiting levels k t es es' x → GainsOthers es es'
+insertion_gains levels k t es es' x told = later es told.0 es' (waits_quiet t _ es told.0 told.1) (one_insertion levels k t told.0 es' x told.2)
+
 -- one that is refused gains none
-pub refusal_gains : (k t : ℕ) (own_misses shared_misses : List ℕ) (es es' : List Entry) (Found : List Item → Type 0) → GivesUp k t own_misses shared_misses es es' Found → GainsOthers es es'
-refusal_gains k t own_misses shared_misses es es' Found gives = record {
+one_refusal : (k t : ℕ) (es es' : List Entry) (Found : List Item → Type 0) → GivesUp k t es es' Found → GainsOthers es es'
+one_refusal k t es es' Found gives = record {
   gained = [];
   others = tt;
-  events = goes_on es (both_acquired t own_misses shared_misses gives.own gives.shared es) (both_released t) es' (both_quiet t own_misses shared_misses gives.own gives.shared es) gives.steps;
+  events = goes_on es (both_acquired t gives.own gives.shared es) (both_released t) es' (both_quiet t gives.own gives.shared es) gives.steps;
 }
+
+pub refusal_gains : (k t : ℕ) (es es' : List Entry) (Found : List Item → Type 0) → (now : List Entry) × Waits t (λ own. length own ≡ k) es now × GivesUp k t now es' Found → GainsOthers es es'
+refusal_gains k t es es' Found told = later es told.0 es' (waits_quiet t _ es told.0 told.1) (one_refusal k t told.0 es' Found told.2)
 
 -- neither a Take nor what moves behind it is an answer "nothing"
 take_and_more : (x : Item) (moved : List Item) → AllByRecursion (λ event. event ≢ Nothing) (Take x ∷ committed_in (refilled moved))
@@ -75,37 +86,49 @@ take_and_more x [] = (λ is. cc, tt)
 take_and_more x (y ∷ moved) = (λ is. cc, (λ is. cc, tt))
 
 -- so it is with a deletion that gave an item
-pub deletion_gains : {P : Type 0} (may_pick : P → ℕ → ℕ → P → Type 0) (before after : P) (m : Sizes) (t : ℕ) (own_misses shared_misses : List ℕ) (es es' : List Entry) (x : Item)
-    → AnswersDeletion may_pick before after m t own_misses shared_misses es es' (Some x) → GainsSome es es'
-deletion_gains may_pick before after m t own_misses shared_misses es es' x (own, inl early) = record {
+one_deletion : {P : Type 0} (may_pick : P → ℕ → ℕ → P → Type 0) (before after : P) (m : Sizes) (t : ℕ) (es es' : List Entry) (x : Item)
+    → AnswersDeletion may_pick before after m t es es' (Some x) → GainsSome es es'
+one_deletion may_pick before after m t es es' x (own, inl early) = record {
   gains = record {
     gained = Early x early.0.front ∷ [];
     others = (λ is. cc, tt);
-    events = early_events m t own es (own_acquired t own_misses own es) es' x (own_quiet t own_misses own es) early.0;
+    events = early_events m t own es (own_acquired t own es) es' x (own_quiet t own es) early.0;
   };
   some = omega arith;
 }
-deletion_gains may_pick before after m t own_misses shared_misses es es' x (own, inr (shared, inl takes)) = record {
+one_deletion may_pick before after m t es es' x (own, inr (shared, inl takes)) = record {
   gains = record {
     gained = Take x ∷ committed_in (refilled (is_refilled m.refill m.k own shared x).0);
     others = take_and_more x (is_refilled m.refill m.k own shared x).0;
-    events = takes_events m t own shared es (both_acquired t own_misses shared_misses own shared es) es' (both_quiet t own_misses shared_misses own shared es) x takes.0
+    events = takes_events m t own shared es (both_acquired t own shared es) es' (both_quiet t own shared es) x takes.0
         ∙ ap (λ z. committed_in es ++ Take x ∷ committed_in z) (is_refilled m.refill m.k own shared x).1;
   };
   some = omega arith;
 }
-deletion_gains may_pick before after m t own_misses shared_misses es es' x (own, inr (shared, inr takes)) = record {
+one_deletion may_pick before after m t es es' x (own, inr (shared, inr takes)) = record {
   gains = record {
     gained = Spy (victim_of m.threads t (suc takes.0.spies.passed)) takes.0.moved ∷ Take x ∷ [];
     others = (λ is. cc, (λ is. cc, tt));
-    events = spied_events m t own shared es (both_acquired t own_misses shared_misses own shared es) es' (both_quiet t own_misses shared_misses own shared es) x takes.0;
+    events = spied_events m t own shared es (both_acquired t own shared es) es' (both_quiet t own shared es) x takes.0;
   };
   some = omega arith;
 }
 
+pub deletion_gains : {P : Type 0} (may_pick : P → ℕ → ℕ → P → Type 0) (before after : P) (m : Sizes) (t : ℕ) (es es' : List Entry) (x : Item)
+    → AnswersWaiting may_pick before after m t es es' (Some x) → GainsSome es es'
+unfolding later one_deletion
+deletion_gains may_pick before after m t es es' x told =
+    let gains = one_deletion may_pick before after m t told.0 es' x told.2 in
+    record { gains = later es told.0 es' (waits_quiet t _ es told.0 told.1) gains.gains; some = gains.some }
+
 -- and one that gave none gains an answer "nothing"
-pub no_deletion_gains : {P : Type 0} (may_pick : P → ℕ → ℕ → P → Type 0) (before after : P) (m : Sizes) (t : ℕ) (own_misses shared_misses : List ℕ) (es es' : List Entry)
-    → AnswersDeletion may_pick before after m t own_misses shared_misses es es' None → GainsNothing es es'
-no_deletion_gains may_pick before after m t own_misses shared_misses es es' (own, inl early) = absurd early.0
-no_deletion_gains may_pick before after m t own_misses shared_misses es es' (own, inr both) =
-    nothing_events m t own both.0 es (both_acquired t own_misses shared_misses own both.0 es) es' (both_quiet t own_misses shared_misses own both.0 es) both.1.0
+one_nothing : {P : Type 0} (may_pick : P → ℕ → ℕ → P → Type 0) (before after : P) (m : Sizes) (t : ℕ) (es es' : List Entry)
+    → AnswersDeletion may_pick before after m t es es' None → GainsNothing es es'
+one_nothing may_pick before after m t es es' (own, inl early) = absurd early.0
+one_nothing may_pick before after m t es es' (own, inr both) =
+    nothing_events m t own both.0 es (both_acquired t own both.0 es) es' (both_quiet t own both.0 es) both.1.0
+
+pub no_deletion_gains : {P : Type 0} (may_pick : P → ℕ → ℕ → P → Type 0) (before after : P) (m : Sizes) (t : ℕ) (es es' : List Entry)
+    → AnswersWaiting may_pick before after m t es es' None → GainsNothing es es'
+no_deletion_gains may_pick before after m t es es' told =
+    one_nothing may_pick before after m t told.0 es' told.2 ∙ ap (λ z. z ++ Nothing ∷ []) (waits_quiet t _ es told.0 told.1)

@@ -19,7 +19,7 @@ use Rattle.klsm_owned.specs.Owned.{choice_of, member_of}
 pub record TriesInsert (before after : OwnedMember) (key load : ℕ) (result : Result Stamp TryInsertError) : Type 0 where
   pub stamp : IfOk result (λ stamp.
       stamp ≡ stamp_of (member_of before).number (length (inserted (own_steps (member_of before)))))
-  pub ok : IfOk result (λ stamp. Inserts 21 (member_of before).sizes.k (member_of before).number [] []
+  pub ok : IfOk result (λ stamp. Inserts 21 (member_of before).sizes.k (member_of before).number
       (own_steps (member_of before)) (own_steps (member_of after)) (stamped key stamp load))
   pub adds : IfOk result (λ stamp.
       Adds (member_of before) (member_of after) (stamped key stamp load ∷ []) [])
@@ -35,7 +35,7 @@ pub record TriesInsert (before after : OwnedMember) (key load : ℕ) (result : R
 -- The picker is asked, and picks, as it may.
 pub record TriesDelete (before after : OwnedMember) (result : Result (Option Item) Busy) : Type 0 where
   pub ok : IfOk result (λ answer. AnswersDeletion may_choose (choice_of before) (choice_of after)
-      (member_of before).sizes (member_of before).number [] []
+      (member_of before).sizes (member_of before).number
       (own_steps (member_of before)) (own_steps (member_of after)) answer)
   pub adds : IfOk result (λ answer.
       Adds (member_of before) (member_of after) [] (option_to_list answer))

@@ -8,7 +8,7 @@ use Rattle.klsm_parts.specs.Taking.{picks}
 use Rattle.klsm_world.specs.declared.step.Entry.{Entry}
 use Rattle.klsm_board.specs.declared.sizes.Sizes.{Sizes}
 use Rattle.klsm_board.specs.Choosing.{Chooses}
-use Rattle.klsm_board.specs.Deleting.{AnswersDeletion}
+use Rattle.klsm_board.specs.Deleting.{AnswersDeletion, AnswersWaiting}
 use Rattle.klsm_words.specs.declared.settings.Settings.{Settings}
 use Rattle.klsm_tool.specs.declared.picking.ThreadPicker.{ThreadPicker}
 use Rattle.klsm_tool.specs.Picking.{ArePickers, ArePlaced, picker_of}
@@ -46,8 +46,11 @@ module _ (may_pick : ThreadPicker → ℕ → ℕ → ThreadPicker → Type 0) (
       by_test true asked = let picked = chooses.asked asked in keeps before after _ picked.index picked.picked
       by_test false asked = ap (λ (p : ThreadPicker). p.thread) (chooses.unasked asked).0
 
-  pub same_thread : (m : Sizes) (t : ℕ) (own_misses shared_misses : List ℕ) (es es' : List Entry) (answer : Option Item) → AnswersDeletion may_pick before after m t own_misses shared_misses es es' answer → after.thread ≡ before.thread
-  same_thread m t own_misses shared_misses es es' answer (own, inl early) = ap (λ (p : ThreadPicker). p.thread) early.1
-  same_thread m t own_misses shared_misses es es' None (own, inr both) = ap (λ (p : ThreadPicker). p.thread) both.1.1
-  same_thread m t own_misses shared_misses es es' (Some x) (own, inr (shared, inl takes)) = by_choice m.k t own shared x takes.1
-  same_thread m t own_misses shared_misses es es' (Some x) (own, inr (shared, inr spied)) = ap (λ (p : ThreadPicker). p.thread) spied.1
+  same_by : (m : Sizes) (t : ℕ) (es es' : List Entry) (answer : Option Item) → AnswersDeletion may_pick before after m t es es' answer → after.thread ≡ before.thread
+  same_by m t es es' answer (own, inl early) = ap (λ (p : ThreadPicker). p.thread) early.1
+  same_by m t es es' None (own, inr both) = ap (λ (p : ThreadPicker). p.thread) both.1.1
+  same_by m t es es' (Some x) (own, inr (shared, inl takes)) = by_choice m.k t own shared x takes.1
+  same_by m t es es' (Some x) (own, inr (shared, inr spied)) = ap (λ (p : ThreadPicker). p.thread) spied.1
+
+  pub same_thread : (m : Sizes) (t : ℕ) (es es' : List Entry) (answer : Option Item) → AnswersWaiting may_pick before after m t es es' answer → after.thread ≡ before.thread
+  same_thread m t es es' answer told = same_by m t told.0 es' answer told.2

@@ -11,13 +11,15 @@ use Rattle.klsm_world.specs.OwnSteps.{inserted, inserted_by}
 use Rattle.klsm_board.specs.declared.sizes.Sizes.{Sizes}
 use Rattle.klsm_board.specs.declared.errors.InsertError.{InsertError}
 use Rattle.klsm_board.specs.Entries.{own_acquired, both_acquired}
-use Rattle.klsm_board.specs.Inserting.{Inserts, RefusesInsertWaiting}
-use Rattle.klsm_board.specs.Deleting.{Deletes, FindsNothing, AnswersDeletion, victim_of, refilled}
+use Rattle.klsm_board.specs.Inserting.{Inserts, InsertsWaiting, RefusesInsertWaiting, Waits}
+use Rattle.klsm_board.specs.Deleting.{Deletes, FindsNothing, AnswersDeletion, AnswersWaiting, victim_of, refilled}
 use Rattle.klsm_board.specs.Effects.{committed_in}
 use Rattle.klsm_board.proofs.lemmas.calls.AddLemmas.{own_quiet, both_quiet}
 use Rattle.klsm_board.proofs.lemmas.calls.AddedLemmas.{puts_events, flushes_events, refused_waiting_events}
 use Rattle.klsm_board.proofs.lemmas.calls.DeletedLemmas.{takes_events, early_events, spied_events, nothing_events}
+use Rattle.klsm_board.proofs.lemmas.calls.MissLemmas.{waits_quiet}
 use Rattle.klsm_board.proofs.lemmas.calls.RefillLemmas.{is_refilled}
+use Rattle.klsm_text.specs.declared.answer.Answer.{Answer}
 use Rattle.klsm_text.specs.declared.answer.Answer.TheVariants.{Inserted, Deleted, Nothing}
 use Rattle.klsm_tool.specs.Shown.{shown, shown_in}
 
@@ -45,12 +47,19 @@ inserted_within es = by_events (committed_in es)
         let shows = ap length (flat_map-cons shown e all) ∙ length-append (shown e) (flat_map shown all) in
         omega (arith, more, shows, one e, by_events all)
 
+-- what comes after tries that met a lock shows the same as without them
+after_waits : (t : ℕ) (Found : List Item → Type 0) (es now : List Entry) (more : List Answer) → Waits t Found es now → shown_in now ++ more ≡ shown_in es ++ more
+after_waits t Found es now more waits = ap (λ z. flat_map shown z ++ more) (waits_quiet t Found es now waits)
+
 -- an insertion shows its item
-pub insertion_shows : (levels k t : ℕ) (own_misses shared_misses : List ℕ) (es es' : List Entry) (x : Item) → Inserts levels k t own_misses shared_misses es es' x
+one_shows : (levels k t : ℕ) (es es' : List Entry) (x : Item) → Inserts levels k t es es' x
     → shown_in es' ≡ shown_in es ++ Inserted x ∷ []
-insertion_shows levels k t own_misses shared_misses es es' x (inl puts) = shows_more es es' (event.Put x ∷ []) (puts_events k t own_misses es es' x puts)
-insertion_shows levels k t own_misses shared_misses es es' x (inr flushes) =
-    shows_more es es' (event.Flush x flushes.moved ∷ []) (flushes_events levels k t own_misses shared_misses es es' x flushes)
+one_shows levels k t es es' x (inl puts) = shows_more es es' (event.Put x ∷ []) (puts_events k t es es' x puts)
+one_shows levels k t es es' x (inr flushes) =
+    shows_more es es' (event.Flush x flushes.moved ∷ []) (flushes_events levels k t es es' x flushes)
+
+pub insertion_shows : (levels k t : ℕ) (es es' : List Entry) (x : Item) → InsertsWaiting levels k t es es' x → shown_in es' ≡ shown_in es ++ Inserted x ∷ []
+insertion_shows levels k t es es' x told = one_shows levels k t told.0 es' x told.2 ∙ after_waits t _ es told.0 (Inserted x ∷ []) told.1
 
 -- one that is refused shows nothing
 pub refusal_shows : (levels k t : ℕ) (es es' : List Entry) (why : InsertError) → RefusesInsertWaiting ⊥ levels k t es es' why → shown_in es' ≡ shown_in es
@@ -61,12 +70,12 @@ take_shows : (x : Item) (moved : List Item) → flat_map shown (event.Take x ∷
 take_shows x [] = refl
 take_shows x (y ∷ moved) = refl
 
-module _ (m : Sizes) (t : ℕ) (own_misses shared_misses : List ℕ) (own shared : List Item) (es es' : List Entry) where
+module _ (m : Sizes) (t : ℕ) (own shared : List Item) (es es' : List Entry) where
   abbrev taken : List Entry
-  taken = both_acquired t own_misses shared_misses own shared es
+  taken = both_acquired t own shared es
 
   quiet : committed_in taken ≡ committed_in es
-  quiet = both_quiet t own_misses shared_misses own shared es
+  quiet = both_quiet t own shared es
 
   -- a deletion from both parts shows its item
   deletion_shows : {P : Type 0} (may_pick : P → ℕ → ℕ → P → Type 0) (before after : P) (x : Item) → Deletes may_pick before after m t own shared taken es' x
@@ -83,11 +92,17 @@ module _ (m : Sizes) (t : ℕ) (own_misses shared_misses : List ℕ) (own shared
   nothing_shows finds = shows_more es es' (event.Nothing ∷ []) (nothing_events m t own shared es taken es' quiet finds)
 
 -- what a deletion answered is what it shows
-module _ {P : Type 0} (may_pick : P → ℕ → ℕ → P → Type 0) (before after : P) (m : Sizes) (t : ℕ) (own_misses shared_misses : List ℕ) (es es' : List Entry) where
-  pub item_shows : (x : Item) → AnswersDeletion may_pick before after m t own_misses shared_misses es es' (Some x) → shown_in es' ≡ shown_in es ++ Deleted x ∷ []
-  item_shows x (own, inl early) = shows_more es es' (event.Early x early.0.front ∷ []) (early_events m t own es (own_acquired t own_misses own es) es' x (own_quiet t own_misses own es) early.0)
-  item_shows x (own, inr both) = deletion_shows m t own_misses shared_misses own both.0 es es' may_pick before after x both.1
+module _ {P : Type 0} (may_pick : P → ℕ → ℕ → P → Type 0) (before after : P) (m : Sizes) (t : ℕ) where
+  one_item : (es es' : List Entry) (x : Item) → AnswersDeletion may_pick before after m t es es' (Some x) → shown_in es' ≡ shown_in es ++ Deleted x ∷ []
+  one_item es es' x (own, inl early) = shows_more es es' (event.Early x early.0.front ∷ []) (early_events m t own es (own_acquired t own es) es' x (own_quiet t own es) early.0)
+  one_item es es' x (own, inr both) = deletion_shows m t own both.0 es es' may_pick before after x both.1
 
-  pub none_shows : AnswersDeletion may_pick before after m t own_misses shared_misses es es' None → shown_in es' ≡ shown_in es ++ Nothing ∷ []
-  none_shows (own, inl early) = absurd early.0
-  none_shows (own, inr both) = nothing_shows m t own_misses shared_misses own both.0 es es' both.1.0
+  one_none : (es es' : List Entry) → AnswersDeletion may_pick before after m t es es' None → shown_in es' ≡ shown_in es ++ Nothing ∷ []
+  one_none es es' (own, inl early) = absurd early.0
+  one_none es es' (own, inr both) = nothing_shows m t own both.0 es es' both.1.0
+
+  pub item_shows : (es es' : List Entry) (x : Item) → AnswersWaiting may_pick before after m t es es' (Some x) → shown_in es' ≡ shown_in es ++ Deleted x ∷ []
+  item_shows es es' x told = one_item told.0 es' x told.2 ∙ after_waits t _ es told.0 (Deleted x ∷ []) told.1
+
+  pub none_shows : (es es' : List Entry) → AnswersWaiting may_pick before after m t es es' None → shown_in es' ≡ shown_in es ++ Nothing ∷ []
+  none_shows es es' told = one_none told.0 es' told.2 ∙ after_waits t _ es told.0 (Nothing ∷ []) told.1

@@ -1,5 +1,6 @@
 -- What the calls add to a list.
-pub mod MissLemmas  -- tries in vain, one after another
+pub mod MissLemmas  -- tries that met a lock, one after another
+pub mod WaitLemmas  -- a call that may wait
 pub mod TestLemmas  -- what is known by cases
 pub mod TakeLemmas  -- the deletion from an own part alone
 pub mod EventLemmas  -- which events the entries have

@@ -48,7 +48,7 @@ returns-in-Err-clause-busy g c =
         found = tt;
         lock = busy.0;
         steps = c.release_part.ensures.list ∙ (ap (λ z. z ++ Released (t + 1) ∷ []) (busy.2 ∙ ap (λ z. z ++ Missed 0 by ∷ []) (kept.1 ∙ own.2))
-            ∙ append_assoc (own_acquired t [] own.0 (mine c.args.seat.now.me.0)) (Missed 0 by ∷ []) (Released (t + 1) ∷ []));
+            ∙ append_assoc (own_acquired t own.0 (mine c.args.seat.now.me.0)) (Missed 0 by ∷ []) (Released (t + 1) ∷ []));
       }),
     )
 
@@ -63,7 +63,7 @@ returns-clause-ok g c =
     let m = c.args.table.now.key in let t = c.args.thread in let es = mine c.args.seat.now.me.0 in
     let own = c.in_ok-try_acquire.ensures.ok [] c.requires.stands in let kept = c.in_default.ensures.done own.0 own.1 in
     let shared = c.in_default-try_acquire.ensures.ok (own_in_hand t own.0) (stands kept.0) in
-    let acquired : mine c.try_acquire-2.new.seat.me.0 ≡ both_acquired t [] [] own.0 shared.0 es = shared.2 ∙ ap (λ z. z ++ Acquired 0 shared.0 ∷ []) (kept.1 ∙ own.2) in
+    let acquired : mine c.try_acquire-2.new.seat.me.0 ≡ both_acquired t own.0 shared.0 es = shared.2 ∙ ap (λ z. z ++ Acquired 0 shared.0 ∷ []) (kept.1 ∙ own.2) in
     let did = c.delete_under_both in let es' = mine did.new.seat.me.0 in (
       own.0,
       inr (
@@ -78,7 +78,7 @@ pub returns-in-Some-clause-effect : goal.returns-in-Some-clause-effect
 returns-in-Some-clause-effect g c =
     let m = c.args.table.now.key in let t = c.args.thread in let es = mine c.args.seat.now.me.0 in let me1 = c.try_acquire.new.seat.me in let es' = mine c.delete_early.new.seat.me.0 in
     let own = c.in_ok-try_acquire.ensures.ok [] c.requires.stands in
-    effect_since m t (rest_of c.args.seat.now.me.0) es (mine me1.0) es' (Some c.in-Some.item) (ap committed_in own.2 ∙ own_quiet t [] own.0 es)
+    effect_since m t (rest_of c.args.seat.now.me.0) es (mine me1.0) es' (Some c.in-Some.item) (ap committed_in own.2 ∙ own_quiet t own.0 es)
     (subst (λ z. TakesEffect m t z (mine me1.0) es' (Some c.in-Some.item)) c.try_acquire.ensures.others c.in-Some.ensures.effect)
 
 pub returns-clause-effect : goal.returns-clause-effect
@@ -87,6 +87,6 @@ returns-clause-effect g c =
     let own = c.in_ok-try_acquire.ensures.ok [] c.requires.stands in let kept = c.in_default.ensures.done own.0 own.1 in
     let shared = c.in_default-try_acquire.ensures.ok (own_in_hand t own.0) (stands kept.0) in
     let me2 = c.try_acquire-2.new.seat.me in let did = c.delete_under_both in let es' = mine did.new.seat.me.0 in
-    let acquired : mine me2.0 ≡ both_acquired t [] [] own.0 shared.0 es = shared.2 ∙ ap (λ z. z ++ Acquired 0 shared.0 ∷ []) (kept.1 ∙ own.2) in
-    effect_since m t (rest_of c.args.seat.now.me.0) es (mine me2.0) es' did.result (ap committed_in acquired ∙ both_quiet t [] [] own.0 shared.0 es)
+    let acquired : mine me2.0 ≡ both_acquired t own.0 shared.0 es = shared.2 ∙ ap (λ z. z ++ Acquired 0 shared.0 ∷ []) (kept.1 ∙ own.2) in
+    effect_since m t (rest_of c.args.seat.now.me.0) es (mine me2.0) es' did.result (ap committed_in acquired ∙ both_quiet t own.0 shared.0 es)
     (subst (λ z. TakesEffect m t z (mine me2.0) es' did.result) (c.try_acquire-2.ensures.others ∙ (c.delete_early.ensures.others ∙ c.try_acquire.ensures.others)) did.ensures.effect)

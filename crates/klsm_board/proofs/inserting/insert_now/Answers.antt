@@ -72,7 +72,7 @@ returns-in-Err-try_acquire-clause-refused g c =
       found = kept.0;
       lock = busy.0;
       steps = c.release_part.ensures.list ∙ (ap (λ z. z ++ Released (t + 1) ∷ []) (busy.2 ∙ ap (λ z. z ++ Missed 0 by ∷ []) (kept.2 ∙ own.2))
-          ∙ append_assoc (own_acquired t [] own.0 es) (Missed 0 by ∷ []) (Released (t + 1) ∷ []));
+          ∙ append_assoc (own_acquired t own.0 es) (Missed 0 by ∷ []) (Released (t + 1) ∷ []));
     })
 
 pub flush_both-requires-clause-stamp : goal.flush_both-requires-clause-stamp
@@ -80,14 +80,14 @@ flush_both-requires-clause-stamp g c =
     let content = g.S.Holding.content in let suits = g.S.Holding.suits in let m = c.args.table.now.key in let t = c.args.thread in
     let me = c.args.seat.now.me in let both = c.try_acquire-2.new.seat.me in
     let k = full_now content suits m t me c.try_acquire.new.seat.me c.put_own.new.seat.me both c.requires.stands c.in_default.ensures.ok c.if-put_own.ensures.done c.in_default-try_acquire.ensures.ok in
-    stamp_kept t c.args.item (mine me.0) (mine both.0) (full_is_quiet content suits m t [] [] (mine me.0) (mine both.0) both k) c.requires.stamp
+    stamp_kept t c.args.item (mine me.0) (mine both.0) (full_is_quiet content suits m t (mine me.0) (mine both.0) both k) c.requires.stamp
 
 pub flush_both-requires-clause-room : goal.flush_both-requires-clause-room
 flush_both-requires-clause-room g c =
     let content = g.S.Holding.content in let suits = g.S.Holding.suits in let m = c.args.table.now.key in let t = c.args.thread in
     let me = c.args.seat.now.me in let both = c.try_acquire-2.new.seat.me in
     let k = full_now content suits m t me c.try_acquire.new.seat.me c.put_own.new.seat.me both c.requires.stands c.in_default.ensures.ok c.if-put_own.ensures.done c.in_default-try_acquire.ensures.ok in
-    room_kept m.quota (mine me.0) (mine both.0) (full_is_quiet content suits m t [] [] (mine me.0) (mine both.0) both k) c.requires.room
+    room_kept m.quota (mine me.0) (mine both.0) (full_is_quiet content suits m t (mine me.0) (mine both.0) both k) c.requires.room
 
 pub flush_both-requires-clause-has : goal.flush_both-requires-clause-has
 flush_both-requires-clause-has g c =
@@ -101,18 +101,18 @@ returns-in-Ok-clause-ok g c =
     let content = g.S.Holding.content in let suits = g.S.Holding.suits in let m = c.args.table.now.key in let t = c.args.thread in
     let me = c.args.seat.now.me in let both = c.try_acquire-2.new.seat.me in
     let k = full_now content suits m t me c.try_acquire.new.seat.me c.put_own.new.seat.me both c.requires.stands c.in_default.ensures.ok c.if-put_own.ensures.done c.in_default-try_acquire.ensures.ok in
-    inr (flushed content suits m t [] [] (mine me.0) (mine c.flush_both.new.seat.me.0) both k g.S.PartSlot.levels c.args.item (c.in-Ok.ensures.done k.own k.shared k.has))
+    inr (flushed content suits m t (mine me.0) (mine c.flush_both.new.seat.me.0) both k g.S.PartSlot.levels c.args.item (c.in-Ok.ensures.done k.own k.shared k.has))
 
 pub returns-in-Err-Full-clause-refused : goal.returns-in-Err-Full-clause-refused
 returns-in-Err-Full-clause-refused g c =
     let content = g.S.Holding.content in let suits = g.S.Holding.suits in let m = c.args.table.now.key in let t = c.args.thread in
     let me = c.args.seat.now.me in let both = c.try_acquire-2.new.seat.me in
     let k = full_now content suits m t me c.try_acquire.new.seat.me c.put_own.new.seat.me both c.requires.stands c.in_default.ensures.ok c.if-put_own.ensures.done c.in_default-try_acquire.ensures.ok in
-    gave_up content suits m t [] [] (mine me.0) (mine c.flush_both.new.seat.me.0) both k (LacksRoom g.S.PartSlot.levels m.k) (c.in-Err-Full.ensures.full c.in-Err-Full.field-0-is k.own k.shared k.has) c.in-Err-Full.ensures.refused
+    gave_up content suits m t (mine me.0) (mine c.flush_both.new.seat.me.0) both k (LacksRoom g.S.PartSlot.levels m.k) (c.in-Err-Full.ensures.full c.in-Err-Full.field-0-is k.own k.shared k.has) c.in-Err-Full.ensures.refused
 
 pub returns-in-Err-NoMemory-clause-refused : goal.returns-in-Err-NoMemory-clause-refused
 returns-in-Err-NoMemory-clause-refused g c =
     let content = g.S.Holding.content in let suits = g.S.Holding.suits in let m = c.args.table.now.key in let t = c.args.thread in
     let me = c.args.seat.now.me in let both = c.try_acquire-2.new.seat.me in
     let k = full_now content suits m t me c.try_acquire.new.seat.me c.put_own.new.seat.me both c.requires.stands c.in_default.ensures.ok c.if-put_own.ensures.done c.in_default-try_acquire.ensures.ok in
-    gave_up content suits m t [] [] (mine me.0) (mine c.flush_both.new.seat.me.0) both k (IsBelowLimit g.S.PartSlot.levels) (c.in-Err-NoMemory.ensures.memory c.in-Err-NoMemory.field-0-is k.own k.shared k.has) c.in-Err-NoMemory.ensures.refused
+    gave_up content suits m t (mine me.0) (mine c.flush_both.new.seat.me.0) both k (IsBelowLimit g.S.PartSlot.levels) (c.in-Err-NoMemory.ensures.memory c.in-Err-NoMemory.field-0-is k.own k.shared k.has) c.in-Err-NoMemory.ensures.refused

@@ -8,8 +8,8 @@ use Rattle.klsm_world.specs.declared.step.Entry.{Entry}
 use Rattle.klsm_world.specs.declared.step.Entry.TheVariants.{Acquired}
 use Rattle.klsm_world.specs.OwnSteps.{inserted, inserted_by, deleted, deleted_by, own_part}
 use Rattle.klsm_board.specs.Effects.{committed_in}
-use Rattle.klsm_board.specs.Entries.{missed, own_acquired, both_acquired}
-use Rattle.klsm_board.proofs.lemmas.calls.EventLemmas.{events_append, same_events, acquiring_is_quiet}
+use Rattle.klsm_board.specs.Entries.{own_acquired, both_acquired}
+use Rattle.klsm_board.proofs.lemmas.calls.EventLemmas.{events_append, same_events}
 
 -- a list that goes on, from one with the same events, by entries with these events
 pub goes_on : (es mid fs es' : List Entry) → committed_in mid ≡ committed_in es → es' ≡ mid ++ fs → committed_in es' ≡ committed_in es ++ committed_in fs
@@ -22,10 +22,9 @@ pub deletes : (es es' : List Entry) (added : List Event) → committed_in es' �
 deletes es es' added is = ap (flat_map deleted_by) is ∙ flat_map-append deleted_by (committed_in es) added
 
 -- parts that are acquired bring no event
-pub own_quiet : (t : ℕ) (misses : List ℕ) (own : List Item) (es : List Entry) → committed_in (own_acquired t misses own es) ≡ committed_in es
-own_quiet t misses own es = same_events es (missed (own_part t) misses ++ Acquired (own_part t) own ∷ []) (own_acquired t misses own es) refl (acquiring_is_quiet (own_part t) misses own)
+pub own_quiet : (t : ℕ) (own : List Item) (es : List Entry) → committed_in (own_acquired t own es) ≡ committed_in es
+own_quiet t own es = same_events es (Acquired (own_part t) own ∷ []) (own_acquired t own es) refl refl
 
-pub both_quiet : (t : ℕ) (own_misses shared_misses : List ℕ) (own shared : List Item) (es : List Entry) → committed_in (both_acquired t own_misses shared_misses own shared es) ≡ committed_in es
-both_quiet t own_misses shared_misses own shared es =
-    same_events (own_acquired t own_misses own es) (missed 0 shared_misses ++ Acquired 0 shared ∷ []) (both_acquired t own_misses shared_misses own shared es) refl (acquiring_is_quiet 0 shared_misses shared)
-    ∙ own_quiet t own_misses own es
+pub both_quiet : (t : ℕ) (own shared : List Item) (es : List Entry) → committed_in (both_acquired t own shared es) ≡ committed_in es
+both_quiet t own shared es =
+    same_events (own_acquired t own es) (Acquired 0 shared ∷ []) (both_acquired t own shared es) refl refl ∙ own_quiet t own es

@@ -17,32 +17,33 @@ use Rattle.klsm_board.specs.Boards.{Gains}
 use Rattle.klsm_board.specs.Entries.{own_acquired, both_acquired, both_released}
 use Rattle.klsm_board.specs.Inserting.{Puts, Flushes, GivesUp, Inserts, LacksRoom, IsBelowLimit, RefusesInsert, RefusesInsertWaiting}
 use Rattle.klsm_board.proofs.lemmas.calls.EventLemmas.{IsQuiet, same_events}
+use Rattle.klsm_board.proofs.lemmas.calls.MissLemmas.{misses_quiet, waits_quiet}
 use Rattle.klsm_board.proofs.lemmas.calls.AddLemmas.{goes_on, inserts, deletes, own_quiet, both_quiet}
 
 -- an insertion
-pub puts_events : (k t : ℕ) (misses : List ℕ) (es es' : List Entry) (x : Item) → Puts k t misses es es' x → committed_in es' ≡ committed_in es ++ Put x ∷ []
-puts_events k t misses es es' x puts =
-    goes_on es (own_acquired t misses puts.own es) (Committed (Put x) ∷ Released (own_part t) ∷ []) es' (own_quiet t misses puts.own es) puts.steps
+pub puts_events : (k t : ℕ) (es es' : List Entry) (x : Item) → Puts k t es es' x → committed_in es' ≡ committed_in es ++ Put x ∷ []
+puts_events k t es es' x puts =
+    goes_on es (own_acquired t puts.own es) (Committed (Put x) ∷ Released (own_part t) ∷ []) es' (own_quiet t puts.own es) puts.steps
 
-puts_gain : (k t : ℕ) (misses : List ℕ) (es es' : List Entry) (x : Item) → Puts k t misses es es' x → Gains es es' (x ∷ []) []
-puts_gain k t misses es es' x puts =
+puts_gain : (k t : ℕ) (es es' : List Entry) (x : Item) → Puts k t es es' x → Gains es es' (x ∷ []) []
+puts_gain k t es es' x puts =
     let added : List Event = Put x ∷ [] in
-    let e = puts_events k t misses es es' x puts in
+    let e = puts_events k t es es' x puts in
     record { inserted_are = inserts es es' added e; deleted_are = deletes es es' added e }
 
-pub flushes_events : (levels k t : ℕ) (own_misses shared_misses : List ℕ) (es es' : List Entry) (x : Item) → (f : Flushes levels k t own_misses shared_misses es es' x) → committed_in es' ≡ committed_in es ++ Flush x f.moved ∷ []
-flushes_events levels k t own_misses shared_misses es es' x f =
-    goes_on es (both_acquired t own_misses shared_misses f.own f.shared es) (Committed (Flush x f.moved) ∷ both_released t) es' (both_quiet t own_misses shared_misses f.own f.shared es) f.steps
+pub flushes_events : (levels k t : ℕ) (es es' : List Entry) (x : Item) → (f : Flushes levels k t es es' x) → committed_in es' ≡ committed_in es ++ Flush x f.moved ∷ []
+flushes_events levels k t es es' x f =
+    goes_on es (both_acquired t f.own f.shared es) (Committed (Flush x f.moved) ∷ both_released t) es' (both_quiet t f.own f.shared es) f.steps
 
-flushes_gain : (levels k t : ℕ) (own_misses shared_misses : List ℕ) (es es' : List Entry) (x : Item) → Flushes levels k t own_misses shared_misses es es' x → Gains es es' (x ∷ []) []
-flushes_gain levels k t own_misses shared_misses es es' x f =
+flushes_gain : (levels k t : ℕ) (es es' : List Entry) (x : Item) → Flushes levels k t es es' x → Gains es es' (x ∷ []) []
+flushes_gain levels k t es es' x f =
     let added : List Event = Flush x f.moved ∷ [] in
-    let e = flushes_events levels k t own_misses shared_misses es es' x f in
+    let e = flushes_events levels k t es es' x f in
     record { inserted_are = inserts es es' added e; deleted_are = deletes es es' added e }
 
-pub inserts_gain : (levels k t : ℕ) (own_misses shared_misses : List ℕ) (es es' : List Entry) (x : Item) → Inserts levels k t own_misses shared_misses es es' x → Gains es es' (x ∷ []) []
-inserts_gain levels k t own_misses shared_misses es es' x (inl puts) = puts_gain k t own_misses es es' x puts
-inserts_gain levels k t own_misses shared_misses es es' x (inr f) = flushes_gain levels k t own_misses shared_misses es es' x f
+pub inserts_gain : (levels k t : ℕ) (es es' : List Entry) (x : Item) → Inserts levels k t es es' x → Gains es es' (x ∷ []) []
+inserts_gain levels k t es es' x (inl puts) = puts_gain k t es es' x puts
+inserts_gain levels k t es es' x (inr f) = flushes_gain levels k t es es' x f
 
 -- entries without an event
 pub quiet_gains : (es es' : List Entry) → committed_in es' ≡ committed_in es → Gains es es' [] []
@@ -61,12 +62,12 @@ quiet_same es fs es' is quiet =
     record { inserted_are = ap (flat_map inserted_by) same; deleted_are = ap (flat_map deleted_by) same }
 
 -- a call that gave up
-gives_up_events : (k t : ℕ) (own_misses shared_misses : List ℕ) (es es' : List Entry) (Lacks : List Item → Type 0) → GivesUp k t own_misses shared_misses es es' Lacks → committed_in es' ≡ committed_in es
-gives_up_events k t own_misses shared_misses es es' Lacks up =
-    same_events (both_acquired t own_misses shared_misses up.own up.shared es) (both_released t) es' up.steps refl ∙ both_quiet t own_misses shared_misses up.own up.shared es
+gives_up_events : (k t : ℕ) (es es' : List Entry) (Lacks : List Item → Type 0) → GivesUp k t es es' Lacks → committed_in es' ≡ committed_in es
+gives_up_events k t es es' Lacks up =
+    same_events (both_acquired t up.own up.shared es) (both_released t) es' up.steps refl ∙ both_quiet t up.own up.shared es
 
-gives_up_gains : (k t : ℕ) (own_misses shared_misses : List ℕ) (es es' : List Entry) (Lacks : List Item → Type 0) → GivesUp k t own_misses shared_misses es es' Lacks → Gains es es' [] []
-gives_up_gains k t own_misses shared_misses es es' Lacks up = quiet_gains es es' (gives_up_events k t own_misses shared_misses es es' Lacks up)
+gives_up_gains : (k t : ℕ) (es es' : List Entry) (Lacks : List Item → Type 0) → GivesUp k t es es' Lacks → Gains es es' [] []
+gives_up_gains k t es es' Lacks up = quiet_gains es es' (gives_up_events k t es es' Lacks up)
 
 -- how many these are
 pub gained_counts : (es es' : List Entry) (ins dels : List Item) (i d : ℕ) → Gains es es' ins dels → length (inserted es) ≡ i → length (deleted es) ≡ d
@@ -79,17 +80,15 @@ gained_counts es es' ins dels i d gains counts counts' =
 -- why a try to insert was refused, once it began
 pub refused_gains : (levels k t : ℕ) (es es' : List Entry) (why : TryInsertError) → RefusesInsert ⊥ levels k t es es' why → Gains es es' [] []
 refused_gains levels k t es es' try_insert.Spent outcome = absurd outcome.0
-refused_gains levels k t es es' (try_insert.Busy busy) (inl own) = quiet_gains es es' (same_events es (Missed (own_part t) busy.by ∷ []) es' own.steps refl)
-refused_gains levels k t es es' (try_insert.Busy busy) (inr shared) =
-    quiet_gains es es' (same_events (own_acquired t [] shared.own es) (Missed 0 busy.by ∷ Released (own_part t) ∷ []) es' shared.steps refl ∙ own_quiet t [] shared.own es)
-refused_gains levels k t es es' try_insert.Full outcome = gives_up_gains k t [] [] es es' (LacksRoom levels k) outcome
-refused_gains levels k t es es' try_insert.NoMemory outcome = gives_up_gains k t [] [] es es' (IsBelowLimit levels) outcome
+refused_gains levels k t es es' (try_insert.Busy busy) outcome = quiet_gains es es' (misses_quiet t _ es es' busy outcome)
+refused_gains levels k t es es' try_insert.Full outcome = gives_up_gains k t es es' (LacksRoom levels k) outcome
+refused_gains levels k t es es' try_insert.NoMemory outcome = gives_up_gains k t es es' (IsBelowLimit levels) outcome
 
 -- the same of an insertion that may wait
 pub refused_waiting_events : (levels k t : ℕ) (es es' : List Entry) (why : InsertError) → RefusesInsertWaiting ⊥ levels k t es es' why → committed_in es' ≡ committed_in es
 refused_waiting_events levels k t es es' insert.Spent outcome = absurd outcome.0
-refused_waiting_events levels k t es es' insert.Full outcome = gives_up_events k t outcome.0 outcome.1 es es' (LacksRoom levels k) outcome.2
-refused_waiting_events levels k t es es' insert.NoMemory outcome = gives_up_events k t outcome.0 outcome.1 es es' (IsBelowLimit levels) outcome.2
+refused_waiting_events levels k t es es' insert.Full outcome = gives_up_events k t outcome.0 es' (LacksRoom levels k) outcome.2 ∙ waits_quiet t _ es outcome.0 outcome.1
+refused_waiting_events levels k t es es' insert.NoMemory outcome = gives_up_events k t outcome.0 es' (IsBelowLimit levels) outcome.2 ∙ waits_quiet t _ es outcome.0 outcome.1
 
 pub refused_waiting_gains : (levels k t : ℕ) (es es' : List Entry) (why : InsertError) → RefusesInsertWaiting ⊥ levels k t es es' why → Gains es es' [] []
 refused_waiting_gains levels k t es es' why outcome = quiet_gains es es' (refused_waiting_events levels k t es es' why outcome)
@@ -100,11 +99,6 @@ began Spent levels k t es es' try_insert.Spent outcome = absurd outcome.0
 began Spent levels k t es es' (try_insert.Busy busy) outcome = outcome
 began Spent levels k t es es' try_insert.Full outcome = outcome
 began Spent levels k t es es' try_insert.NoMemory outcome = outcome
-
-pub began_waiting : (Spent : Type 0) (levels k t : ℕ) (es es' : List Entry) (why : InsertError) → RefusesInsertWaiting ⊥ levels k t es es' why → RefusesInsertWaiting Spent levels k t es es' why
-began_waiting Spent levels k t es es' insert.Spent outcome = absurd outcome.0
-began_waiting Spent levels k t es es' insert.Full outcome = outcome
-began_waiting Spent levels k t es es' insert.NoMemory outcome = outcome
 
 -- what is said of an error that was passed on
 pub passed_on : {T E : Type 0} (r : Result T E) (Q P : E → Type 0) → IsErrAnd r Q → ((why : E) → Q why → P why) → IfErr r P

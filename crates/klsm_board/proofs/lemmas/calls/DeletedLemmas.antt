@@ -19,6 +19,7 @@ use Rattle.klsm_board.specs.Deleting.{Passes, PassesBy, SpiesAfter, TakesOut, Ta
 use Rattle.klsm_board.proofs.lemmas.calls.EventLemmas.{IsQuiet, events_append, quiet_append, same_events}
 use Rattle.klsm_board.proofs.lemmas.calls.AddLemmas.{goes_on, inserts, deletes, own_quiet, both_quiet}
 use Rattle.klsm_board.specs.Boards.{Gains}
+use Rattle.klsm_board.proofs.lemmas.calls.MissLemmas.{misses_quiet}
 use Rattle.klsm_board.proofs.lemmas.calls.AddedLemmas.{quiet_gains}
 use Rattle.klsm_board.proofs.lemmas.calls.RefillLemmas.{is_refilled}
 
@@ -106,12 +107,12 @@ early_gains m t own es acquired es' None quiet outcome = absurd outcome
 early_gains m t own es acquired es' (Some x) quiet outcome = gained es es' (Early x outcome.front ∷ []) [] (x ∷ []) (early_events m t own es acquired es' x quiet outcome) refl refl
 
 -- and so it is of each of the ways to answer
-pub answers_gain : {P : Type 0} (may_pick : P → ℕ → ℕ → P → Type 0) (before after : P) (m : Sizes) (t : ℕ) (own_misses shared_misses : List ℕ) (es es' : List Entry) (answer : Option Item)
-    → AnswersDeletion may_pick before after m t own_misses shared_misses es es' answer → Gains es es' [] (option_to_list answer)
-answers_gain may_pick before after m t own_misses shared_misses es es' answer (own, inl early) =
-    early_gains m t own es (own_acquired t own_misses own es) es' answer (own_quiet t own_misses own es) early.0
-answers_gain may_pick before after m t own_misses shared_misses es es' answer (own, inr both) =
-    answer_gains m t own both.0 es (both_acquired t own_misses shared_misses own both.0 es) es' (both_quiet t own_misses shared_misses own both.0 es) may_pick before after answer both.1
+pub answers_gain : {P : Type 0} (may_pick : P → ℕ → ℕ → P → Type 0) (before after : P) (m : Sizes) (t : ℕ) (es es' : List Entry) (answer : Option Item)
+    → AnswersDeletion may_pick before after m t es es' answer → Gains es es' [] (option_to_list answer)
+answers_gain may_pick before after m t es es' answer (own, inl early) =
+    early_gains m t own es (own_acquired t own es) es' answer (own_quiet t own es) early.0
+answers_gain may_pick before after m t es es' answer (own, inr both) =
+    answer_gains m t own both.0 es (both_acquired t own both.0 es) es' (both_quiet t own both.0 es) may_pick before after answer both.1
 
 -- how many items were answered
 pub some_is_one : {A : Type 0} (o : Option A) → is_some o ≡ true → length (option_to_list o) ≡ 1
@@ -124,6 +125,4 @@ none_is_zero (Some a) is = absurd (true≢false is)
 
 -- a deletion that met a lock that was held
 pub misses_gain : (t : ℕ) (es es' : List Entry) (busy : Busy) → MissesDeletion t es es' busy → Gains es es' [] []
-misses_gain t es es' busy (inl own) = quiet_gains es es' (same_events es (Missed (own_part t) busy.by ∷ []) es' own.steps refl)
-misses_gain t es es' busy (inr shared) =
-    quiet_gains es es' (same_events (own_acquired t [] shared.own es) (Missed 0 busy.by ∷ Released (own_part t) ∷ []) es' shared.steps refl ∙ own_quiet t [] shared.own es)
+misses_gain t es es' busy outcome = quiet_gains es es' (misses_quiet t _ es es' busy outcome)

@@ -11,7 +11,6 @@ use Rattle.klsm_world.specs.declared.step.Entry.TheVariants.{Acquired, Missed}
 use Rattle.klsm_world.specs.OwnSteps.{event_at, inserted, inserted_by}
 use Rattle.klsm_world.specs.LegalSteps.{BearsStamp}
 use Rattle.klsm_board.specs.Effects.{committed_in}
-use Rattle.klsm_board.specs.Entries.{missed}
 
 -- entries without an event
 abbrev pub IsQuiet : List Entry → Type 0
@@ -22,14 +21,6 @@ events_append es fs = flat_map-append event_at es fs
 
 pub quiet_append : (es fs : List Entry) → IsQuiet es → IsQuiet fs → IsQuiet (es ++ fs)
 quiet_append es fs quiet quiet' = events_append es fs ∙ λ i. quiet i ++ quiet' i
-
-misses_are_quiet : (p : ℕ) (bys : List ℕ) → IsQuiet (missed p bys)
-misses_are_quiet p [] = refl
-misses_are_quiet p (by ∷ bys) = flat_map-cons event_at (Missed p by) (missed p bys) ∙ misses_are_quiet p bys
-
--- tries in vain, and then the part was acquired
-pub acquiring_is_quiet : (p : ℕ) (bys : List ℕ) (found : List Item) → IsQuiet (missed p bys ++ Acquired p found ∷ [])
-acquiring_is_quiet p bys found = quiet_append (missed p bys) (Acquired p found ∷ []) (misses_are_quiet p bys) refl
 
 -- a list that goes on quietly has the same events
 pub same_events : (es fs es' : List Entry) → es' ≡ es ++ fs → IsQuiet fs → committed_in es' ≡ committed_in es

@@ -1,30 +1,38 @@
--- Tries in vain, one after another.
-use Rattle.std.proofs.Common.{◌≡◌, ℕ, List, [], ◌∷◌, ◌++◌, sym, refl, ap, ◌∙◌, append_assoc}
+-- Tries that met a lock that was not free, one after another.
+use Rattle.std.proofs.Common.{◌≡◌, ℕ, zero, suc, ◌+◌, ◌<◌, ◌≤◌, List, [], ◌∷◌, ◌++◌, refl, ap, ◌∙◌, inl, inr, arith}
+use Rattle.klsm_run.specs.declared.item.Item.{Item}
 use Rattle.klsm_world.specs.declared.step.Entry.{Entry}
-use Rattle.klsm_world.specs.declared.step.Entry.TheVariants.{Missed}
-use Rattle.klsm_board.specs.Entries.{missed}
+use Rattle.klsm_world.specs.declared.step.Entry.TheVariants.{Missed, Released}
+use Rattle.klsm_world.specs.OwnSteps.{own_part}
+use Rattle.klsm_board.specs.declared.errors.Busy.{Busy}
+use Rattle.klsm_board.specs.Effects.{committed_in}
+use Rattle.klsm_board.specs.Entries.{own_acquired}
+use Rattle.klsm_board.specs.Inserting.{Misses, MissesTimes, Waits}
+use Rattle.klsm_board.proofs.lemmas.calls.EventLemmas.{same_events}
+use Rattle.klsm_board.proofs.lemmas.calls.AddLemmas.{own_quiet}
 
--- a miss after others
-missed_last : (p by : ℕ) (bys : List ℕ) → missed p (bys ++ by ∷ []) ≡ missed p bys ++ Missed p by ∷ []
-missed_last p by [] = refl
-missed_last p by (b ∷ bys) = ap (λ z. Missed p b ∷ z) (missed_last p by bys)
+module _ (t : ℕ) (Found : List Item → Type 0) where
+  -- they bring no event
+  pub misses_quiet : (es es' : List Entry) (busy : Busy) → Misses t Found es es' busy → committed_in es' ≡ committed_in es
+  misses_quiet es es' busy (inl own) = same_events es (Missed (own_part t) busy.by ∷ []) es' own.steps refl
+  misses_quiet es es' busy (inr shared) =
+      same_events (own_acquired t shared.own es) (Missed 0 busy.by ∷ Released (own_part t) ∷ []) es' shared.steps refl ∙ own_quiet t shared.own es
 
--- a list that goes on by misses alone
-pub record Misses (p : ℕ) (es es' : List Entry) : Type 0 where
-  pub bys : List ℕ
-  pub steps : es' ≡ es ++ missed p bys
+  times_quiet : (n : ℕ) (es es' : List Entry) → MissesTimes n t Found es es' → committed_in es' ≡ committed_in es
+  times_quiet zero es es' none = ap committed_in none
+  times_quiet (suc n) es es' some = misses_quiet some.0 es' some.1 some.3 ∙ times_quiet n es some.0 some.2
 
--- by one more
-pub missed_more : (p by : ℕ) (es mid es' : List Entry) → Misses p es mid → es' ≡ mid ++ Missed p by ∷ [] → Misses p es es'
-missed_more p by es mid es' so_far is = record {
-  bys = so_far.bys ++ by ∷ [];
-  steps = is ∙ (ap (λ z. z ++ Missed p by ∷ []) so_far.steps ∙ (append_assoc es (missed p so_far.bys) (Missed p by ∷ []) ∙ ap (λ z. es ++ z) (sym (missed_last p by so_far.bys))));
-}
+  pub waits_quiet : (es es' : List Entry) → Waits t Found es es' → committed_in es' ≡ committed_in es
+  waits_quiet es es' waits = times_quiet waits.tries es es' waits.missed
 
--- then the part was acquired
-pub acquired_after : (p : ℕ) (e : Entry) (es mid es' : List Entry) (so_far : Misses p es mid) → es' ≡ mid ++ e ∷ [] → es' ≡ es ++ (missed p so_far.bys ++ e ∷ [])
-acquired_after p e es mid es' so_far is = is ∙ (ap (λ z. z ++ e ∷ []) so_far.steps ∙ append_assoc es (missed p so_far.bys) (e ∷ []))
+  -- none yet, and one more
+  pub no_wait : (es : List Entry) → Waits t Found es es
+  no_wait es = record { tries = 0; missed = refl }
 
--- the part was acquired, after a miss and others after it
-pub acquired_later : (p by : ℕ) (bys : List ℕ) (e : Entry) (es mid es' : List Entry) → mid ≡ es ++ Missed p by ∷ [] → es' ≡ mid ++ (missed p bys ++ e ∷ []) → es' ≡ es ++ (missed p (by ∷ bys) ++ e ∷ [])
-acquired_later p by bys e es mid es' missed_once is = is ∙ (ap (λ z. z ++ (missed p bys ++ e ∷ [])) missed_once ∙ append_assoc es (Missed p by ∷ []) (missed p bys ++ e ∷ []))
+  pub waits_more : (es now es' : List Entry) (busy : Busy) → Waits t Found es now → Misses t Found now es' busy → Waits t Found es es'
+  waits_more es now es' busy waits miss = record { tries = suc waits.tries; missed = (now, busy, waits.missed, miss) }
+
+  -- the lock is one of the board
+  pub missed_part : (threads : ℕ) (es es' : List Entry) (busy : Busy) → t < threads → Misses t Found es es' busy → busy.lock ≤ threads
+  missed_part threads es es' busy within (inl own) = let is = own.lock in omega (arith, within, is)
+  missed_part threads es es' busy within (inr shared) = let is = shared.lock in omega (arith, is)

@@ -17,7 +17,7 @@ use Rattle.klsm_board.specs.declared.errors.InsertError.{InsertError}
 use Rattle.klsm_board.specs.declared.errors.InsertError.TheVariants as insert
 use Rattle.klsm_board.specs.declared.sizes.Sizes.{Sizes}
 use Rattle.klsm_board.specs.Boards.{Adds, IsSame, known_of_others, own_steps}
-use Rattle.klsm_board.specs.Entries.{both_acquired, both_released, missed, own_acquired}
+use Rattle.klsm_board.specs.Entries.{both_acquired, both_released, own_acquired}
 use Rattle.klsm_board.specs.Inserting.{GivesUp, LacksRoom, RefusesInsertWaiting}
 use Rattle.klsm_board.specs.Knowing.{IsWhole}
 use Rattle.klsm_board.specs.Rule.{world_limits}
@@ -27,22 +27,22 @@ use Rattle.klsm_board.proofs.lemmas.ending.JoinLemmas.{at_end, at_front}
 use Rattle.klsm_board.proofs.lemmas.ending.WholeLemmas.{known_elsewhere, own_known, same_items, whole_acted, world_lists}
 
 -- a call that gave up found the shared part as its list says
-pub gave_up_at : (k t : ℕ) (own_misses shared_misses : List ℕ) (es es' : List Entry) (Found : List Rattle.klsm_run.specs.declared.item.Item.Item → Type 0) → (up : GivesUp k t own_misses shared_misses es es' Found)
+pub gave_up_at : (k t : ℕ) (es es' : List Entry) (Found : List Rattle.klsm_run.specs.declared.item.Item.Item → Type 0) → (up : GivesUp k t es es' Found)
     → (i : ℕ) × (get_elem? es' i ≡ some (Acquired shared_part up.shared))
-gave_up_at k t own_misses shared_misses es es' Found up =
-    let before : List Entry = own_acquired t own_misses up.own es ++ missed shared_part shared_misses in
-    let shared : Entry = Acquired shared_part up.shared in
-    let both : both_acquired t own_misses shared_misses up.own up.shared es ≡ before ++ shared ∷ [] = sym (append_assoc (own_acquired t own_misses up.own es) (missed shared_part shared_misses) (shared ∷ [])) in (
+gave_up_at k t es es' Found up =
+    let before : List Entry = own_acquired t up.own es in
+    let shared : Entry = Acquired shared_part up.shared in (
       length before,
-      ap (λ (z : List Entry). get_elem? z (length before)) (up.steps ∙ ap (λ (z : List Entry). z ++ both_released t) both)
+      ap (λ (z : List Entry). get_elem? z (length before)) up.steps
           ∙ at_front (before ++ shared ∷ []) (both_released t) (length before) shared (at_end before shared []),
     )
 
 -- why an insertion was refused that found the shared part full
 pub refused_full : {T : Type 0} (G Spent : Type 0) (levels k t : ℕ) (es es' : List Entry) (r : Result T InsertError) → IfErr r (λ why. G × RefusesInsertWaiting Spent levels k t es es' why) → IsErrAnd r (λ why. why ≡ insert.Full)
-    → G × ((own_misses : List ℕ) × (shared_misses : List ℕ) × GivesUp k t own_misses shared_misses es es' (LacksRoom levels k))
+    → G × ((now : List Entry) × GivesUp k t now es' (LacksRoom levels k))
 refused_full G Spent levels k t es es' (Ok x) outcome is = absurd is
-refused_full G Spent levels k t es es' (Err why) outcome is = (outcome.0, subst (RefusesInsertWaiting Spent levels k t es es') is outcome.1)
+refused_full G Spent levels k t es es' (Err why) outcome is =
+    let refused = subst (RefusesInsertWaiting Spent levels k t es es') is outcome.1 in (outcome.0, (refused.0, refused.2))
 
 module _ {CAP LEVELS : ℕ} where
   -- what the member whose turn it is found in a part is no more than all members inserted
@@ -66,12 +66,12 @@ module _ {CAP LEVELS : ℕ} where
       (λ other. ap inserted (known_elsewhere n before.seat.me.0 after.seat.me.0 rests.acts acts' others t other))))
 
   -- so an insertion was full only where they are about as many as the shared part can have
-  pub full_of_all : (before after : Member CAP LEVELS) (m : Sizes) (ins dels : List ℕ) (lists : List (List Entry)) (own_misses shared_misses : List ℕ) → before.sizes ≡ m → IsSame before after → known_of_others after ≡ known_of_others before
+  pub full_of_all : (before after : Member CAP LEVELS) (m : Sizes) (ins dels : List ℕ) (lists : List (List Entry)) (now : List Entry) → before.sizes ≡ m → IsSame before after → known_of_others after ≡ known_of_others before
       → IsWhole before.sizes before.number before.seat.me.0.lists ins dels → lists_known m.threads before.seat.me.0.lists ≡ lists → Adds before after [] []
-      → GivesUp before.sizes.k before.number own_misses shared_misses (own_steps before) (own_steps after) (LacksRoom LEVELS before.sizes.k)
+      → GivesUp before.sizes.k before.number now (own_steps after) (LacksRoom LEVELS before.sizes.k)
       → limit_of LEVELS heap_room < insertions lists + max 1 m.k
-  full_of_all before after m ins dels lists own_misses shared_misses sizes same others whole is adds up =
-      let at = gave_up_at before.sizes.k before.number own_misses shared_misses (own_steps before) (own_steps after) (LacksRoom LEVELS before.sizes.k) up in
+  full_of_all before after m ins dels lists now sizes same others whole is adds up =
+      let at = gave_up_at before.sizes.k before.number now (own_steps after) (LacksRoom LEVELS before.sizes.k) up in
       let few = found_in_all after ins dels at.0 shared_part up.shared (whole_acted before after ins dels same others whole) at.1 in
       let all : insertions (lists_known after.sizes.threads after.seat.me.0.lists) ≡ insertions lists =
       ap (λ (z : Sizes). insertions (lists_known z.threads after.seat.me.0.lists)) same.1

@@ -15,14 +15,14 @@ returns-in-Some-clause-goes g c =
     let all = c.args.all.now in let after = c.delete_min.new.self in let t = c.args.thread in let told = c.in-Some.ensures in let ok = told.ok in
     let threads = ap (λ (z : Sizes). z.threads) c.requires.of.1 in
     all_go all after t told.same (omega (arith, c.requires.thread, threads)) (Deleted c.in-Some.item ∷ [])
-    (item_shows may_pick_for c.args.picker.now c.delete_min.new.picker all.acting.sizes t ok.0 ok.1 (steps_for all t) (steps_for after t) c.in-Some.item ok.2) told.left (omega (arith, told.counts))
+    (item_shows may_pick_for c.args.picker.now c.delete_min.new.picker all.acting.sizes t (steps_for all t) (steps_for after t) c.in-Some.item ok) told.left (omega (arith, told.counts))
 
 pub returns-in-None-clause-goes : goal.returns-in-None-clause-goes
 returns-in-None-clause-goes g c =
     let all = c.args.all.now in let after = c.delete_min.new.self in let t = c.args.thread in let told = c.in-None.ensures in let ok = told.ok in
     let threads = ap (λ (z : Sizes). z.threads) c.requires.of.1 in
     all_go all after t told.same (omega (arith, c.requires.thread, threads)) (Nothing ∷ [])
-    (none_shows may_pick_for c.args.picker.now c.delete_min.new.picker all.acting.sizes t ok.0 ok.1 (steps_for all t) (steps_for after t) ok.2) told.left (omega (arith, told.counts))
+    (none_shows may_pick_for c.args.picker.now c.delete_min.new.picker all.acting.sizes t (steps_for all t) (steps_for after t) ok) told.left (omega (arith, told.counts))
 
 pub returns-in-Some-clause-few : goal.returns-in-Some-clause-few
 returns-in-Some-clause-few g c =
@@ -32,9 +32,9 @@ returns-in-Some-clause-few g c =
 pub returns-in-Some-clause-picker : goal.returns-in-Some-clause-picker
 returns-in-Some-clause-picker g c =
     let all = c.args.all.now in let t = c.args.thread in let ok = c.in-Some.ensures.ok in
-    same_thread may_pick_for (λ p q candidates index may. may.1) c.args.picker.now c.delete_min.new.picker all.acting.sizes t ok.0 ok.1 (steps_for all t) (steps_for c.delete_min.new.self t) (Some c.in-Some.item) ok.2
+    same_thread may_pick_for (λ p q candidates index may. may.1) c.args.picker.now c.delete_min.new.picker all.acting.sizes t (steps_for all t) (steps_for c.delete_min.new.self t) (Some c.in-Some.item) ok
 
 pub returns-in-None-clause-picker : goal.returns-in-None-clause-picker
 returns-in-None-clause-picker g c =
     let all = c.args.all.now in let t = c.args.thread in let ok = c.in-None.ensures.ok in
-    same_thread may_pick_for (λ p q candidates index may. may.1) c.args.picker.now c.delete_min.new.picker all.acting.sizes t ok.0 ok.1 (steps_for all t) (steps_for c.delete_min.new.self t) None ok.2
+    same_thread may_pick_for (λ p q candidates index may. may.1) c.args.picker.now c.delete_min.new.picker all.acting.sizes t (steps_for all t) (steps_for c.delete_min.new.self t) None ok

@@ -9,7 +9,7 @@ use Rattle.klsm_tool.proofs.member_calls.insert.Goals as goal
 pub returns-in-Ok-clause-shown : goal.returns-in-Ok-clause-shown
 returns-in-Ok-clause-shown g c =
     let me = c.args.member.now in let told = c.in-Ok.ensures.ok in
-    insertion_shows g.row.LEVELS me.sizes.k me.number told.0 told.1 (own_steps me) (own_steps c.insert.new.self) _ told.2
+    insertion_shows g.row.LEVELS me.sizes.k me.number (own_steps me) (own_steps c.insert.new.self) _ told
 
 pub returns-in-Err-Full-clause-refused : goal.returns-in-Err-Full-clause-refused
 returns-in-Err-Full-clause-refused g c =

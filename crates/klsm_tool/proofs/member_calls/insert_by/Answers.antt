@@ -26,7 +26,7 @@ returns-in-Ok-clause-goes g c =
     let all = c.args.all.now in let after = c.insert.new.self in let t = c.args.thread in let told = c.in-Ok.ensures in let ok = told.ok in
     let threads = ap (λ (z : Sizes). z.threads) c.requires.of.1 in
     all_go all after t told.same (omega (arith, c.requires.thread, threads)) (Inserted (record { key = c.args.key; stamp = c.in-Ok.stamp; load = c.args.load }) ∷ [])
-    (insertion_shows 21 all.acting.sizes.k t ok.0 ok.1 (steps_for all t) (steps_for after t) _ ok.2) told.left (omega (arith, told.counts))
+    (insertion_shows 21 all.acting.sizes.k t (steps_for all t) (steps_for after t) _ ok) told.left (omega (arith, told.counts))
 
 pub returns-in-Err-NoMemory-clause-refused : goal.returns-in-Err-NoMemory-clause-refused
 returns-in-Err-NoMemory-clause-refused g c =

@@ -2,7 +2,7 @@ use Rattle.std.proofs.Common.{◌≡◌, ℕ, List, [], arith, ap, subst, ◌∙
 use Rattle.klsm_world.specs.declared.step.Entry.{Entry}
 use Rattle.klsm_board.specs.declared.sizes.Sizes.{Sizes}
 use Rattle.klsm_board.specs.Boards.{own_steps}
-use Rattle.klsm_board.specs.Deleting.{AnswersDeletion}
+use Rattle.klsm_board.specs.Deleting.{AnswersWaiting}
 use Rattle.klsm_board.specs.Together.{steps_for, sizes_of_all}
 use Rattle.klsm_board.specs.Turning.{lists_known}
 use Rattle.klsm_board.proofs.lemmas.ending.LeftLemmas.{counts_more, left_less}
@@ -18,12 +18,9 @@ pub returns-clause-ok : goal.returns-clause-ok
 returns-clause-ok g c =
     let all = c.call.new.self in let n = c.args.number in let after = c.delete_min.new.self in let outcome = c.delete_min.ensures in let called = c.call.ensures in
     let before : own_steps all.acting ≡ steps_for c.args.self.now n = own_known all.acting n called.turn ∙ called.lists n in
-    let behind = own_known after n (outcome.same.0 ∙ called.turn) in (
-      outcome.ok.0,
-      outcome.ok.1,
-      subst (λ (z : Sizes × ℕ × List Entry × List Entry). AnswersDeletion g.P.Picker.may_pick c.args.picker.now c.delete_min.new.picker z.0 z.1 outcome.ok.0 outcome.ok.1 z.2 z.3 c.delete_min.result)
-          (λ i. (called.sizes i, called.turn i, before i, behind i)) outcome.ok.2,
-    )
+    let behind = own_known after n (outcome.same.0 ∙ called.turn) in
+    subst (λ (z : Sizes × ℕ × List Entry × List Entry). AnswersWaiting g.P.Picker.may_pick c.args.picker.now c.delete_min.new.picker z.0 z.1 z.2 z.3 c.delete_min.result)
+    (λ i. (called.sizes i, called.turn i, before i, behind i)) outcome.ok
 
 pub returns-clause-few : goal.returns-clause-few
 returns-clause-few g c =

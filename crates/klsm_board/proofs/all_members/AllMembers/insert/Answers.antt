@@ -5,7 +5,7 @@ use Rattle.klsm_world.specs.declared.step.Entry.{Entry}
 use Rattle.klsm_board.specs.declared.sizes.Sizes.{Sizes}
 use Rattle.klsm_world.specs.OwnSteps.{inserted}
 use Rattle.klsm_board.specs.Boards.{Adds, Gains, own_steps}
-use Rattle.klsm_board.specs.Inserting.{Inserts, RefusesInsertWaiting, stamped}
+use Rattle.klsm_board.specs.Inserting.{InsertsWaiting, RefusesInsertWaiting, stamped}
 use Rattle.klsm_board.specs.Together.{sizes_of_all, steps_for}
 use Rattle.klsm_board.specs.Turning.{lists_known}
 use Rattle.klsm_board.proofs.lemmas.ending.FullLemmas.{full_of_all, refused_full}
@@ -23,15 +23,15 @@ returns-clause-ok g c =
     let all = c.call.new.self in let n = c.args.number in let after = c.insert.new.self in let outcome = c.insert.ensures in let called = c.call.ensures in
     let before : own_steps all.acting ≡ steps_for c.args.self.now n = own_known all.acting n called.turn ∙ called.lists n in
     let behind = own_known after n (outcome.same.0 ∙ called.turn) in
-    subst (λ (z : Sizes × ℕ × List Entry × List Entry). IfOk c.insert.result (λ (stamp : Stamp). (own_misses : List ℕ) × (shared_misses : List ℕ) × Inserts g.row.LEVELS z.0.k z.1 own_misses shared_misses z.2 z.3 (stamped c.args.key stamp c.args.load)))
+    subst (λ (z : Sizes × ℕ × List Entry × List Entry). IfOk c.insert.result (λ (stamp : Stamp). InsertsWaiting g.row.LEVELS z.0.k z.1 z.2 z.3 (stamped c.args.key stamp c.args.load)))
     (λ i. (called.sizes i, called.turn i, before i, behind i)) outcome.ok
 
 pub returns-clause-full : goal.returns-clause-full
 returns-clause-full g c is =
     let old = c.args.self.now in let all = c.call.new.self in let outcome = c.insert.ensures in let called = c.call.ensures in let before = all.acting in let after = c.insert.new.self in
     let refused = refused_full (Adds before after [] []) (length (inserted (own_steps before)) ≡ before.sizes.quota) g.row.LEVELS before.sizes.k before.number (own_steps before) (own_steps after) c.insert.result outcome.refused is in
-    full_of_all before after (sizes_of_all old) all.tally.inserted all.tally.deleted (lists_known old.acting.sizes.threads old.acting.seat.me.0.lists) refused.1.0 refused.1.1 called.sizes outcome.same outcome.others all.whole
-    (same_known old.acting.sizes.threads before.seat.me.0.lists old.acting.seat.me.0.lists (λ t below. called.lists t)) refused.0 refused.1.2
+    full_of_all before after (sizes_of_all old) all.tally.inserted all.tally.deleted (lists_known old.acting.sizes.threads old.acting.seat.me.0.lists) refused.1.0 called.sizes outcome.same outcome.others all.whole
+    (same_known old.acting.sizes.threads before.seat.me.0.lists old.acting.seat.me.0.lists (λ t below. called.lists t)) refused.0 refused.1.1
 
 pub returns-clause-left : goal.returns-clause-left
 returns-clause-left g c =

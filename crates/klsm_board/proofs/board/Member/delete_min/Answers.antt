@@ -1,65 +1,48 @@
-use Rattle.std.proofs.Common.{◌≡◌, ◌+◌, ◌∙◌, [], length, sym, subst, arith}
+use Rattle.std.proofs.Common.{◌≡◌, ℕ, List, ◌∙◌, [], subst}
 use Rattle.std.specs.Option.{option_to_list}
-use Rattle.klsm_world.specs.OwnSteps.{inserted, deleted}
-use Rattle.klsm_parts.proofs.FitLemmas.{local_fits, shared_fits}
-use Rattle.klsm_board.specs.Steps.{mine}
-use Rattle.klsm_board.specs.Seats.{Has}
-use Rattle.klsm_board.specs.Slots.{slot_content, IsSlotOf}
-use Rattle.klsm_board.proofs.lemmas.seats.RestLemmas.{rests_after}
-use Rattle.klsm_board.specs.Boards.{Gains}
-use Rattle.klsm_board.proofs.lemmas.calls.AddedLemmas.{gained_counts}
-use Rattle.klsm_board.proofs.lemmas.calls.DeletedLemmas.{answers_gain, some_is_one, none_is_zero}
+use Rattle.klsm_parts.proofs.FitLemmas.{local_fits}
+use Rattle.klsm_board.specs.declared.rule.Own.{Own}
+use Rattle.klsm_board.specs.declared.sizes.Sizes.{Sizes}
+use Rattle.klsm_board.specs.Boards.{known_of_others, own_steps}
+use Rattle.klsm_board.specs.Deleting.{AnswersDeletion, MissesDeletion}
+use Rattle.klsm_board.specs.Effects.{TakesEffect}
+use Rattle.klsm_board.proofs.lemmas.calls.EffectLemmas.{effect_since}
+use Rattle.klsm_board.proofs.lemmas.calls.MissLemmas.{waits_quiet, waits_more}
+use Rattle.klsm_board.proofs.lemmas.calls.WaitLemmas.{same_then, adds_then}
 use Rattle.klsm_board.proofs.board.Member.delete_min.Goals as goal
 
-pub invariant_of-self : goal.invariant_of-self
-invariant_of-self g c =
-    let me = c.args.self.now in let t = me.number in let es = mine me.seat.me.0 in let did = c.delete_waiting-answer in let es' = mine did.new.seat.me.0 in
-    let rests = me.rests in let board = c.args.board.now in let same = board.key ∙ sym c.requires.1 in
-    let ok = did.ensures.ok in
-    let gains : Gains es es' [] (option_to_list did.result) = answers_gain g.P.Picker.may_pick c.args.picker.now did.new.picker board.table.shared.key t ok.0 ok.1 es es' did.result ok.2 in
-    let counts = gained_counts es es' [] (option_to_list did.result) me.inserted me.deleted gains rests.insertions_are rests.deletions_are in
-    let many = some_is_one did.result (sym c.is_some.ensures ∙ c.if-is_some.true) in
-    let first : length (inserted es') ≡ me.inserted = omega (arith, counts.0) in let second : length (deleted es') ≡ me.deleted + 1 = omega (arith, counts.1, many) in
-    record { rests = rests_after g.row.CAP me.sizes me.in_range t me.inserted (me.deleted + 1) did.new.seat.me (subst (λ m. Has slot_content IsSlotOf m t [] did.new.seat.me) same did.ensures.has) first second; in_range = me.in_range; capacity = me.capacity; levels = me.levels }
+pub unreachable-unreachable : goal.unreachable-unreachable
+unreachable-unreachable g c = c.unreachable.type_inv
 
-pub invariant_of-self-else-is_some : goal.invariant_of-self-else-is_some
-invariant_of-self-else-is_some g c =
-    let me = c.args.self.now in let t = me.number in let es = mine me.seat.me.0 in let did = c.delete_waiting-answer in let es' = mine did.new.seat.me.0 in
-    let rests = me.rests in let board = c.args.board.now in let same = board.key ∙ sym c.requires.1 in
-    let ok = did.ensures.ok in
-    let gains : Gains es es' [] (option_to_list did.result) = answers_gain g.P.Picker.may_pick c.args.picker.now did.new.picker board.table.shared.key t ok.0 ok.1 es es' did.result ok.2 in
-    let counts = gained_counts es es' [] (option_to_list did.result) me.inserted me.deleted gains rests.insertions_are rests.deletions_are in
-    let many = none_is_zero did.result (sym c.is_some.ensures ∙ c.if-is_some.false) in
-    let first : length (inserted es') ≡ me.inserted = omega (arith, counts.0) in let second : length (deleted es') ≡ me.deleted = omega (arith, counts.1, many) in
-    record { rests = rests_after g.row.CAP me.sizes me.in_range t me.inserted (me.deleted) did.new.seat.me (subst (λ m. Has slot_content IsSlotOf m t [] did.new.seat.me) same did.ensures.has) first second; in_range = me.in_range; capacity = me.capacity; levels = me.levels }
+pub returns-in-Ok-clause-ok : goal.returns-in-Ok-clause-ok
+returns-in-Ok-clause-ok g c =
+    let now = c.loop.self in let inv = c.loop.invariant in let new = c.try_delete_min.new in (
+      own_steps now,
+      inv.waits,
+      subst (λ p. AnswersDeletion g.P.Picker.may_pick p new.picker c.args.self.now.sizes c.args.self.now.number (own_steps now) (own_steps new.self) c.in-Ok.answer) inv.picker
+          (subst (λ (z : Sizes × ℕ). AnswersDeletion g.P.Picker.may_pick c.loop.picker new.picker z.0 z.1 (own_steps now) (own_steps new.self) c.in-Ok.answer) (λ i. (inv.same.1 i, inv.same.0 i)) c.in-Ok.ensures.ok),
+    )
 
-pub returns-then-is_some-clause-adds : goal.returns-then-is_some-clause-adds
-returns-then-is_some-clause-adds g c =
-    let me = c.args.self.now in let t = me.number in let es = mine me.seat.me.0 in let did = c.delete_waiting-answer in let es' = mine did.new.seat.me.0 in
-    let rests = me.rests in let board = c.args.board.now in let same = board.key ∙ sym c.requires.1 in
-    let ok = did.ensures.ok in
-    let gains : Gains es es' [] (option_to_list did.result) = answers_gain g.P.Picker.may_pick c.args.picker.now did.new.picker board.table.shared.key t ok.0 ok.1 es es' did.result ok.2 in
-    record { inserted_are = gains.inserted_are; deleted_are = gains.deleted_are }
+pub returns-in-Ok-clause-effect : goal.returns-in-Ok-clause-effect
+returns-in-Ok-clause-effect g c =
+    let me = c.args.self.now in let now = c.loop.self in let inv = c.loop.invariant in let es' = own_steps c.try_delete_min.new.self in
+    effect_since me.sizes me.number (known_of_others me) (own_steps me) (own_steps now) es' c.in-Ok.answer (waits_quiet me.number _ (own_steps me) (own_steps now) inv.waits)
+    (subst (λ (z : Sizes × ℕ × List Own). TakesEffect z.0 z.1 z.2 (own_steps now) es' c.in-Ok.answer) (λ i. (inv.same.1 i, inv.same.0 i, inv.others i)) c.in-Ok.ensures.effect)
 
-pub returns-else-is_some-clause-adds : goal.returns-else-is_some-clause-adds
-returns-else-is_some-clause-adds g c =
-    let me = c.args.self.now in let t = me.number in let es = mine me.seat.me.0 in let did = c.delete_waiting-answer in let es' = mine did.new.seat.me.0 in
-    let rests = me.rests in let board = c.args.board.now in let same = board.key ∙ sym c.requires.1 in
-    let ok = did.ensures.ok in
-    let gains : Gains es es' [] (option_to_list did.result) = answers_gain g.P.Picker.may_pick c.args.picker.now did.new.picker board.table.shared.key t ok.0 ok.1 es es' did.result ok.2 in
-    record { inserted_are = gains.inserted_are; deleted_are = gains.deleted_are }
+pub returns-in-Ok-clause-adds : goal.returns-in-Ok-clause-adds
+returns-in-Ok-clause-adds g c =
+    let me = c.args.self.now in let now = c.loop.self in let inv = c.loop.invariant in
+    adds_then me now c.try_delete_min.new.self [] (option_to_list c.in-Ok.answer) (waits_quiet me.number _ (own_steps me) (own_steps now) inv.waits) c.in-Ok.ensures.adds
 
-pub delete_waiting-answer-requires-room-S-PartSlot : goal.delete_waiting-answer-requires-room-S-PartSlot
-delete_waiting-answer-requires-room-S-PartSlot g c κs within = local_fits _ c.args.self.now.capacity
+pub wait-requires-room-S-Holding : goal.wait-requires-room-S-Holding
+wait-requires-room-S-Holding g c κs within = local_fits _ c.args.self.now.capacity
 
-pub delete_waiting-answer-requires-room-S-PartSlot-2 : goal.delete_waiting-answer-requires-room-S-PartSlot-2
-delete_waiting-answer-requires-room-S-PartSlot-2 g c κs within = shared_fits _ c.args.self.now.levels
-
-pub delete_waiting-answer-requires-room-S-Holding : goal.delete_waiting-answer-requires-room-S-Holding
-delete_waiting-answer-requires-room-S-Holding g c κs within = local_fits _ c.args.self.now.capacity
-
-pub delete_waiting-answer-requires-room-S-Holding-2 : goal.delete_waiting-answer-requires-room-S-Holding-2
-delete_waiting-answer-requires-room-S-Holding-2 g c κs within = shared_fits _ c.args.self.now.levels
-
-pub delete_waiting-answer-requires-room-S-Destruct : goal.delete_waiting-answer-requires-room-S-Destruct
-delete_waiting-answer-requires-room-S-Destruct g c κs within = shared_fits _ c.args.self.now.levels
+pub loop-preserved : goal.loop-preserved
+loop-preserved g c =
+    let me = c.args.self.now in let now = c.loop.self in let inv = c.loop.invariant in let new = c.try_delete_min.new.self in let busy = c.in-Err.ensures.busy in
+    record {
+      same = same_then me now new inv.same c.in-Err.ensures.same;
+      others = c.in-Err.ensures.others ∙ inv.others;
+      waits = waits_more me.number (λ own. Unit {0}) (own_steps me) (own_steps now) (own_steps new) c.in-Err.busy inv.waits (subst (λ n. MissesDeletion n (own_steps now) (own_steps new) c.in-Err.busy) inv.same.0 busy.2);
+      picker = busy.1 ∙ inv.picker;
+    }

@@ -1,159 +1,78 @@
-use Rattle.std.proofs.Common.{◌≡◌, ◌+◌, ◌<◌, ◌∷◌, ◌++◌, ◌∙◌, [], length, refl, sym, ap, subst, arith}
-use Rattle.std.proofs.lemmas.List.{append-nil}
-use Rattle.std.proofs.lemmas.Result.{IfOk-from_err}
-use Rattle.klsm_run.specs.declared.item.Item.{Item}
-use Rattle.klsm_run.specs.declared.item.Stamp.{Stamp}
-use Rattle.klsm_world.specs.OwnSteps.{inserted, deleted}
-use Rattle.klsm_parts.proofs.FitLemmas.{local_fits, shared_fits}
-use Rattle.klsm_board.specs.declared.errors.InsertError.{InsertError}
+use Rattle.std.proofs.Common.{◌≡◌, ℕ, List, ◌∙◌, [], ◌∷◌, length, ap, sym, refl, subst, inr}
+use Rattle.std.specs.List.{flat_map}
+use Rattle.klsm_parts.proofs.FitLemmas.{local_fits}
+use Rattle.klsm_world.specs.OwnSteps.{inserted, inserted_by}
 use Rattle.klsm_board.specs.declared.sizes.Sizes.{Sizes}
-use Rattle.klsm_board.specs.Rule.{IsSized}
-use Rattle.klsm_board.specs.Steps.{mine}
-use Rattle.klsm_board.specs.Inserting.{Inserts, RefusesInsertWaiting, stamped}
-use Rattle.klsm_board.specs.Seats.{Has, Stands}
-use Rattle.klsm_board.specs.Slots.{slot_content, IsSlotOf}
-use Rattle.klsm_board.proofs.lemmas.seats.RestLemmas.{stands_at_rest, rests_after}
-use Rattle.klsm_board.proofs.lemmas.calls.AddedLemmas.{inserts_gain, refused_waiting_gains, gained_counts, began_waiting, passed_on, no_error}
+use Rattle.klsm_board.specs.Boards.{own_steps}
+use Rattle.klsm_board.specs.Inserting.{GivesUp, Inserts, LacksRoom, IsBelowLimit, Misses, RefusesInsert, stamp_of, stamped}
+use Rattle.klsm_board.proofs.lemmas.calls.MissLemmas.{waits_quiet, waits_more}
+use Rattle.klsm_board.proofs.lemmas.calls.WaitLemmas.{same_then, adds_then, first_of_two, busy_not_spent}
 use Rattle.klsm_board.proofs.board.Member.insert.Goals as goal
 
-pub invariant_of-self : goal.invariant_of-self
-invariant_of-self g c =
-    let me = c.args.self.now in let t = me.number in let es = mine me.seat.me.0 in let es' = mine c.insert_waiting.new.seat.me.0 in
-    let rests = me.rests in let board = c.args.board.now in let same = board.key ∙ sym c.requires.1 in
-    let gains = refused_waiting_gains g.row.LEVELS c.args.board.now.table.shared.key.k t es es' _ c.in_err-insert_waiting.ensures.refused in
-    let counts = gained_counts es es' [] [] me.inserted me.deleted gains rests.insertions_are rests.deletions_are in
-    let first : length (inserted es') ≡ me.inserted = omega (arith, counts.0) in let second : length (deleted es') ≡ me.deleted = omega (arith, counts.1) in
-    record { rests = rests_after g.row.CAP me.sizes me.in_range t me.inserted me.deleted c.insert_waiting.new.seat.me (subst (λ m. Has slot_content IsSlotOf m t [] c.insert_waiting.new.seat.me) same c.in_err-insert_waiting.ensures.has) first second; in_range = me.in_range; capacity = me.capacity; levels = me.levels }
+pub unreachable-unreachable : goal.unreachable-unreachable
+unreachable-unreachable g c = c.unreachable.type_inv
 
-pub invariant_of-self-2 : goal.invariant_of-self-2
-invariant_of-self-2 g c =
-    let me = c.args.self.now in let t = me.number in let es = mine me.seat.me.0 in let es' = mine c.insert_waiting.new.seat.me.0 in
-    let rests = me.rests in let board = c.args.board.now in let same = board.key ∙ sym c.requires.1 in let x = c.next_item-item.result in let ok = c.in_ok-insert_waiting.ensures.ok in
-    let gains = inserts_gain g.row.LEVELS c.args.board.now.table.shared.key.k t ok.0 ok.1 es es' x ok.2 in
-    let counts = gained_counts es es' (x ∷ []) [] me.inserted me.deleted gains rests.insertions_are rests.deletions_are in
-    let first : length (inserted es') ≡ me.inserted + 1 = omega (arith, counts.0) in let second : length (deleted es') ≡ me.deleted = omega (arith, counts.1) in
-    record { rests = rests_after g.row.CAP me.sizes me.in_range t (me.inserted + 1) me.deleted c.insert_waiting.new.seat.me (subst (λ m. Has slot_content IsSlotOf m t [] c.insert_waiting.new.seat.me) same c.in_ok-insert_waiting.ensures.has) first second; in_range = me.in_range; capacity = me.capacity; levels = me.levels }
+pub wait-requires-room-S-Holding : goal.wait-requires-room-S-Holding
+wait-requires-room-S-Holding g c κs within = local_fits _ c.args.self.now.capacity
 
-pub insert_waiting-requires-room-S-PartSlot : goal.insert_waiting-requires-room-S-PartSlot
-insert_waiting-requires-room-S-PartSlot g c κs within = local_fits _ c.args.self.now.capacity
+pub returns-in-Ok-clause-stamp : goal.returns-in-Ok-clause-stamp
+returns-in-Ok-clause-stamp g c =
+    let me = c.args.self.now in let now = c.loop.self in let inv = c.loop.invariant in
+    c.in-Ok.ensures.stamp ∙ λ i. stamp_of (inv.same.0 i) (length (flat_map inserted_by (waits_quiet me.number _ (own_steps me) (own_steps now) inv.waits i)))
 
-pub insert_waiting-requires-room-S-PartSlot-2 : goal.insert_waiting-requires-room-S-PartSlot-2
-insert_waiting-requires-room-S-PartSlot-2 g c κs within = shared_fits _ c.args.self.now.levels
-
-pub insert_waiting-requires-room-S-Holding : goal.insert_waiting-requires-room-S-Holding
-insert_waiting-requires-room-S-Holding g c κs within = local_fits _ c.args.self.now.capacity
-
-pub insert_waiting-requires-room-S-Holding-2 : goal.insert_waiting-requires-room-S-Holding-2
-insert_waiting-requires-room-S-Holding-2 g c κs within = shared_fits _ c.args.self.now.levels
-
-pub insert_waiting-requires-room-S-Destruct : goal.insert_waiting-requires-room-S-Destruct
-insert_waiting-requires-room-S-Destruct g c κs within = shared_fits _ c.args.self.now.levels
-
-pub returns-then-self-clause-refused : goal.returns-then-self-clause-refused
-returns-then-self-clause-refused g c =
-    let me = c.args.self.now in let es = mine me.seat.me.0 in
-    (record { inserted_are = sym (append-nil (inserted es)); deleted_are = sym (append-nil (deleted es)) }, (me.rests.insertions_are ∙ c.if-self.true, refl))
-
-pub returns-clause-ok : goal.returns-clause-ok
-returns-clause-ok g c =
-    let me = c.args.self.now in let es = mine me.seat.me.0 in let es' = mine c.insert_waiting.new.seat.me.0 in
-    let same = c.args.board.now.key ∙ sym c.requires.1 in let ok = c.in_ok-insert_waiting.ensures.ok in let is = c.next_item-item.ensures in
-    let item_is = is ∙ ap (λ (stamp : Stamp). stamped c.args.key stamp c.args.load) (sym (ap (λ (x : Item). x.stamp) is)) in (
-      ok.0,
-      ok.1,
-      subst (λ (m : Sizes). Inserts g.row.LEVELS m.k me.number ok.0 ok.1 es es' (stamped c.args.key c.next_item-item.result.stamp c.args.load)) same
-          (subst (λ (x : Item). Inserts g.row.LEVELS c.args.board.now.table.shared.key.k me.number ok.0 ok.1 es es' x) item_is ok.2),
+pub returns-in-Ok-clause-ok : goal.returns-in-Ok-clause-ok
+returns-in-Ok-clause-ok g c =
+    let now = c.loop.self in let inv = c.loop.invariant in let es' = own_steps c.try_insert.new.self in (
+      own_steps now,
+      inv.waits,
+      subst (λ (z : Sizes × ℕ). Inserts g.row.LEVELS z.0.k z.1 (own_steps now) es' (stamped c.args.key c.in-Ok.stamp c.args.load)) (λ i. (inv.same.1 i, inv.same.0 i)) c.in-Ok.ensures.ok,
     )
 
-pub overflow_add-self : goal.overflow_add-self
-overflow_add-self g c = let me = c.args.self.now in omega (arith, me.rests.within, me.in_range.quota)
+pub returns-in-Ok-clause-adds : goal.returns-in-Ok-clause-adds
+returns-in-Ok-clause-adds g c =
+    let me = c.args.self.now in let now = c.loop.self in let inv = c.loop.invariant in
+    adds_then me now c.try_insert.new.self (stamped c.args.key c.in-Ok.stamp c.args.load ∷ []) [] (waits_quiet me.number _ (own_steps me) (own_steps now) inv.waits) c.in-Ok.ensures.adds
 
-pub returns-then-self-clause-same : goal.returns-then-self-clause-same
-returns-then-self-clause-same g c = (refl, refl, refl)
+pub returns-in-Err-Spent-clause-refused : goal.returns-in-Err-Spent-clause-refused
+returns-in-Err-Spent-clause-refused g c =
+    let me = c.args.self.now in let now = c.loop.self in let inv = c.loop.invariant in let new = c.try_insert.new.self in let told = c.in-Err-Spent.ensures in
+    let quiet = waits_quiet me.number _ (own_steps me) (own_steps now) inv.waits in
+    let full : length (inserted (own_steps me)) ≡ me.sizes.quota = sym (ap (λ z. length (flat_map inserted_by z)) quiet) ∙ (told.spent.0 c.in-Err-Spent.field-0-is ∙ ap (λ (z : Sizes). z.quota) inv.same.1) in
+    let why = subst (RefusesInsert (length (inserted (own_steps now)) ≡ now.sizes.quota) g.row.LEVELS now.sizes.k now.number (own_steps now) (own_steps new)) c.in-Err-Spent.field-0-is told.refused.1 in
+    (adds_then me now new [] [] quiet told.refused.0, (full, why.1 ∙ first_of_two inv.first full))
 
-pub returns-then-self-clause-stamp : goal.returns-then-self-clause-stamp
-returns-then-self-clause-stamp g c = tt
+pub returns-in-Err-Spent-clause-spent : goal.returns-in-Err-Spent-clause-spent
+returns-in-Err-Spent-clause-spent g c =
+    let me = c.args.self.now in let now = c.loop.self in let inv = c.loop.invariant in
+    let quiet = waits_quiet me.number _ (own_steps me) (own_steps now) inv.waits in
+    let full : length (inserted (own_steps me)) ≡ me.sizes.quota = sym (ap (λ z. length (flat_map inserted_by z)) quiet) ∙ (c.in-Err-Spent.ensures.spent.0 c.in-Err-Spent.field-0-is ∙ ap (λ (z : Sizes). z.quota) inv.same.1) in
+    (λ is. full, λ is. refl)
 
-pub returns-then-self-clause-ok : goal.returns-then-self-clause-ok
-returns-then-self-clause-ok g c = tt
-
-pub returns-then-self-clause-adds : goal.returns-then-self-clause-adds
-returns-then-self-clause-adds g c = tt
-
-pub returns-then-self-clause-spent : goal.returns-then-self-clause-spent
-returns-then-self-clause-spent g c = (λ is. c.args.self.now.rests.insertions_are ∙ c.if-self.true, λ full. refl)
-
-pub insert_waiting-requires-clause-sized : goal.insert_waiting-requires-clause-sized
-insert_waiting-requires-clause-sized g c = (c.args.self.now.capacity, c.args.self.now.levels)
-
-pub insert_waiting-requires-clause-seat : goal.insert_waiting-requires-clause-seat
-insert_waiting-requires-clause-seat g c =
-    let me = c.args.self.now in let board = c.args.board.now in let same = board.key ∙ sym c.requires.1 in
-    (c.requires.0, subst (λ (m : Sizes). IsSized board.table.shared.table_id m) (sym board.key) board.sized, subst (λ (m : Sizes). me.number < m.threads) (sym same) me.rests.thread)
-
-pub insert_waiting-requires-clause-stamp : goal.insert_waiting-requires-clause-stamp
-insert_waiting-requires-clause-stamp g c =
-    let is = c.next_item-item.ensures in
-    record { owner = ap (λ (x : Item). x.stamp.owner) is; number = ap (λ (x : Item). x.stamp.number) is }
-
-pub insert_waiting-requires-clause-room : goal.insert_waiting-requires-clause-room
-insert_waiting-requires-clause-room g c =
-    let me = c.args.self.now in let same = c.args.board.now.key ∙ sym c.requires.1 in
-    omega (arith, me.rests.insertions_are, me.rests.within, c.if-self.false, ap (λ (m : Sizes). m.quota) same)
-
-pub insert_waiting-requires-clause-stands : goal.insert_waiting-requires-clause-stands
-insert_waiting-requires-clause-stands g c =
-    let me = c.args.self.now in let same = c.args.board.now.key ∙ sym c.requires.1 in
-    subst (λ (m : Sizes). Stands slot_content IsSlotOf m me.number [] me.seat.me) (sym same) (stands_at_rest g.row.CAP me.sizes me.in_range me.number me.inserted me.deleted me.seat.me me.rests)
-
-pub returns-in_err-insert_waiting-clause-same : goal.returns-in_err-insert_waiting-clause-same
-returns-in_err-insert_waiting-clause-same g c = (refl, refl, c.in_err-insert_waiting.ensures.same)
-
-pub returns-in_err-insert_waiting-clause-stamp : goal.returns-in_err-insert_waiting-clause-stamp
-returns-in_err-insert_waiting-clause-stamp g c = IfOk-from_err c.from_residual.result _ c.from_residual.ensures.0
-
-pub returns-in_err-insert_waiting-clause-ok : goal.returns-in_err-insert_waiting-clause-ok
-returns-in_err-insert_waiting-clause-ok g c = IfOk-from_err c.from_residual.result _ c.from_residual.ensures.0
-
-pub returns-in_err-insert_waiting-clause-adds : goal.returns-in_err-insert_waiting-clause-adds
-returns-in_err-insert_waiting-clause-adds g c = IfOk-from_err c.from_residual.result _ c.from_residual.ensures.0
-
-pub returns-clause-same : goal.returns-clause-same
-returns-clause-same g c = (refl, refl, c.in_ok-insert_waiting.ensures.same)
-
-pub returns-clause-stamp : goal.returns-clause-stamp
-returns-clause-stamp g c = ap (λ (x : Item). x.stamp) c.next_item-item.ensures
-
-pub returns-clause-adds : goal.returns-clause-adds
-returns-clause-adds g c =
-    let me = c.args.self.now in let es = mine me.seat.me.0 in let es' = mine c.insert_waiting.new.seat.me.0 in
-    let ok = c.in_ok-insert_waiting.ensures.ok in let is = c.next_item-item.ensures in
-    let item_is = is ∙ ap (λ (stamp : Stamp). stamped c.args.key stamp c.args.load) (sym (ap (λ (x : Item). x.stamp) is)) in
-    let gains = inserts_gain g.row.LEVELS c.args.board.now.table.shared.key.k me.number ok.0 ok.1 es es' c.next_item-item.result ok.2 in
-    record { inserted_are = gains.inserted_are ∙ ap (λ (x : Item). inserted es ++ x ∷ []) item_is; deleted_are = gains.deleted_are }
-
-pub returns-clause-refused : goal.returns-clause-refused
-returns-clause-refused g c = tt
-
-pub returns-clause-spent : goal.returns-clause-spent
-returns-clause-spent g c = (λ no. absurd no, λ full. c.if-self.false (sym c.args.self.now.rests.insertions_are ∙ full))
-
-pub returns-in_err-insert_waiting-clause-refused : goal.returns-in_err-insert_waiting-clause-refused
-returns-in_err-insert_waiting-clause-refused g c =
-    let me = c.args.self.now in let t = me.number in let es = mine me.seat.me.0 in let es' = mine c.insert_waiting.new.seat.me.0 in
-    let board = c.args.board.now in let refused = c.in_err-insert_waiting.ensures.refused in
-    let gains = refused_waiting_gains g.row.LEVELS board.table.shared.key.k t es es' _ refused in
-    let Spent = length (inserted es) ≡ me.sizes.quota in
-    passed_on c.from_residual.result _ _ c.from_residual.ensures.1 (λ why is. (
-      record { inserted_are = gains.inserted_are; deleted_are = gains.deleted_are },
-      subst (λ (e : InsertError). RefusesInsertWaiting Spent g.row.LEVELS me.sizes.k t es es' e) (sym is)
-          (subst (λ (m : Sizes). RefusesInsertWaiting Spent g.row.LEVELS m.k t es es' c.in_err-insert_waiting.field-0.0) (board.key ∙ sym c.requires.1) (began_waiting Spent g.row.LEVELS board.table.shared.key.k t es es' _ refused)),
-    ))
-
-pub returns-in_err-insert_waiting-clause-spent : goal.returns-in_err-insert_waiting-clause-spent
-returns-in_err-insert_waiting-clause-spent g c =
-    let me = c.args.self.now in let es = mine me.seat.me.0 in let es' = mine c.insert_waiting.new.seat.me.0 in
-    let refused = c.in_err-insert_waiting.ensures.refused in (
-      λ spent. absurd (no_error c.from_residual.result _ _ c.from_residual.ensures.1 spent (λ why is no. (subst (λ (e : InsertError). RefusesInsertWaiting ⊥ g.row.LEVELS c.args.board.now.table.shared.key.k me.number es es' e) (sym is ∙ no) refused).0)),
-      λ full. absurd (c.if-self.false (sym me.rests.insertions_are ∙ full)),
+pub returns-in-Err-Full-clause-refused : goal.returns-in-Err-Full-clause-refused
+returns-in-Err-Full-clause-refused g c =
+    let me = c.args.self.now in let now = c.loop.self in let inv = c.loop.invariant in let new = c.try_insert.new.self in let told = c.in-Err-Full.ensures in
+    let why = subst (RefusesInsert (length (inserted (own_steps now)) ≡ now.sizes.quota) g.row.LEVELS now.sizes.k now.number (own_steps now) (own_steps new)) c.in-Err-Full.field-0-is told.refused.1 in (
+      adds_then me now new [] [] (waits_quiet me.number _ (own_steps me) (own_steps now) inv.waits) told.refused.0,
+      (own_steps now, inv.waits, subst (λ (z : Sizes × ℕ). GivesUp z.0.k z.1 (own_steps now) (own_steps new) (LacksRoom g.row.LEVELS z.0.k)) (λ i. (inv.same.1 i, inv.same.0 i)) why),
     )
+
+pub returns-in-Err-NoMemory-clause-refused : goal.returns-in-Err-NoMemory-clause-refused
+returns-in-Err-NoMemory-clause-refused g c =
+    let me = c.args.self.now in let now = c.loop.self in let inv = c.loop.invariant in let new = c.try_insert.new.self in let told = c.in-Err-NoMemory.ensures in
+    let why = subst (RefusesInsert (length (inserted (own_steps now)) ≡ now.sizes.quota) g.row.LEVELS now.sizes.k now.number (own_steps now) (own_steps new)) c.in-Err-NoMemory.field-0-is told.refused.1 in (
+      adds_then me now new [] [] (waits_quiet me.number _ (own_steps me) (own_steps now) inv.waits) told.refused.0,
+      (own_steps now, inv.waits, subst (λ (z : Sizes × ℕ). GivesUp z.0.k z.1 (own_steps now) (own_steps new) (IsBelowLimit g.row.LEVELS)) (λ i. (inv.same.1 i, inv.same.0 i)) why),
+    )
+
+pub loop-preserved : goal.loop-preserved
+loop-preserved g c =
+    let me = c.args.self.now in let now = c.loop.self in let inv = c.loop.invariant in let new = c.try_insert.new.self in let told = c.in-Err-Busy.ensures in let busy = c.in-Err-Busy.busy in
+    let quiet = waits_quiet me.number _ (own_steps me) (own_steps now) inv.waits in
+    let why = subst (RefusesInsert (length (inserted (own_steps now)) ≡ now.sizes.quota) g.row.LEVELS now.sizes.k now.number (own_steps now) (own_steps new)) c.in-Err-Busy.field-0-is told.refused.1 in
+    record {
+      same = same_then me now new inv.same told.same;
+      others = told.others ∙ inv.others;
+      waits = waits_more me.number (λ own. length own ≡ me.sizes.k) (own_steps me) (own_steps now) (own_steps new) busy inv.waits
+          (subst (λ (z : Sizes × ℕ). Misses z.1 (λ own. length own ≡ z.0.k) (own_steps now) (own_steps new) busy) (λ i. (inv.same.1 i, inv.same.0 i)) why);
+      first = inr (λ full. busy_not_spent busy (sym c.in-Err-Busy.field-0-is ∙ told.spent.1 (ap (λ z. length (flat_map inserted_by z)) quiet ∙ (full ∙ sym (ap (λ (z : Sizes). z.quota) inv.same.1)))));
+    }

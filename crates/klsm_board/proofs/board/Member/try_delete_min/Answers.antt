@@ -16,7 +16,7 @@ invariant_of-self-then-is_some g c =
     let me = c.args.self.now in let t = me.number in let es = mine me.seat.me.0 in let did = c.delete_now in let es' = mine did.new.seat.me.0 in
     let rests = me.rests in let board = c.args.board.now in let same = board.key ∙ sym c.requires.1 in
     let ok = c.in_ok-answer.ensures.ok in let answer = c.in_ok-answer.answer in
-    let gains : Gains es es' [] (option_to_list answer) = answers_gain g.P.Picker.may_pick c.args.picker.now did.new.picker board.table.shared.key t [] [] es es' answer ok in
+    let gains : Gains es es' [] (option_to_list answer) = answers_gain g.P.Picker.may_pick c.args.picker.now did.new.picker board.table.shared.key t es es' answer ok in
     let counts = gained_counts es es' [] (option_to_list answer) me.inserted me.deleted gains rests.insertions_are rests.deletions_are in
     let many = some_is_one answer (sym c.is_some.ensures ∙ c.if-is_some.true) in
     let first : length (inserted es') ≡ me.inserted = omega (arith, counts.0) in let second : length (deleted es') ≡ me.deleted + 1 = omega (arith, counts.1, many) in
@@ -27,7 +27,7 @@ invariant_of-self-else-is_some g c =
     let me = c.args.self.now in let t = me.number in let es = mine me.seat.me.0 in let did = c.delete_now in let es' = mine did.new.seat.me.0 in
     let rests = me.rests in let board = c.args.board.now in let same = board.key ∙ sym c.requires.1 in
     let ok = c.in_ok-answer.ensures.ok in let answer = c.in_ok-answer.answer in
-    let gains : Gains es es' [] (option_to_list answer) = answers_gain g.P.Picker.may_pick c.args.picker.now did.new.picker board.table.shared.key t [] [] es es' answer ok in
+    let gains : Gains es es' [] (option_to_list answer) = answers_gain g.P.Picker.may_pick c.args.picker.now did.new.picker board.table.shared.key t es es' answer ok in
     let counts = gained_counts es es' [] (option_to_list answer) me.inserted me.deleted gains rests.insertions_are rests.deletions_are in
     let many = none_is_zero answer (sym c.is_some.ensures ∙ c.if-is_some.false) in
     let first : length (inserted es') ≡ me.inserted = omega (arith, counts.0) in let second : length (deleted es') ≡ me.deleted = omega (arith, counts.1, many) in
@@ -38,7 +38,7 @@ returns-then-is_some-clause-adds g c =
     let me = c.args.self.now in let t = me.number in let es = mine me.seat.me.0 in let did = c.delete_now in let es' = mine did.new.seat.me.0 in
     let rests = me.rests in let board = c.args.board.now in let same = board.key ∙ sym c.requires.1 in
     let ok = c.in_ok-answer.ensures.ok in let answer = c.in_ok-answer.answer in
-    let gains : Gains es es' [] (option_to_list answer) = answers_gain g.P.Picker.may_pick c.args.picker.now did.new.picker board.table.shared.key t [] [] es es' answer ok in
+    let gains : Gains es es' [] (option_to_list answer) = answers_gain g.P.Picker.may_pick c.args.picker.now did.new.picker board.table.shared.key t es es' answer ok in
     record { inserted_are = gains.inserted_are; deleted_are = gains.deleted_are }
 
 pub returns-else-is_some-clause-adds : goal.returns-else-is_some-clause-adds
@@ -46,7 +46,7 @@ returns-else-is_some-clause-adds g c =
     let me = c.args.self.now in let t = me.number in let es = mine me.seat.me.0 in let did = c.delete_now in let es' = mine did.new.seat.me.0 in
     let rests = me.rests in let board = c.args.board.now in let same = board.key ∙ sym c.requires.1 in
     let ok = c.in_ok-answer.ensures.ok in let answer = c.in_ok-answer.answer in
-    let gains : Gains es es' [] (option_to_list answer) = answers_gain g.P.Picker.may_pick c.args.picker.now did.new.picker board.table.shared.key t [] [] es es' answer ok in
+    let gains : Gains es es' [] (option_to_list answer) = answers_gain g.P.Picker.may_pick c.args.picker.now did.new.picker board.table.shared.key t es es' answer ok in
     record { inserted_are = gains.inserted_are; deleted_are = gains.deleted_are }
 
 pub invariant_of-self : goal.invariant_of-self

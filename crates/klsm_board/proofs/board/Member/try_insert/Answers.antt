@@ -29,7 +29,7 @@ pub invariant_of-self-2 : goal.invariant_of-self-2
 invariant_of-self-2 g c =
     let me = c.args.self.now in let t = me.number in let es = mine me.seat.me.0 in let es' = mine c.insert_now.new.seat.me.0 in
     let rests = me.rests in let board = c.args.board.now in let same = board.key ∙ sym c.requires.1 in let x = c.next_item-item.result in
-    let gains = inserts_gain g.row.LEVELS c.args.board.now.table.shared.key.k t [] [] es es' x c.in_ok-insert_now.ensures.ok in
+    let gains = inserts_gain g.row.LEVELS c.args.board.now.table.shared.key.k t es es' x c.in_ok-insert_now.ensures.ok in
     let counts = gained_counts es es' (x ∷ []) [] me.inserted me.deleted gains rests.insertions_are rests.deletions_are in
     let first : length (inserted es') ≡ me.inserted + 1 = omega (arith, counts.0) in let second : length (deleted es') ≡ me.deleted = omega (arith, counts.1) in
     record { rests = rests_after g.row.CAP me.sizes me.in_range t (me.inserted + 1) me.deleted c.insert_now.new.seat.me (subst (λ m. Has slot_content IsSlotOf m t [] c.insert_now.new.seat.me) same c.in_ok-insert_now.ensures.has) first second; in_range = me.in_range; capacity = me.capacity; levels = me.levels }
@@ -59,8 +59,8 @@ returns-clause-ok g c =
     let me = c.args.self.now in let es = mine me.seat.me.0 in let es' = mine c.insert_now.new.seat.me.0 in
     let same = c.args.board.now.key ∙ sym c.requires.1 in let is = c.next_item-item.ensures in
     let item_is = is ∙ ap (λ (stamp : Stamp). stamped c.args.key stamp c.args.load) (sym (ap (λ (x : Item). x.stamp) is)) in
-    subst (λ (m : Sizes). Inserts g.row.LEVELS m.k me.number [] [] es es' (stamped c.args.key c.next_item-item.result.stamp c.args.load)) same
-    (subst (λ (x : Item). Inserts g.row.LEVELS c.args.board.now.table.shared.key.k me.number [] [] es es' x) item_is c.in_ok-insert_now.ensures.ok)
+    subst (λ (m : Sizes). Inserts g.row.LEVELS m.k me.number es es' (stamped c.args.key c.next_item-item.result.stamp c.args.load)) same
+    (subst (λ (x : Item). Inserts g.row.LEVELS c.args.board.now.table.shared.key.k me.number es es' x) item_is c.in_ok-insert_now.ensures.ok)
 
 pub returns-then-self-clause-same : goal.returns-then-self-clause-same
 returns-then-self-clause-same g c = (refl, refl, refl)
@@ -123,7 +123,7 @@ returns-clause-adds g c =
     let me = c.args.self.now in let es = mine me.seat.me.0 in let es' = mine c.insert_now.new.seat.me.0 in
     let is = c.next_item-item.ensures in
     let item_is = is ∙ ap (λ (stamp : Stamp). stamped c.args.key stamp c.args.load) (sym (ap (λ (x : Item). x.stamp) is)) in
-    let gains = inserts_gain g.row.LEVELS c.args.board.now.table.shared.key.k me.number [] [] es es' c.next_item-item.result c.in_ok-insert_now.ensures.ok in
+    let gains = inserts_gain g.row.LEVELS c.args.board.now.table.shared.key.k me.number es es' c.next_item-item.result c.in_ok-insert_now.ensures.ok in
     record { inserted_are = gains.inserted_are ∙ ap (λ (x : Item). inserted es ++ x ∷ []) item_is; deleted_are = gains.deleted_are }
 
 pub returns-clause-refused : goal.returns-clause-refused

@@ -21,7 +21,7 @@ returns-in-Ok-clause-inserts g c =
 pub returns-in-Ok-clause-gains : goal.returns-in-Ok-clause-gains
 returns-in-Ok-clause-gains g c =
     let ok = c.in-Ok.ensures.ok in
-    insertion_gains _ _ _ ok.0 ok.1 _ _ _ ok.2
+    insertion_gains _ _ _ _ _ _ ok
 
 pub returns-in-Err-Full-clause-same : goal.returns-in-Err-Full-clause-same
 returns-in-Err-Full-clause-same g c = record { member = c.in-Err-Full.ensures.same; seat = refl }
@@ -35,7 +35,7 @@ returns-in-Err-Full-clause-deletes g c = c.in-Err-Full.ensures.refused.0.deleted
 pub returns-in-Err-Full-clause-gains : goal.returns-in-Err-Full-clause-gains
 returns-in-Err-Full-clause-gains g c =
     let refused = rw c.in-Err-Full.field-0-is at c.in-Err-Full.ensures.refused.1 in
-    refusal_gains _ _ refused.0 refused.1 _ _ _ refused.2
+    refusal_gains _ _ _ _ _ refused
 
 pub returns-in-Err-NoMemory-clause-refuses : goal.returns-in-Err-NoMemory-clause-refuses
 returns-in-Err-NoMemory-clause-refuses g c = c.in-Err-NoMemory.ensures.refused.0.inserted_are ∙ append-nil _
@@ -46,7 +46,7 @@ returns-in-Err-NoMemory-clause-deletes g c = c.in-Err-NoMemory.ensures.refused.0
 pub returns-in-Err-NoMemory-clause-gains : goal.returns-in-Err-NoMemory-clause-gains
 returns-in-Err-NoMemory-clause-gains g c =
     let refused = rw c.in-Err-NoMemory.field-0-is at c.in-Err-NoMemory.ensures.refused.1 in
-    refusal_gains _ _ refused.0 refused.1 _ _ _ refused.2
+    refusal_gains _ _ _ _ _ refused
 
 pub returns-in-Err-NoMemory-clause-same : goal.returns-in-Err-NoMemory-clause-same
 returns-in-Err-NoMemory-clause-same g c = record { member = c.in-Err-NoMemory.ensures.same; seat = refl }

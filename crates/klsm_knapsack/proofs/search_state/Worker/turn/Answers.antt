@@ -41,17 +41,17 @@ pub returns-in_default-clause-answers : goal.returns-in_default-clause-answers
 returns-in_default-clause-answers g c =
     let ok = c.in_default.ensures.ok in
     -- how the picker may pick does not matter, as it was not asked
-    no_deletion_gains (λ before candidates index after. Unit {0}) _ _ _ _ ok.0 ok.1 _ _ ok.2
+    no_deletion_gains (λ before candidates index after. Unit {0}) _ _ _ _ _ _ ok
 
 pub returns-clause-answers : goal.returns-clause-answers
 returns-clause-answers g c =
     let ok = c.in-Some.ensures.ok in
-    gains_more _ _ _ (deletion_gains _ _ _ _ _ ok.0 ok.1 _ _ _ ok.2) c.in_ok-examine.ensures.gains
+    gains_more _ _ _ (deletion_gains _ _ _ _ _ _ _ _ ok) c.in_ok-examine.ensures.gains
 
 pub examine-requires-after_bounds : goal.examine-requires-after_bounds
 examine-requires-after_bounds g c κs within =
     let told = c.in-Some.ensures in let of = c.requires.of.member in let same = told.same in let new = c.delete_min.new.self in
     let many : length (inserted (own_steps new)) ≡ length (inserted (own_steps c.args.self.now.member)) = ap length (told.adds.inserted_are ∙ append-nil _) in
     let room : length (inserted (own_steps new)) + 2 ≤ new.sizes.quota = omega (arith, many, c.requires.room, ap (λ m. m.quota) same.1) in
-    let answered = subst (λ t. EndsAnswered t (own_steps new)) (sym same.0) (after_item _ _ _ _ _ told.ok.0 told.ok.1 _ _ _ told.ok.2) in
+    let answered = subst (λ t. EndsAnswered t (own_steps new)) (sym same.0) (after_item _ _ _ _ _ _ _ _ told.ok) in
     (lit< tt, (lit< tt, (record { member = (same.2 ∙ of.0, same.1 ∙ of.1); seat = c.requires.of.seat }, (room, (c.requires.problem, λ refuses. answered)))))
