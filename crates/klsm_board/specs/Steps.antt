@@ -105,13 +105,13 @@ module _ {S : Type 0} where
   abbrev pub set_front : (Event → Type 0) → Sizes → ℕ → Step S → Me S View → ℕ → Me S View → Type 0
   set_front fits m t st me n me' = (e : Event) × fits e × (me' ≡ (gain me.0 (Committed e), me.1)) × is_reached m t me'
 
-  -- the front was loaded: an item whose key is below it was deleted by it, out of a world of that front
+  -- the front was loaded, in a world of that front: an item whose key is below it was deleted by it
   abbrev pub looked : Item → Sizes → ℕ → Step S → Me S View → ℕ → Me S View → Type 0
   looked x m t st me n me' =
       MatchBool (ltb x.key n)
       ((me' ≡ (gain me.0 (Committed (Early x n)), me.1)) × is_reached m t me'
       × ((before : AreReached m t me.0) × (before.world.front ≡ n)))
-      (me' ≡ me)
+      ((me' ≡ me) × SeesFront m t (mine me.0) n)
 
   -- the front was loaded, and nothing else happened
   abbrev pub glanced : Sizes → ℕ → Step S → Me S View → ℕ → Me S View → Type 0

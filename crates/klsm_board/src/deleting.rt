@@ -53,7 +53,7 @@ pub(crate) fn delete_now<S: PartSlot, P: Picker>(
     ensures effect { IfOk result (TakesEffect table.now.key thread (rest_of seat.old.me.0)
         (mine seat.old.me.0) (mine seat.new.me.0)) }
     ensures busy { IfErr result (λ busy. (picker.new ≡ picker.old)
-        × MissesDeletion thread (mine seat.old.me.0) (mine seat.new.me.0) busy) }
+        × MissesDeletion table.now.key thread (mine seat.old.me.0) (mine seat.new.me.0) busy) }
 {
     try_acquire(table, seat, thread + 1, thread)?;
     if let Some(item) = delete_early(table, seat, thread, threads) {

@@ -4,7 +4,7 @@ ghost use Rattle.klsm_run.specs.declared.item.Item.{Item};
 ghost use Rattle.klsm_parts.specs.Least.{IsLeast};
 ghost use Rattle.klsm_board.specs.Steps.{mine, rest_of};
 ghost use Rattle.klsm_board.specs.Seats.{Has, IsSeatOf, own_in_hand};
-ghost use Rattle.klsm_board.specs.Deleting.{TakesEarly};
+ghost use Rattle.klsm_board.specs.Deleting.{FrontIsNotAbove, TakesEarly};
 ghost use Rattle.klsm_board.specs.Effects.{TakesEffect};
 
 use crate::rule::{Locks, MemberSeat};
@@ -30,7 +30,8 @@ pub(crate) fn delete_early<S: PartSlot>(
         → Has S.content S.suits table.now.key thread (own_in_hand thread own) seat.old.me
         → MatchOption result
         (Has S.content S.suits table.now.key thread (own_in_hand thread own) seat.new.me
-        × (mine seat.new.me.0 ≡ mine seat.old.me.0))
+        × (mine seat.new.me.0 ≡ mine seat.old.me.0)
+        × FrontIsNotAbove table.now.key thread own (mine seat.old.me.0))
         (λ item. Has S.content S.suits table.now.key thread [] seat.new.me
         × TakesEarly table.now.key thread own (mine seat.old.me.0) (mine seat.new.me.0) item) }
     ensures effect { IfSome result (λ item. TakesEffect table.now.key thread
@@ -55,7 +56,7 @@ fn least_own<S: PartSlot>(table: &Locks<S>, seat: &mut MemberSeat<S>, thread: us
     ensures looked { (own : List Item)
         → Has S.content S.suits table.now.key thread (own_in_hand thread own) seat.old.me
         → Has S.content S.suits table.now.key thread (own_in_hand thread own) seat.new.me
-        × IfSome result (λ x. IsLeast x own) }
+        × MatchOption result (own ≡ []) (λ x. IsLeast x own) }
 {
     seat.slot_mut(table, thread + 1).find_least()
 }

@@ -188,7 +188,7 @@ impl<const CAP: usize, const LEVELS: usize> Member<CAP, LEVELS> {
         ensures adds { IfOk result (λ answer. Adds self.old self.new [] (option_to_list answer)) }
         ensures busy { IfErr result (λ busy. Adds self.old self.new [] []
             × (picker.new ≡ picker.old)
-            × MissesDeletion self.old.number (own_steps self.old) (own_steps self.new) busy) }
+            × MissesDeletion self.old.sizes self.old.number (own_steps self.old) (own_steps self.new) busy) }
     {
         let thread = self.number as usize;
         let threads = self.sizes.threads;

@@ -55,7 +55,8 @@ pub trait PartSlot: Holding + Drop {
         ensures kind { (k t : ℕ) → Self.suits k (own_part t) self.old
             → Self.suits k (own_part t) self.new }
         ensures same { Self.content self.new ≡ Self.content self.old }
-        ensures least { IfSome result (λ x. IsLeast x (Self.content self.old)) };
+        ensures least { MatchOption result (Self.content self.old ≡ [])
+            (λ x. IsLeast x (Self.content self.old)) };
 
     /// Appends the items to a list.
     fn append_to(&self, all: &mut Vec<Item>) -> Result<(), AllocError>

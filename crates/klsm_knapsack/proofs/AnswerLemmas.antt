@@ -41,9 +41,9 @@ after_nothing m t own shared taken es' finds = inr (taken ++ finds.added, Nothin
 pub after_answer : {P : Type 0} (may_pick : P → ℕ → ℕ → P → Type 0) (before after : P) (m : Sizes) (t : ℕ) (es es' : List Entry) (answer : Option Item) → AnswersDeletion may_pick before after m t es es' answer → EndsAnswered t es'
 after_answer may_pick before after m t es es' None (own, inl early) = absurd early.0
 after_answer may_pick before after m t es es' (Some x) (own, inl early) = inr (own_acquired t own es, Early x early.0.front, inl early.0.steps)
-after_answer may_pick before after m t es es' None (own, inr both) = after_nothing m t own both.0 (both_acquired t own both.0 es) es' both.1.0
+after_answer may_pick before after m t es es' None (own, inr both) = after_nothing m t own both.0 (both_acquired t own both.0 es) es' both.2.0
 after_answer may_pick before after m t es es' (Some x) (own, inr both) =
-    after_deletion may_pick before after m t own both.0 (both_acquired t own both.0 es) es' x both.1
+    after_deletion may_pick before after m t own both.0 (both_acquired t own both.0 es) es' x both.2
 
 -- and of one that gave an item
 pub after_item : {P : Type 0} (may_pick : P → ℕ → ℕ → P → Type 0) (before after : P) (m : Sizes) (t : ℕ) (es es' : List Entry) (x : Item) → AnswersWaiting may_pick before after m t es es' (Some x) → EndsAnswered t es'
@@ -77,7 +77,7 @@ one_refusal k t es es' Found gives = record {
   events = goes_on es (both_acquired t gives.own gives.shared es) (both_released t) es' (both_quiet t gives.own gives.shared es) gives.steps;
 }
 
-pub refusal_gains : (k t : ℕ) (es es' : List Entry) (Found : List Item → Type 0) → (now : List Entry) × Waits t (λ own. length own ≡ k) es now × GivesUp k t now es' Found → GainsOthers es es'
+pub refusal_gains : (k t : ℕ) (es es' : List Entry) (Found : List Item → Type 0) → (now : List Entry) × Waits t (λ own acquired. length own ≡ k) es now × GivesUp k t now es' Found → GainsOthers es es'
 refusal_gains k t es es' Found told = later es told.0 es' (waits_quiet t _ es told.0 told.1) (one_refusal k t told.0 es' Found told.2)
 
 -- neither a Take nor what moves behind it is an answer "nothing"
@@ -96,7 +96,7 @@ one_deletion may_pick before after m t es es' x (own, inl early) = record {
   };
   some = omega arith;
 }
-one_deletion may_pick before after m t es es' x (own, inr (shared, inl takes)) = record {
+one_deletion may_pick before after m t es es' x (own, inr (shared, past, inl takes)) = record {
   gains = record {
     gained = Take x ∷ committed_in (refilled (is_refilled m.refill m.k own shared x).0);
     others = take_and_more x (is_refilled m.refill m.k own shared x).0;
@@ -105,7 +105,7 @@ one_deletion may_pick before after m t es es' x (own, inr (shared, inl takes)) =
   };
   some = omega arith;
 }
-one_deletion may_pick before after m t es es' x (own, inr (shared, inr takes)) = record {
+one_deletion may_pick before after m t es es' x (own, inr (shared, past, inr takes)) = record {
   gains = record {
     gained = Spy (victim_of m.threads t (suc takes.0.spies.passed)) takes.0.moved ∷ Take x ∷ [];
     others = (λ is. cc, (λ is. cc, tt));
@@ -126,7 +126,7 @@ one_nothing : {P : Type 0} (may_pick : P → ℕ → ℕ → P → Type 0) (befo
     → AnswersDeletion may_pick before after m t es es' None → GainsNothing es es'
 one_nothing may_pick before after m t es es' (own, inl early) = absurd early.0
 one_nothing may_pick before after m t es es' (own, inr both) =
-    nothing_events m t own both.0 es (both_acquired t own both.0 es) es' (both_quiet t own both.0 es) both.1.0
+    nothing_events m t own both.0 es (both_acquired t own both.0 es) es' (both_quiet t own both.0 es) both.2.0
 
 pub no_deletion_gains : {P : Type 0} (may_pick : P → ℕ → ℕ → P → Type 0) (before after : P) (m : Sizes) (t : ℕ) (es es' : List Entry)
     → AnswersWaiting may_pick before after m t es es' None → GainsNothing es es'

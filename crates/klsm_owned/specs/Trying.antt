@@ -41,7 +41,7 @@ pub record TriesDelete (before after : OwnedMember) (result : Result (Option Ite
       Adds (member_of before) (member_of after) [] (option_to_list answer))
   pub busy : IfErr result (λ busy. Adds (member_of before) (member_of after) [] []
       × (choice_of after ≡ choice_of before)
-      × MissesDeletion (member_of before).number
+      × MissesDeletion (member_of before).sizes (member_of before).number
       (own_steps (member_of before)) (own_steps (member_of after)) busy)
 
 -- A look at the front, which leaves the member's list as it was: the front of a world with that list.

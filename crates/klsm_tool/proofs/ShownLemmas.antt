@@ -48,7 +48,7 @@ inserted_within es = by_events (committed_in es)
         omega (arith, more, shows, one e, by_events all)
 
 -- what comes after tries that met a lock shows the same as without them
-after_waits : (t : ℕ) (Found : List Item → Type 0) (es now : List Entry) (more : List Answer) → Waits t Found es now → shown_in now ++ more ≡ shown_in es ++ more
+after_waits : (t : ℕ) (Found : List Item → List Entry → Type 0) (es now : List Entry) (more : List Answer) → Waits t Found es now → shown_in now ++ more ≡ shown_in es ++ more
 after_waits t Found es now more waits = ap (λ z. flat_map shown z ++ more) (waits_quiet t Found es now waits)
 
 -- an insertion shows its item
@@ -95,11 +95,11 @@ module _ (m : Sizes) (t : ℕ) (own shared : List Item) (es es' : List Entry) wh
 module _ {P : Type 0} (may_pick : P → ℕ → ℕ → P → Type 0) (before after : P) (m : Sizes) (t : ℕ) where
   one_item : (es es' : List Entry) (x : Item) → AnswersDeletion may_pick before after m t es es' (Some x) → shown_in es' ≡ shown_in es ++ Deleted x ∷ []
   one_item es es' x (own, inl early) = shows_more es es' (event.Early x early.0.front ∷ []) (early_events m t own es (own_acquired t own es) es' x (own_quiet t own es) early.0)
-  one_item es es' x (own, inr both) = deletion_shows m t own both.0 es es' may_pick before after x both.1
+  one_item es es' x (own, inr both) = deletion_shows m t own both.0 es es' may_pick before after x both.2
 
   one_none : (es es' : List Entry) → AnswersDeletion may_pick before after m t es es' None → shown_in es' ≡ shown_in es ++ Nothing ∷ []
   one_none es es' (own, inl early) = absurd early.0
-  one_none es es' (own, inr both) = nothing_shows m t own both.0 es es' both.1.0
+  one_none es es' (own, inr both) = nothing_shows m t own both.0 es es' both.2.0
 
   pub item_shows : (es es' : List Entry) (x : Item) → AnswersWaiting may_pick before after m t es es' (Some x) → shown_in es' ≡ shown_in es ++ Deleted x ∷ []
   item_shows es es' x told = one_item told.0 es' x told.2 ∙ after_waits t _ es told.0 (Deleted x ∷ []) told.1

@@ -4,7 +4,7 @@ use Rattle.klsm_world.specs.declared.step.Entry.TheVariants.{Acquired, Released,
 use Rattle.klsm_board.specs.Steps.{mine, rest_of}
 use Rattle.klsm_board.specs.Seats.{own_in_hand}
 use Rattle.klsm_board.specs.Entries.{own_acquired, both_acquired}
-use Rattle.klsm_board.specs.Deleting.{Deletes, FindsNothing, TakesEarly}
+use Rattle.klsm_board.specs.Deleting.{Deletes, FindsNothing, FrontIsNotAbove, TakesEarly}
 use Rattle.klsm_board.specs.Effects.{committed_in, TakesEffect}
 use Rattle.klsm_board.proofs.lemmas.calls.AddLemmas.{own_quiet, both_quiet}
 use Rattle.klsm_board.proofs.lemmas.calls.EffectLemmas.{effect_since}
@@ -45,7 +45,7 @@ returns-in-Err-clause-busy g c =
       refl,
       inr (record {
         own = own.0;
-        found = tt;
+        found = subst (FrontIsNotAbove c.args.table.now.key t own.0) own.2 kept.2;
         lock = busy.0;
         steps = c.release_part.ensures.list ∙ (ap (λ z. z ++ Released (t + 1) ∷ []) (busy.2 ∙ ap (λ z. z ++ Missed 0 by ∷ []) (kept.1 ∙ own.2))
             ∙ append_assoc (own_acquired t own.0 (mine c.args.seat.now.me.0)) (Missed 0 by ∷ []) (Released (t + 1) ∷ []));
@@ -68,6 +68,7 @@ returns-clause-ok g c =
       own.0,
       inr (
         shared.0,
+        subst (FrontIsNotAbove m t own.0) own.2 kept.2,
         subst
             (λ z. MatchOption did.result (FindsNothing m t own.0 shared.0 z es' × (did.new.picker ≡ c.args.picker.now)) (Deletes g.P.Picker.may_pick c.args.picker.now did.new.picker m t own.0 shared.0 z es'))
             acquired (did.ensures.done own.0 shared.0 shared.1),

@@ -1,7 +1,8 @@
-use Rattle.std.proofs.Common.{◌≡◌, ◌<◌, ◌∙◌, [], ap, arith, refl, subst, sym}
+use Rattle.std.proofs.Common.{◌≡◌, ◌<◌, ◌∙◌, [], ap, arith, refl, subst, sym, inl, inr}
 use Rattle.std.proofs.lemmas.Option.{same_Some}
 use Rattle.klsm_parts.specs.Least.{IsLeast}
 use Rattle.klsm_parts.specs.Events.{own_after_early}
+use Rattle.klsm_board.specs.Rule.{SeesFront}
 use Rattle.klsm_board.specs.Steps.{mine, rest_of}
 use Rattle.klsm_board.specs.Seats.{Has, own_in_hand}
 use Rattle.std.specs.Prelude.{Some}
@@ -10,6 +11,7 @@ use Rattle.klsm_board.specs.Deleting.{TakesEarly}
 use Rattle.klsm_board.specs.Effects.{TakesEffect}
 use Rattle.klsm_board.proofs.lemmas.seats.StandLemmas.{stands}
 use Rattle.klsm_board.proofs.lemmas.calls.EarlyLemmas.{looked_only, early_out, takes_early, early_effect, slot_there, slot_is}
+use Rattle.klsm_board.proofs.lemmas.calls.TestLemmas.{none_told}
 use Rattle.klsm_board.proofs.early.delete_early.Goals as goal
 
 pub look_at_front-requires-clause-has : goal.look_at_front-requires-clause-has
@@ -19,9 +21,11 @@ pub returns-then-least-look_at_front-clause-done : goal.returns-then-least-look_
 returns-then-least-look_at_front-clause-done g c own has =
     let content = g.S.Holding.content in let suits = g.S.Holding.suits in let m = c.args.table.now.key in let t = c.args.thread in
     let did = c.in_ok-least.ensures.looked own has in
-    let same = looked_only content suits m t c.in_ok-least.least c.look_at_front.result c.least_own.new.seat.me c.look_at_front.new.seat.me c.if-least-look_at_front.true c.look_at_front.ensures.looked in (
-      subst (λ z. Has content suits m t (own_in_hand t own) z) (sym same) did.0,
-      ap (λ z. mine z.0) same ∙ ap mine c.least_own.ensures.same.2,
+    let told = looked_only content suits m t c.in_ok-least.least c.look_at_front.result c.least_own.new.seat.me c.look_at_front.new.seat.me c.if-least-look_at_front.true c.look_at_front.ensures.looked in
+    let list = ap mine c.least_own.ensures.same.2 in (
+      subst (λ z. Has content suits m t (own_in_hand t own) z) (sym told.0) did.0,
+      ap (λ z. mine z.0) told.0 ∙ list,
+      inr (c.in_ok-least.least, c.look_at_front.result, did.1, c.if-least-look_at_front.true, subst (λ es. SeesFront m t es c.look_at_front.result) list told.1),
     )
 
 pub slot_mut-requires : goal.slot_mut-requires
@@ -88,3 +92,8 @@ returns-clause-effect g c =
     subst (λ (v : View). TakesEffect m t (rest_of v) (mine v) es' (Some item)) c.least_own.ensures.same.2
     (subst (λ z. TakesEffect m t (rest_of c.least_own.new.seat.me.0) (mine c.least_own.new.seat.me.0) es' (Some z)) (sym same)
     (early_effect content suits m t k.0 x c.look_at_front.result c.least_own.new.seat.me c.look_at_front.new.seat.me did.0 did.1 below c.look_at_front.ensures.looked es' c.release_part.ensures.list))
+
+pub returns-in_err-least-clause-done : goal.returns-in_err-least-clause-done
+returns-in_err-least-clause-done g c own has =
+    let did = c.in_err-least.ensures.looked own has in
+    none_told c.from_residual.result _ _ c.from_residual.ensures (did.0, ap mine c.least_own.ensures.same.2, inl did.1)

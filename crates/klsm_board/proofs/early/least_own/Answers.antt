@@ -1,4 +1,4 @@
-use Rattle.std.proofs.Common.{◌+◌, [], ◌∷◌, ◌∙◌, refl, subst, IfSome}
+use Rattle.std.proofs.Common.{◌≡◌, ◌+◌, [], ◌∷◌, ◌∙◌, refl, subst, MatchOption}
 use Rattle.atomic_table.specs.Table.{rest}
 use Rattle.klsm_parts.specs.Least.{IsLeast}
 use Rattle.klsm_board.proofs.lemmas.seats.CarryLemmas.{first_of, first_here, first_changed}
@@ -22,5 +22,5 @@ returns-clause-looked g c own has =
     let z = c.find_least.new.self in
     let now = first_changed content suits m t (t + 1) own own [] me z carries (c.find_least.ensures.same ∙ h.0) (c.find_least.ensures.kind m.k t h.1) in (
       has_still content suits m t (own_in_hand t own) me (me.0, (t + 1, z) ∷ rest me.1) has refl now,
-      subst (λ z. IfSome c.find_least.result (λ x. IsLeast x z)) h.0 c.find_least.ensures.least,
+      subst (λ z. MatchOption c.find_least.result (z ≡ []) (λ x. IsLeast x z)) h.0 c.find_least.ensures.least,
     )

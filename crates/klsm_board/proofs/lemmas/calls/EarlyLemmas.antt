@@ -12,6 +12,7 @@ use Rattle.klsm_world.specs.declared.step.Entry.TheVariants.{Committed, Released
 use Rattle.klsm_world.specs.OwnSteps.{own_part}
 use Rattle.klsm_board.specs.declared.sizes.Sizes.{Sizes}
 use Rattle.klsm_board.specs.declared.rule.View.{View}
+use Rattle.klsm_board.specs.Rule.{SeesFront}
 use Rattle.klsm_board.specs.Steps.{gain, mine, rest_of, AreReached}
 use Rattle.klsm_board.specs.Seats.{Has, own_in_hand}
 use Rattle.klsm_board.specs.Deleting.{TakesEarly}
@@ -28,27 +29,31 @@ module _ {S : Type 0} (content : S → List Item) (suits : ℕ → ℕ → S →
   abbrev Deleted : Item → ℕ → Me S View → Me S View → Type 0
   Deleted x n me me' = (me' ≡ (gain me.0 (Committed (Early x n)), me.1)) × AreReached m t me'.0 × ((before : AreReached m t me.0) × (before.world.front ≡ n))
 
+  -- and what one that deletes none
+  abbrev Stays : ℕ → Me S View → Me S View → Type 0
+  Stays n me me' = (me' ≡ me) × SeesFront m t (mine me.0) n
+
   -- what a look at the front tells
   abbrev LooksAt : Item → ℕ → Me S View → Me S View → Type 0
-  LooksAt x n me me' = MatchBool (ltb x.key n) (Deleted x n me me') (me' ≡ me)
+  LooksAt x n me me' = MatchBool (ltb x.key n) (Deleted x n me me') (Stays n me me')
 
   -- where the front is not above the least own key, the look leaves all as it is
-  pub looked_only : (x : Item) (n : ℕ) (me me' : Me S View) → n ≤ x.key → LooksAt x n me me' → me' ≡ me
+  pub looked_only : (x : Item) (n : ℕ) (me me' : Me S View) → n ≤ x.key → LooksAt x n me me' → Stays n me me'
   looked_only x n me me' above outcome =
-      subst (λ b. MatchBool b (Deleted x n me me') (me' ≡ me)) (le-ltb x.key n above) outcome
+      subst (λ b. MatchBool b (Deleted x n me me') (Stays n me me')) (le-ltb x.key n above) outcome
 
   -- and else it commits an Early
   pub looked_below : (x : Item) (n : ℕ) (me me' : Me S View) → x.key < n → LooksAt x n me me' → Deleted x n me me'
   looked_below x n me me' below outcome =
-      subst (λ b. MatchBool b (Deleted x n me me') (me' ≡ me)) (lt-ltb x.key n below) outcome
+      subst (λ b. MatchBool b (Deleted x n me me') (Stays n me me')) (lt-ltb x.key n below) outcome
 
   -- in both cases the lists behind the first stay
   pub looked_others : (x : Item) (n : ℕ) (me me' : Me S View) → LooksAt x n me me' → rest_of me'.0 ≡ rest_of me.0
   looked_others x n me me' outcome = by_test (ltb x.key n) outcome
     where
-      by_test : (b : Bool) → MatchBool b (Deleted x n me me') (me' ≡ me) → rest_of me'.0 ≡ rest_of me.0
+      by_test : (b : Bool) → MatchBool b (Deleted x n me me') (Stays n me me') → rest_of me'.0 ≡ rest_of me.0
       by_test true took = set_others content suits m t (Early x n) me me' took.0
-      by_test false same = ap (λ (z : Me S View). rest_of z.0) same
+      by_test false same = ap (λ (z : Me S View). rest_of z.0) same.0
 
   module _ (own : List Item) (x : Item) (n : ℕ) (me me' : Me S View) (has : Has content suits m t (own_in_hand t own) me) (least : IsLeast x own) (below : x.key < n) (outcome : LooksAt x n me me') where
     -- what the seat has, once the item is out of the part

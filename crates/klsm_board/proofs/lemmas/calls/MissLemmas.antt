@@ -11,7 +11,7 @@ use Rattle.klsm_board.specs.Inserting.{Misses, MissesTimes, Waits}
 use Rattle.klsm_board.proofs.lemmas.calls.EventLemmas.{same_events}
 use Rattle.klsm_board.proofs.lemmas.calls.AddLemmas.{own_quiet}
 
-module _ (t : ℕ) (Found : List Item → Type 0) where
+module _ (t : ℕ) (Found : List Item → List Entry → Type 0) where
   -- they bring no event
   pub misses_quiet : (es es' : List Entry) (busy : Busy) → Misses t Found es es' busy → committed_in es' ≡ committed_in es
   misses_quiet es es' busy (inl own) = same_events es (Missed (own_part t) busy.by ∷ []) es' own.steps refl

@@ -1,5 +1,5 @@
 -- What is known by cases of a number, where the number is known to be 0, or not to be.
-use Rattle.std.proofs.Common.{◌≡◌, ◌≢◌, ℕ, ◌==◌, Bool, true, false, subst, eq-eqb, ne_eqb}
+use Rattle.std.proofs.Common.{◌≡◌, ◌≢◌, ℕ, ◌==◌, Bool, true, false, sym, subst, eq-eqb, ne_eqb}
 use Rattle.std.specs.Prelude.{MatchBool, MatchOption, Option, Some, None}
 
 pub where_zero : (P Q : Type 0) (n : ℕ) → n ≡ 0 → MatchBool (n == 0) P Q → P
@@ -17,6 +17,10 @@ either_way false P Q R T outcome f h = h outcome
 pub either_option : {A : Type 0} (o : Option A) (P R : Type 0) (Q T : A → Type 0) → MatchOption o P Q → (P → R) → ((a : A) → Q a → T a) → MatchOption o R T
 either_option None P R Q T outcome f h = f outcome
 either_option (Some a) P R Q T outcome f h = h a outcome
+
+-- and of one that is None
+pub none_told : {A : Type 0} (o : Option A) (P : Type 0) (Q : A → Type 0) → o ≡ None → P → MatchOption o P Q
+none_told o P Q is p = subst (λ o. MatchOption o P Q) (sym is) p
 
 -- an option that is not None
 pub where_some : {A : Type 0} (o : Option A) (P : Type 0) (Q : A → Type 0) (R : Type 0) → MatchOption o P Q → (P → ⊥) → ((a : A) → Q a → R) → R

@@ -1,5 +1,5 @@
 -- A take, by its answer: what the call of the parts ensures, said of the slots.
-use Rattle.std.proofs.Common.{◌≡◌, ℕ, ◌+◌, ◌↔◌, false, take, slice_get, refl, sym, ap, ◌∙◌, subst, Option, Some, None, MatchOption, IfSome, IsTrue}
+use Rattle.std.proofs.Common.{◌≡◌, ℕ, ◌+◌, ◌↔◌, List, [], ◌∷◌, false, take, slice_get, refl, sym, ap, ◌∙◌, subst, Option, Some, None, MatchOption, IfSome, IsTrue}
 use Rattle.std.proofs.lemmas.Option.{same_Some}
 use Rattle.klsm_run.specs.declared.item.Item.{Item}
 use Rattle.klsm_run.specs.Content.{sorted}
@@ -13,6 +13,12 @@ use Rattle.klsm_board.specs.declared.slot.Slot.TheVariants.{Own, Common}
 use Rattle.klsm_board.specs.Slots.{slot_content, IsSlotOf}
 use Rattle.klsm_board.specs.Choosing.{Chooses}
 use Rattle.klsm_board.proofs.lemmas.slots.KindLemmas.{AnySlot, own_content, shared_content, own_k}
+
+-- the least of a content, or none
+pub least_or_none : (xs : List Item) (answer : Option Item) → answer ≡ slice_get xs 0 → IfSome answer (λ x. IsLeast x xs) → MatchOption answer (xs ≡ []) (λ x. IsLeast x xs)
+least_or_none [] None is least = refl
+least_or_none (x ∷ xs) None is least = cc
+least_or_none xs (Some y) is least = least
 
 -- no answer changes a part's k
 pub own_keeps_k : (own after common common_after : PartState) (answer : Option Item) → MatchOption answer ((after ≡ own) × (common_after ≡ common)) (λ item. Leaves item own after common common_after) → after.k ≡ own.k

@@ -27,6 +27,7 @@ use Rattle.klsm_board.specs.declared.sizes.Sizes.{Sizes}
 use Rattle.klsm_board.specs.declared.rule.Own.{Own}
 use Rattle.klsm_board.specs.declared.rule.View.{View}
 use Rattle.klsm_board.specs.Rule.{place, lock_words, front_word, world_limits, content_at, board_world, Ruled}
+use Rattle.klsm_board.specs.Rule.{SeesFront}
 use Rattle.klsm_board.specs.Steps.{AreReached, gain, glanced, looked, set_front}
 use Rattle.klsm_board.specs.Seats.{QuotaAllows, LeavesShared, SetsFront}
 use Rattle.klsm_board.proofs.lemmas.table.PlaceLemmas.{locks_stay, front_set_at}
@@ -137,7 +138,7 @@ module _ {S : Type 0} (content : S → List Item) (suits : ℕ → ℕ → S →
           keeps,
           tt,
           keeps_rule content suits m s r id t xs es behind at lt ws s.homes ls ms (stays content suits m s r id t xs behind at lt (m.threads + 1) n) led stands else r.suited few,
-          subst (λ b. MatchBool b Took (now ≡ before)) (sym below) (refl, keeps_reached content suits m s r id t xs es behind at lt ws s.homes ls ms led stands else few, (seen.0, ap (λ (w : World). w.front) seen.1)),
+          subst (λ b. MatchBool b Took ((now ≡ before) × SeesFront m t xs n)) (sym below) (refl, keeps_reached content suits m s r id t xs es behind at lt ws s.homes ls ms led stands else few, (seen.0, ap (λ (w : World). w.front) seen.1)),
         )
 
     -- a load of the front that changes nothing keeps the rule
@@ -149,6 +150,13 @@ module _ {S : Type 0} (content : S → List Item) (suits : ℕ → ℕ → S →
         subst (λ z. Leads (world_limits m) r.schedule (board_world content (lock_words m z) (front_word m z) s.homes r.lists)) (sym (set-get_or s.words (place (m.threads + 1)) 0)) r.leads in
         keeps_rule content suits m s r id t xs xs behind at lt ws s.homes r.lists r.schedule (stays content suits m s r id t xs behind at lt (m.threads + 1) n) led (here content suits m s r id t xs behind at lt) (λ u d. refl) r.suited (few_now content suits m s r id t xs behind at lt)
 
+    -- the front is that of this world
+    sees : SeesFront m t xs (front_word m s.words)
+    sees =
+        let lawful : IsLawful (world_limits m) w0 = schedules_keep_lawful (world_limits m) r.schedule w0 r.leads in
+        let few = r.within in
+        record { world = w0; schedule = r.schedule; leads = r.leads; within = λ u ltu. each_within m.quota r.lists few u; list_is = same_steps content suits m s r id t xs behind at lt; front_is = lawful.front_is }
+
     -- or all stays as it is
     looks_only : (x : Item) → ltb x.key (front_word m s.words) ≡ false
         → Goes content suits m s id (m.threads + 1) cs (looked x m t (step slots (place (m.threads + 1)) 0 0 none) (acting content suits m t xs behind, cs)) (front_word m s.words)
@@ -157,20 +165,20 @@ module _ {S : Type 0} (content : S → List Item) (suits : ℕ → ℕ → S →
         let now : Me S View = (acting content suits m t xs behind, cs) in
         let gained_one : View = gain now.0 (Committed (Early x n)) in
         let Took : Type 0 = (now ≡ (gained_one, cs)) × AreReached m t now.0 × ((z : AreReached m t now.0) × (z.world.front ≡ n)) in
-        (acting content suits m t xs behind, keeps, tt, unchanged, subst (λ b. MatchBool b Took (now ≡ now)) (sym above) refl)
+        (acting content suits m t xs behind, keeps, tt, unchanged, subst (λ b. MatchBool b Took ((now ≡ now) × SeesFront m t xs n)) (sym above) (refl, sees))
 
     -- the front is loaded, and all stays as it is
     glances : Goes content suits m s id (m.threads + 1) cs (glanced m t (step slots (place (m.threads + 1)) 0 0 none) (acting content suits m t xs behind, cs)) (front_word m s.words)
     glances =
         let lawful : IsLawful (world_limits m) w0 = schedules_keep_lawful (world_limits m) r.schedule w0 r.leads in
-        let few = r.within in let seen = reached_now content suits m s r id t xs behind at lt in (
+        let seen = reached_now content suits m s r id t xs behind at lt in (
           acting content suits m t xs behind,
           keeps,
           tt,
           unchanged,
           (
             refl,
-            record { world = w0; schedule = r.schedule; leads = r.leads; within = λ u ltu. each_within m.quota r.lists few u; list_is = same_steps content suits m s r id t xs behind at lt; front_is = lawful.front_is },
+            sees,
             record { reached = seen.0; front_is = lawful.front_is ∙ ap (λ (w : World). front_of (content_of w shared_part)) (sym seen.1) },
           ),
         )

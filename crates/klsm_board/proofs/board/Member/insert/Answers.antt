@@ -72,7 +72,7 @@ loop-preserved g c =
     record {
       same = same_then me now new inv.same told.same;
       others = told.others ∙ inv.others;
-      waits = waits_more me.number (λ own. length own ≡ me.sizes.k) (own_steps me) (own_steps now) (own_steps new) busy inv.waits
-          (subst (λ (z : Sizes × ℕ). Misses z.1 (λ own. length own ≡ z.0.k) (own_steps now) (own_steps new) busy) (λ i. (inv.same.1 i, inv.same.0 i)) why);
+      waits = waits_more me.number (λ own acquired. length own ≡ me.sizes.k) (own_steps me) (own_steps now) (own_steps new) busy inv.waits
+          (subst (λ (z : Sizes × ℕ). Misses z.1 (λ own acquired. length own ≡ z.0.k) (own_steps now) (own_steps new) busy) (λ i. (inv.same.1 i, inv.same.0 i)) why);
       first = inr (λ full. busy_not_spent busy (sym c.in-Err-Busy.field-0-is ∙ told.spent.1 (ap (λ z. length (flat_map inserted_by z)) quiet ∙ (full ∙ sym (ap (λ (z : Sizes). z.quota) inv.same.1)))));
     }

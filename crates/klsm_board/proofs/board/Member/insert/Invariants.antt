@@ -8,6 +8,6 @@ abbrev pub invariant-loop : goal.invariant-loop
 invariant-loop g l = record {
   same : IsSame l.initial.self l.self;
   others : known_of_others l.self ≡ known_of_others l.initial.self;
-  waits : Waits l.initial.self.number (λ own. length own ≡ l.initial.self.sizes.k) (own_steps l.initial.self) (own_steps l.self);
+  waits : Waits l.initial.self.number (λ own acquired. length own ≡ l.initial.self.sizes.k) (own_steps l.initial.self) (own_steps l.self);
   first : (own_steps l.self ≡ own_steps l.initial.self) ⊎ (length (inserted (own_steps l.initial.self)) ≢ l.initial.self.sizes.quota);
 }

@@ -54,7 +54,7 @@ invariant_of-self g c =
     let me = c.args.self.now in let t = me.number in let es = mine me.seat.me.0 in let did = c.delete_now in let es' = mine did.new.seat.me.0 in
     let rests = me.rests in let board = c.args.board.now in let same = board.key ∙ sym c.requires.1 in
     let busy = c.in_err-answer.ensures.busy in
-    let gains = misses_gain t es es' _ busy.1 in
+    let gains = misses_gain _ t es es' _ busy.1 in
     let counts = gained_counts es es' [] [] me.inserted me.deleted gains rests.insertions_are rests.deletions_are in
     let first : length (inserted es') ≡ me.inserted = omega (arith, counts.0) in let second : length (deleted es') ≡ me.deleted = omega (arith, counts.1) in
     record { rests = rests_after g.row.CAP me.sizes me.in_range t me.inserted me.deleted did.new.seat.me (subst (λ m. Has slot_content IsSlotOf m t [] did.new.seat.me) same c.in_err-answer.ensures.has) first second; in_range = me.in_range; capacity = me.capacity; levels = me.levels }
