@@ -43,7 +43,7 @@ all_few threads rows lists accepted many less =
 pub never_full : (m : Sizes) (lists : List (List Entry)) (t : ℕ) → AreListsAtEnd m lists → insertions lists ≤ row_limit → m.k ≤ 64 → EndsFull 21 m.k t (steps_in lists t) → ⊥
 never_full m lists t at_end few small full =
     let up = full.1.2 in
-    let at = gave_up_at m.k t full.1.0 full.1.1 full.0 (steps_in lists t) (LacksRoom 21 m.k) up in
+    let at = gave_up_at m.k t full.1.0 (steps_in lists t) (LacksRoom 21 m.k) up in
     let there = ap (λ (z : List (List Entry)). get_elem? (get_or z t []) at.0) at_end.lists_are ∙ at.1 in
     let found = found_few (world_limits m) at_end.schedule at_end.world at_end.leads t at.0 shared_part up.shared there in
     let all : insertions at_end.world.lists ≡ insertions lists = ap insertions at_end.lists_are in

@@ -1,8 +1,11 @@
 //! Deletions by the front, which go through while another member holds the shared part, and those
 //! that have to look at it; and which items a flush and a spy move.
 
-use super::script::{Script, Step, passes};
+use super::script::{Script, Step, item, passes};
 use klsm_board::{Busy, TryInsertError};
+use klsm_test_support::Crew;
+use std::alloc::Global;
+use std::sync::Wait;
 
 const MANY: u64 = 1000;
 
@@ -107,6 +110,55 @@ fn deletions_by_the_front(rt: HostRuntime) {
     for script in BY_THE_FRONT {
         assert!(rt; passes::<21>(&rt, rt.alloc(), script));
     }
+}
+
+// As many members as a board can have.
+const MEMBERS: u32 = 16;
+
+const LAST: u32 = MEMBERS - 1;
+
+// Each member inserts a key, for which its own part has room.
+fn insert_each(crew: &mut Crew<21>) -> Option<()> {
+    for member in 0..MEMBERS {
+        crew.try_insert(member as usize, 9, 1)?.ok()?;
+    }
+    Some(())
+}
+
+// Whether the member at a place, which is this one, deletes what it inserted, by the call that may wait.
+fn deletes_own(rt: &impl Wait, crew: &mut Crew<21>, place: usize, member: u32) -> bool {
+    crew.delete_min(rt, place) == Some(Some(item((9, member, 0))))
+}
+
+// Whether all but the last do so while that one holds the shared part.
+fn all_others_delete(rt: &impl Wait, crew: &mut Crew<21>) -> Option<bool> {
+    crew.try_hold(0)?.ok()?;
+    for member in 0..LAST {
+        if !deletes_own(rt, crew, member as usize, member) {
+            return Some(false);
+        }
+    }
+    crew.put_back()?;
+    Some(true)
+}
+
+// Whether the last does so while the one before it holds the shared part.
+fn the_last_deletes(rt: &impl Wait, crew: &mut Crew<21>) -> Option<bool> {
+    crew.leave()?;
+    crew.try_hold(0)?.ok()?;
+    crew.relieve();
+    Some(deletes_own(rt, crew, 0, LAST))
+}
+
+fn each_goes_by_the_front(rt: &impl Wait, alloc: Global) -> Option<bool> {
+    let mut crew = Crew::new(alloc, MEMBERS as usize, 4, MANY).ok()?;
+    insert_each(&mut crew)?;
+    Some(all_others_delete(rt, &mut crew)? && the_last_deletes(rt, &mut crew)?)
+}
+
+#[test]
+fn each_of_sixteen_goes_by_the_front(rt: HostRuntime) {
+    assert!(rt; each_goes_by_the_front(&rt, rt.alloc()) == Some(true));
 }
 
 const MOVED: &[Script] = &[

@@ -64,8 +64,7 @@ fn as_tried(answer: Result<Stamp, InsertError>) -> Result<Stamp, TryInsertError>
     }
 }
 
-// How a member's insertion of a key ends, by the call that may wait, except while a part is held, or
-// by the one that waits for nobody.
+// How a member's insertion of a key ends, by the call that may wait or by the one that waits for nobody.
 fn insert<const LEVELS: usize>(
     rt: &impl Wait,
     crew: &mut Crew<LEVELS>,
@@ -75,7 +74,7 @@ fn insert<const LEVELS: usize>(
 ) -> Option<Result<Stamp, TryInsertError>> {
     let index = member as usize;
     let load = crew.counts(index)?.0.saturating_add(1);
-    if waits && crew.held.is_none() {
+    if waits {
         return Some(as_tried(crew.insert(rt, index, key, load)?));
     }
     crew.try_insert(index, key, load)
@@ -89,13 +88,13 @@ fn delete<const LEVELS: usize>(
     member: u32,
 ) -> Option<Result<Option<Item>, Busy>> {
     let index = member as usize;
-    if waits && crew.held.is_none() {
+    if waits {
         return Some(Ok(crew.delete_min(rt, index)?));
     }
     crew.try_delete_min(index, &mut First)
 }
 
-// Whether a member's insertion of a key ends so.
+// Whether a member's insertion of a key ends so. What meets a lock that is held would wait for ever.
 fn inserts<const LEVELS: usize>(
     rt: &impl Wait,
     crew: &mut Crew<LEVELS>,
@@ -103,6 +102,7 @@ fn inserts<const LEVELS: usize>(
     (member, key): (u32, u64),
     want: Result<Stamp, TryInsertError>,
 ) -> bool {
+    let waits = waits && !matches!(&want, Err(TryInsertError::Busy(_)));
     insert(rt, crew, waits, member, key) == Some(want)
 }
 
@@ -114,6 +114,7 @@ fn deletes<const LEVELS: usize>(
     member: u32,
     want: Result<Option<Item>, Busy>,
 ) -> bool {
+    let waits = waits && want.is_ok();
     delete(rt, crew, waits, member) == Some(want)
 }
 
@@ -194,7 +195,8 @@ fn all_go_on_new<const LEVELS: usize>(
     }
 }
 
-/// Whether each step of a script goes as it has to, by the calls that do not wait and by those that may.
+/// Whether each step of a script goes as it has to, by the calls that do not wait and by those that may, also
+/// while a part is held.
 pub(super) fn passes<const LEVELS: usize>(rt: &impl Wait, alloc: Global, script: &Script) -> bool
     requires { IsLevelCount LEVELS }
 {
