@@ -8,15 +8,12 @@ use Rattle.klsm_world.specs.declared.step.Event.{Event}
 use Rattle.klsm_world.specs.declared.step.Event.TheVariants.{Take, Early, Nothing}
 use Rattle.klsm_world.specs.declared.step.Step.{Step}
 use Rattle.klsm_world.specs.declared.step.Step.TheVariants.{Acquire, Commit, Release, Miss}
-use Rattle.klsm_world.specs.declared.errors.StepError.{StepError}
-use Rattle.klsm_world.specs.declared.errors.StepError.TheVariants.{NoMemory}
 use Rattle.klsm_world.specs.OwnSteps.{shared_part, own_part, event_at, inserted}
 use Rattle.klsm_world.specs.Worlds.{Limits, World, word_of, home_of, steps_of, content_of, live, first_world}
 use Rattle.klsm_world.specs.LawfulWorlds.{IsLawful}
 use Rattle.klsm_world.specs.Schedules.{MayStep, acquired, next, Leads}
 use Rattle.klsm_world.specs.RelaxedQueue.{IsRun, events_of}
 use Rattle.klsm_world.specs.Account.{account}
-use Rattle.klsm_world.specs.Refusals.{Refuses}
 
 -- the first world is lawful
 abbrev pub FirstWorldIsLawful : Type 0
@@ -119,9 +116,3 @@ abbrev pub ListsHaveEvents : Type 0
 ListsHaveEvents = (limits : Limits) (steps : List Step) (w : World) (t : ℕ) → Leads limits steps w
     → t < limits.threads
     → flat_map event_at (steps_of w t) ≡ flat_map (event_by t) (reverse steps)
-
--- in a lawful world a step that is refused for another cause than memory is not legal
-abbrev pub RefusedIsNotLegal : Type 0
-RefusedIsNotLegal = (limits : Limits) (w : World) (step : Step) (why : StepError)
-    → IsLawful limits w → Refuses limits w step why
-    → why ≢ NoMemory → MayStep limits w step → ⊥

@@ -9,7 +9,3 @@ pub mod Account  -- what all threads inserted and deleted, and what is left
 pub mod Laws  -- what follows for worlds and schedules
 pub mod OwnListLaws  -- what a thread can know from its own list
 pub mod Reached  -- schedules that reach the bounds
-pub mod WorldView  -- a world as contracts see it, and what a step answers
-pub mod Refusals  -- which steps are refused, and why
-pub mod Traces  -- what a run of steps answers
-pub mod Kept  -- how a running world keeps what it shows; no public contract cites it

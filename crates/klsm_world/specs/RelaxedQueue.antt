@@ -1,7 +1,7 @@
 -- The relaxed queue of one thread, M(T, k): a multiset that knows no part, block, lock or thread. A
 -- content is given by its ascending list. The lists of events and steps have the latest first, as
 -- schedules have.
-use Rattle.std.specs.Prelude.{ℕ, ◌*◌, ◌-◌, ◌≤◌, List, [], ◌∷◌, length, max}
+use Rattle.std.specs.Prelude.{◌*◌, ◌-◌, ◌≤◌, List, [], ◌∷◌, length}
 use Rattle.std.specs.List.{Contains, flat_map}
 use Rattle.klsm_run.specs.declared.item.Item.{Item}
 use Rattle.klsm_run.specs.Content.{skipped, without}
@@ -52,14 +52,3 @@ event_of (Miss t p) = []
 
 abbrev pub events_of : List Step → List Event
 events_of steps = flat_map event_of steps
-
--- the greatest number of items that a deletion among the events skipped, and 0 where there is none
-abbrev pub most_skipped : List Event → ℕ
-most_skipped [] = 0
-most_skipped (Put x ∷ before) = most_skipped before
-most_skipped (Flush x moved ∷ before) = most_skipped before
-most_skipped (Take x ∷ before) = max (skipped (queue_of before) x) (most_skipped before)
-most_skipped (Early x front ∷ before) = max (skipped (queue_of before) x) (most_skipped before)
-most_skipped (Nothing ∷ before) = most_skipped before
-most_skipped (Spy victim moved ∷ before) = most_skipped before
-most_skipped (Refill moved ∷ before) = most_skipped before

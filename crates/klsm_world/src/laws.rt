@@ -1,6 +1,6 @@
 //! Laws of the definitions that the contracts cite. The functions do nothing: what they ensure is a
 //! theorem.
-ghost use Rattle.klsm_world.specs.Laws.{AccountsAddUp, AccountsLeaveLive, AcquiresFindContents, DeletionsAreFew, EarliesKeepOwnOrder, EarliesSkipFew, FirstWorldIsLawful, ListsHaveEvents, LiveItemsDiffer, NothingLeavesFew, PartsShareNone, RefusedIsNotLegal, SchedulesAreRuns, SchedulesKeepLawful, StepsKeepLawful, TakesKeepOwnOrder, TakesSkipFew};
+ghost use Rattle.klsm_world.specs.Laws.{AccountsAddUp, AccountsLeaveLive, AcquiresFindContents, DeletionsAreFew, EarliesKeepOwnOrder, EarliesSkipFew, FirstWorldIsLawful, ListsHaveEvents, LiveItemsDiffer, NothingLeavesFew, PartsShareNone, SchedulesAreRuns, SchedulesKeepLawful, StepsKeepLawful, TakesKeepOwnOrder, TakesSkipFew};
 ghost use Rattle.klsm_world.specs.OwnListLaws.{HandsAreApart, ListsKeepOwnOrder, ListsKeepOwnOrderEarly, ListsLeaveFew, ListsSkipFew, ListsSkipFewEarly, NextIsNewInHand, OwnDeletionsAreFew, RefilledMayFollowEarly};
 ghost use Rattle.klsm_world.specs.Reached.{ReachesMostLeft, ReachesMostLeftRefilled, ReachesMostSkipped, ReachesMostSkippedEarly, ReachesMostSkippedEarlyRefilled, ReachesMostSkippedRefilled, two_threads};
 
@@ -94,9 +94,4 @@ pub fn accounts_leave_live()
 pub fn accounts_add_up()
     ensures sum { AccountsAddUp }
     ensures deletions { DeletionsAreFew }
-{}
-
-/// In a lawful world a step that is refused is not legal, memory aside.
-pub fn refused_steps_are_not_legal()
-    ensures { RefusedIsNotLegal }
 {}

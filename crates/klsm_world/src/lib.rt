@@ -5,26 +5,10 @@
 //! these are, apart from any lock that runs: a world has T threads, T + 1 parts, the shared part 0
 //! and thread t's own part t + 1, and a front word. A step acquires a free part, releases one, tries
 //! one in vain, or commits an event on parts in hand. A list of legal steps is a schedule. Whoever
-//! wants to know what a relaxed queue can do reads `specs/`, and whoever wants to try a schedule
-//! runs it:
+//! wants to know what a relaxed queue can do reads `specs/`. There is no code beside it but the
+//! words in which steps and lists are told (`Step`, `Event` and `Entry`) and the laws; `klsm_model`
+//! runs a schedule.
 //!
-//! ```text
-//! let steps = [
-//!     Step::Acquire { thread: 0, part: 1 },
-//!     Step::Commit { thread: 0, event: Event::Put(item) },
-//!     Step::Release { thread: 0, part: 1 },
-//! ];
-//! let trace = run(alloc, 2, 1, &steps)?;      // two threads, at most one item in an own part
-//! let mut world = World::new(alloc, 2, 1)?;   // the same by steps
-//! world.step(&steps[0])?;
-//! ```
-//!
-//! - **A step is taken exactly where it is legal**, and leads to the next world of the definition;
-//!   else it is refused for the first reason that holds, and nothing changes: the contract of
-//!   `World::step`.
-//! - **A run is a schedule.** `run` says what the steps insert, delete and leave, and the greatest
-//!   skip, which is at most T·k: clause `trace`. A fault is that of the first step that is refused:
-//!   clause `refused`.
 //! - **The laws** hold of every schedule, for every T and k, and each is the contract of a function
 //!   of `laws`: each world is lawful; a deletion skips at most T·k of all live items, and one by the
 //!   front at most (T-1)·k; neither skips an item of its own thread's in the two parts that it is
@@ -43,18 +27,9 @@
 //! smaller, so only the other own parts count.
 #![tactic(auto)]
 
-mod conditions;
-mod contents;
-mod errors;
 mod items;
 pub mod laws;
-mod own_steps;
-mod running;
 mod step;
-mod world;
 
-pub use errors::{StepError, WorldError};
 pub use items::Items;
-pub use running::{Trace, run};
 pub use step::{Entry, Event, Step};
-pub use world::World;

@@ -5,8 +5,9 @@ mod plain;
 mod proposed;
 
 use crate::owned::same_items;
+use klsm_model::{StepError, Trace, World, WorldError, run};
 use klsm_run::Item;
-use klsm_world::{Step, StepError, Trace, World, WorldError, run};
+use klsm_world::Step;
 use plain::Plain;
 use proposed::proposed;
 use rand_core::SeedableRng;

@@ -1,8 +1,9 @@
 //! Items, and steps as tables have them. A helper of these tests answers `None` where a call was
 //! refused that should not be.
 
+use klsm_model::World;
 use klsm_run::{Item, Stamp};
-use klsm_world::{Event, Items, Step, World};
+use klsm_world::{Event, Items, Step};
 use std::alloc::Global;
 
 /// A key, an owner and a number, which name an item.

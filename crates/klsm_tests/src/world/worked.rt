@@ -1,8 +1,8 @@
 //! Schedules written out, with what they answer.
 
 use super::steps::{Moved, Name, Row, item, step_of, steps_of, world_after};
+use klsm_model::{StepError, World, WorldError, run};
 use klsm_run::Item;
-use klsm_world::{StepError, World, WorldError, run};
 use std::alloc::Global;
 
 // Thread 1 inserts 3 and is done, and thread 0 takes its own part and the shared one and finds

@@ -1,7 +1,7 @@
 //! Steps of each kind that are refused, with each reason for which they can be, among legal ones.
 
 use super::steps::{Moved, Name, Row, item, step_of};
-use klsm_world::{StepError, World};
+use klsm_model::{StepError, World};
 use std::alloc::Global;
 
 const TWO: Name = (2, 1, 0);

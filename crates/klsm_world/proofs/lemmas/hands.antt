@@ -3,5 +3,3 @@ pub mod HandLemmas  -- a hand after a change, a return and an event
 pub mod NotedLemmas  -- lists and hands after one more entry
 pub mod AgreeLemmas  -- each legal step keeps all in agreement
 pub mod PartContentLemmas  -- what each step leaves of a part
-pub mod RefusalLemmas  -- which parts a thread holds, and which it lacks
-pub mod HeldLemmas  -- the own part and another, both held

@@ -9,4 +9,3 @@ pub mod LiveOnceLemmas  -- no item is live twice
 pub mod OwnListLemmas  -- what a list of own steps tells
 pub mod OwnEventLemmas  -- lists have the events of a schedule
 pub mod AccountLemmas  -- the account
-pub mod RefusedLemmas  -- a refused step is not legal

@@ -22,7 +22,7 @@ use Rattle.klsm_world.specs.OwnSteps.{content_in, deleted, found_in, hand_of}
 use Rattle.klsm_world.specs.Worlds.{World, content_of, hand_in, holder_of, live, live_below, word_of}
 use Rattle.klsm_world.specs.LawfulWorlds.{IsLawful}
 use Rattle.klsm_world.specs.Account.{account}
-use Rattle.klsm_world.proofs.lemmas.kept.LiveListLemmas.{items_more}
+use Rattle.klsm_world.proofs.lemmas.lists.ListLemmas.{items_more}
 use Rattle.klsm_world.proofs.lemmas.theorems.AccountLemmas.{left_is_live, accounts_add_up}
 use Rattle.klsm_world.proofs.lemmas.theorems.LiveOnceLemmas.{inserted_once}
 use Rattle.klsm_world.proofs.lemmas.theorems.OwnEventLemmas.{lists_have_events}

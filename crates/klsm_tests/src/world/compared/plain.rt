@@ -1,8 +1,9 @@
 //! The plain world: the definitions over one list of items, as slow as they read. It calls nothing
 //! of the code under test.
 
+use klsm_model::StepError;
 use klsm_run::{Item, Stamp};
-use klsm_world::{Event, Step, StepError};
+use klsm_world::{Event, Step};
 use std::alloc::Global;
 
 /// A live item, and the part that it is in.

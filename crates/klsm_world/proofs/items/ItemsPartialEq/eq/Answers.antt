@@ -1,6 +1,6 @@
 use Rattle.std.proofs.Common.{◌∙◌, ap}
 use Rattle.std.specs.Cmp.Lexicographic.{pointwise}
-use Rattle.klsm_world.proofs.lemmas.lists.ConditionLemmas.{are_equal, one_list_if_equal}
+use Rattle.klsm_world.proofs.lemmas.lists.EqualLemmas.{are_equal, one_list_if_equal}
 use Rattle.klsm_world.proofs.items.ItemsPartialEq.eq.Goals as goal
 
 pub returns-clause-same : goal.returns-clause-same
