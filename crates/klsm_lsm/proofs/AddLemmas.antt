@@ -54,8 +54,8 @@ added k (b ∷ bs) run lsm below block at_most none = elim (cases_lt (level b) (
       (apart_if_sharing_none (content bs) b (sharing_none_flipped b (content bs) lsm.2))
       (apart_if_sharing_none run b (none_in_front run b (content bs) none_flipped))) in
       rw (le-ltb (level b) (level run) more) record {
-        lawful = lawful_joined b (add bs run) lsm.0 rest.lawful rest.levels (sharing_none_flipped (content (add bs run)) b apart);
-        levels = levels_joined k b (add bs run) lsm.0 rest.lawful (omega (arith, below.0)) (all_weaker (λ c. level c ≤ level b) (λ c. level c < k) (λ c h. omega (arith, h, below.0)) (add bs run) rest.levels);
+        lawful = lawful_joined b (add bs run) lsm.0 rest.lawful (sharing_none_flipped (content (add bs run)) b apart);
+        levels = levels_joined k b (add bs run) (omega (arith, below.0)) (all_weaker (λ c. level c ≤ level b) (λ c. level c < k) (λ c h. omega (arith, h, below.0)) (add bs run) rest.levels);
       }
 ]
 

@@ -1,6 +1,6 @@
 -- A run that is carried up the levels: it becomes one with each block of the level that it comes to have.
 use Rattle.std.proofs.Common.{◌≡◌, ℕ, ◌+◌, ◌-◌, ◌<◌, ◌≤◌, List, [], ◌∷◌, ◌++◌, length, get_or, take, drop, refl, sym, ap, ◌∙◌, subst, arith, suc}
-use Rattle.std.proofs.lemmas.Bool.{lt-ltb, le-ltb, eq-eqb, ne_eqb}
+use Rattle.std.proofs.lemmas.Bool.{lt-ltb, le-ltb}
 use Rattle.std.proofs.lemmas.List.{append_assoc, length-append, take-append-drop, take_more}
 use Rattle.klsm_run.specs.declared.item.Item.{Item}
 use Rattle.klsm_run.specs.Block.{IsBlock}
@@ -34,10 +34,10 @@ add_splits (h ∷ hs) lower run above below = rw (le-ltb (level h) (level run) a
 -- blocks of greater levels stay as they are
 joined_all_apart : (hs lower : List (List Item)) (w : List Item) → IsLsm hs → AllFrom (suc (level w)) hs → joined_all hs (w ∷ lower) ≡ hs ++ w ∷ lower
 joined_all_apart [] lower w lsm above = refl
-joined_all_apart (h ∷ []) lower w lsm above = rw (ne_eqb (level h) (level w) (λ same. omega (arith, above.0, same))) refl
+joined_all_apart (h ∷ []) lower w lsm above = rw (lt-ltb (level w) (level h) above.0) refl
 joined_all_apart (h ∷ k ∷ ks) lower w lsm above =
     ap (joined h) (joined_all_apart (k ∷ ks) lower w lsm.3 above.1)
-    ∙ rw (ne_eqb (level h) (level k) (λ same. omega (arith, lsm.1.0, same))) refl
+    ∙ rw (lt-ltb (level k) (level h) lsm.1.0) refl
 
 -- a last block is of a lesser level than those before it, and shares no item with them
 pub record IsLast (hs : List (List Item)) (b : List Item) : Type 0 where
@@ -101,7 +101,7 @@ carried_more room hs b w lower result lsm carried same =
     let count : length (sorted (b ++ w)) ≡ length b + length w = length_sorted (b ++ w) ∙ length-append b w in
     let none : ShareNone w (content hs ++ (b ++ [])) = subst (ShareNone w) (content_append hs (b ∷ [])) (sharing_none_flipped (content (hs ++ b ∷ [])) w carried.apart) in
     record {
-      leads = sym (joined_all_append hs (b ∷ []) (w ∷ lower) ∙ ap (joined_all hs) (rw (eq-eqb (level b) (level w) same) refl)) ∙ carried.leads;
+      leads = sym (joined_all_append hs (b ∷ []) (w ∷ lower) ∙ ap (joined_all hs) (rw (le-ltb (level w) (level b) (omega (arith, same))) refl)) ∙ carried.leads;
       some = omega (arith, count, carried.some);
       apart = sharing_none_flipped (sorted (b ++ w)) (content hs) (sharing_none_if_apart (sorted (b ++ w)) (content hs) (all_sorted (λ x. IsNew x (content hs)) (b ++ w) (all_append (λ x. IsNew x (content hs)) b w
           (apart_if_sharing_none b (content hs) (sharing_none_flipped (content hs) b last.apart))
@@ -173,7 +173,7 @@ add_merges hs ls b run lsm some same =
     ap (λ bs. add bs run) (sym parts)
     ∙ (add_splits (hs ++ b ∷ []) ls run (all_append (λ c. level run ≤ level c) hs (b ∷ []) (all_weaker (λ c. suc (level b) ≤ level c) (λ c. level run ≤ level c) (λ c h. omega (arith, h, same)) hs last.above) (omega (arith, same), tt)) (all_weaker (λ c. level c < level b) (λ c. level c < level run) (λ c h. omega (arith, h, same)) ls lower)
     ∙ (joined_all_append hs (b ∷ []) (run ∷ ls)
-    ∙ (ap (joined_all hs) (rw (eq-eqb (level b) (level run) same) refl)
+    ∙ (ap (joined_all hs) (rw (le-ltb (level run) (level b) (omega (arith, same))) refl)
     ∙ sym (add_splits hs ls (sorted (b ++ run)) (all_weaker (λ c. suc (level b) ≤ level c) (λ c. level (sorted (b ++ run)) ≤ level c) (λ c h. omega (arith, h, next, same)) hs last.above) (all_weaker (λ c. level c < level b) (λ c. level c < level (sorted (b ++ run))) (λ c h. omega (arith, h, next, same)) ls lower)))))
   where
     below_block : (gs : List (List Item)) (c : List Item) (ds : List (List Item)) → IsLsm (gs ++ c ∷ ds) → AllBelow (level c) ds

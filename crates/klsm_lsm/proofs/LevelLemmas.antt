@@ -76,10 +76,6 @@ level_sum m n some_m some_n same =
     let below : least_level (m + n) ≤ suc (least_level n) = level_least (m + n) (suc (least_level n)) (omega (arith, full, level_enough n, pow-suc 2 (least_level n))) in
     omega arith
 
--- one item less is at most one level less
-pub level_one_less : (n : ℕ) → 0 < n → least_level (suc n) ≤ suc (least_level n)
-level_one_less n some = level_least (suc n) (suc (least_level n)) (omega (arith, level_enough n, pow-suc 2 (least_level n), some))
-
 -- fewer items are of no greater level
 pub level_mono : (m n : ℕ) → m ≤ n → least_level m ≤ least_level n
 level_mono m n less = level_least m (least_level n) (omega (arith, less, level_enough n))

@@ -14,9 +14,7 @@ pub mod LeastBlockLemmas
 pub mod LeastLemmas
 pub mod LevelLemmas
 pub mod LimitLemmas
-pub mod LosingLemmas
 pub mod MovingLemmas
-pub mod PartnerLemmas
 pub mod PlaceLemmas
 pub mod PuttingLemmas
 pub mod RemovingLemmas

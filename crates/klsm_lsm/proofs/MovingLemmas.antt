@@ -2,7 +2,7 @@
 use Rattle.std.proofs.Common.{◌≡◌, ℕ, ◌+◌, ◌-◌, ◌<◌, ◌≤◌, List, [], ◌∷◌, ◌++◌, length, get_or, set, take, drop, Option, refl, sym, ap, ◌∙◌, subst, arith, add-one, zero, suc, inl, inr}
 use Rattle.std.specs.List.{AllByRecursion, refill, take-map}
 use Rattle.std.proofs.Math.Seq.{drop-cons}
-use Rattle.std.proofs.lemmas.Bool.{lt-ltb, le-ltb, eq-eqb, ne_eqb, cases_eq}
+use Rattle.std.proofs.lemmas.Bool.{cases_lt, lt-ltb, le-ltb}
 use Rattle.std.proofs.lemmas.List.{length-append, length-drop, length-map, length-set, length-take-le, take-append-le, take-append-drop, take-set-le, take_all, take_more, drop-drop, drop-set, drop-set-lt, drop-take, get_or-take, get_or-drop, get_or-append_right, get_or_append_left, get_or-set_same, append_assoc, set-append_left, set-append_right, map-set}
 use Rattle.klsm_run.specs.declared.item.Item.{Item}
 use Rattle.klsm_run.specs.Content.{ShareNone}
@@ -10,13 +10,11 @@ use Rattle.klsm_lsm.specs.Level.{level}
 use Rattle.klsm_lsm.specs.Lsm.{content, IsLsm}
 use Rattle.klsm_lsm.specs.Adding.{joined, add}
 use Rattle.klsm_lsm.specs.Slots.{block_in, blocks_in}
-use Rattle.klsm_lsm.proofs.JoinLemmas.{AllBelow}
+use Rattle.klsm_lsm.proofs.JoinLemmas.{AllBelow, none_of_first}
 use Rattle.klsm_lsm.proofs.PlaceLemmas.{AllFrom}
 use Rattle.klsm_lsm.proofs.SlotLemmas.{block_in_slot, refill_same}
 use Rattle.klsm_lsm.proofs.CascadeLemmas.{lsm_front}
 use Rattle.klsm_lsm.proofs.LeastLemmas.{content_append}
-use Rattle.klsm_lsm.proofs.LosingLemmas.{none_of_first}
-use Rattle.std.proofs.lemmas.Bool.{cases_lt}
 
 abbrev Blocks : Type 0
 Blocks = List (List Item)
@@ -47,11 +45,11 @@ two_set {R} items slots front back from to one two block other whole count order
     ∙ (ap (λ (l : Blocks). set l from (block_in items two)) (map-set (block_in items) slots to one ∙ ap (set (blocks_in items slots) to) is)
     ∙ ap (set (set (blocks_in items slots) to block) from) other_is))
 
-shorter : (n k : ℕ) (xs : Blocks) → n ≤ k → take n (take k xs) ≡ take n xs
+pub shorter : {X : Type 0} (n k : ℕ) (xs : List X) → n ≤ k → take n (take k xs) ≡ take n xs
 shorter zero k xs h = refl
 shorter (suc n) zero xs h = absurd (omega (arith, h))
 shorter (suc n) (suc k) [] h = refl
-shorter (suc n) (suc k) (x ∷ xs) h = ap (λ (l : Blocks). x ∷ l) (shorter n k xs (omega (arith, h)))
+shorter (suc n) (suc k) (x ∷ xs) h = ap (λ ys. x ∷ ys) (shorter n k xs (omega (arith, h)))
 
 same_at : (n k : ℕ) (xs ys : Blocks) → n < k → take k xs ≡ take k ys → get_or xs n [] ≡ get_or ys n []
 same_at n k xs ys less same = sym (get_or-take k xs n [] less) ∙ (ap (λ (l : Blocks). get_or l n []) same ∙ get_or-take k ys n [] less)
@@ -167,16 +165,16 @@ parts_of once hs ls b count place lesser size rest whole is =
 -- a run is added before the blocks of lesser levels
 joined_before : (b : List Item) (xs ls : Blocks) → 0 < length xs → joined b (xs ++ ls) ≡ joined b xs ++ ls
 joined_before b [] ls some = absurd (omega (arith, some))
-joined_before b (c ∷ cs) ls some = elim (cases_eq (level b) (level c)) [
-  | inl same ↦ rw (eq-eqb (level b) (level c) same) refl
-  | inr differ ↦ rw (ne_eqb (level b) (level c) differ) refl
+joined_before b (c ∷ cs) ls some = elim (cases_lt (level c) (level b)) [
+  | inl less ↦ rw (lt-ltb (level c) (level b) less) refl
+  | inr order ↦ rw (le-ltb (level c) (level b) order) refl
 ]
 
 some_joined : (b : List Item) (bs : Blocks) → 0 < length (joined b bs)
 some_joined b [] = omega arith
-some_joined b (c ∷ cs) = elim (cases_eq (level b) (level c)) [
-  | inl same ↦ rw (eq-eqb (level b) (level c) same) (omega arith)
-  | inr differ ↦ rw (ne_eqb (level b) (level c) differ) (omega arith)
+some_joined b (c ∷ cs) = elim (cases_lt (level c) (level b)) [
+  | inl less ↦ rw (lt-ltb (level c) (level b) less) (omega arith)
+  | inr order ↦ rw (le-ltb (level c) (level b) order) (omega arith)
 ]
 
 some_added : (bs : Blocks) (run : List Item) → 0 < length (add bs run)

@@ -2,8 +2,7 @@
 pub mod Level  -- the level of a block
 pub mod Lsm  -- LSMs: their content, and which are lawful
 pub mod Limit  -- how many items an LSM can hold
-pub mod Adding  -- adding a run, and cutting an item out
-pub mod Losing  -- blocks that lose their first items
+pub mod Adding  -- adding a run, and cutting items out
 pub mod Places  -- which blocks become one, told before
 pub mod Spying  -- what goes to a member that spies
 pub mod Laws  -- what adding and cutting keep

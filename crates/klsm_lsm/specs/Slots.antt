@@ -1,8 +1,7 @@
 -- How an LSM is stored. No public clause speaks of it.
-use Rattle.std.specs.Prelude.{ℕ, ◌≡◌, ◌+◌, ◌-◌, ◌<◌, ◌≤◌, List, [], ◌∷◌, ◌++◌, length, map, take, drop, slice_index_or, Option}
+use Rattle.std.specs.Prelude.{ℕ, ◌≡◌, ◌≤◌, List, [], ◌∷◌, ◌++◌, length, map, take, drop, Option}
 use Rattle.std.specs.Option.{option_map_or}
 use Rattle.klsm_run.specs.declared.item.Item.{Item}
-use Rattle.klsm_lsm.specs.Level.{least_level, level}
 use Rattle.klsm_lsm.specs.Lsm.{content}
 use Rattle.klsm_lsm.specs.Limit.{IsLsmWithin}
 
@@ -17,11 +16,6 @@ blocks_in items slots = map (block_in items) slots
 -- the blocks with one in the place of those from `start` up to `end`
 abbrev pub with_block : List (List Item) → ℕ → ℕ → List Item → List (List Item)
 with_block blocks start end block = take start blocks ++ block ∷ drop end blocks
-
--- a block with one item less is of the level of the next block
-pub record FallsToNext (blocks : List (List Item)) (at : ℕ) : Type 0 where
-  pub within : at + 1 < length blocks
-  pub level_is : least_level (length (slice_index_or blocks at []) - 1) ≡ level (slice_index_or blocks (at + 1) [])
 
 -- a lawful LSM within its limit, with its number of items counted
 pub record IsStored (levels room len : ℕ) (blocks : List (List Item)) : Type 0 where

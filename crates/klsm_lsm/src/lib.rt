@@ -11,7 +11,7 @@
 //! - **Adding and removing.** `Lsm::absorb` and `Lsm::insert` leave `add` of the old blocks, and
 //!   `Lsm::remove` leaves `cut`. The functions of `laws` say what these two are for: both keep an
 //!   LSM lawful, and its content is the old one with the run's items, or without the item.
-//!   `Lsm::remove_first` takes several out at once, and leaves `cut_first`.
+//!   `Lsm::remove_items` takes several out at once, and leaves `cut_items`, of which `cut` is a case.
 //!   `Lsm::cascade` and `Lsm::partner` tell before which blocks become one. `Lsm::absorb_items` does what
 //!   `Lsm::absorb` does, with items that have no store of their own.
 //! - **A store stays in its slot.** Blocks unite in place, and what leaves is read as a slice. An
@@ -25,7 +25,6 @@ mod absorbing;
 mod errors;
 mod fixed;
 pub mod laws;
-mod losing;
 mod lsm;
 mod places;
 mod removing;

@@ -1,10 +1,9 @@
 //! Which blocks a change will concern: looks at an LSM that change nothing.
-ghost use Rattle.std.specs.Prelude.{◌≡◌, ◌+◌, ◌<◌, ◌≤◌, ◌↔◌, [], length, take, drop, slice_index_or, IsTrue, MatchOption};
+ghost use Rattle.std.specs.Prelude.{◌≡◌, ◌<◌, ◌≤◌, ◌↔◌, [], length, take, drop, slice_index_or, IsTrue, MatchOption};
 ghost use Rattle.std.specs.List.{AllByRecursion};
 ghost use Rattle.klsm_run.specs.ItemOrder.{is_smaller};
 ghost use Rattle.klsm_lsm.specs.Level.{level};
-ghost use Rattle.klsm_lsm.specs.Places.{IsCascade, IsPartner, IsLeastBlock};
-ghost use Rattle.klsm_lsm.specs.Slots.{FallsToNext};
+ghost use Rattle.klsm_lsm.specs.Places.{IsCascade, IsPartner, IsLeastBlock, JoinsNext};
 
 use crate::Lsm;
 use klsm_run::{Item, Run};
@@ -45,22 +44,29 @@ impl<R: Run, const LEVELS: usize> Lsm<R, LEVELS> {
         requires { block < length self.now }
         ensures { IsPartner self.now block result }
     {
-        // For the proof: there are no more blocks than levels.
+        // For the proof: a block is not empty, and there are no more blocks than levels.
+        let _known = self.block(block);
         let _known = self.blocks();
-        if self.falls(block) {
+        if self.joins_next(block, 1) {
             return Some(block + 1);
         }
         None
     }
 
-    // Whether a removal makes a block one with the next.
+    // Whether a block without so many of its items becomes one with the next.
     #[inline]
-    pub(crate) fn falls(&self, block: usize) -> bool
-        requires { block < length self.now }
-        ensures { IsTrue result
-            ↔ ((1 < length (slice_index_or self.now block [])) × FallsToNext self.now block) }
+    pub(crate) fn joins_next(&self, block: usize, count: usize) -> bool
+        requires block { block < length self.now }
+        requires count { count ≤ length (slice_index_or self.now block []) }
+        ensures { IsTrue result ↔ JoinsNext self.now block count }
     {
-        block < self.blocks() - 1 && self.falls_to_next(block)
+        // For the proof: the LSM is lawful, and it has no more blocks than levels.
+        let _known = self.len();
+        if self.blocks() - block == 1 {
+            return false;
+        }
+        let left = self.block(block).len() - count;
+        left > 0 && left <= 1 << self.block(block + 1).level()
     }
 
     /// The block that begins with the least item, if there is one. It costs one comparison a block.
@@ -95,19 +101,6 @@ impl<R: Run, const LEVELS: usize> Lsm<R, LEVELS> {
             place -= 1;
         }
         place
-    }
-
-    // Whether a block with others beside an item is of the level of the next block without it.
-    fn falls_to_next(&self, block: usize) -> bool
-        requires { block + 1 < length self.now }
-        ensures { IsTrue result
-            ↔ ((1 < length (slice_index_or self.now block [])) × FallsToNext self.now block) }
-    {
-        // For the proof: the LSM is lawful, and it has no more blocks than levels.
-        let _known = self.len();
-        let _known = self.blocks();
-        let count = self.block(block).len();
-        count > 1 && count - 1 <= 1 << self.block(block + 1).level()
     }
 }
 

@@ -1,15 +1,16 @@
 //! The slots in which an LSM stores its blocks.
-ghost use Rattle.std.specs.Prelude.{ℕ, ◌≡◌, ◌+◌, ◌-◌, ◌<◌, ◌≤◌, ◌∷◌, ◌++◌, ◌^◌, [], min, length, take, drop, remove, slice_get, slice_set, slice_index_or, Some, MatchOption};
+ghost use Rattle.std.specs.Prelude.{ℕ, ◌≡◌, ◌+◌, ◌-◌, ◌<◌, ◌≤◌, ◌∷◌, ◌++◌, ◌^◌, [], min, length, take, drop, remove, slice_set, slice_index_or, Some};
 ghost use Rattle.std.specs.Ordering.{ord_min};
 ghost use Rattle.arrayvec.specs.ArrayVec.{array_vec_len};
 ghost use Rattle.klsm_run.specs.Block.{HasLevel};
 ghost use Rattle.klsm_run.specs.Content.{sorted, ShareNone};
 ghost use Rattle.klsm_run.specs.ItemOrder.{item_cmp};
-ghost use Rattle.klsm_lsm.specs.Lsm.{content, IsLsm};
+ghost use Rattle.klsm_lsm.specs.Lsm.{IsLsm};
+ghost use Rattle.klsm_lsm.specs.Adding.{without_items};
 ghost use Rattle.klsm_lsm.specs.Slots.{block_in, blocks_in};
 
 use arrayvec::ArrayVec;
-use klsm_run::{Item, Run};
+use klsm_run::Run;
 
 // The run in a slot of a lawful LSM, none of which is empty.
 #[inline]
@@ -45,89 +46,33 @@ pub(crate) fn replace<R: Run, const LEVELS: usize>(
     slots.insert(start, Some(run));
 }
 
-// Takes an item out of the run in a slot.
-pub(crate) fn take_from_run<R: Run>(slots: &mut [Option<R>], at: usize, index: usize) -> Item
-    requires at { at < length slots.old }
-    requires index { index < length (slice_index_or (blocks_in R.items slots.old) at []) }
-    ensures item { slice_get (slice_index_or (blocks_in R.items slots.old) at []) index
-        ≡ Some result }
-    ensures rest { blocks_in R.items slots.new ≡ slice_set (blocks_in R.items slots.old) at
-        (remove (slice_index_or (blocks_in R.items slots.old) at []) index) }
-{
-    let Some(run) = &mut slots[at] else {
-        unreachable!();
-    };
-    run.remove_at(index)
-}
-
-// Takes an item out of the run in a slot, and unites it with that of the next slot, in place.
-pub(crate) fn take_from_run_and_unite<R: Run>(
-    slots: &mut [Option<R>],
-    at: usize,
-    index: usize,
-) -> Item
-    requires at { at + 1 < length slots.old }
-    requires index { index < length (slice_index_or (blocks_in R.items slots.old) at []) }
-    requires some { 0 < length (slice_index_or (blocks_in R.items slots.old) (at + 1) []) }
-    requires apart { ShareNone (slice_index_or (blocks_in R.items slots.old) at [])
-        (slice_index_or (blocks_in R.items slots.old) (at + 1) []) }
-    requires room { (l : ℕ)
-        → HasLevel l (length (slice_index_or (blocks_in R.items slots.old) at []))
-        → length (slice_index_or (blocks_in R.items slots.old) at []) - 1
-        + length (slice_index_or (blocks_in R.items slots.old) (at + 1) []) ≤ min R.ROOM (2 ^ l) }
-    ensures item { slice_get (slice_index_or (blocks_in R.items slots.old) at []) index
-        ≡ Some result }
-    ensures rest { blocks_in R.items slots.new ≡ slice_set (blocks_in R.items slots.old) at
-        (sorted (remove (slice_index_or (blocks_in R.items slots.old) at []) index
-        ++ slice_index_or (blocks_in R.items slots.old) (at + 1) [])) }
-{
-    let (front, back) = slots.split_at_mut(at + 1);
-    let Some(run) = &mut front[at] else {
-        unreachable!();
-    };
-    let Some(next) = &back[0] else {
-        unreachable!();
-    };
-    remove_and_unite(run, index, next)
-}
-
-// Takes an item out of a run, and unites it with the next block, which is of the level that the run
-// falls to.
-fn remove_and_unite<R: Run>(run: &mut R, index: usize, next: &R) -> Item
-    requires index { index < length (R.items run.old) }
-    requires apart { ShareNone (R.items run.old) (R.items next.now) }
-    requires room { (l : ℕ) → HasLevel l (length (R.items run.old))
-        → length (R.items run.old) - 1 + length (R.items next.now) ≤ min R.ROOM (2 ^ l) }
-    ensures item { slice_get (R.items run.old) index ≡ Some result }
-    ensures rest { R.items run.new ≡ sorted (remove (R.items run.old) index ++ R.items next.now) }
-{
-    // For the proof: the store has room for a whole block of the level before, so for both.
-    let _known = run.level();
-    let _known = run.capacity();
-    let item = run.remove_at(index);
-    run.unite(next);
-    item
-}
-
-// Takes the first items out of the run in a slot.
+// Takes items out of the run in a slot.
 #[inline]
-pub(crate) fn lose<R: Run>(slots: &mut [Option<R>], at: usize, count: usize)
+pub(crate) fn remove_in_slot<R: Run>(slots: &mut [Option<R>], at: usize, from: usize, count: usize)
     requires at { at < length slots.old }
     requires some { 0 < length (slice_index_or (blocks_in R.items slots.old) at []) }
-    requires count { count ≤ length (slice_index_or (blocks_in R.items slots.old) at []) }
+    requires within { from + count ≤ length (slice_index_or (blocks_in R.items slots.old) at []) }
+    requires one { 0 < from → count ≡ 1 }
     ensures { blocks_in R.items slots.new ≡ slice_set (blocks_in R.items slots.old) at
-        (drop count (slice_index_or (blocks_in R.items slots.old) at [])) }
+        (without_items (slice_index_or (blocks_in R.items slots.old) at []) from count) }
 {
     let Some(run) = &mut slots[at] else {
         unreachable!();
     };
-    run.remove_first(count);
+    remove_from(run, from, count);
 }
 
-// Takes the first items out of the run in a slot, and unites it with that of the next slot, in place.
-pub(crate) fn lose_and_unite<R: Run>(slots: &mut [Option<R>], at: usize, count: usize)
+// Takes items out of the run in a slot, and unites it with that of the next slot, in place.
+pub(crate) fn remove_in_slot_and_unite<R: Run>(
+    slots: &mut [Option<R>],
+    at: usize,
+    from: usize,
+    count: usize,
+)
     requires at { at + 1 < length slots.old }
-    requires count { count < length (slice_index_or (blocks_in R.items slots.old) at []) }
+    requires within { from + count ≤ length (slice_index_or (blocks_in R.items slots.old) at []) }
+    requires one { 0 < from → count ≡ 1 }
+    requires left { count < length (slice_index_or (blocks_in R.items slots.old) at []) }
     requires some { 0 < length (slice_index_or (blocks_in R.items slots.old) (at + 1) []) }
     requires apart { ShareNone (slice_index_or (blocks_in R.items slots.old) at [])
         (slice_index_or (blocks_in R.items slots.old) (at + 1) []) }
@@ -136,7 +81,7 @@ pub(crate) fn lose_and_unite<R: Run>(slots: &mut [Option<R>], at: usize, count: 
         → length (slice_index_or (blocks_in R.items slots.old) at []) - count
         + length (slice_index_or (blocks_in R.items slots.old) (at + 1) []) ≤ min R.ROOM (2 ^ l) }
     ensures { blocks_in R.items slots.new ≡ slice_set (blocks_in R.items slots.old) at
-        (sorted (drop count (slice_index_or (blocks_in R.items slots.old) at [])
+        (sorted (without_items (slice_index_or (blocks_in R.items slots.old) at []) from count
         ++ slice_index_or (blocks_in R.items slots.old) (at + 1) [])) }
 {
     let (front, back) = slots.split_at_mut(at + 1);
@@ -146,23 +91,42 @@ pub(crate) fn lose_and_unite<R: Run>(slots: &mut [Option<R>], at: usize, count: 
     let Some(next) = &back[0] else {
         unreachable!();
     };
-    lose_and_take_in(run, count, next);
+    remove_and_unite(run, from, count, next);
 }
 
-// Takes the first items out of a run, and unites it with the next block, which is of no lesser level
-// than what is left.
-fn lose_and_take_in<R: Run>(run: &mut R, count: usize, next: &R)
-    requires count { count < length (R.items run.old) }
+// Takes items out of a run, and unites it with the next block, which is of no lesser level than what
+// is left.
+fn remove_and_unite<R: Run>(run: &mut R, from: usize, count: usize, next: &R)
+    requires within { from + count ≤ length (R.items run.old) }
+    requires one { 0 < from → count ≡ 1 }
+    requires left { count < length (R.items run.old) }
     requires apart { ShareNone (R.items run.old) (R.items next.now) }
     requires room { (l : ℕ) → HasLevel l (length (R.items run.old))
         → length (R.items run.old) - count + length (R.items next.now) ≤ min R.ROOM (2 ^ l) }
-    ensures { R.items run.new ≡ sorted (drop count (R.items run.old) ++ R.items next.now) }
+    ensures { R.items run.new
+        ≡ sorted (without_items (R.items run.old) from count ++ R.items next.now) }
 {
     // For the proof: the store has room for a whole block of the level before, so for both.
     let _known = run.level();
     let _known = run.capacity();
-    run.remove_first(count);
+    remove_from(run, from, count);
     run.unite(next);
+}
+
+// Takes items out of a run, from a place on: the first ones, which is a matter of where the run
+// starts, or one.
+#[inline]
+fn remove_from<R: Run>(run: &mut R, from: usize, count: usize)
+    requires within { from + count ≤ length (R.items run.old) }
+    requires one { 0 < from → count ≡ 1 }
+    ensures rest { R.items run.new ≡ without_items (R.items run.old) from count }
+    ensures capacity { R.capacity run.new ≡ R.capacity run.old }
+{
+    if from == 0 {
+        run.remove_first(count);
+    } else {
+        let _item = run.remove_at(from);
+    }
 }
 
 // Closes the gap of a block that is gone: each block behind it moves to the slot before.

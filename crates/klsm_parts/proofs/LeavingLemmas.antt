@@ -1,17 +1,15 @@
 -- Blocks of a shared part that lose their first items, one block after another, the last first.
-use Rattle.std.proofs.Common.{◌≡◌, ◌≢◌, ℕ, ◌+◌, ◌-◌, ◌<◌, ◌≤◌, ◌==◌, ◌↔◌, ◌||◌, ◌⊎◌, ◌%◌, Bool, true, false, List, [], ◌∷◌, ◌++◌, length, map, get_or, set, remove, take, drop, min, sum, refl, sym, ap, ◌∙◌, subst, arith, zero, suc, inl, inr, IsTrue, Some}
+use Rattle.std.proofs.Common.{◌≡◌, ◌≢◌, ℕ, ◌+◌, ◌-◌, ◌<◌, ◌≤◌, ◌==◌, ◌↔◌, ◌||◌, ◌%◌, List, [], ◌∷◌, ◌++◌, length, get_or, set, take, drop, min, sum, refl, sym, ap, ◌∙◌, subst, arith, zero, suc, inl, inr, IsTrue, Some}
 use Rattle.std.specs.List.{AllByRecursion, Contains, slice_get}
 use Rattle.std.proofs.Math.Seq.{drop-cons}
-use Rattle.std.proofs.lemmas.Bool.{false≢true, cases_eq, cases_lt, eq-eqb, ne_eqb}
-use Rattle.std.proofs.lemmas.List.{append_assoc, length-append, length-drop, length-map, length-set, length-take-le, take_all, take-append-le, take-set-le, drop-drop, drop-take, drop_all, get_or-take, get_or-set_same, get_or-set_other, take-append-drop, take_min, take_more, take_more_set}
-use Rattle.std.proofs.lemmas.List.Edits.{length-remove}
-use Rattle.std.proofs.lemmas.List.Elements.{Contains-append_left, Contains-append_right}
-use Rattle.std.proofs.lemmas.List.Sums.{sum_by-cons, sum_by-set, sum_by-remove}
+use Rattle.std.proofs.lemmas.Bool.{cases_lt}
+use Rattle.std.proofs.lemmas.List.{append_assoc, length-append, length-drop, drop_all, get_or-take, take-append-drop, take_min, take_more, take_more_set}
+use Rattle.std.proofs.lemmas.List.Sums.{sum_by-cons}
 use Rattle.klsm_run.specs.declared.item.Item.{Item}
 use Rattle.klsm_run.specs.Content.{sorted}
 use Rattle.klsm_run.proofs.AllLemmas.{all_weaker}
 use Rattle.klsm_run.proofs.ContentLemmas.{sorted_same_behind, sorted_sorted}
-use Rattle.klsm_run.proofs.ContainsLemmas.{contains_if_has, has_if_contains, contains_sorted}
+use Rattle.klsm_run.proofs.ContainsLemmas.{contains_if_has, has_if_contains}
 use Rattle.klsm_run.proofs.HalfLemmas.{ascending_drop}
 use Rattle.klsm_run.proofs.LeastLemmas.{Has}
 use Rattle.klsm_run.proofs.RankLemmas.{rest_skip_many}
@@ -19,20 +17,20 @@ use Rattle.klsm_run.proofs.IndexLemmas.{at_each, at_index, slice_get-take, slice
 use Rattle.klsm_run.proofs.SortedLemmas.{length_sorted, sorted_ascending}
 use Rattle.klsm_run.proofs.WithoutLemmas.{sorted_cancel}
 use Rattle.klsm_lsm.specs.Lsm.{content, IsLsm}
-use Rattle.klsm_lsm.specs.Losing.{JoinsNext, cut_first}
+use Rattle.klsm_lsm.specs.Adding.{without_items, cut_items}
+use Rattle.klsm_lsm.specs.Places.{JoinsNext}
 use Rattle.klsm_lsm.proofs.ContentLemmas.{ascending_content}
-use Rattle.klsm_lsm.proofs.LosingLemmas.{IsJoining, first_cut}
-use Rattle.klsm_parts.specs.Leaving.{fewer_marked, pivots_without, closed_up, IsBlockCut}
-use Rattle.klsm_parts.specs.Mending.{united_pivots}
+use Rattle.klsm_lsm.proofs.CutLemmas.{lawful_cut_items, sorted_cut_items, sorted_swap_before}
+use Rattle.klsm_lsm.proofs.MovingLemmas.{shorter}
+use Rattle.klsm_parts.specs.Mending.{cut_pivots, closed_up, IsBlockCut}
 use Rattle.klsm_parts.specs.Pivots.{marked, AreWithin, ArePivots}
-use Rattle.klsm_parts.specs.Ranking.{AreInBlocks, AreOwners, AreRanked, IsOfBlock, IsRanking, place_after_cut}
-use Rattle.klsm_parts.proofs.CutPivotLemmas.{set_together, sum_of_pivots}
+use Rattle.klsm_parts.specs.Ranking.{AreInBlocks, AreOwners, AreRanked, IsOfBlock, IsRanking}
+use Rattle.klsm_parts.proofs.BlockCutLemmas.{CanRankOn, mended_by, sum_of_pivots}
 use Rattle.klsm_parts.proofs.FoundLemmas.{one_each, pivot_within}
 use Rattle.klsm_parts.proofs.MarkedLemmas.{pivot_in_block}
-use Rattle.klsm_parts.proofs.MendLemmas.{AreSplit, AreApart, IsOneOf, SkipsFew, SkipsMany, skips_apart, split_within, split_remove, split_united, sum_united, split_if_pivots, pivots_if_split}
+use Rattle.klsm_parts.proofs.MendLemmas.{AreSplit, SkipsFew, SkipsMany, skips_apart, split_within, split_if_pivots, pivots_if_split}
 use Rattle.klsm_parts.proofs.OwnerLemmas.{owners_more}
-use Rattle.klsm_parts.proofs.PivotLemmas.{sorted_swap_before, pivot_more, first_unmarked, length_marked}
-use Rattle.klsm_parts.proofs.RankingCutLemmas.{ranking_map, in_others, in_one}
+use Rattle.klsm_parts.proofs.PivotLemmas.{pivot_more, first_unmarked, length_marked}
 use Rattle.klsm_parts.proofs.RankingLemmas.{ranking_more}
 use Rattle.std.proofs.lemmas.Option.{slice_get_within, get_or_from_slice_get}
 
@@ -73,33 +71,6 @@ marked_at P Q (b ∷ bs) [] j split = absurd split
 marked_at P Q (b ∷ bs) (p ∷ ps) zero split = split.1
 marked_at P Q (b ∷ bs) (p ∷ ps) (suc j) split = marked_at P Q bs ps j split.3
 
-all_behind : (P : Item → Type 0) (n : ℕ) (xs : List Item) → AllByRecursion P xs → AllByRecursion P (drop n xs)
-all_behind P zero xs all = all
-all_behind P (suc n) [] all = tt
-all_behind P (suc n) (x ∷ xs) all = all_behind P n xs all.1
-
--- a block with some marked items less
-fewer_in_block : (P Q : Item → Type 0) (b : List Item) (p c : ℕ) → c ≤ p → p ≤ length b → AllByRecursion P (take p b) → AllByRecursion Q (drop p b) → IsOneOf P Q (drop c b) (p - c)
-fewer_in_block P Q b p c fewer within some rest =
-    let whole : c + (p - c) ≡ p = omega (arith, fewer) in
-    let front : drop c (take p b) ≡ take (p - c) (drop c b) = ap (λ n. drop c (take n b)) (sym whole) ∙ drop-take c (p - c) b in
-    let back : drop p b ≡ drop (p - c) (drop c b) = sym (drop-drop (p - c) c b ∙ ap (λ n. drop n b) whole) in
-    record {
-      within = omega (arith, length-drop c b, within);
-      some = subst (AllByRecursion P) front (all_behind P c (take p b) some);
-      rest = subst (AllByRecursion Q) back rest;
-    }
-
-split_fewer : (P Q : Item → Type 0) (bs : Blocks) (ps : List ℕ) (at c : ℕ) → at < length bs → c ≤ get_or ps at 0 → AreSplit P Q bs ps → AreSplit P Q (set bs at (drop c (get_or bs at []))) (fewer_marked ps at c)
-split_fewer P Q [] ps at c within fewer split = absurd (omega (arith, within))
-split_fewer P Q (b ∷ bs) [] at c within fewer split = absurd split
-split_fewer P Q (b ∷ bs) (p ∷ ps) zero c within fewer split = let one = fewer_in_block P Q b p c fewer split.0 split.1 split.2 in (one.within, one.some, one.rest, split.3)
-split_fewer P Q (b ∷ bs) (p ∷ ps) (suc at) c within fewer split = (split.0, split.1, split.2, split_fewer P Q bs ps at c (omega (arith, within)) fewer split.3)
-
--- they count so many less
-sum_fewer : (ps : List ℕ) (at c : ℕ) → at < length ps → c ≤ get_or ps at 0 → sum (fewer_marked ps at c) + c ≡ sum ps
-sum_fewer ps at c within fewer = omega (arith, sum_by-set (λ (y : ℕ). y) ps at (get_or ps at 0 - c) 0 within, fewer)
-
 -- an item that is none of the first ones is among the others
 stays_behind : (c : ℕ) (b : List Item) (y : Item) → AllByRecursion (λ x. x ≢ y) (take c b) → Has y b → Has y (drop c b)
 stays_behind zero b y none has = has
@@ -107,31 +78,10 @@ stays_behind (suc c) [] y none has = has
 stays_behind (suc c) (x ∷ b) y none (inl same) = absurd (none.0 same)
 stays_behind (suc c) (x ∷ b) y none (inr there) = stays_behind c b y none.1 there
 
-stays_in_block : (content : List Item) (n c : ℕ) (b : List Item) (y : Item) → AllByRecursion (SkipsFew content n) (take c b) → SkipsMany content n y → Contains b y → Contains (drop c b) y
+stays_in_block : (content : List Item) (n c : ℕ) (b : List Item) (y : Item) → AllByRecursion (SkipsFew content n) (take c b) → SkipsMany content n y → Contains b y → Contains (without_items b 0 c) y
 stays_in_block content n c b y few many within =
-    contains_if_has y (drop c b) (stays_behind c b y (all_weaker (SkipsFew content n) (λ x. x ≢ y) (λ x less same. let less_y : SkipsFew content n y = subst (SkipsFew content n) same less in omega (arith, less_y, many)) (take c b) few) (has_if_contains y b within))
-
--- a ranking of the same items, where each is in a block of the same place
-ranking_kept : (bs cs : Blocks) (P : Item → Type 0) (xs : List Item) (order : List ℕ) → ((y : Item) (b : ℕ) → P y → Contains (get_or bs b []) y → Contains (get_or cs b []) y) → AllByRecursion P xs → AreInBlocks bs xs order → AreInBlocks cs xs order
-ranking_kept bs cs P xs [] moved all ranking = tt
-ranking_kept bs cs P [] (b ∷ order) moved all ranking = absurd ranking
-ranking_kept bs cs P (x ∷ xs) (b ∷ order) moved all ranking = (moved x b all.0 ranking.0, ranking_kept bs cs P xs order moved all.1 ranking.1)
-
-in_fewer : (bs : Blocks) (at c b : ℕ) (y : Item) → at < length bs → (b ≡ at → Contains (drop c (get_or bs at [])) y) → Contains (get_or bs b []) y → Contains (get_or (set bs at (drop c (get_or bs at []))) b []) y
-in_fewer bs at c b y here first within = elim (cases_eq b at) [
-  | inl same ↦ rw same (subst (λ xs. Contains xs y) (sym (get_or-set_same bs at (drop c (get_or bs at [])) [] here)) (first same))
-  | inr differ ↦ subst (λ xs. Contains xs y) (sym (get_or-set_other bs at b (drop c (get_or bs at [])) [] differ)) within
-]
-
--- the first ones of a list that was changed behind them
-front_of : {X : Type 0} (at : ℕ) (xs ys : List X) → at ≤ length xs → take at (take at xs ++ ys) ≡ take at xs
-front_of at xs ys within = let size = length-take-le at xs within in take-append-le at (take at xs) ys (omega (arith, size)) ∙ take_all at (take at xs) (omega (arith, size))
-
-shorter : {X : Type 0} (n k : ℕ) (xs : List X) → n ≤ k → take n (take k xs) ≡ take n xs
-shorter zero k xs h = refl
-shorter (suc n) zero xs h = absurd (omega (arith, h))
-shorter (suc n) (suc k) [] h = refl
-shorter (suc n) (suc k) (x ∷ xs) h = ap (λ ys. x ∷ ys) (shorter n k xs (omega (arith, h)))
+    let sum_is : c ≡ 0 + c = omega arith in
+    subst (λ m. Contains (drop m b) y) sum_is (contains_if_has y (drop c b) (stays_behind c b y (all_weaker (SkipsFew content n) (λ x. x ≢ y) (λ x less same. let less_y : SkipsFew content n y = subst (SkipsFew content n) same less in omega (arith, less_y, many)) (take c b) few) (has_if_contains y b within)))
 
 -- blocks, of which those before `at` are as they were, and the others without their first items
 pub record IsLeaving (bs : Blocks) (counts ps order : List ℕ) (at : ℕ) (now : Blocks) (pivots left : List ℕ) : Type 0 where
@@ -222,109 +172,31 @@ leaving_none bs counts ps order at now pivots left can l none =
       as_many = l.as_many;
     }
 
-is_joining : (joins : Bool) (bs : Blocks) (at count : ℕ) → (IsTrue joins ↔ JoinsNext bs at count) → IsJoining joins bs at count
-is_joining true bs at count told = told.0 refl
-is_joining false bs at count told = λ joins. false≢true (told.1 joins)
-
--- what a block that lost its first items leaves, but for the content
-record IsMendedAt (P Q : Item → Type 0) (xs : List Item) (at count : ℕ) (now after : Blocks) (pivots mended left closed : List ℕ) : Type 0 where
-  within : at ≤ length after
-  front : take at after ≡ take at now
-  pivots_front : take at mended ≡ take at pivots
-  split : AreSplit P Q after mended
-  total : sum mended + count ≡ sum pivots
-  ranking : AreInBlocks after xs closed
-  as_many : length closed ≡ length left
-
--- where it stays
-mended_staying : (P Q R : Item → Type 0) (xs : List Item) (at c : ℕ) (now : Blocks) (pivots left : List ℕ) → at < length now → c ≤ get_or pivots at 0 → AreSplit P Q now pivots → AreInBlocks now xs left → AllByRecursion R xs
-    → ((y : Item) → R y → Contains (get_or now at []) y → Contains (drop c (get_or now at [])) y) → IsMendedAt P Q xs at c now (set now at (drop c (get_or now at []))) pivots (fewer_marked pivots at c) left left
-mended_staying P Q R xs at c now pivots left here fewer split ranking all stays =
-    let each = one_each now pivots (split_within P Q now pivots split) in
-    let x = drop c (get_or now at []) in
-    record {
-      within = omega (arith, length-set now at x, here);
-      front = take-set-le at now at x (omega arith);
-      pivots_front = take-set-le at pivots at (get_or pivots at 0 - c) (omega arith);
-      split = split_fewer P Q now pivots at c here fewer split;
-      total = sum_fewer pivots at c (omega (arith, each, here)) fewer;
-      ranking = ranking_kept now (set now at x) R xs left (λ y b r within. in_fewer now at c b y here (λ same. stays y r (subst (λ n. Contains (get_or now n []) y) same within)) within) all ranking;
-      as_many = refl;
-    }
-
--- where it is no more
-mended_gone : (P Q R : Item → Type 0) (xs : List Item) (at c : ℕ) (now : Blocks) (pivots left : List ℕ) → at < length now → c ≤ get_or pivots at 0 → length (get_or now at []) ≡ c → AreSplit P Q now pivots → AreInBlocks now xs left → AllByRecursion R xs
-    → ((y : Item) → R y → Contains (get_or now at []) y → Contains (drop c (get_or now at [])) y) → IsMendedAt P Q xs at c now (remove now at) pivots (remove pivots at) left (map (place_after_cut true at) left)
-mended_gone P Q R xs at c now pivots left here fewer size split ranking all stays =
-    let each = one_each now pivots (split_within P Q now pivots split) in
-    let most = pivot_in_block now pivots at (split_within P Q now pivots split) in
-    let nothing : drop c (get_or now at []) ≡ [] = drop_all c (get_or now at []) (omega (arith, size)) in
-    record {
-      within = omega (arith, length-remove now at here, here);
-      front = front_of at now (drop (suc at) now) (omega (arith, here));
-      pivots_front = front_of at pivots (drop (suc at) pivots) (omega (arith, each, here));
-      split = split_remove P Q now pivots at split;
-      total = omega (arith, sum_by-remove (λ (x : ℕ). x) pivots at 0 (omega (arith, each, here)), most, size, fewer);
-      ranking = ranking_map now (remove now at) R (place_after_cut true at) xs left (λ y b r within. in_others now at b y here (λ same. let left_in : Contains [] y = subst (λ zs. Contains zs y) nothing (stays y r (subst (λ n. Contains (get_or now n []) y) same within)) in omega (arith, left_in.1)) within) all ranking;
-      as_many = length-map left (place_after_cut true at);
-    }
-
--- where it joined the next
-mended_joined : (P Q R : Item → Type 0) (xs : List Item) (at c : ℕ) (now : Blocks) (pivots left : List ℕ) → (AreApart P Q) → at + 1 < length now → c ≤ get_or pivots at 0 → AreSplit P Q now pivots → AreInBlocks now xs left → AllByRecursion R xs
-    → ((y : Item) → R y → Contains (get_or now at []) y → Contains (drop c (get_or now at [])) y) → IsMendedAt P Q xs at c now (cut_first now at c true) pivots (united_pivots (fewer_marked pivots at c) at 2 0) left (map (place_after_cut true at) left)
-mended_joined P Q R xs at c now pivots left apart here fewer split ranking all stays =
-    let each = one_each now pivots (split_within P Q now pivots split) in
-    let x = drop c (get_or now at []) in let next = get_or now (at + 1) [] in
-    let w = sorted (x ++ next) in let ps = fewer_marked pivots at c in
-    let size : length ps ≡ length pivots = length-set pivots at (get_or pivots at 0 - c) in
-    let fewer_split = split_fewer P Q now pivots at c (omega (arith, here)) fewer split in
-    let joined = split_united P Q (set now at x) ps at 2 0 [] apart (omega arith, tt, tt, fewer_split) in
-    record {
-      within = omega (arith, length-append (take at now) (w ∷ drop (at + 2) now), length-take-le at now (omega (arith, here)));
-      front = front_of at now (w ∷ drop (at + 2) now) (omega (arith, here));
-      pivots_front = front_of at ps _ (omega (arith, size, each, here)) ∙ take-set-le at pivots at (get_or pivots at 0 - c) (omega arith);
-      split = subst (λ cs. AreSplit P Q cs (united_pivots ps at 2 0)) (set_together now at x here) joined;
-      total = omega (arith, sum_united ps at 2 0, sum_fewer pivots at c (omega (arith, each, here)) fewer);
-      ranking = ranking_map now (cut_first now at c true) R (place_after_cut true at) xs left (λ y b r within. in_one now at b w y here
-          (λ same. contains_sorted y (x ++ next) (Contains-append_left x next y (stays y r (subst (λ n. Contains (get_or now n []) y) same within))))
-          (λ same. contains_sorted y (x ++ next) (Contains-append_right x next y (subst (λ n. Contains (get_or now n []) y) same within))) within) all ranking;
-      as_many = length-map left (place_after_cut true at);
-    }
-
-mended_by : (joins : Bool) (P Q R : Item → Type 0) (xs : List Item) (at c : ℕ) (now : Blocks) (pivots left : List ℕ) → AreApart P Q → IsJoining joins now at c → at < length now → c ≤ get_or pivots at 0 → AreSplit P Q now pivots → AreInBlocks now xs left → AllByRecursion R xs
-    → ((y : Item) → R y → Contains (get_or now at []) y → Contains (drop c (get_or now at [])) y)
-    → IsMendedAt P Q xs at c now (cut_first now at c joins) pivots (pivots_without pivots at c (length (get_or now at []) == c) joins) left (closed_up left at (joins || (length (get_or now at []) == c)))
-mended_by true P Q R xs at c now pivots left apart joins here fewer split ranking all stays = mended_joined P Q R xs at c now pivots left apart joins.within fewer split ranking all stays
-mended_by false P Q R xs at c now pivots left apart alone here fewer split ranking all stays = elim (cases_eq (length (get_or now at [])) c) [
-  | inl size ↦ rw (eq-eqb (length (get_or now at [])) c size) (mended_gone P Q R xs at c now pivots left here fewer size split ranking all stays)
-  | inr differ ↦ rw (ne_eqb (length (get_or now at [])) c differ) (mended_staying P Q R xs at c now pivots left here fewer split ranking all stays)
-]
-
 -- one block more lost its first items
-pub leaving_more : (bs : Blocks) (counts ps order : List ℕ) (at count : ℕ) (now after : Blocks) (pivots left mended closed : List ℕ) → CanLeave bs counts ps → IsLeaving bs counts ps order (suc at) now pivots left → count ≡ get_or counts at 0 → IsBlockCut now pivots left at count after mended closed
+pub leaving_more : (bs : Blocks) (counts ps order : List ℕ) (at count : ℕ) (now after : Blocks) (pivots left mended closed : List ℕ) → CanLeave bs counts ps → IsLeaving bs counts ps order (suc at) now pivots left → count ≡ get_or counts at 0 → IsBlockCut now pivots left at 0 count after mended closed
     → IsLeaving bs counts ps order at after mended closed
 leaving_more bs counts ps order at count now after pivots left mended closed can l is cut =
     let n = next_to_leave bs counts ps order at now pivots left can l in
     let all = content bs in let up = ascending_content bs can.lawful in
     let c = get_or counts at 0 in let b = get_or now at [] in
-    let joining : IsJoining cut.joins now at c = subst (λ m. IsJoining cut.joins now at m) is (is_joining cut.joins now at count cut.joining) in
-    let step = mended_by cut.joins (SkipsFew all (sum ps)) (SkipsMany all (sum ps)) (SkipsMany all (sum counts)) (drop (sum counts) (sorted all)) at c now pivots left (skips_apart all (sum ps)) joining n.here n.fewer l.split l.ranking (rest_skip_many (sum counts) all up)
+    let told = subst (λ m. IsTrue cut.joins ↔ JoinsNext now at m) is cut.joining in
+    let step = mended_by cut.joins (SkipsFew all (sum ps)) (SkipsMany all (sum ps)) (SkipsMany all (sum counts)) (drop (sum counts) (sorted all)) at 0 c now pivots left (skips_apart all (sum ps)) told n.here (omega (arith, n.fewer)) l.split l.ranking (rest_skip_many (sum counts) all up)
     (λ y many within. stays_in_block all (sum counts) c b y n.firsts many within) in
-    let first = first_cut now at c cut.joins l.lawful n.here n.few joining in
+    let inside : 0 + c ≤ length b = omega (arith, n.few) in
     let m = marked (drop (suc at) bs) (drop (suc at) counts) in
-    let gone = cut_first now at c cut.joins in
-    let blocks : after ≡ gone = cut.blocks_are ∙ ap (λ k. cut_first now at k cut.joins) is in
-    let pivots_are : mended ≡ pivots_without pivots at c (length b == c) cut.joins = cut.pivots_are ∙ ap (λ k. pivots_without pivots at k (length b == k) cut.joins) is in
+    let gone = cut_items now at 0 c in
+    let blocks : after ≡ gone = cut.blocks_are ∙ ap (cut_items now at 0) is in
+    let pivots_are : mended ≡ cut_pivots pivots at c (length b == c) cut.joins = cut.pivots_are ∙ ap (λ k. cut_pivots pivots at k (length b == k) cut.joins) is in
     let order_is : closed ≡ closed_up left at (cut.joins || (length b == c)) = cut.order_is ∙ ap (λ k. closed_up left at (cut.joins || (length b == k))) is in
     rw (blocks, pivots_are, order_is) (record {
       at_in = omega (arith, l.at_in);
-      lawful = first.lawful;
+      lawful = lawful_cut_items now at 0 c l.lawful inside;
       within = step.within;
       front = step.front ∙ (sym (shorter at (suc at) now (omega arith)) ∙ (ap (take at) l.front ∙ shorter at (suc at) bs (omega arith)));
       pivots_front = step.pivots_front ∙ (sym (shorter at (suc at) pivots (omega arith)) ∙ (ap (take at) l.pivots_front ∙ shorter at (suc at) ps (omega arith)));
       split = step.split;
       total = omega (arith, step.total, l.total, n.counted);
-      holds = ap (λ xs. sorted (xs ++ content gone)) n.marks ∙ (ap sorted (append_assoc (take c b) m (content gone)) ∙ (sorted_swap_before (take c b) m (content gone) ∙ (sorted_same_behind m (take c b ++ content gone) (content now) first.holds ∙ l.holds)));
+      holds = ap (λ xs. sorted (xs ++ content gone)) n.marks ∙ (ap sorted (append_assoc (take c b) m (content gone)) ∙ (sorted_swap_before (take c b) m (content gone) ∙ (sorted_same_behind m (take c b ++ content gone) (content now) (sorted_cut_items now at 0 c n.here inside) ∙ l.holds)));
       ranking = step.ranking;
       as_many = step.as_many ∙ l.as_many;
     })
@@ -364,18 +236,6 @@ owners_behind xs owners zero owned = owned
 owners_behind xs [] (suc n) owned = tt
 owners_behind [] (o ∷ owners) (suc n) owned = absurd owned
 owners_behind (x ∷ xs) (o ∷ owners) (suc n) owned = owners_behind xs owners n owned.1
-
--- whether the ranking closes up
-pub closes : (joins is_all : Bool) (order closed : List ℕ) (at : ℕ) → (joins ≡ true) ⊎ (is_all ≡ true) → closed ≡ map (place_after_cut true at) order → closed ≡ closed_up order at (joins || is_all)
-closes true is_all order closed at either is = is
-closes false true order closed at either is = is
-closes false false order closed at (inl bad) is = absurd (false≢true bad)
-closes false false order closed at (inr bad) is = absurd (false≢true bad)
-
-pub stays_open : (joins is_all : Bool) (order : List ℕ) (at : ℕ) → joins ≡ false → is_all ≡ false → order ≡ closed_up order at (joins || is_all)
-stays_open true is_all order at alone some = absurd (false≢true (sym alone))
-stays_open false true order at alone some = absurd (false≢true (sym some))
-stays_open false false order at alone some = refl
 
 -- one item more is ranked
 pub ranked_more : (bs : Blocks) (order owners : List ℕ) (b owner n : ℕ) → AreRanked bs order owners → length order ≡ n → IsOfBlock bs n b owner → AreRanked bs (order ++ b ∷ []) (owners ++ (owner % 256) ∷ [])
@@ -428,18 +288,10 @@ can_take k n bs counts ps order range few counts_are pivots_are ranking whole =
       ranking = rw counted (ranking_behind bs (sorted (content bs)) order n ranking);
     }
 
--- and after that, before others are ranked in their places
-pub record CanRankOn (now : Blocks) (pivots order owners : List ℕ) (most : ℕ) : Type 0 where
-  pub pivots_are : ArePivots (length order) now pivots
-  pub ranked : AreRanked now order owners
-  pub fewer : length order ≤ most
-  pub there : most ≤ length (content now)
-  pub room : most ≤ 129
-
-pub can_rank_on : (k n most : ℕ) (bs now : Blocks) (counts ps pivots order left owners kept : List ℕ) → CanTake n bs counts ps order → AreRanked bs order owners → k ≤ 128 → n ≤ length order → length order ≡ min (k + 1) (length (content bs))
-    → sorted (content now) ≡ drop (sum counts) (sorted (content bs)) → ArePivots (sum ps - sum counts) now pivots → IsRanking now left → length left ≡ length (drop n order) → kept ≡ drop n owners → most ≡ min (length (content now)) (k + 1)
-    → CanRankOn now pivots left kept most
-can_rank_on k n most bs now counts ps pivots order left owners kept can ranked range few whole holds marks ranking as_many owners_are most_is =
+-- and after that
+pub can_rank_on : (k n : ℕ) (bs now : Blocks) (counts ps pivots order left owners kept : List ℕ) → CanTake n bs counts ps order → AreRanked bs order owners → n ≤ length order → length order ≡ min (k + 1) (length (content bs))
+    → sorted (content now) ≡ drop (sum counts) (sorted (content bs)) → ArePivots (sum ps - sum counts) now pivots → IsRanking now left → length left ≡ length (drop n order) → kept ≡ drop n owners → CanRankOn k now pivots left kept
+can_rank_on k n bs now counts ps pivots order left owners kept can ranked few whole holds marks ranking as_many owners_are =
     let rest : length (content now) ≡ length (content bs) - n = omega (arith, length_sorted (content now), ap length holds, length-drop (sum counts) (sorted (content bs)), length_sorted (content bs), can.counted) in
     let size : length left ≡ length order - n = as_many ∙ length-drop n order in
     let marked : sum ps - sum counts ≡ length left = omega (arith, can.total, can.counted, size) in
@@ -450,7 +302,5 @@ can_rank_on k n most bs now counts ps pivots order left owners kept can ranked r
         owned = rw (holds, can.counted, owners_are) (owners_behind (sorted (content bs)) owners n ranked.owned);
         as_many = omega (arith, ap length owners_are, length-drop n owners, ranked.as_many, size);
       };
-      fewer = omega (arith, size, most_is, rest, whole);
-      there = omega (arith, most_is);
-      room = omega (arith, most_is, range);
+      fewer = omega (arith, size, rest, whole);
     }

@@ -1,5 +1,5 @@
 pub mod AppendLemmas
-pub mod CutPivotLemmas
+pub mod BlockCutLemmas
 pub mod EmptyLemmas
 pub mod EventLemmas
 pub mod FitLemmas

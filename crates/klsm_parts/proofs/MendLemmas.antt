@@ -2,23 +2,25 @@
 -- where blocks lose an item or become one.
 use Rattle.std.proofs.Common.{◌≡◌, ℕ, ◌+◌, ◌-◌, ◌<◌, ◌≤◌, Bool, true, false, List, [], ◌∷◌, ◌++◌, length, get_or, set, remove, take, drop, sum, refl, sym, ap, ◌∙◌, subst, arith, zero, suc, if◌then◌else◌}
 use Rattle.std.specs.List.{AllByRecursion}
-use Rattle.std.proofs.lemmas.List.{take-append-le, drop-append-le, take_all, drop-drop, length-append, length-take-le}
-use Rattle.std.proofs.lemmas.List.Edits.{length-remove}
+use Rattle.std.proofs.Math.Seq.{take-append-add, drop-append-add}
+use Rattle.std.proofs.lemmas.List.{take-append-le, drop-append-le, take_all, drop-drop, drop-take, length-append, length-take-le}
 use Rattle.std.proofs.lemmas.List.Sums.{sum_by-cons, sum_by-append, sum_by-take-drop}
 use Rattle.klsm_run.specs.declared.item.Item.{Item}
 use Rattle.klsm_run.specs.ItemOrder.{is_smaller, IsSmaller}
 use Rattle.klsm_run.specs.Content.{placed, sorted, skipped, IsAscending}
 use Rattle.klsm_run.proofs.AllLemmas.{all_weaker, all_append, all_front, all_back}
 use Rattle.klsm_run.proofs.SortedLemmas.{placed_first, all_sorted, length_sorted}
-use Rattle.klsm_run.proofs.RemoveLemmas.{all_remove}
 use Rattle.klsm_run.proofs.ContentLemmas.{sorted_swap}
 use Rattle.klsm_run.proofs.LeastLemmas.{all_unsorted}
 use Rattle.klsm_run.proofs.LesserLemmas.{less_if_smaller}
 use Rattle.klsm_run.proofs.RankLemmas.{skipped_not_above, least_skip_few, rest_skip_many}
 use Rattle.klsm_lsm.specs.Lsm.{content}
+use Rattle.klsm_lsm.specs.Adding.{without_items}
 use Rattle.klsm_lsm.specs.Places.{united}
+use Rattle.klsm_lsm.proofs.CutLemmas.{length_without, all_without}
+use Rattle.klsm_lsm.proofs.MovingLemmas.{shorter}
 use Rattle.klsm_parts.specs.Pivots.{marked, unmarked, AreWithin, ArePivots}
-use Rattle.klsm_parts.specs.Mending.{united_pivots}
+use Rattle.klsm_parts.specs.Mending.{united_pivots, fewer_marked}
 use Rattle.klsm_parts.proofs.PivotLemmas.{marked_and_unmarked, unmarked_is_rest}
 
 -- what is true of each marked item, and of each other
@@ -189,35 +191,31 @@ sum_united ps first count q =
       sum_by-take-drop f ps first,
     )
 
--- a block with one marked item less
-take_without : (b : List Item) (p index : ℕ) → index ≤ p → p < length b → take p (remove b index) ≡ remove (take (suc p) b) index
-take_without [] p index here within = absurd (omega (arith, within))
-take_without (x ∷ b) p zero here within = refl
-take_without (x ∷ b) zero (suc index) here within = absurd (omega (arith, here))
-take_without (x ∷ b) (suc p) (suc index) here within = ap (λ (l : List Item). x ∷ l) (take_without b p index (omega (arith, here)) (omega (arith, within)))
-
-drop_without : (b : List Item) (p index : ℕ) → index ≤ p → p < length b → drop p (remove b index) ≡ drop (suc p) b
-drop_without [] p index here within = absurd (omega (arith, within))
-drop_without (x ∷ b) p zero here within = refl
-drop_without (x ∷ b) zero (suc index) here within = absurd (omega (arith, here))
-drop_without (x ∷ b) (suc p) (suc index) here within = drop_without b p index (omega (arith, here)) (omega (arith, within))
-
-less_one_block : (P Q : Item → Type 0) (b : List Item) (p index : ℕ) → index < p → p ≤ length b → AllByRecursion P (take p b) → AllByRecursion Q (drop p b) → IsOneOf P Q (remove b index) (p - 1)
-less_one_block P Q b zero index here within some rest = absurd (omega (arith, here))
-less_one_block P Q b (suc p) index here within some rest =
-    let less : suc p - 1 ≡ p = omega arith in
-    rw less record {
-      within = omega (arith, length-remove b index (omega (arith, here, within)));
-      some = rw (take_without b p index (omega (arith, here)) (omega (arith, within))) (all_remove P (take (suc p) b) index some);
-      rest = rw (drop_without b p index (omega (arith, here)) (omega (arith, within))) rest;
+-- a block with some marked items less
+fewer_in_block : (P Q : Item → Type 0) (b : List Item) (p from c : ℕ) → from + c ≤ p → p ≤ length b → AllByRecursion P (take p b) → AllByRecursion Q (drop p b) → IsOneOf P Q (without_items b from c) (p - c)
+fewer_in_block P Q b p from c fewer within some rest =
+    let first = take from b in let back = drop (from + c) b in let m = p - c - from in
+    let size : length first ≡ from = length-take-le from b (omega (arith, fewer, within)) in
+    let count : p - c ≡ length first + m = omega (arith, size, fewer) in
+    let whole : from + c + m ≡ p = omega (arith, fewer) in
+    let front : without_items (take p b) from c ≡ take (p - c) (first ++ back) =
+    ap (λ xs. xs ++ drop (from + c) (take p b)) (shorter from p b (omega (arith, fewer)))
+    ∙ (ap (λ xs. first ++ xs) (ap (λ n. drop (from + c) (take n b)) (sym whole) ∙ drop-take (from + c) m b)
+    ∙ sym (ap (λ n. take n (first ++ back)) count ∙ take-append-add first back m)) in
+    let behind : drop p b ≡ drop (p - c) (first ++ back) =
+    sym (ap (λ n. drop n (first ++ back)) count ∙ (drop-append-add first back m ∙ (drop-drop m (from + c) b ∙ ap (λ n. drop n b) whole))) in
+    record {
+      within = omega (arith, length_without b from c (omega (arith, fewer, within)), within);
+      some = subst (AllByRecursion P) front (all_without P (take p b) from (from + c) some);
+      rest = subst (AllByRecursion Q) behind rest;
     }
 
-pub split_less : (P Q : Item → Type 0) (bs : List (List Item)) (ps : List ℕ) (at index : ℕ) → at < length bs → index < get_or ps at 0 → AreSplit P Q bs ps → AreSplit P Q (set bs at (remove (get_or bs at []) index)) (set ps at (get_or ps at 0 - 1))
-split_less P Q [] ps at index within here split = absurd (omega (arith, within))
-split_less P Q (b ∷ bs) [] at index within here split = absurd split
-split_less P Q (b ∷ bs) (p ∷ ps) zero index within here split =
-    let one = less_one_block P Q b p index here split.0 split.1 split.2 in (one.within, one.some, one.rest, split.3)
-split_less P Q (b ∷ bs) (p ∷ ps) (suc at) index within here split = (split.0, split.1, split.2, split_less P Q bs ps at index (omega (arith, within)) here split.3)
+pub split_fewer : (P Q : Item → Type 0) (bs : List (List Item)) (ps : List ℕ) (at from c : ℕ) → at < length bs → from + c ≤ get_or ps at 0 → AreSplit P Q bs ps → AreSplit P Q (set bs at (without_items (get_or bs at []) from c)) (fewer_marked ps at c)
+split_fewer P Q [] ps at from c within fewer split = absurd (omega (arith, within))
+split_fewer P Q (b ∷ bs) [] at from c within fewer split = absurd split
+split_fewer P Q (b ∷ bs) (p ∷ ps) zero from c within fewer split =
+    let one = fewer_in_block P Q b p from c fewer split.0 split.1 split.2 in (one.within, one.some, one.rest, split.3)
+split_fewer P Q (b ∷ bs) (p ∷ ps) (suc at) from c within fewer split = (split.0, split.1, split.2, split_fewer P Q bs ps at from c (omega (arith, within)) fewer split.3)
 
 -- without a block
 pub split_remove : (P Q : Item → Type 0) (bs : List (List Item)) (ps : List ℕ) (at : ℕ) → AreSplit P Q bs ps → AreSplit P Q (remove bs at) (remove ps at)

@@ -10,20 +10,16 @@ use Rattle.klsm_run.specs.Content.{placed, sorted, skipped, IsAscending}
 use Rattle.klsm_run.proofs.AllLemmas.{all_weaker, all_front, all_back}
 use Rattle.klsm_run.proofs.SortedLemmas.{sorted_ascending, length_sorted}
 use Rattle.klsm_run.proofs.HalfLemmas.{ascending_take, ascending_drop}
-use Rattle.klsm_run.proofs.ContentLemmas.{sorted_middle, sorted_swap, sorted_same_behind, sorted_sorted, sorted_itself}
+use Rattle.klsm_run.proofs.ContentLemmas.{sorted_middle, sorted_same_behind, sorted_sorted, sorted_itself}
 use Rattle.klsm_run.proofs.LeastLemmas.{all_unsorted}
 use Rattle.klsm_run.proofs.IndexLemmas.{first_behind, at_index}
 use Rattle.klsm_run.proofs.RankLemmas.{count_all, count_none, least_skip_few, rest_skip_many}
 use Rattle.klsm_run.proofs.WithoutLemmas.{sorted_cancel}
 use Rattle.klsm_lsm.specs.Lsm.{content, IsLsm}
 use Rattle.klsm_lsm.proofs.ContentLemmas.{ascending_content}
+use Rattle.klsm_lsm.proofs.CutLemmas.{sorted_swap_before}
 use Rattle.klsm_parts.specs.Least.{least}
 use Rattle.klsm_parts.specs.Pivots.{marked, unmarked, AreWithin, ArePivots, count_in_least}
-
--- two lists before a third may change places
-pub sorted_swap_before : (xs ys zs : List Item) → sorted (xs ++ (ys ++ zs)) ≡ sorted (ys ++ (xs ++ zs))
-sorted_swap_before xs ys zs =
-    sorted_swap xs (ys ++ zs) ∙ (ap sorted (append_assoc ys zs xs) ∙ sorted_same_behind ys (zs ++ xs) (xs ++ zs) (sorted_swap zs xs))
 
 -- the marked items and the others are the content
 pub marked_and_unmarked : (bs : List (List Item)) (ps : List ℕ) → sorted (content bs) ≡ sorted (marked bs ps ++ content (unmarked bs ps))

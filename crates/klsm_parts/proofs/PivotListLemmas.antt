@@ -1,7 +1,7 @@
 -- Pivots that are taken out and added.
-use Rattle.std.proofs.Common.{◌≡◌, ℕ, ◌+◌, ◌-◌, ◌<◌, ◌≤◌, List, [], ◌∷◌, ◌++◌, length, get_or, set, remove, take, drop, sum, refl, sym, ap, ◌∙◌, arith, zero, suc, add-one}
+use Rattle.std.proofs.Common.{◌≡◌, ℕ, ◌+◌, ◌<◌, ◌≤◌, List, [], ◌∷◌, ◌++◌, length, get_or, remove, take, drop, sum, refl, sym, ap, ◌∙◌, arith, zero, suc, add-one}
 use Rattle.std.proofs.lemmas.List.{drop-drop, length-append, length-take-le, length-drop}
-use Rattle.std.proofs.lemmas.List.Sums.{sum_by_more, sum_by-set, sum_by-take-le, sum_by-take-drop}
+use Rattle.std.proofs.lemmas.List.Sums.{sum_by_more, sum_by-take-le, sum_by-take-drop}
 
 remove_next : (ps : List ℕ) (first n : ℕ) → first ≤ n → n < length ps → remove (take first ps ++ drop n ps) first ≡ take first ps ++ drop (suc n) ps
 remove_next [] first n order within = absurd (omega (arith, within))
@@ -41,7 +41,3 @@ so_many_left ps now first i within is =
 -- the sum stays within that of all
 pub part_of_sum : (ps : List ℕ) (first i : ℕ) → sum (take i (drop first ps)) ≤ sum ps
 part_of_sum ps first i = omega (arith, sum_by-take-le (λ (y : ℕ). y) (drop first ps) i, sum_by-take-drop (λ (y : ℕ). y) ps first)
-
--- one less
-pub sum_less : (ps : List ℕ) (j : ℕ) → j < length ps → 0 < get_or ps j 0 → sum (set ps j (get_or ps j 0 - 1)) + 1 ≡ sum ps
-sum_less ps j within some = omega (arith, sum_by-set (λ (y : ℕ). y) ps j (get_or ps j 0 - 1) 0 within, some)

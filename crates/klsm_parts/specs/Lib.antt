@@ -14,7 +14,6 @@ pub mod Laws  -- what follows from the definitions alone
 pub mod LeastPlaces  -- where the least item stands; no public contract cites it
 pub mod Ranking  -- the order of the candidates; no public contract cites it
 pub mod RankBytes  -- the bytes of a rank in their store; no public contract cites it
-pub mod Leaving  -- what becomes of pivots and ranking where blocks lose their first items; no public contract cites it
-pub mod Mending  -- how pivots change with the blocks; no public contract cites it
+pub mod Mending  -- what becomes of pivots and ranking where blocks change; no public contract cites it
 -- Callers name these by this crate.
 pub use Rattle.klsm_lsm.specs.Limit  -- how many items an LSM can hold

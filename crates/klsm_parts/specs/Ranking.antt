@@ -1,5 +1,5 @@
 -- The order of the candidates, kept as the block and the owner's low byte of each. No public contract cites it.
-use Rattle.std.specs.Prelude.{ℕ, ◌≡◌, ◌+◌, ◌-◌, ◌%◌, ◌≤◌, ◌<◌, List, [], ◌∷◌, ◌++◌, length, map, max, min, remove, nat_lt, Bool, true, if◌then◌else◌, Option, Some, None, slice_get, slice_set, slice_index_or}
+use Rattle.std.specs.Prelude.{ℕ, ◌≡◌, ◌+◌, ◌-◌, ◌%◌, ◌≤◌, ◌<◌, List, [], ◌∷◌, ◌++◌, length, max, min, nat_lt, if◌then◌else◌, Some, slice_get, slice_set, slice_index_or}
 use Rattle.std.specs.List.{Contains}
 use Rattle.klsm_run.specs.declared.item.Item.{Item}
 use Rattle.klsm_run.specs.Content.{sorted, IsAscending, ShareNone}
@@ -42,18 +42,9 @@ pub record AreRanked (blocks : List (List Item)) (order owners : List ℕ) : Typ
 abbrev pub more_marked : List ℕ → ℕ → List ℕ
 more_marked pivots at = slice_set pivots at (slice_index_or pivots at 0 + 1)
 
--- whether the block behind has its place, after an item was cut out of a block: where it was the only one, or the two became one
-abbrev pub closes_up : Bool → Option ℕ → Bool
-closes_up is_only None = is_only
-closes_up is_only (Some next) = true
-
--- the place of a block then
-abbrev pub place_after_cut : Bool → ℕ → ℕ → ℕ
-place_after_cut closes at b = if closes then (if nat_lt at b then b - 1 else b) else b
-
--- the ranking without the item of a rank
-abbrev pub cut_ranking : List ℕ → ℕ → Bool → ℕ → List ℕ
-cut_ranking order rank closes at = map (place_after_cut closes at) (remove order rank)
+-- the place of a block after one before it is gone, or became one with that before
+abbrev pub place_after_cut : ℕ → ℕ → ℕ
+place_after_cut at b = if nat_lt at b then b - 1 else b
 
 -- the place of a block after a run was put in that became one with `count` blocks from `first` on
 abbrev pub place_after_add : ℕ → ℕ → ℕ → ℕ

@@ -1,17 +1,16 @@
-//! How the least items of a shared part leave it at once: which they are, and what becomes of the pivots
-//! and the ranking.
-ghost use Rattle.std.specs.Prelude.{◌≡◌, ◌+◌, ◌-◌, ◌<◌, ◌≤◌, length, take, drop, sum, slice_index_or, IsTrue};
-ghost use Rattle.arrayvec.specs.ArrayVec.{array_vec_len};
+//! How items of a shared part leave it, one or the least ones at once: which these are, and what becomes
+//! of the pivots and the ranking.
+ghost use Rattle.std.specs.Prelude.{◌≡◌, ◌+◌, ◌-◌, ◌<◌, ◌≤◌, length, min, take, drop, sum, slice_get, slice_index_or};
 ghost use Rattle.klsm_run.specs.Content.{sorted};
 ghost use Rattle.klsm_lsm.specs.Lsm.{content, IsLsm};
 ghost use Rattle.klsm_lsm.specs.Limit.{IsLevelCount};
 ghost use Rattle.klsm_parts.specs.Pivots.{ArePivots, AreWithin};
 ghost use Rattle.klsm_parts.specs.Ranking.{AreInBlocks, IsRanking, AreRanked};
-ghost use Rattle.klsm_parts.specs.Leaving.{IsBlockCut, fewer_marked, pivots_without};
+ghost use Rattle.klsm_parts.specs.Mending.{IsBlockCut};
 
-use crate::mending::unite_pivots;
+use crate::mending::cut_pivot;
 use crate::merging::next_item;
-use crate::ranking::Ranking;
+use crate::ranking::{LeastItems, Ranking};
 use crate::ranks::{mark_least, none_of};
 use arrayvec::ArrayVec;
 use klsm_lsm::Lsm;
@@ -71,78 +70,71 @@ pub(crate) fn cut_blocks<R: Run, const LEVELS: usize>(
     while at > 0 {
         at -= 1;
         if counts[at] > 0 {
-            cut_block(lsm, pivots, ranking, at, counts[at]);
+            cut_block(lsm, pivots, ranking, at, 0, counts[at]);
         }
     }
 }
 
-// Takes the first items of one block out.
+/// Takes items of one block out, from a place on: one item, or the first ones. They are marked, and no
+/// longer ranked.
 #[inline]
-fn cut_block<R: Run, const LEVELS: usize>(
+pub(crate) fn cut_block<R: Run, const LEVELS: usize>(
     lsm: &mut Lsm<R, LEVELS>,
     pivots: &mut ArrayVec<usize, LEVELS>,
     ranking: &mut Ranking,
     block: usize,
+    from: usize,
     count: usize,
 )
     requires levels { IsLevelCount LEVELS }
     requires block { block < length lsm.old }
     requires within { AreWithin lsm.old pivots.old.items }
-    requires marked { count ≤ slice_index_or pivots.old.items block 0 }
+    requires marked { from + count ≤ slice_index_or pivots.old.items block 0 }
+    requires one { 0 < from → count ≡ 1 }
     requires few { sum pivots.old.items ≤ 129 }
-    ensures cut { IsBlockCut lsm.old pivots.old.items ranking.old.blocks.items block count
+    ensures cut { IsBlockCut lsm.old pivots.old.items ranking.old.blocks.items block from count
         lsm.new pivots.new.items ranking.new.blocks.items }
     ensures owners { ranking.new.owners.items ≡ ranking.old.owners.items }
 {
     // For the proof: the number of each block fits a byte.
     let _known = lsm.blocks();
     let is_all = lsm.block(block).len() == count;
-    let joins = lsm.remove_first(block, count);
+    let joins = lsm.remove_items(block, from, count);
     cut_pivot(pivots, block, count, is_all, joins);
     if joins || is_all {
         ranking.close_up(block);
     }
 }
 
-// The pivots after a block lost marked items: whether these were all, and whether what is left joined the
-// next block.
+/// Ranks the items that are candidates now and were not before, and looks at the least one.
 #[inline]
-fn cut_pivot<const LEVELS: usize>(
+pub(crate) fn rank_candidates<R: Run, const LEVELS: usize>(
+    lsm: &Lsm<R, LEVELS>,
     pivots: &mut ArrayVec<usize, LEVELS>,
-    block: usize,
-    count: usize,
-    is_all: bool,
-    joins: bool,
+    least: &mut LeastItems,
+    k: usize,
 )
-    requires block { block < array_vec_len pivots.old }
-    requires marked { count ≤ slice_index_or pivots.old.items block 0 }
-    requires next { IsTrue joins → block + 1 < array_vec_len pivots.old }
-    requires few { sum pivots.old.items ≤ 129 }
-    ensures { pivots.new.items ≡ pivots_without pivots.old.items block count is_all joins }
+    requires levels { IsLevelCount LEVELS }
+    requires k { k ≤ 128 }
+    requires lawful { IsLsm lsm.now }
+    requires pivots { ArePivots (length least.old.ranking.blocks.items) lsm.now pivots.old.items }
+    requires ranked { AreRanked lsm.now
+        least.old.ranking.blocks.items least.old.ranking.owners.items }
+    requires fewer { length least.old.ranking.blocks.items
+        ≤ min (k + 1) (length (content lsm.now)) }
+    ensures pivots { ArePivots (k + 1) lsm.now pivots.new.items }
+    ensures ranked { AreRanked lsm.now
+        least.new.ranking.blocks.items least.new.ranking.owners.items }
+    ensures whole { length least.new.ranking.blocks.items ≡ min (k + 1) (length (content lsm.now)) }
+    ensures first { least.new.first ≡ slice_get (sorted (content lsm.now)) 0 }
 {
-    if joins {
-        mark_fewer(pivots, block, count);
-        unite_pivots(pivots, block, 2, 0);
-    } else if is_all {
-        let _all = pivots.remove(block);
-    } else {
-        mark_fewer(pivots, block, count);
-    }
+    let most = lsm.len().min(k + 1);
+    rank_up_to(lsm, pivots, &mut least.ranking, most);
+    least.first = least.ranking.least(lsm);
 }
 
-// So many marked items less in a block.
-#[inline]
-fn mark_fewer<const LEVELS: usize>(pivots: &mut ArrayVec<usize, LEVELS>, block: usize, count: usize)
-    requires block { block < array_vec_len pivots.old }
-    requires marked { count ≤ slice_index_or pivots.old.items block 0 }
-    ensures fewer { pivots.new.items ≡ fewer_marked pivots.old.items block count }
-    ensures fits { array_vec_len pivots.new ≤ LEVELS }
-{
-    pivots.as_mut_slice()[block] -= count;
-}
-
-/// Ranks the next items, until so many are ranked. It costs one comparison a block for each.
-pub(crate) fn rank_up_to<R: Run, const LEVELS: usize>(
+// Ranks the next items, until so many are ranked. It costs one comparison a block for each.
+fn rank_up_to<R: Run, const LEVELS: usize>(
     lsm: &Lsm<R, LEVELS>,
     pivots: &mut ArrayVec<usize, LEVELS>,
     ranking: &mut Ranking,

@@ -1,5 +1,5 @@
 //! The bytes of a ranking, of which the first leaves without a move.
-ghost use Rattle.std.specs.Prelude.{◌≡◌, ◌+◌, ◌-◌, ◌<◌, ◌≤◌, ◌++◌, ◌∷◌, [], true, length, map, remove, take, drop};
+ghost use Rattle.std.specs.Prelude.{◌≡◌, ◌+◌, ◌-◌, ◌<◌, ◌≤◌, ◌++◌, ◌∷◌, [], length, map, remove, take, drop};
 ghost use Rattle.std.specs.List.{copy_within};
 ghost use Rattle.klsm_parts.specs.Ranking.{place_after_cut};
 
@@ -93,7 +93,7 @@ impl RankBytes {
 
     /// Each byte above another becomes one less.
     pub(crate) fn close_up(&mut self, below: u8)
-        ensures { self.new.items ≡ map (place_after_cut true below) self.old.items }
+        ensures { self.new.items ≡ map (place_after_cut below) self.old.items }
     {
         lower(&mut self.places, below);
     }
@@ -140,7 +140,7 @@ fn shift(places: &mut [u8], start: usize, end: usize, to: usize)
 
 // Each byte above another becomes one less.
 fn lower(bytes: &mut [u8], below: u8)
-    ensures { bytes.new ≡ map (place_after_cut true below) bytes.old }
+    ensures { bytes.new ≡ map (place_after_cut below) bytes.old }
 {
     for byte in bytes.iter_mut() {
         *byte = lowered(*byte, below);
@@ -150,7 +150,7 @@ fn lower(bytes: &mut [u8], below: u8)
 // A byte, which is one less if it is above another.
 #[inline]
 fn lowered(byte: u8, below: u8) -> u8
-    ensures { result ≡ place_after_cut true below byte }
+    ensures { result ≡ place_after_cut below byte }
 {
     if byte > below { byte - 1 } else { byte }
 }

@@ -1,10 +1,9 @@
 //! The candidates of the shared part in their order: the block of each, and a byte of its owner.
-ghost use Rattle.std.specs.Prelude.{◌≡◌, ◌+◌, ◌%◌, ◌<◌, ◌≤◌, ◌↔◌, ◌++◌, ◌∷◌, ℕ, [], true, length, map, drop, remove, slice_get, slice_index_or, count_by, nat_eq, option_map, Some, IfSome, IsTrue};
-ghost use Rattle.std.specs.Option.{option_to_list};
+ghost use Rattle.std.specs.Prelude.{◌≡◌, ◌+◌, ◌%◌, ◌<◌, ◌≤◌, ◌↔◌, ◌++◌, ◌∷◌, ℕ, [], length, map, drop, remove, slice_get, slice_index_or, count_by, nat_eq, Some, IfSome, IsTrue};
 ghost use Rattle.klsm_run.specs.Content.{sorted};
 ghost use Rattle.klsm_lsm.specs.Lsm.{content, IsLsm};
 ghost use Rattle.klsm_parts.specs.Taking.{own_first};
-ghost use Rattle.klsm_parts.specs.Ranking.{IsRanking, AreRanked, closes_up, cut_ranking, place_after_cut};
+ghost use Rattle.klsm_parts.specs.Ranking.{IsRanking, AreRanked, place_after_cut};
 
 use crate::rank_bytes::RankBytes;
 use crate::ranks::{Place, Ranked};
@@ -141,32 +140,16 @@ impl Ranking {
         self.owners.push(low_byte(next.owner));
     }
 
-    /// The candidate of a rank leaves, which is one of a block, and the next one comes last, if there is one.
-    ///
-    /// `is_only` tells whether the block had no other item, and `partner` the block that became one with it, if one did.
-    pub(crate) fn replace(
-        &mut self,
-        rank: usize,
-        block: usize,
-        is_only: bool,
-        partner: Option<usize>,
-        next: Option<Ranked>,
-    )
+    /// The candidate of a rank leaves.
+    #[inline]
+    pub(crate) fn remove(&mut self, rank: usize)
         requires rank { rank < length self.old.blocks.items }
-        requires owners { length self.old.owners.items ≡ length self.old.blocks.items }
-        requires room { length self.old.blocks.items ≤ 129 }
-        requires block { block < 256 }
-        requires next { IfSome next (λ next. next.block < 256) }
-        ensures blocks { self.new.blocks.items
-            ≡ cut_ranking self.old.blocks.items rank (closes_up is_only partner) block
-            ++ option_to_list (option_map (λ next. next.block) next) }
-        ensures owners { self.new.owners.items ≡ remove self.old.owners.items rank
-            ++ option_to_list (option_map (λ next. next.owner % 256) next) }
+        requires owners { rank < length self.old.owners.items }
+        ensures blocks { self.new.blocks.items ≡ remove self.old.blocks.items rank }
+        ensures owners { self.new.owners.items ≡ remove self.old.owners.items rank }
     {
-        self.remove(rank, block, is_closing(is_only, partner));
-        if let Some(next) = next {
-            self.push(next);
-        }
+        self.blocks.remove(rank);
+        self.owners.remove(rank);
     }
 
     /// The first candidates leave, so many of them.
@@ -186,35 +169,11 @@ impl Ranking {
     pub(crate) fn close_up(&mut self, block: usize)
         requires { block < 256 }
         ensures blocks { self.new.blocks.items
-            ≡ map (place_after_cut true block) self.old.blocks.items }
+            ≡ map (place_after_cut block) self.old.blocks.items }
         ensures owners { self.new.owners ≡ self.old.owners }
     {
         self.blocks.close_up(block as u8);
     }
-
-    // The candidate of a rank leaves. `closes_up` says whether the block behind its own then has the place of that.
-    fn remove(&mut self, rank: usize, block: usize, closes_up: bool)
-        requires rank { rank < length self.old.blocks.items }
-        requires owners { rank < length self.old.owners.items }
-        requires block { block < 256 }
-        ensures blocks { self.new.blocks.items
-            ≡ cut_ranking self.old.blocks.items rank closes_up block }
-        ensures owners { self.new.owners.items ≡ remove self.old.owners.items rank }
-    {
-        self.blocks.remove(rank);
-        self.owners.remove(rank);
-        if closes_up {
-            self.blocks.close_up(block as u8);
-        }
-    }
-}
-
-// Whether the block behind one that lost an item has its place: since that is gone, or both are one.
-#[inline]
-fn is_closing(is_only: bool, partner: Option<usize>) -> bool
-    ensures { result ≡ closes_up is_only partner }
-{
-    is_only || partner.is_some()
 }
 
 // What is kept of an owner.

@@ -11,8 +11,8 @@ ghost use Rattle.klsm_parts.specs.Taking.{own_first};
 ghost use Rattle.klsm_parts.specs.Parts.{PartState, IsShared, items_in, least_in, candidates_of};
 
 use crate::appending::append_blocks;
-use crate::leaving::{copy_least, cut_blocks, rank_up_to};
-use crate::mending::{mend_cut, unite_pivots};
+use crate::leaving::{copy_least, cut_block, cut_blocks, rank_candidates};
+use crate::mending::unite_pivots;
 use crate::merging::{Merging, merged};
 use crate::ranking::{LeastItems, Ranking};
 use crate::ranks::{Place, pivots_of};
@@ -232,9 +232,7 @@ impl<const LEVELS: usize, A: Allocator + Copy> Shared<LEVELS, A> {
         let ranking = &mut self.least.ranking;
         ranking.remove_first(places.len());
         cut_blocks(&mut self.lsm, &mut self.pivots, ranking, counts.as_slice());
-        let most = self.lsm.len().min(self.k + 1);
-        rank_up_to(&self.lsm, &mut self.pivots, ranking, most);
-        self.least.first = self.least.ranking.least(&self.lsm);
+        rank_candidates(&self.lsm, &mut self.pivots, &mut self.least, self.k);
     }
 
     // Takes the candidate of a rank out, which is item `index` of block `block`.
@@ -246,18 +244,10 @@ impl<const LEVELS: usize, A: Allocator + Copy> Shared<LEVELS, A> {
         ensures { self.new
             ≡ record { k = self.old.k; blocks = cut self.old.blocks block index } }
     {
-        // For the proof: the number of each block fits a byte.
-        let _known = self.lsm.blocks();
-        let partner = self.lsm.partner(block);
-        let is_only = self.lsm.block(block).len() == 1;
-        let _item = self.lsm.remove(block, index);
-        let next = mend_cut(&self.lsm, &mut self.pivots, block, is_only, partner, self.k);
-        // For the proof: so does that of each block that is left.
-        let _known = self.lsm.blocks();
-        self.least
-            .ranking
-            .replace(rank, block, is_only, partner, next);
-        self.least.first = self.least.ranking.least(&self.lsm);
+        let ranking = &mut self.least.ranking;
+        ranking.remove(rank);
+        cut_block(&mut self.lsm, &mut self.pivots, ranking, block, index, 1);
+        rank_candidates(&self.lsm, &mut self.pivots, &mut self.least, self.k);
     }
 }
 

@@ -24,7 +24,7 @@ cut_block-requires g c =
     let can : CanLeave c.args.lsm.now c.args.counts.now c.args.pivots.now.items = record { lawful = c.requires.lawful; counts_are = c.requires.counts; pivots_are = c.requires.pivots; fewer = c.requires.fewer } in
     let now : IsLeaving c.args.lsm.now c.args.counts.now c.args.pivots.now.items c.args.ranking.now.blocks.items (suc (c.loop-at.at - 1)) c.loop-at.lsm c.loop-at.pivots.items c.loop-at.ranking.blocks.items = rw back c.loop-at.invariant.leaving in
     let next = next_to_leave _ _ _ _ _ _ _ _ can now in
-    (search, (search, (c.requires.levels, (next.here, (split_within _ _ _ _ now.split, (next.fewer, omega (arith, now.total, c.requires.few)))))))
+    (search, (search, (c.requires.levels, (next.here, (split_within _ _ _ _ now.split, (omega (arith, next.fewer), (λ more. absurd (omega (arith, more)), omega (arith, now.total, c.requires.few))))))))
 
 pub loop-at-preserved-then-counts-at-gt0 : goal.loop-at-preserved-then-counts-at-gt0
 loop-at-preserved-then-counts-at-gt0 g c =

@@ -2,9 +2,8 @@ use Rattle.std.proofs.Common.{◌+◌, ◌-◌, ◌<◌, ◌≤◌, [], length, 
 use Rattle.std.proofs.lemmas.Bool.{leb-true, le-leb, ltb-true}
 use Rattle.std.proofs.lemmas.Option.{get_or_from_slice_get}
 use Rattle.klsm_lsm.specs.Level.{least_level, level}
-use Rattle.klsm_lsm.proofs.FallLemmas.{next_level, shifted_one}
+use Rattle.klsm_lsm.proofs.FallLemmas.{next_level, shifted_one, joins_if_few, few_if_joins}
 use Rattle.klsm_lsm.proofs.LevelLemmas.{level_is}
-use Rattle.klsm_lsm.proofs.LosingLemmas.{joins_if_few, few_if_joins}
 use Rattle.klsm_lsm.proofs.lsm.Lsm.joins_next.Goals as goal
 
 pub overflow_shl-result : goal.overflow_shl-result
@@ -12,15 +11,14 @@ overflow_shl-result g c =
     let count = c.len.ensures.len ∙ ap length (sym (get_or_from_slice_get c.args.self.now c.args.block _ [] c.block.ensures.block)) in
     let is = level_is _ c.level.result c.level.ensures.enough c.level.ensures.least ∙ ap level (sym (get_or_from_slice_get c.args.self.now (c.args.block + 1) _ [] c.block-then-left-gt0.ensures.block)) in
     let within : c.args.block + 1 < length c.args.self.now = omega (arith, c.requires.block, c.if-blocks-block-eq1.false, c.blocks-2.ensures.blocks) in
-    let small = (next_level c.args.self.now c.args.block c.len.result c.level.result c.len-known.ensures.lawful within c.len.type_inv count is).small in
-    small
+    next_level c.args.self.now c.args.block c.len.result c.level.result c.len-known.ensures.lawful within c.len.type_inv count is
 
 pub returns-then-left-gt0 : goal.returns-then-left-gt0
 returns-then-left-gt0 g c =
     let count = c.len.ensures.len ∙ ap length (sym (get_or_from_slice_get c.args.self.now c.args.block _ [] c.block.ensures.block)) in
     let is = level_is _ c.level.result c.level.ensures.enough c.level.ensures.least ∙ ap level (sym (get_or_from_slice_get c.args.self.now (c.args.block + 1) _ [] c.block-then-left-gt0.ensures.block)) in
     let within : c.args.block + 1 < length c.args.self.now = omega (arith, c.requires.block, c.if-blocks-block-eq1.false, c.blocks-2.ensures.blocks) in
-    let small = (next_level c.args.self.now c.args.block c.len.result c.level.result c.len-known.ensures.lawful within c.len.type_inv count is).small in
+    let small = next_level c.args.self.now c.args.block c.len.result c.level.result c.len-known.ensures.lawful within c.len.type_inv count is in
     let left = c.len.result - c.args.count in
     let whole = shifted_one c.level.result small in (
       λ few. record {

@@ -1,7 +1,7 @@
 use Rattle.std.proofs.Common.{rules, ◌≡◌, ◌+◌, [], get_or, ap, ◌∙◌, arith, length, refl}
 use Rattle.klsm_lsm.specs.Slots.{block_in, blocks_in}
 use Rattle.klsm_lsm.proofs.TwoSlotLemmas.{last_of_front, first_of_back, front_set}
-use Rattle.klsm_lsm.proofs.slots.take_from_run_and_unite.Goals as goal
+use Rattle.klsm_lsm.proofs.slots.remove_in_slot_and_unite.Goals as goal
 
 pub remove_and_unite-requires-clause-apart : goal.remove_and_unite-requires-clause-apart
 remove_and_unite-requires-clause-apart g c =
@@ -11,13 +11,13 @@ remove_and_unite-requires-clause-apart g c =
     let two : get_or (blocks_in items c.args.slots.now) (c.args.at + 1) [] ≡ items c.in-Some-back.next = first_of_back items _ _ _ _ _ split.value split.front_len c.requires.at ∙ ap (block_in items) c.in-Some-back.is in
     rw (← one, ← two) c.requires.apart
 
-pub returns-clause-rest : goal.returns-clause-rest
-returns-clause-rest g c =
+pub returns : goal.returns
+returns g c =
     let split = c.split_at_mut-front.ensures in
     let items = g.R.Run.items in
     let one : get_or (blocks_in items c.args.slots.now) c.args.at [] ≡ items c.in-Some.run' = last_of_front items _ _ _ _ _ split.value split.front_len ∙ ap (block_in items) c.in-Some.is in
     let two : get_or (blocks_in items c.args.slots.now) (c.args.at + 1) [] ≡ items c.in-Some-back.next = first_of_back items _ _ _ _ _ split.value split.front_len c.requires.at ∙ ap (block_in items) c.in-Some-back.is in
-    rw (one, two) (front_set items _ _ _ _ _ _ split.value split.front_len c.remove_and_unite.ensures.rest)
+    rw (one, two) (front_set items _ _ _ _ _ _ split.value split.front_len c.remove_and_unite.ensures)
 
 pub overflow_add-at : goal.overflow_add-at
 overflow_add-at g c = omega (arith, c.requires.at)
@@ -39,7 +39,7 @@ unreachable-requires g c =
     let split = c.split_at_mut-front.ensures in
     let items = g.R.Run.items in
     let none : get_or (blocks_in items c.args.slots.now) c.args.at [] ≡ [] = last_of_front items _ _ _ _ _ split.value split.front_len ∙ ap (block_in items) c.in_default.is in
-    omega (arith, ap length none, c.requires.index)
+    omega (arith, ap length none, c.requires.left)
 
 pub offset_bounds-0 : goal.offset_bounds-0
 offset_bounds-0 g c = search rules
@@ -50,12 +50,12 @@ both_followed-slots-in_default-back g c = (refl, refl)
 pub slice_back_joined-slots-in_default-back : goal.slice_back_joined-slots-in_default-back
 slice_back_joined-slots-in_default-back g c = refl
 
-pub remove_and_unite-requires-clause-index : goal.remove_and_unite-requires-clause-index
-remove_and_unite-requires-clause-index g c =
+pub remove_and_unite-requires-clause-left : goal.remove_and_unite-requires-clause-left
+remove_and_unite-requires-clause-left g c =
     let split = c.split_at_mut-front.ensures in
     let items = g.R.Run.items in
     let one : get_or (blocks_in items c.args.slots.now) c.args.at [] ≡ items c.in-Some.run' = last_of_front items _ _ _ _ _ split.value split.front_len ∙ ap (block_in items) c.in-Some.is in
-    omega (arith, ap length one, c.requires.index)
+    omega (arith, ap length one, c.requires.left)
 
 pub remove_and_unite-requires-clause-room : goal.remove_and_unite-requires-clause-room
 remove_and_unite-requires-clause-room g c =
@@ -71,9 +71,9 @@ both_followed-slots-2 g c = (refl, refl)
 pub slice_back_joined-slots-2 : goal.slice_back_joined-slots-2
 slice_back_joined-slots-2 g c = refl
 
-pub returns-clause-item : goal.returns-clause-item
-returns-clause-item g c =
+pub remove_and_unite-requires-clause-within : goal.remove_and_unite-requires-clause-within
+remove_and_unite-requires-clause-within g c =
     let split = c.split_at_mut-front.ensures in
     let items = g.R.Run.items in
     let one : get_or (blocks_in items c.args.slots.now) c.args.at [] ≡ items c.in-Some.run' = last_of_front items _ _ _ _ _ split.value split.front_len ∙ ap (block_in items) c.in-Some.is in
-    rw one c.remove_and_unite.ensures.item
+    omega (arith, ap length one, c.requires.within)
