@@ -1,4 +1,4 @@
--- Which events a list commits, where a deletion takes effect, and in which world.
+-- Which events a list commits, and where a deletion takes effect or a call meets a lock that is held, in which world.
 use Rattle.std.specs.Prelude.{◌≡◌, ℕ, ◌*◌, ◌-◌, ◌≤◌, List, ◌∷◌, ◌++◌, length, Option}
 use Rattle.std.specs.List.{flat_map}
 use Rattle.std.specs.Option.{option_to_list}
@@ -7,13 +7,14 @@ use Rattle.klsm_run.specs.Content.{skipped}
 use Rattle.klsm_world.specs.declared.step.Event.{Event}
 use Rattle.klsm_world.specs.declared.step.Event.TheVariants.{Put, Flush, Take, Early, Nothing, Spy, Refill}
 use Rattle.klsm_world.specs.declared.step.Entry.{Entry}
-use Rattle.klsm_world.specs.declared.step.Entry.TheVariants.{Committed}
+use Rattle.klsm_world.specs.declared.step.Entry.TheVariants.{Committed, Missed}
 use Rattle.klsm_world.specs.OwnSteps.{event_at, inserted, deleted, deleted_by}
 use Rattle.klsm_world.specs.Worlds.{live}
+use Rattle.klsm_board.specs.declared.errors.Busy.{Busy}
 use Rattle.klsm_board.specs.declared.sizes.Sizes.{Sizes}
 use Rattle.klsm_board.specs.declared.rule.Own.{Own}
 use Rattle.klsm_board.specs.Rule.{own, view}
-use Rattle.klsm_board.specs.Steps.{AreReached}
+use Rattle.klsm_board.specs.Steps.{AreReached, HasHolder}
 
 -- the events that a list of own steps commits
 abbrev pub committed_in : List Entry → List Event
@@ -46,3 +47,12 @@ pub record TakesEffect (m : Sizes) (t : ℕ) (behind : List Own) (es es' : List 
   pub deleted_are : deleted at ≡ deleted es
   pub reached : AreReached m t (view (own t at ∷ behind))
   pub few : PassesFew m event (live reached.world)
+
+-- Thread t's list came to es', and its call met the lock where the list was `at`: that list, and those of the
+-- other threads that the seat knows, were then those of one world to which a schedule leads, and in which the
+-- thread that is named, another one, held the part.
+pub record MeetsHolder (m : Sizes) (t : ℕ) (behind : List Own) (es' : List Entry) (busy : Busy) : Type 0 where
+  pub at : List Entry
+  pub after : List Entry
+  pub steps : es' ≡ at ++ Missed busy.lock busy.by ∷ after
+  pub holder : HasHolder m t (view (own t at ∷ behind)) busy.lock busy.by

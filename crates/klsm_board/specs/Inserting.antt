@@ -94,6 +94,12 @@ RefusesInsert IsSpent levels k t es es' (try_insert.Busy busy) =
 RefusesInsert IsSpent levels k t es es' try_insert.Full = GivesUp k t es es' (LacksRoom levels k)
 RefusesInsert IsSpent levels k t es es' try_insert.NoMemory = GivesUp k t es es' (IsBelowLimit levels)
 
+-- a cause that is no lock, as a call that waits for nobody has it
+abbrev pub as_tried : InsertError → TryInsertError
+as_tried insert.Spent = try_insert.Spent
+as_tried insert.Full = try_insert.Full
+as_tried insert.NoMemory = try_insert.NoMemory
+
 -- an insertion that may wait: some tries are refused for a lock, and the next one is not
 abbrev pub InsertsWaiting : ℕ → ℕ → ℕ → List Entry → List Entry → Item → Type 0
 InsertsWaiting levels k t es es' x = (now : List Entry)

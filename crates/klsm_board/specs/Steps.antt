@@ -1,5 +1,5 @@
 -- What each step on a lock or on the front tells.
-use Rattle.std.specs.Prelude.{◌≡◌, ℕ, ◌-◌, ◌<◌, ◌≤◌, ◌==◌, ltb, List, [], ◌∷◌, ◌++◌, MatchBool}
+use Rattle.std.specs.Prelude.{◌≡◌, ◌≢◌, ℕ, ◌-◌, ◌<◌, ◌≤◌, ◌==◌, ltb, List, [], ◌∷◌, ◌++◌, MatchBool}
 use mathlib.Core.Option.{some}
 use lib.ListN.{get_elem?}
 use Rattle.atomic_table.specs.Table.{Me, Step, step, rest}
@@ -11,8 +11,8 @@ use Rattle.klsm_world.specs.declared.step.Entry.{Entry}
 use Rattle.klsm_world.specs.declared.step.Entry.TheVariants.{Acquired, Committed, Released, Missed}
 use Rattle.klsm_world.specs.declared.step.Step.{Step as WorldStep}
 use Rattle.klsm_world.specs.Laws.{IsWithinQuota}
-use Rattle.klsm_world.specs.OwnSteps.{shared_part}
-use Rattle.klsm_world.specs.Worlds.{World, steps_of, content_of}
+use Rattle.klsm_world.specs.OwnSteps.{HoldsSome, shared_part}
+use Rattle.klsm_world.specs.Worlds.{World, steps_of, hand_in, content_of}
 use Rattle.klsm_world.specs.Schedules.{Leads}
 use Rattle.klsm_board.specs.declared.sizes.Sizes.{Sizes}
 use Rattle.klsm_board.specs.declared.rule.Own.{Own}
@@ -71,6 +71,13 @@ pub record HasFront (m : Sizes) (t : ℕ) (v : View) (front : ℕ) : Type 0 wher
   pub reached : AreReached m t v
   pub front_is : front ≡ front_of (content_of reached.world shared_part)
 
+-- And of a world in which another thread holds this part.
+pub record HasHolder (m : Sizes) (t : ℕ) (v : View) (part by : ℕ) : Type 0 where
+  pub reached : AreReached m t v
+  pub thread : by < m.threads
+  pub another : by ≢ t
+  pub holds : HoldsSome (hand_in reached.world by) part
+
 module _ {S : Type 0} where
   -- what a step on the lock word of a part tells, with the part in place of the word
   abbrev pub on_part : (Step S → Me S View → ℕ → Me S View → Type 0) → Step S → Me S View → ℕ → Me S View → Type 0
@@ -81,13 +88,14 @@ module _ {S : Type 0} where
   abbrev pub is_reached : Sizes → ℕ → Me S View → Type 0
   is_reached m t me' = AreReached m t me'.0
 
-  -- the part was free, and came to the seat; or another thread held it
+  -- the part was free, and came to the seat; or another thread held it, in a world of the lists that the seat knew
   abbrev pub attempted : (S → List Item) → (ℕ → ℕ → S → Type 0) → Sizes → ℕ → Step S → Me S View → ℕ → Me S View → Type 0
   attempted content suits m t st me n me' =
       MatchBool (n == 0)
       ((y : S) × suits m.k st.word y
       × (me' ≡ (gain me.0 (Acquired st.word (content y)), (st.word, y) ∷ me.1)))
-      ((me' ≡ (gain me.0 (Missed st.word (n - 1)), me.1)) × (n ≤ m.threads))
+      ((me' ≡ (gain me.0 (Missed st.word (n - 1)), me.1)) × (n ≤ m.threads)
+      × HasHolder m t me.0 st.word (n - 1))
       × is_reached m t me'
 
   -- the part was released

@@ -3,7 +3,7 @@ ghost use Rattle.std.specs.Prelude.{◌≡◌, ◌≤◌, ◌++◌, [], ◌∷�
 ghost use Rattle.klsm_run.specs.declared.item.Item.{Item};
 ghost use Rattle.klsm_world.specs.declared.step.Entry.TheVariants.{Acquired, Missed};
 ghost use Rattle.klsm_world.specs.OwnSteps.{Hand, found_in};
-ghost use Rattle.klsm_board.specs.Steps.{mine, rest_of};
+ghost use Rattle.klsm_board.specs.Steps.{HasHolder, mine, rest_of};
 ghost use Rattle.klsm_board.specs.Seats.{Stands, Has, IsSeatOf};
 
 use crate::errors::Busy;
@@ -33,6 +33,8 @@ pub(crate) fn try_acquire<S: Holding>(
         × ((hand : Hand) → Stands S.content S.suits table.now.key thread hand seat.old.me
         → Has S.content S.suits table.now.key thread hand seat.new.me)
         × (mine seat.new.me.0 ≡ mine seat.old.me.0 ++ Missed part busy.by ∷ [])) }
+    ensures holder { IfErr result (λ busy.
+        HasHolder table.now.key thread seat.old.me.0 part busy.by) }
 {
     let found = acquire_part(table, seat, part, thread);
     if found == 0 {

@@ -14,7 +14,7 @@ ghost use Rattle.klsm_board.specs.Steps.{mine, rest_of};
 ghost use Rattle.klsm_board.specs.Seats.{Carries, Stands, Has, CarriedOut, QuotaAllows, LeavesShared, SetsFront, IsSeatOf, both_in_hand};
 ghost use Rattle.klsm_board.specs.Entries.{both_released};
 ghost use Rattle.klsm_board.specs.Choosing.{Chooses};
-ghost use Rattle.klsm_board.specs.Effects.{TakesEffect};
+ghost use Rattle.klsm_board.specs.Effects.{MeetsHolder, TakesEffect};
 ghost use Rattle.klsm_board.specs.Deleting.{AnswersDeletion, Deletes, FindsNothing, MissesDeletion, refilled, refilled_after};
 
 use crate::acquiring::try_acquire;
@@ -54,6 +54,8 @@ pub(crate) fn delete_now<S: PartSlot, P: Picker>(
         (mine seat.old.me.0) (mine seat.new.me.0)) }
     ensures busy { IfErr result (λ busy. (picker.new ≡ picker.old)
         × MissesDeletion table.now.key thread (mine seat.old.me.0) (mine seat.new.me.0) busy) }
+    ensures holder { IfErr result (MeetsHolder table.now.key thread (rest_of seat.old.me.0)
+        (mine seat.new.me.0)) }
 {
     try_acquire(table, seat, thread + 1, thread)?;
     if let Some(item) = delete_early(table, seat, thread, threads) {

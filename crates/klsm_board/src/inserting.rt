@@ -1,6 +1,6 @@
 //! Insertion. It takes effect where the own lock is released or, where items move to the shared part,
 //! where the front is set.
-ghost use Rattle.std.specs.Prelude.{◌≡◌, ◌<◌, ◌≤◌, ◌+◌, ℕ, List, [], ◌∷◌, ◌++◌, length, IfErr, IfOk, OnOk, OnErr, MatchBool};
+ghost use Rattle.std.specs.Prelude.{◌≡◌, ◌<◌, ◌≤◌, ◌+◌, ℕ, List, [], ◌∷◌, ◌++◌, length, IfErr, IfOk, OnOk, OnErr, IsErrAnd, MatchBool};
 ghost use Rattle.std.specs.List.{Contains};
 ghost use Rattle.klsm_run.specs.declared.item.Item.{Item};
 ghost use Rattle.klsm_run.specs.Capacity.{heap_room};
@@ -13,11 +13,12 @@ ghost use Rattle.klsm_world.specs.OwnSteps.{own_part, inserted, deleted};
 ghost use Rattle.klsm_world.specs.LegalSteps.{BearsStamp};
 ghost use Rattle.klsm_board.specs.Steps.{mine, rest_of};
 ghost use Rattle.klsm_board.specs.Seats.{Carries, Stands, Has, CarriedOut, IsSeatOf, own_in_hand, both_in_hand};
+ghost use Rattle.klsm_board.specs.Effects.{MeetsHolder};
 ghost use Rattle.klsm_board.specs.Entries.{both_released};
 ghost use Rattle.klsm_board.specs.Inserting.{Inserts, LacksRoom, IsBelowLimit, RefusesInsert};
 
 use crate::acquiring::try_acquire;
-use crate::errors::TryInsertError;
+use crate::errors::{Busy, TryInsertError};
 use crate::lending::{lend_shared, return_shared};
 use crate::rule::{Locks, MemberSeat};
 use crate::slot::PartSlot;
@@ -47,6 +48,8 @@ pub(crate) fn insert_now<S: PartSlot>(
         (mine seat.new.me.0) item) }
     ensures refused { IfErr result (RefusesInsert ⊥ S.levels table.now.key.k thread
         (mine seat.old.me.0) (mine seat.new.me.0)) }
+    ensures holder { (busy : Busy) → IsErrAnd result (λ why. why ≡ TryInsertError.Busy busy)
+        → MeetsHolder table.now.key thread (rest_of seat.old.me.0) (mine seat.new.me.0) busy }
 {
     if let Err(busy) = try_acquire(table, seat, thread + 1, thread) {
         return Err(TryInsertError::Busy(busy));

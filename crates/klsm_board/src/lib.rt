@@ -54,12 +54,13 @@
 //!   `rule`. What is left is then what the calls made it, and no deletion skips more than T·k of that, nor more
 //!   than (T-1)·k where it went by the front, nor any where T is 1: clauses `left` and `few` of
 //!   `AllMembers::delete_min`. An insertion is full only where all inserted as many as the shared part has room
-//!   for: clause `full` of `AllMembers::insert`. `spread` gives the members back, as they were.
+//!   for: clause `full` of `AllMembers::insert`. No call meets a lock that is held, so none waits: clauses `ok`
+//!   and `refused`. `spread` gives the members back, as they were.
 //! - **Nothing is lost.** Once all members are back, `finish` tells how many items were inserted and
 //!   deleted, and which are left: each item inserted is one of these two, once (`each_once`).
 //! - **Each answer is an event.** An item is answered where its `Take` or `Early` was committed, and a
 //!   stamp where its `Put` or `Flush` was: clauses `ok` and `adds`.
-//! - **A refusal changes no part**, and its cause holds: clauses `refused` and `busy`.
+//! - **A refusal changes no part**, and its cause holds: clauses `refused`, `busy` and `holder`.
 //! - **A call that may wait** promises the same, less the refusal for a lock that is held. Nothing is
 //!   promised of how long it waits.
 //! - **Deletions take no memory**, and are refused for want of none. An insertion takes some only where

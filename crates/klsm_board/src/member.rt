@@ -7,7 +7,7 @@ ghost use Rattle.klsm_board.specs.Rule.{IsReached, SeesFront, own, view};
 ghost use Rattle.klsm_board.specs.Steps.{HasFront};
 ghost use Rattle.klsm_board.specs.Members.{most_deletions};
 ghost use Rattle.klsm_board.specs.Boards.{Adds, IsOf, IsSame, known_of_others, own_steps};
-ghost use Rattle.klsm_board.specs.Effects.{TakesEffect};
+ghost use Rattle.klsm_board.specs.Effects.{MeetsHolder, TakesEffect};
 ghost use Rattle.klsm_board.specs.Inserting.{Inserts, InsertsWaiting, RefusesInsert, RefusesInsertWaiting, stamp_of, stamped};
 ghost use Rattle.klsm_board.specs.Deleting.{AnswersDeletion, AnswersWaiting, MissesDeletion};
 
@@ -111,6 +111,9 @@ impl<const CAP: usize, const LEVELS: usize> Member<CAP, LEVELS> {
             self.old.sizes.k self.old.number (own_steps self.old) (own_steps self.new) why) }
         ensures spent { IsErrAnd result (λ why. why ≡ TryInsertError.Spent)
             ↔ (length (inserted (own_steps self.old)) ≡ self.old.sizes.quota) }
+        ensures holder { (busy : Busy) → IsErrAnd result (λ why. why ≡ TryInsertError.Busy busy)
+            → MeetsHolder self.old.sizes self.old.number (known_of_others self.old)
+            (own_steps self.new) busy }
     {
         if self.inserted == self.sizes.quota {
             return Err(TryInsertError::Spent);
@@ -189,6 +192,8 @@ impl<const CAP: usize, const LEVELS: usize> Member<CAP, LEVELS> {
         ensures busy { IfErr result (λ busy. Adds self.old self.new [] []
             × (picker.new ≡ picker.old)
             × MissesDeletion self.old.sizes self.old.number (own_steps self.old) (own_steps self.new) busy) }
+        ensures holder { IfErr result (MeetsHolder self.old.sizes self.old.number
+            (known_of_others self.old) (own_steps self.new)) }
     {
         let thread = self.number as usize;
         let threads = self.sizes.threads;

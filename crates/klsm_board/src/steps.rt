@@ -1,5 +1,5 @@
 //! The steps on a lock and on the front, as the world sees them.
-ghost use Rattle.std.specs.Prelude.{◌≡◌, ◌<◌, ◌≤◌, ◌+◌, ◌-◌, ◌++◌, ◌==◌, ℕ, [], ◌∷◌, List, length, MatchBool, None};
+ghost use Rattle.std.specs.Prelude.{◌≡◌, ◌≢◌, ◌<◌, ◌≤◌, ◌+◌, ◌-◌, ◌++◌, ◌==◌, ℕ, [], ◌∷◌, List, length, MatchBool, None};
 ghost use mathlib.Core.Option.{none};
 ghost use Rattle.atomic_table.specs.Table.{rest, step};
 ghost use Rattle.klsm_run.specs.declared.item.Item.{Item};
@@ -10,7 +10,7 @@ ghost use Rattle.klsm_parts.specs.Least.{IsLeast};
 ghost use Rattle.klsm_board.specs.Rule.{place, view, SeesFront};
 ghost use Rattle.klsm_board.specs.Turning.{turned, HasList};
 ghost use Rattle.klsm_world.specs.LegalSteps.{MayCommit};
-ghost use Rattle.klsm_board.specs.Steps.{mine, rest_of, IsMine, AreReached, HasFront, attempted, released, committed, looked, glanced, set_front, turned_to};
+ghost use Rattle.klsm_board.specs.Steps.{mine, rest_of, IsMine, AreReached, HasFront, HasHolder, attempted, released, committed, looked, glanced, set_front, turned_to};
 ghost use Rattle.klsm_board.specs.Seats.{Carries, Stands, Has, CarriedOut, QuotaAllows, LeavesShared, SetsFront, IsSeatOf, own_in_hand, both_in_hand};
 ghost use Rattle.klsm_board.specs.Entries.{both_released};
 
@@ -209,6 +209,8 @@ pub(crate) fn acquire_part<S: Holding>(
         (Has S.content S.suits table.now.key thread hand seat.new.me
         × (mine seat.new.me.0 ≡ mine seat.old.me.0 ++ Missed part (result - 1) ∷ [])
         × (result ≤ table.now.key.threads)) }
+    ensures holder { result ≢ 0
+        → HasHolder table.now.key thread seat.old.me.0 part (result - 1) }
 {
     acquire::<S, Brand>(table, seat, part, thread)
 }

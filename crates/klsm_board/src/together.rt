@@ -9,8 +9,8 @@ ghost use lib.ListN.{get_elem?};
 ghost use Rattle.klsm_world.specs.Account.{account};
 ghost use Rattle.klsm_world.specs.OwnSteps.{inserted};
 ghost use Rattle.klsm_board.specs.Boards.{AreMembersOf, Gains, IsOf, own_steps};
-ghost use Rattle.klsm_board.specs.Inserting.{InsertsWaiting, RefusesInsertWaiting, stamp_of, stamped};
-ghost use Rattle.klsm_board.specs.Deleting.{AnswersWaiting};
+ghost use Rattle.klsm_board.specs.Inserting.{Inserts, RefusesInsert, as_tried, stamp_of, stamped};
+ghost use Rattle.klsm_board.specs.Deleting.{AnswersDeletion};
 ghost use Rattle.klsm_board.specs.Finishing.{AreAll, AreListsAtEnd, IsLeastAbsent, lists_of};
 ghost use Rattle.klsm_board.specs.Knowing.{AreCounted, IsAtRest};
 ghost use Rattle.klsm_board.specs.Rule.{view};
@@ -19,7 +19,7 @@ ghost use Rattle.klsm_board.specs.Turning.{HasList, left_behind, steps_known, tu
 
 use crate::all_members::{AllMembers, GatherRefused};
 use crate::board::{Board, Member};
-use crate::errors::InsertError;
+use crate::errors::{Busy, InsertError, TryInsertError};
 use crate::finishing::{counts_of, join_all};
 use crate::making::First;
 use crate::rule::MemberSeat;
@@ -28,7 +28,6 @@ use crate::steps::turn_to;
 use crate::tally::Tally;
 use klsm_parts::Picker;
 use klsm_run::{Item, Stamp};
-use std::sync::Wait;
 
 impl<const CAP: usize, const LEVELS: usize> Board<CAP, LEVELS> {
     /// Takes all members into one hand, between two of their calls. Their lists of own steps are then those of
@@ -78,10 +77,10 @@ impl<const CAP: usize, const LEVELS: usize> AllMembers<CAP, LEVELS> {
         self.acting.sizes.threads
     }
 
-    /// Inserts a key with a load as the member of this number does, and answers the item's stamp.
+    /// Inserts a key with a load as the member of this number does, and answers the item's stamp. It is never
+    /// refused for a lock, as no other member is within a call.
     pub fn insert(
         &mut self,
-        rt: &impl Wait,
         board: &Board<CAP, LEVELS>,
         number: u32,
         key: u64,
@@ -92,7 +91,7 @@ impl<const CAP: usize, const LEVELS: usize> AllMembers<CAP, LEVELS> {
         ensures same { ActsFor number self.old self.new }
         ensures stamp { IfOk result (λ stamp.
             stamp ≡ stamp_of number (length (inserted (steps_for self.old number)))) }
-        ensures ok { IfOk result (λ stamp. InsertsWaiting LEVELS (sizes_of_all self.old).k number
+        ensures ok { IfOk result (λ stamp. Inserts LEVELS (sizes_of_all self.old).k number
             (steps_for self.old number) (steps_for self.new number) (stamped key stamp load)) }
         ensures adds { IfOk result (λ stamp. Gains (steps_for self.old number)
             (steps_for self.new number) (stamped key stamp load ∷ []) []) }
@@ -105,23 +104,25 @@ impl<const CAP: usize, const LEVELS: usize> AllMembers<CAP, LEVELS> {
             ≡ (account (all_lists self.old)).inserted) }
         ensures refused { IfErr result (λ why.
             Gains (steps_for self.old number) (steps_for self.new number) [] []
-            × RefusesInsertWaiting
+            × RefusesInsert
             (length (inserted (steps_for self.old number)) ≡ (sizes_of_all self.old).quota) LEVELS
             (sizes_of_all self.old).k number (steps_for self.old number)
-            (steps_for self.new number) why) }
+            (steps_for self.new number) (as_tried why)) }
         ensures spent { IsErrAnd result (λ why. why ≡ InsertError.Spent)
             ↔ (length (inserted (steps_for self.old number)) ≡ (sizes_of_all self.old).quota) }
         ensures full { IsErrAnd result (λ why. why ≡ InsertError.Full) → limit_of LEVELS heap_room
             < (account (all_lists self.old)).inserted + max 1 (sizes_of_all self.old).k }
     {
         self.call(board, number);
-        self.acting.insert(rt, board, key, load)
+        match self.acting.try_insert(board, key, load) {
+            Ok(stamp) => Ok(stamp),
+            Err(why) => Err(refusal_of(why)),
+        }
     }
 
-    /// Deletes a small item as the member of this number does, and answers it.
+    /// Deletes a small item as the member of this number does, and answers it. It meets no lock that is held.
     pub fn delete_min<P: Picker>(
         &mut self,
-        rt: &impl Wait,
         board: &Board<CAP, LEVELS>,
         number: u32,
         picker: &mut P,
@@ -129,7 +130,7 @@ impl<const CAP: usize, const LEVELS: usize> AllMembers<CAP, LEVELS> {
         requires of { AreOf self.old board.now }
         requires number { number < (sizes_of_all self.old).threads }
         ensures same { ActsFor number self.old self.new }
-        ensures ok { AnswersWaiting P.may_pick picker.old picker.new (sizes_of_all self.old) number
+        ensures ok { AnswersDeletion P.may_pick picker.old picker.new (sizes_of_all self.old) number
             (steps_for self.old number) (steps_for self.new number) result }
         ensures adds { Gains (steps_for self.old number) (steps_for self.new number) []
             (option_to_list result) }
@@ -140,7 +141,10 @@ impl<const CAP: usize, const LEVELS: usize> AllMembers<CAP, LEVELS> {
             (steps_for self.new number) result }
     {
         self.call(board, number);
-        self.acting.delete_min(rt, board, picker)
+        let Ok(answer) = self.acting.try_delete_min(board, picker) else {
+            unreachable!();
+        };
+        answer
     }
 
     /// The front that a member's own `front` would see now: the key of the least shared item, or the greatest number
@@ -212,6 +216,19 @@ impl<const CAP: usize, const LEVELS: usize> AllMembers<CAP, LEVELS> {
         let inserted = self.tally.inserted[next];
         let deleted = self.tally.deleted[next];
         hand_on(&mut self.acting, board, number, inserted, deleted);
+    }
+}
+
+// Why an insertion is refused, where no lock was held.
+fn refusal_of(why: TryInsertError) -> InsertError
+    requires free { (busy : Busy) → why ≢ TryInsertError.Busy busy }
+    ensures { as_tried result ≡ why }
+{
+    match why {
+        TryInsertError::Spent => InsertError::Spent,
+        TryInsertError::Busy(_) => unreachable!(),
+        TryInsertError::Full => InsertError::Full,
+        TryInsertError::NoMemory => InsertError::NoMemory,
     }
 }
 

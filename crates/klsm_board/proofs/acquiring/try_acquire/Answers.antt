@@ -20,3 +20,6 @@ returns-else-found-eq0-clause-busy g c =
     let k = c.requires.has in
     let outcome = where_not_zero _ _ c.acquire_part-found.result c.if-found-eq0.false (c.acquire_part-found.ensures.outcome k.0 k.1) in
     (refl, (λ hand has. (where_not_zero _ _ c.acquire_part-found.result c.if-found-eq0.false (c.acquire_part-found.ensures.outcome hand has)).0), outcome.1)
+
+pub returns-else-found-eq0-clause-holder : goal.returns-else-found-eq0-clause-holder
+returns-else-found-eq0-clause-holder g c = c.acquire_part-found.ensures.holder c.if-found-eq0.false

@@ -1,13 +1,15 @@
-use Rattle.std.proofs.Common.{◌≡◌, ◌+◌, ◌∷◌, ◌++◌, ◌∙◌, [], ap, refl, subst, inl, inr, append_assoc}
+use Rattle.std.proofs.Common.{◌≡◌, ◌+◌, ◌∷◌, ◌++◌, ◌∙◌, [], ap, refl, sym, subst, inl, inr, append_assoc}
 use Rattle.std.specs.Prelude.{MatchOption, Some}
 use Rattle.klsm_world.specs.declared.step.Entry.TheVariants.{Acquired, Released, Missed}
 use Rattle.klsm_board.specs.Steps.{mine, rest_of}
 use Rattle.klsm_board.specs.Seats.{own_in_hand}
 use Rattle.klsm_board.specs.Entries.{own_acquired, both_acquired}
 use Rattle.klsm_board.specs.Deleting.{Deletes, FindsNothing, FrontIsNotAbove, TakesEarly}
-use Rattle.klsm_board.specs.Effects.{committed_in, TakesEffect}
+use Rattle.klsm_board.specs.Effects.{committed_in, MeetsHolder, TakesEffect}
 use Rattle.klsm_board.proofs.lemmas.calls.AddLemmas.{own_quiet, both_quiet}
 use Rattle.klsm_board.proofs.lemmas.calls.EffectLemmas.{effect_since}
+use Rattle.klsm_board.proofs.lemmas.calls.AddedLemmas.{passed_on}
+use Rattle.klsm_board.proofs.lemmas.calls.MissLemmas.{meets}
 use Rattle.klsm_board.proofs.lemmas.seats.StandLemmas.{stands}
 use Rattle.klsm_board.proofs.lemmas.hands.EventLemmas.{shared_not_in_one}
 use Rattle.klsm_board.proofs.deleting.delete_now.Goals as goal
@@ -91,3 +93,22 @@ returns-clause-effect g c =
     let acquired : mine me2.0 ≡ both_acquired t own.0 shared.0 es = shared.2 ∙ ap (λ z. z ++ Acquired 0 shared.0 ∷ []) (kept.1 ∙ own.2) in
     effect_since m t (rest_of c.args.seat.now.me.0) es (mine me2.0) es' did.result (ap committed_in acquired ∙ both_quiet t own.0 shared.0 es)
     (subst (λ z. TakesEffect m t z (mine me2.0) es' did.result) (c.try_acquire-2.ensures.others ∙ (c.delete_early.ensures.others ∙ c.try_acquire.ensures.others)) did.ensures.effect)
+
+pub returns-in_err-try_acquire-clause-has : goal.returns-in_err-try_acquire-clause-has
+returns-in_err-try_acquire-clause-has g c = c.in_err-try_acquire.ensures.busy.1 [] c.requires.stands
+
+pub returns-in_err-try_acquire-clause-holder : goal.returns-in_err-try_acquire-clause-holder
+returns-in_err-try_acquire-clause-holder g c =
+    let m = c.args.table.now.key in let t = c.args.thread in let me = c.args.seat.now.me in let es' = mine c.try_acquire.new.seat.me.0 in
+    let told = c.in_err-try_acquire.ensures in let busy = c.in_err-try_acquire.field-0.0 in let carries = c.requires.stands.carries in
+    passed_on c.from_residual.result _ _ c.from_residual.ensures.1 (λ why is.
+    subst (MeetsHolder m t (rest_of me.0) es') (sym is) (meets m t (t + 1) me.0 es' [] busy carries.acts told.busy.0 told.holder told.busy.2))
+
+pub returns-in-Err-clause-holder : goal.returns-in-Err-clause-holder
+returns-in-Err-clause-holder g c =
+    let m = c.args.table.now.key in let t = c.args.thread in let me = c.delete_early.new.seat.me in let es' = mine c.release_part.new.seat.me.0 in
+    let own = c.in_ok-try_acquire.ensures.ok [] c.requires.stands in let kept = (c.in_default.ensures.done own.0 own.1).0 in let carries = kept.carries in
+    let told = c.in-Err.ensures in let busy = c.in-Err.busy in
+    let steps = c.release_part.ensures.list ∙ (ap (λ z. z ++ Released (t + 1) ∷ []) told.busy.2 ∙ append_assoc (mine me.0) (Missed 0 busy.by ∷ []) (Released (t + 1) ∷ [])) in
+    subst (λ z. MeetsHolder m t z es' busy) (c.delete_early.ensures.others ∙ c.try_acquire.ensures.others)
+    (meets m t 0 me.0 es' (Released (t + 1) ∷ []) busy carries.acts told.busy.0 told.holder steps)

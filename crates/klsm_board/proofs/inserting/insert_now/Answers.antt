@@ -1,13 +1,15 @@
-use Rattle.std.proofs.Common.{◌+◌, ◌∷◌, ◌++◌, ◌∙◌, [], ap, refl, inl, inr, append_assoc}
+use Rattle.std.proofs.Common.{◌+◌, ◌∷◌, ◌++◌, ◌∙◌, [], ap, refl, subst, inl, inr, append_assoc}
 use Rattle.klsm_world.specs.declared.step.Event.TheVariants.{Put}
 use Rattle.klsm_world.specs.declared.step.Entry.TheVariants.{Acquired, Committed, Released, Missed}
-use Rattle.klsm_board.specs.Steps.{mine}
+use Rattle.klsm_board.specs.Effects.{MeetsHolder}
+use Rattle.klsm_board.specs.Steps.{mine, rest_of}
 use Rattle.klsm_board.specs.Seats.{own_in_hand}
 use Rattle.klsm_board.specs.Entries.{own_acquired}
 use Rattle.klsm_board.proofs.lemmas.seats.StandLemmas.{stands}
 use Rattle.klsm_board.proofs.lemmas.hands.EventLemmas.{shared_not_in_one}
 use Rattle.klsm_board.proofs.lemmas.calls.EventLemmas.{same_events, stamp_kept, room_kept}
 use Rattle.klsm_board.specs.Inserting.{LacksRoom, IsBelowLimit}
+use Rattle.klsm_board.proofs.lemmas.calls.MissLemmas.{meets, same_busy}
 use Rattle.klsm_board.proofs.lemmas.calls.FullLemmas.{full_now, full_is_quiet, flushed, gave_up}
 use Rattle.klsm_board.proofs.inserting.insert_now.Goals as goal
 
@@ -116,3 +118,20 @@ returns-in-Err-NoMemory-clause-refused g c =
     let me = c.args.seat.now.me in let both = c.try_acquire-2.new.seat.me in
     let k = full_now content suits m t me c.try_acquire.new.seat.me c.put_own.new.seat.me both c.requires.stands c.in_default.ensures.ok c.if-put_own.ensures.done c.in_default-try_acquire.ensures.ok in
     gave_up content suits m t (mine me.0) (mine c.flush_both.new.seat.me.0) both k (IsBelowLimit g.S.PartSlot.levels) (c.in-Err-NoMemory.ensures.memory c.in-Err-NoMemory.field-0-is k.own k.shared k.has) c.in-Err-NoMemory.ensures.refused
+
+pub returns-in-Err-clause-holder : goal.returns-in-Err-clause-holder
+returns-in-Err-clause-holder g c busy is =
+    let m = c.args.table.now.key in let t = c.args.thread in let me = c.args.seat.now.me in let es' = mine c.try_acquire.new.seat.me.0 in
+    let told = c.in-Err.ensures in let carries = c.requires.stands.carries in
+    subst (MeetsHolder m t (rest_of me.0) es') (same_busy c.in-Err.busy busy is)
+    (meets m t (t + 1) me.0 es' [] c.in-Err.busy carries.acts told.busy.0 told.holder told.busy.2)
+
+pub returns-in-Err-try_acquire-clause-holder : goal.returns-in-Err-try_acquire-clause-holder
+returns-in-Err-try_acquire-clause-holder g c busy is =
+    let m = c.args.table.now.key in let t = c.args.thread in let me = c.put_own.new.seat.me in let es' = mine c.release_part.new.seat.me.0 in
+    let own = c.in_default.ensures.ok [] c.requires.stands in let kept = (c.if-put_own.ensures.done own.0 own.1).1 in let carries = kept.carries in
+    let told = c.in-Err-try_acquire.ensures in let by = c.in-Err-try_acquire.busy.by in
+    let steps = c.release_part.ensures.list ∙ (ap (λ z. z ++ Released (t + 1) ∷ []) told.busy.2 ∙ append_assoc (mine me.0) (Missed 0 by ∷ []) (Released (t + 1) ∷ [])) in
+    subst (λ z. MeetsHolder m t z es' busy) (c.put_own.ensures.others ∙ c.try_acquire.ensures.others)
+    (subst (MeetsHolder m t (rest_of me.0) es') (same_busy c.in-Err-try_acquire.busy busy is)
+    (meets m t 0 me.0 es' (Released (t + 1) ∷ []) c.in-Err-try_acquire.busy carries.acts told.busy.0 told.holder steps))

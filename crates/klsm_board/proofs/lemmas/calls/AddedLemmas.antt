@@ -6,7 +6,7 @@ use Rattle.klsm_run.specs.declared.item.Item.{Item}
 use Rattle.klsm_world.specs.declared.step.Event.{Event}
 use Rattle.klsm_world.specs.declared.step.Event.TheVariants.{Put, Flush}
 use Rattle.klsm_world.specs.declared.step.Entry.{Entry}
-use Rattle.klsm_world.specs.declared.step.Entry.TheVariants.{Committed, Released, Missed}
+use Rattle.klsm_world.specs.declared.step.Entry.TheVariants.{Committed, Released}
 use Rattle.klsm_world.specs.OwnSteps.{inserted, inserted_by, deleted, deleted_by, own_part}
 use Rattle.klsm_board.specs.Effects.{committed_in}
 use Rattle.klsm_board.specs.declared.errors.TryInsertError.{TryInsertError}
@@ -66,9 +66,6 @@ gives_up_events : (k t : ℕ) (es es' : List Entry) (Lacks : List Item → Type 
 gives_up_events k t es es' Lacks up =
     same_events (both_acquired t up.own up.shared es) (both_released t) es' up.steps refl ∙ both_quiet t up.own up.shared es
 
-gives_up_gains : (k t : ℕ) (es es' : List Entry) (Lacks : List Item → Type 0) → GivesUp k t es es' Lacks → Gains es es' [] []
-gives_up_gains k t es es' Lacks up = quiet_gains es es' (gives_up_events k t es es' Lacks up)
-
 -- how many these are
 pub gained_counts : (es es' : List Entry) (ins dels : List Item) (i d : ℕ) → Gains es es' ins dels → length (inserted es) ≡ i → length (deleted es) ≡ d
     → (length (inserted es') ≡ i + length ins) × (length (deleted es') ≡ d + length dels)
@@ -78,11 +75,14 @@ gained_counts es es' ins dels i d gains counts counts' =
     (omega (arith, a, counts), omega (arith, b, counts'))
 
 -- why a try to insert was refused, once it began
+pub refused_events : (levels k t : ℕ) (es es' : List Entry) (why : TryInsertError) → RefusesInsert ⊥ levels k t es es' why → committed_in es' ≡ committed_in es
+refused_events levels k t es es' try_insert.Spent outcome = absurd outcome.0
+refused_events levels k t es es' (try_insert.Busy busy) outcome = misses_quiet t _ es es' busy outcome
+refused_events levels k t es es' try_insert.Full outcome = gives_up_events k t es es' (LacksRoom levels k) outcome
+refused_events levels k t es es' try_insert.NoMemory outcome = gives_up_events k t es es' (IsBelowLimit levels) outcome
+
 pub refused_gains : (levels k t : ℕ) (es es' : List Entry) (why : TryInsertError) → RefusesInsert ⊥ levels k t es es' why → Gains es es' [] []
-refused_gains levels k t es es' try_insert.Spent outcome = absurd outcome.0
-refused_gains levels k t es es' (try_insert.Busy busy) outcome = quiet_gains es es' (misses_quiet t _ es es' busy outcome)
-refused_gains levels k t es es' try_insert.Full outcome = gives_up_gains k t es es' (LacksRoom levels k) outcome
-refused_gains levels k t es es' try_insert.NoMemory outcome = gives_up_gains k t es es' (IsBelowLimit levels) outcome
+refused_gains levels k t es es' why outcome = quiet_gains es es' (refused_events levels k t es es' why outcome)
 
 -- the same of an insertion that may wait
 pub refused_waiting_events : (levels k t : ℕ) (es es' : List Entry) (why : InsertError) → RefusesInsertWaiting ⊥ levels k t es es' why → committed_in es' ≡ committed_in es
@@ -105,6 +105,6 @@ pub passed_on : {T E : Type 0} (r : Result T E) (Q P : E → Type 0) → IsErrAn
 passed_on (Ok x) Q P is all = tt
 passed_on (Err why) Q P is all = all why is
 
-pub no_error : {T E : Type 0} (r : Result T E) (Q P : E → Type 0) → IsErrAnd r Q → IsErrAnd r P → ((why : E) → Q why → P why → ⊥) → ⊥
-no_error (Ok x) Q P is is' none = is
-no_error (Err why) Q P is is' none = none why is is'
+pub of_error : {T E R : Type 0} (r : Result T E) (Q P : E → Type 0) → IsErrAnd r Q → IsErrAnd r P → ((why : E) → Q why → P why → R) → R
+of_error (Ok x) Q P is is' all = absurd is
+of_error (Err why) Q P is is' all = all why is is'

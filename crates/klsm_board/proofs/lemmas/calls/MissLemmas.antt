@@ -1,13 +1,21 @@
 -- Tries that met a lock that was not free, one after another.
-use Rattle.std.proofs.Common.{◌≡◌, ℕ, zero, suc, ◌+◌, ◌<◌, ◌≤◌, List, [], ◌∷◌, ◌++◌, refl, ap, ◌∙◌, inl, inr, arith}
+use Rattle.std.proofs.Common.{◌≡◌, ℕ, zero, suc, ◌<◌, ◌≤◌, List, [], ◌∷◌, ◌++◌, refl, sym, ap, ◌∙◌, subst, inl, inr, arith}
 use Rattle.klsm_run.specs.declared.item.Item.{Item}
 use Rattle.klsm_world.specs.declared.step.Entry.{Entry}
 use Rattle.klsm_world.specs.declared.step.Entry.TheVariants.{Missed, Released}
 use Rattle.klsm_world.specs.OwnSteps.{own_part}
 use Rattle.klsm_board.specs.declared.errors.Busy.{Busy}
-use Rattle.klsm_board.specs.Effects.{committed_in}
+use Rattle.klsm_board.specs.declared.errors.InsertError.{InsertError}
+use Rattle.klsm_board.specs.declared.errors.InsertError.TheVariants as insert
+use Rattle.klsm_board.specs.declared.errors.TryInsertError.TheVariants as try_insert
+use Rattle.klsm_board.specs.declared.rule.Own.{Own}
+use Rattle.klsm_board.specs.declared.rule.View.{View}
+use Rattle.klsm_board.specs.declared.sizes.Sizes.{Sizes}
+use Rattle.klsm_board.specs.Effects.{MeetsHolder, committed_in}
 use Rattle.klsm_board.specs.Entries.{own_acquired}
-use Rattle.klsm_board.specs.Inserting.{Misses, MissesTimes, Waits}
+use Rattle.klsm_board.specs.Inserting.{Misses, MissesTimes, Waits, as_tried}
+use Rattle.klsm_board.specs.Rule.{own, view}
+use Rattle.klsm_board.specs.Steps.{mine, rest_of, HasHolder, IsMine}
 use Rattle.klsm_board.proofs.lemmas.calls.EventLemmas.{same_events}
 use Rattle.klsm_board.proofs.lemmas.calls.AddLemmas.{own_quiet}
 
@@ -36,3 +44,23 @@ module _ (t : ℕ) (Found : List Item → List Entry → Type 0) where
   pub missed_part : (threads : ℕ) (es es' : List Entry) (busy : Busy) → t < threads → Misses t Found es es' busy → busy.lock ≤ threads
   missed_part threads es es' busy within (inl own) = let is = own.lock in omega (arith, within, is)
   missed_part threads es es' busy within (inr shared) = let is = shared.lock in omega (arith, is)
+
+-- a try met the holder of the lock
+pub meets : (m : Sizes) (t part : ℕ) (v : View) (es' after : List Entry) (busy : Busy) → IsMine v t → busy.lock ≡ part → HasHolder m t v part busy.by
+    → es' ≡ mine v ++ Missed part busy.by ∷ after → MeetsHolder m t (rest_of v) es' busy
+meets m t part v es' after busy acts lock holder steps = record {
+  at = mine v;
+  after = after;
+  steps = steps ∙ ap (λ p. mine v ++ Missed p busy.by ∷ after) (sym lock);
+  holder = subst (λ (z : List Own × ℕ). HasHolder m t (view z.0) z.1 busy.by) (λ i. (acts i, sym lock i)) holder;
+}
+
+-- a refusal for a lock names it
+pub same_busy : (a b : Busy) → try_insert.Busy a ≡ try_insert.Busy b → a ≡ b
+same_busy a b is = cc
+
+-- the one cause that is Spent among all
+pub only_spent : (why : InsertError) → as_tried why ≡ try_insert.Spent → why ≡ insert.Spent
+only_spent insert.Spent is = refl
+only_spent insert.Full is = cc
+only_spent insert.NoMemory is = cc

@@ -1,5 +1,5 @@
 -- An insertion found the shared part full only where the members have inserted as much.
-use Rattle.std.proofs.Common.{◌≡◌, ℕ, ◌+◌, ◌<◌, ◌≤◌, max, List, [], ◌∷◌, ◌++◌, length, refl, sym, ap, subst, ◌∙◌, arith, append_assoc, Result, Ok, Err, IfErr, IsErrAnd}
+use Rattle.std.proofs.Common.{◌≡◌, ℕ, ◌+◌, ◌<◌, ◌≤◌, max, List, [], ◌∷◌, ◌++◌, length, refl, sym, ap, subst, ◌∙◌, arith}
 use Rattle.std.proofs.lemmas.List.{append-nil}
 use Rattle.std.proofs.Math.Logic.{∥∥₁_elim}
 use Rattle.std.specs.Coded.{le_prop}
@@ -13,12 +13,10 @@ use Rattle.klsm_world.specs.declared.step.Entry.{Entry}
 use Rattle.klsm_world.specs.declared.step.Entry.TheVariants.{Acquired}
 use Rattle.klsm_world.specs.OwnSteps.{inserted, shared_part}
 use Rattle.klsm_board.specs.declared.board.Member.{Member}
-use Rattle.klsm_board.specs.declared.errors.InsertError.{InsertError}
-use Rattle.klsm_board.specs.declared.errors.InsertError.TheVariants as insert
 use Rattle.klsm_board.specs.declared.sizes.Sizes.{Sizes}
 use Rattle.klsm_board.specs.Boards.{Adds, IsSame, known_of_others, own_steps}
-use Rattle.klsm_board.specs.Entries.{both_acquired, both_released, own_acquired}
-use Rattle.klsm_board.specs.Inserting.{GivesUp, LacksRoom, RefusesInsertWaiting}
+use Rattle.klsm_board.specs.Entries.{both_released, own_acquired}
+use Rattle.klsm_board.specs.Inserting.{GivesUp, LacksRoom}
 use Rattle.klsm_board.specs.Knowing.{IsWhole}
 use Rattle.klsm_board.specs.Rule.{world_limits}
 use Rattle.klsm_board.specs.Turning.{lists_known, steps_known}
@@ -36,13 +34,6 @@ gave_up_at k t es es' Found up =
       ap (λ (z : List Entry). get_elem? z (length before)) up.steps
           ∙ at_front (before ++ shared ∷ []) (both_released t) (length before) shared (at_end before shared []),
     )
-
--- why an insertion was refused that found the shared part full
-pub refused_full : {T : Type 0} (G Spent : Type 0) (levels k t : ℕ) (es es' : List Entry) (r : Result T InsertError) → IfErr r (λ why. G × RefusesInsertWaiting Spent levels k t es es' why) → IsErrAnd r (λ why. why ≡ insert.Full)
-    → G × ((now : List Entry) × GivesUp k t now es' (LacksRoom levels k))
-refused_full G Spent levels k t es es' (Ok x) outcome is = absurd is
-refused_full G Spent levels k t es es' (Err why) outcome is =
-    let refused = subst (RefusesInsertWaiting Spent levels k t es es') is outcome.1 in (outcome.0, (refused.0, refused.2))
 
 module _ {CAP LEVELS : ℕ} where
   -- what the member whose turn it is found in a part is no more than all members inserted

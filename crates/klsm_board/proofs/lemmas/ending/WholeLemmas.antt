@@ -3,6 +3,7 @@ use Rattle.std.proofs.Common.{◌≡◌, ◌≢◌, ℕ, zero, suc, ◌+◌, ◌
 use Rattle.std.specs.List.{flat_map}
 use Rattle.std.specs.Prelude.{Option}
 use Rattle.std.proofs.lemmas.List.{get_or-set_same, get_or-set_other}
+use Rattle.std.proofs.lemmas.Option.{none-some}
 use Rattle.std.proofs.lemmas.Grind.{flat_map-append}
 use mathlib.Core.Logic.{dite}
 use native.Mathlib.Decide.{ℕ_discrete}
@@ -19,20 +20,21 @@ use Rattle.klsm_parts.specs.Parts.{PartState}
 use Rattle.klsm_world.specs.declared.step.Event.{Event}
 use Rattle.klsm_world.specs.declared.step.Event.TheVariants.{Put, Flush, Take, Early, Nothing, Spy, Refill}
 use Rattle.klsm_world.specs.declared.step.Entry.{Entry}
-use Rattle.klsm_world.specs.OwnSteps.{hand_of, inserted, deleted}
-use Rattle.klsm_world.specs.Worlds.{live}
+use Rattle.klsm_world.specs.OwnSteps.{found_in, hand_of, inserted, deleted}
+use Rattle.klsm_world.specs.Worlds.{live, steps_of}
 use Rattle.klsm_world.specs.LawfulWorlds.{IsLawful}
 use Rattle.klsm_world.specs.Account.{account}
 use Rattle.klsm_world.proofs.lemmas.theorems.AccountLemmas.{left_is_live}
 use Rattle.klsm_world.proofs.lemmas.theorems.OwnEventLemmas.{lists_have_events}
 use Rattle.klsm_world.proofs.lemmas.theorems.RunLemmas.{schedules_are_runs, schedules_keep_lawful}
 use Rattle.klsm_board.specs.declared.board.Member.{Member}
+use Rattle.klsm_board.specs.declared.errors.Busy.{Busy}
 use Rattle.klsm_board.specs.declared.rule.Own.{Own}
 use Rattle.klsm_board.specs.declared.rule.View.{View}
 use Rattle.klsm_board.specs.declared.sizes.Sizes.{Sizes}
 use Rattle.klsm_board.specs.declared.slot.Slot.{Slot}
 use Rattle.klsm_board.specs.Boards.{IsSame, known_of_others, own_steps}
-use Rattle.klsm_board.specs.Effects.{PassesFew, TakesEffect}
+use Rattle.klsm_board.specs.Effects.{MeetsHolder, PassesFew, TakesEffect}
 use Rattle.klsm_board.specs.Finishing.{AreAll, AreListsAtEnd, HasMember, Knows, lists_of, steps_among}
 use Rattle.klsm_board.specs.Knowing.{AreCounted, IsAtRest, IsWhole}
 use Rattle.klsm_board.specs.Members.{IsResting}
@@ -43,6 +45,7 @@ use Rattle.klsm_board.specs.Turning.{steps_known, lists_known, HasList, left_beh
 use Rattle.klsm_board.proofs.lemmas.ending.EndLemmas.{found_first, place_within, same_lists}
 use Rattle.klsm_board.proofs.lemmas.ending.JoinLemmas.{at_end, at_front}
 use Rattle.klsm_board.proofs.lemmas.table.DealtLemmas.{has_one}
+use Rattle.klsm_board.proofs.lemmas.table.KeepLemmas.{list_at}
 use Rattle.klsm_board.proofs.lemmas.table.KnownLemmas.{finds, has_turned, into_turned, known_here, known_later, same_turned, turned_first}
 
 -- the list of each thread, by its number
@@ -350,3 +353,17 @@ module _ {CAP LEVELS : ℕ} where
       let few = passes_few before.sizes before.number (known_of_others before) (own_steps before) (own_steps after) answer (λ u below. subst (λ (z : List Own). HasList z u) alike (whole.has u below)) effect in
       let known : lists_known before.sizes.threads (own before.number (own_steps before) ∷ known_of_others before) ≡ lists = ap (λ (z : List Own). lists_known before.sizes.threads z) (sym alike) ∙ (ap (λ (z : Sizes). lists_known z.threads v.lists) sizes ∙ is) in
       subst (λ (z : Sizes × List (List Entry) × List Entry). PassesFewLeft z.0 z.1 z.2 answer) (λ i. (sizes i, known i, own_known after n (same.0 ∙ turn) i)) few
+
+  -- it meets no lock that is held, as each other member rests
+  pub none_holds : (member : Member CAP LEVELS) (ins dels : List ℕ) (es' : List Entry) (busy : Busy) → IsWhole member.sizes member.number member.seat.me.0.lists ins dels
+      → MeetsHolder member.sizes member.number (known_of_others member) es' busy → ⊥
+  none_holds member ins dels es' busy whole met =
+      let t : ℕ = member.number in let by : ℕ = busy.by in let behind : List Own = known_of_others member in let rests = member.rests in
+      let h = met.holder in let held = h.holds in let now : View = view (own t met.at ∷ behind) in
+      let alike : member.seat.me.0.lists ≡ own t (own_steps member) ∷ behind = rests.acts in
+      let has = has_changed t (own_steps member) met.at behind by (subst (λ (z : List Own). HasList z by) alike (whole.has by h.thread)) in
+      let list : steps_of h.reached.world by ≡ steps_known now.lists by = list_at h.reached.world.lists by (steps_known now.lists by) (world_has member.sizes t now h.reached by has) in
+      let later : (es : List Entry) → steps_known (own t es ∷ behind) by ≡ steps_known behind by = (λ es. known_later by (own t es) behind (λ is. h.another (sym is))) in
+      let before : steps_known now.lists by ≡ steps_known member.seat.me.0.lists by = later met.at ∙ (sym (later (own_steps member)) ∙ ap (λ (z : List Own). steps_known z by) (sym alike)) in
+      let empty : hand_of by (steps_of h.reached.world by) ≡ [] = ap (hand_of by) (list ∙ before) ∙ (whole.rests by h.thread h.another).hand_is in
+      none-some held.content (sym (ap (λ z. found_in z busy.lock) empty) ∙ held.holds)

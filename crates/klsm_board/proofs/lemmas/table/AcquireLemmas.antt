@@ -13,17 +13,17 @@ use Rattle.klsm_world.specs.declared.step.Entry.{Entry}
 use Rattle.klsm_world.specs.declared.step.Entry.TheVariants.{Acquired, Missed}
 use Rattle.klsm_world.specs.declared.step.Step.{Step as WorldStep}
 use Rattle.klsm_world.specs.declared.step.Step.TheVariants.{Acquire, Miss}
-use Rattle.klsm_world.specs.OwnSteps.{found_in, hand_of}
-use Rattle.klsm_world.specs.Worlds.{World, steps_of, home_of}
+use Rattle.klsm_world.specs.OwnSteps.{HoldsSome, found_in, hand_of}
+use Rattle.klsm_world.specs.Worlds.{World, steps_of, hand_in, home_of}
 use Rattle.klsm_world.specs.Schedules.{Leads}
 use Rattle.std.specs.Prelude.{unwrap_or}
 use Rattle.klsm_board.specs.declared.sizes.Sizes.{Sizes}
 use Rattle.klsm_board.specs.declared.rule.Own.{Own}
 use Rattle.klsm_board.specs.declared.rule.View.{View}
 use Rattle.klsm_board.specs.Rule.{place, lock_words, front_word, world_limits, content_at, board_world, Ruled}
-use Rattle.klsm_board.specs.Steps.{AreReached, on_part, gain, attempted}
+use Rattle.klsm_board.specs.Steps.{AreReached, HasHolder, on_part, gain, attempted}
 use Rattle.klsm_board.proofs.lemmas.table.PlaceLemmas.{at_place, front_stays}
-use Rattle.klsm_board.proofs.lemmas.table.KeepLemmas.{Goes, world, acting, home_back, keeps_rule, keeps_reached, agrees, same_steps, inside, few_more, word_is, word_set, stays}
+use Rattle.klsm_board.proofs.lemmas.table.KeepLemmas.{Goes, world, acting, home_back, keeps_rule, keeps_reached, reached_now, agrees, same_steps, inside, few_more, word_is, word_set, stays}
 
 module _ {S : Type 0} (content : S → List Item) (suits : ℕ → ℕ → S → Type 0) (m : Sizes) where
   module _ (s : State S View) (r : Ruled content suits m s) (id t : ℕ) (xs : List Entry) (behind : List Own) (at : get_elem? s.views id ≡ some (acting content suits m t xs behind)) (lt : t < m.threads)
@@ -72,7 +72,7 @@ module _ {S : Type 0} (content : S → List Item) (suits : ℕ → ℕ → S →
               (λ q z h. ⊎_elim (λ (k : (q ≡ p) × (none ≡ some z)). absurd (some-ne-none z (sym k.1))) (λ (k : (q ≢ p) × (get_elem? s.homes q ≡ some (some z))). old_suits q z k.1) (at_set s.homes p q none (some z) h))
               few,
           at_place (λ q. attempted content suits m t (step slots q 0 (t + 1) none) me0 (get_or s.words (place p) 0) now) p (
-            subst (λ b'. MatchBool b' ((z : S) × suits m.k p z × (now ≡ won z)) ((now ≡ lost) × (get_or s.words (place p) 0 ≤ m.threads)))
+            subst (λ b'. MatchBool b' ((z : S) × suits m.k p z × (now ≡ won z)) ((now ≡ lost) × (get_or s.words (place p) 0 ≤ m.threads) × HasHolder m t me0.0 p (get_or s.words (place p) 0 - 1)))
                 (sym (eq-eqb (get_or s.words (place p) 0) 0 e))
                 (y, old_suits p y b.1, refl),
             reached,
@@ -93,6 +93,14 @@ module _ {S : Type 0} (content : S → List Item) (suits : ℕ → ℕ → S →
         let other : n ≢ t + 1 = (λ e. let u_is : k.by ≡ t = omega (arith, by, e) in
         let had : found_in (hand_of t xs) p ≡ Some some_of.content = ap (λ z. found_in (hand_of t z) p) (sym same) ∙ (ap (λ z. found_in (hand_of z (steps_of w0 z)) p) (sym u_is) ∙ some_of.holds) in none-some some_of.content (sym away ∙ had)) in
         let small : n ≤ m.threads = (let l = k.thread in omega (arith, by, l)) in
+        let by_is : k.by ≡ n - 1 = omega (arith, by) in
+        let seen = reached_now content suits m s r id t xs behind at lt in
+        let holder : HasHolder m t me0.0 p (n - 1) = record {
+          reached = seen.0;
+          thread = subst (λ u. u < m.threads) by_is k.thread;
+          another = λ is. other (by ∙ ap (λ u. u + 1) (by_is ∙ is));
+          holds = subst (λ (z : World × ℕ). HoldsSome (hand_in z.0 z.1) p) (λ i. (sym seen.1 i, by_is i)) some_of;
+        } in
         let es : List Entry = xs ++ Missed p (n - 1) ∷ [] in
         let ls : List (List Entry) = set r.lists t es in
         let ms : List WorldStep = Miss t p ∷ r.schedule in
@@ -115,8 +123,8 @@ module _ {S : Type 0} (content : S → List Item) (suits : ℕ → ℕ → S →
           tt,
           keeps_rule content suits m s r id t xs es behind at lt ws s.homes ls ms (stays content suits m s r id t xs behind at lt p n) led stands else r.suited few,
           at_place (λ q. attempted content suits m t (step slots q 0 (t + 1) none) me0 n now) p (
-            subst (λ b'. MatchBool b' ((z : S) × suits m.k p z × (now ≡ won z)) ((now ≡ lost) × (n ≤ m.threads)))
-                (sym (ne_eqb n 0 ne)) (refl, small),
+            subst (λ b'. MatchBool b' ((z : S) × suits m.k p z × (now ≡ won z)) ((now ≡ lost) × (n ≤ m.threads) × HasHolder m t me0.0 p (n - 1)))
+                (sym (ne_eqb n 0 ne)) (refl, small, holder),
             reached,
           ),
         )

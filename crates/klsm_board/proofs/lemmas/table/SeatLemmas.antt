@@ -1,5 +1,5 @@
 -- What a member's seat has after a step.
-use Rattle.std.proofs.Common.{◌≡◌, ℕ, ◌+◌, ◌-◌, ◌≤◌, ◌==◌, List, [], ◌∷◌, ◌++◌, sym, refl, ap, ◌∙◌, subst, eq-eqb, ne_eqb, append_assoc, Some, None, inl, inr}
+use Rattle.std.proofs.Common.{◌≡◌, ◌≢◌, ℕ, ◌+◌, ◌-◌, ◌≤◌, ◌==◌, List, [], ◌∷◌, ◌++◌, sym, refl, ap, ◌∙◌, subst, eq-eqb, ne_eqb, append_assoc, Some, None, inl, inr}
 use Rattle.std.specs.Prelude.{MatchBool}
 use Rattle.std.proofs.lemmas.Option.{none-some}
 use Rattle.std.proofs.lemmas.Bool.{cases_eq}
@@ -18,7 +18,7 @@ use Rattle.klsm_board.specs.declared.sizes.Sizes.{Sizes}
 use Rattle.klsm_board.specs.declared.rule.Own.{Own}
 use Rattle.klsm_board.specs.declared.rule.View.{View}
 use Rattle.klsm_board.specs.Rule.{own}
-use Rattle.klsm_board.specs.Steps.{mine, mine_or, others, rest_of, IsMine, AreReached, gained, gain, attempted}
+use Rattle.klsm_board.specs.Steps.{mine, mine_or, others, rest_of, IsMine, AreReached, HasHolder, gained, gain, attempted}
 use Rattle.klsm_board.proofs.lemmas.calls.TestLemmas.{where_zero, where_not_zero}
 use Rattle.klsm_board.specs.Seats.{Stands, contents, AreSuited, Carries, Has, CarriedOut}
 
@@ -208,7 +208,7 @@ module _ {S : Type 0} (content : S → List Item) (suits : ℕ → ℕ → S →
       let won : S → Me S View = (λ y. (gain me.0 (Acquired p (content y)), (p, y) ∷ me.1)) in
       let lost : Me S View = (gain me.0 (Missed p (n - 1)), me.1) in
       let Won : Type 0 = (y : S) × suits m.k p y × (me' ≡ won y) in
-      let Lost : Type 0 = (me' ≡ lost) × (n ≤ m.threads) in
+      let Lost : Type 0 = (me' ≡ lost) × (n ≤ m.threads) × HasHolder m t me.0 p (n - 1) in
       let Hits : Type 0 = (found : List Item) × Has content suits m t ((p, found) ∷ hand) me' × (mine me'.0 ≡ mine me.0 ++ Acquired p found ∷ []) in
       let Misses : Type 0 = Has content suits m t hand me' × (mine me'.0 ≡ mine me.0 ++ Missed p (n - 1) ∷ []) × (n ≤ m.threads) in
       dite (ℕ_discrete n 0)
@@ -223,12 +223,19 @@ module _ {S : Type 0} (content : S → List Item) (suits : ℕ → ℕ → S →
       let won : S → Me S View = (λ y. (gain me.0 (Acquired p (content y)), (p, y) ∷ me.1)) in
       let lost : Me S View = (gain me.0 (Missed p (n - 1)), me.1) in
       let Won : Type 0 = (y : S) × suits m.k p y × (me' ≡ won y) in
-      let Lost : Type 0 = (me' ≡ lost) × (n ≤ m.threads) in
+      let Lost : Type 0 = (me' ≡ lost) × (n ≤ m.threads) × HasHolder m t me.0 p (n - 1) in
       dite (ℕ_discrete n 0)
       (λ e. let k : Won = where_zero Won Lost n e outcome.0 in ap (λ (z : Me S View). rest_of z.0) k.2 ∙ others_gain me.0 (Acquired p (content k.0)))
       (λ e. let k : Lost = where_not_zero Won Lost n e outcome.0 in ap (λ (z : Me S View). rest_of z.0) k.0 ∙ others_gain me.0 (Missed p (n - 1)))
 
-  -- so do a release, a commit and the release behind it, and a commit alone
+  -- and where it was in vain, another thread held the part
+  pub tried_holder : (p slots n : ℕ) (me me' : Me S View) → attempted content suits m t (step slots p 0 (t + 1) none) me n me' → n ≢ 0 → HasHolder m t me.0 p (n - 1)
+  tried_holder p slots n me me' outcome not =
+      let Won : Type 0 = (y : S) × suits m.k p y × (me' ≡ (gain me.0 (Acquired p (content y)), (p, y) ∷ me.1)) in
+      let Lost : Type 0 = (me' ≡ (gain me.0 (Missed p (n - 1)), me.1)) × (n ≤ m.threads) × HasHolder m t me.0 p (n - 1) in
+      let k : Lost = where_not_zero Won Lost n not outcome.0 in k.2
+
+  -- a release, a commit and the release behind it, and a commit alone leave the lists behind the first too
   pub released_others : (p : ℕ) (me me' : Me S View) → me' ≡ (gain me.0 (Released p), rest me.1) → rest_of me'.0 ≡ rest_of me.0
   released_others p me me' is = ap (λ (z : Me S View). rest_of z.0) is ∙ others_gain me.0 (Released p)
 

@@ -1,6 +1,6 @@
 use Rattle.std.proofs.Common.{refl, ap, ◌∙◌}
 use Rattle.klsm_world.specs.OwnSteps.{found_in}
-use Rattle.klsm_board.proofs.lemmas.table.SeatLemmas.{tried, tried_others}
+use Rattle.klsm_board.proofs.lemmas.table.SeatLemmas.{tried, tried_holder, tried_others}
 use Rattle.klsm_board.proofs.steps.acquire_part.Goals as goal
 
 pub acquire-requires-clause-outcome : goal.acquire-requires-clause-outcome
@@ -17,3 +17,6 @@ returns-clause-outcome g c = λ hand has. tried g.S.Holding.content g.S.Holding.
 
 pub returns-clause-others : goal.returns-clause-others
 returns-clause-others g c = tried_others g.S.Holding.content g.S.Holding.suits c.args.table.now.key c.args.thread c.args.part c.args.table.now.table_id.slots c.acquire.result c.args.seat.now.me c.acquire.new.seat.me c.acquire.ensures.outcome
+
+pub returns-clause-holder : goal.returns-clause-holder
+returns-clause-holder g c = tried_holder g.S.Holding.content g.S.Holding.suits c.args.table.now.key c.args.thread c.args.part c.args.table.now.table_id.slots c.acquire.result c.args.seat.now.me c.acquire.new.seat.me c.acquire.ensures.outcome

@@ -2,12 +2,16 @@ use Rattle.std.proofs.Common.{◌≡◌, ◌+◌, ◌∙◌, [], length, sym, su
 use Rattle.std.specs.Option.{option_to_list}
 use Rattle.klsm_world.specs.OwnSteps.{inserted, deleted}
 use Rattle.klsm_parts.proofs.FitLemmas.{local_fits, shared_fits}
-use Rattle.klsm_board.specs.Steps.{mine}
+use Rattle.klsm_board.specs.Deleting.{MissesDeletion}
+use Rattle.klsm_board.specs.Effects.{MeetsHolder}
+use Rattle.klsm_board.specs.Steps.{mine, rest_of}
+use Rattle.klsm_board.specs.declared.errors.Busy.{Busy}
+use Rattle.klsm_board.specs.declared.sizes.Sizes.{Sizes}
 use Rattle.klsm_board.specs.Seats.{Has}
 use Rattle.klsm_board.specs.Slots.{slot_content, IsSlotOf}
 use Rattle.klsm_board.proofs.lemmas.seats.RestLemmas.{rests_after}
 use Rattle.klsm_board.specs.Boards.{Gains}
-use Rattle.klsm_board.proofs.lemmas.calls.AddedLemmas.{gained_counts}
+use Rattle.klsm_board.proofs.lemmas.calls.AddedLemmas.{gained_counts, passed_on}
 use Rattle.klsm_board.proofs.lemmas.calls.DeletedLemmas.{answers_gain, some_is_one, none_is_zero, misses_gain}
 use Rattle.klsm_board.proofs.board.Member.try_delete_min.Goals as goal
 
@@ -58,6 +62,23 @@ invariant_of-self g c =
     let counts = gained_counts es es' [] [] me.inserted me.deleted gains rests.insertions_are rests.deletions_are in
     let first : length (inserted es') ≡ me.inserted = omega (arith, counts.0) in let second : length (deleted es') ≡ me.deleted = omega (arith, counts.1) in
     record { rests = rests_after g.row.CAP me.sizes me.in_range t me.inserted me.deleted did.new.seat.me (subst (λ m. Has slot_content IsSlotOf m t [] did.new.seat.me) same c.in_err-answer.ensures.has) first second; in_range = me.in_range; capacity = me.capacity; levels = me.levels }
+
+pub returns-in_err-answer-clause-busy : goal.returns-in_err-answer-clause-busy
+returns-in_err-answer-clause-busy g c =
+    let me = c.args.self.now in let t = me.number in let es = mine me.seat.me.0 in let es' = mine c.delete_now.new.seat.me.0 in
+    let told = c.in_err-answer.ensures.busy in let busy = c.in_err-answer.field-0.0 in let same = c.args.board.now.key ∙ sym c.requires.1 in
+    let gains = misses_gain _ t es es' _ told.1 in
+    passed_on c.from_residual.result _ _ c.from_residual.ensures.1 (λ why is. (
+      record { inserted_are = gains.inserted_are; deleted_are = gains.deleted_are },
+      told.0,
+      subst (λ (z : Sizes × Busy). MissesDeletion z.0 t es es' z.1) (λ i. (same i, sym is i)) told.1,
+    ))
+
+pub returns-in_err-answer-clause-holder : goal.returns-in_err-answer-clause-holder
+returns-in_err-answer-clause-holder g c =
+    let me = c.args.self.now in let es' = mine c.delete_now.new.seat.me.0 in let same = c.args.board.now.key ∙ sym c.requires.1 in
+    passed_on c.from_residual.result _ _ c.from_residual.ensures.1 (λ why is.
+    subst (λ (z : Sizes × Busy). MeetsHolder z.0 me.number (rest_of me.seat.me.0) es' z.1) (λ i. (same i, sym is i)) c.in_err-answer.ensures.holder)
 
 pub delete_now-requires-room-S-PartSlot : goal.delete_now-requires-room-S-PartSlot
 delete_now-requires-room-S-PartSlot g c κs within = local_fits _ c.args.self.now.capacity

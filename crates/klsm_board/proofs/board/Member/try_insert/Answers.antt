@@ -8,12 +8,14 @@ use Rattle.klsm_parts.proofs.FitLemmas.{local_fits, shared_fits}
 use Rattle.klsm_board.specs.declared.errors.TryInsertError.{TryInsertError}
 use Rattle.klsm_board.specs.declared.sizes.Sizes.{Sizes}
 use Rattle.klsm_board.specs.Rule.{IsSized}
-use Rattle.klsm_board.specs.Steps.{mine}
+use Rattle.klsm_board.specs.Steps.{mine, rest_of}
+use Rattle.klsm_board.specs.Effects.{MeetsHolder}
 use Rattle.klsm_board.specs.Inserting.{Inserts, RefusesInsert, stamped}
 use Rattle.klsm_board.specs.Seats.{Has, Stands}
 use Rattle.klsm_board.specs.Slots.{slot_content, IsSlotOf}
 use Rattle.klsm_board.proofs.lemmas.seats.RestLemmas.{stands_at_rest, rests_after}
-use Rattle.klsm_board.proofs.lemmas.calls.AddedLemmas.{inserts_gain, refused_gains, gained_counts, began, passed_on, no_error}
+use Rattle.klsm_board.proofs.lemmas.calls.AddedLemmas.{inserts_gain, refused_gains, gained_counts, began, passed_on, of_error}
+use Rattle.klsm_board.proofs.lemmas.calls.WaitLemmas.{busy_not_spent}
 use Rattle.klsm_board.proofs.board.Member.try_insert.Goals as goal
 
 pub invariant_of-self : goal.invariant_of-self
@@ -148,6 +150,19 @@ pub returns-in_err-insert_now-clause-spent : goal.returns-in_err-insert_now-clau
 returns-in_err-insert_now-clause-spent g c =
     let me = c.args.self.now in let es = mine me.seat.me.0 in let es' = mine c.insert_now.new.seat.me.0 in
     let refused = c.in_err-insert_now.ensures.refused in (
-      λ spent. absurd (no_error c.from_residual.result _ _ c.from_residual.ensures.1 spent (λ why is no. (subst (λ (e : TryInsertError). RefusesInsert ⊥ g.row.LEVELS c.args.board.now.table.shared.key.k me.number es es' e) (sym is ∙ no) refused).0)),
+      λ spent. absurd (of_error c.from_residual.result _ _ c.from_residual.ensures.1 spent (λ why is no. (subst (λ (e : TryInsertError). RefusesInsert ⊥ g.row.LEVELS c.args.board.now.table.shared.key.k me.number es es' e) (sym is ∙ no) refused).0)),
       λ full. absurd (c.if-self.false (sym me.rests.insertions_are ∙ full)),
     )
+
+pub returns-then-self-clause-holder : goal.returns-then-self-clause-holder
+returns-then-self-clause-holder g c busy is = absurd (busy_not_spent busy (sym is))
+
+pub returns-in_err-insert_now-clause-holder : goal.returns-in_err-insert_now-clause-holder
+returns-in_err-insert_now-clause-holder g c busy is =
+    let me = c.args.self.now in
+    of_error c.from_residual.result _ _ c.from_residual.ensures.1 is (λ why same named.
+    subst (λ (m : Sizes). MeetsHolder m me.number (rest_of me.seat.me.0) (mine c.insert_now.new.seat.me.0) busy) (c.args.board.now.key ∙ sym c.requires.1)
+    (c.in_err-insert_now.ensures.holder busy (sym same ∙ named)))
+
+pub returns-clause-holder : goal.returns-clause-holder
+returns-clause-holder g c busy is = absurd is
