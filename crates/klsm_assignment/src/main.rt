@@ -8,6 +8,7 @@ mod worker;
 use klsm_board::Board;
 use std::alloc::Global;
 use std::sync::Wait;
+use std::time::Clock;
 use std::sync::atomic::{AtomicU64, Ordering};
 use std::thread::Threads;
 use std::{io, thread};
@@ -24,7 +25,7 @@ fn main(rt: HostRuntime) -> io::Result<()> {
 }
 
 /// The least cost, as so many threads find it. `None` where the board had no room for a node.
-fn least_cost<R: Threads + Wait + Sync>(
+fn least_cost<R: Threads + Wait + Clock + Sync>(
     rt: &R,
     alloc: Global,
     threads: usize,

@@ -7,6 +7,7 @@ use klsm_board::{InsertError, StandardBoard, StandardMember};
 use klsm_parts::First;
 use std::alloc::{AllocError, Global};
 use std::sync::Wait;
+use std::time::Clock;
 use std::sync::atomic::{AtomicBool, AtomicU64, Ordering};
 
 /// What all threads of a search share beside the board.
@@ -53,7 +54,7 @@ pub(crate) struct Worker<'a, R> {
     ghost of: { IsOf member board.now },
 }
 
-impl<R: Wait> Worker<'_, R> {
+impl<R: Wait + Clock> Worker<'_, R> {
     /// Inserts the root.
     pub(crate) fn begin(&mut self) {
         if self.open(Node::root()).is_err() {
@@ -102,7 +103,7 @@ impl<R: Wait> Worker<'_, R> {
 }
 
 /// A worker for each of these members.
-pub(crate) fn workers_on<'a, R: Wait>(
+pub(crate) fn workers_on<'a, R: Wait + Clock>(
     rt: &'a R,
     alloc: Global,
     board: &'a StandardBoard,

@@ -20,6 +20,7 @@ use crate::steps::see_front;
 use klsm_parts::Picker;
 use klsm_run::{Item, Stamp};
 use std::sync::Wait;
+use std::time::Clock;
 
 impl<const CAP: usize, const LEVELS: usize> Member<CAP, LEVELS> {
     /// The member's number.
@@ -132,7 +133,7 @@ impl<const CAP: usize, const LEVELS: usize> Member<CAP, LEVELS> {
     /// away, longer each time, and then lets other threads run.
     pub fn insert(
         &mut self,
-        rt: &impl Wait,
+        rt: &(impl Wait + Clock),
         board: &Board<CAP, LEVELS>,
         key: u64,
         load: u64,
@@ -210,7 +211,7 @@ impl<const CAP: usize, const LEVELS: usize> Member<CAP, LEVELS> {
     /// that is held, and it waits between two tries as `insert` does.
     pub fn delete_min<P: Picker>(
         &mut self,
-        rt: &impl Wait,
+        rt: &(impl Wait + Clock),
         board: &Board<CAP, LEVELS>,
         picker: &mut P,
     ) -> Option<Item>

@@ -20,6 +20,7 @@ use std::alloc::{AllocError, Global};
 use std::sync::Wait;
 use std::thread;
 use std::thread::Threads;
+use std::time::Clock;
 
 /// A worker for each member, with a seat of its own at the incumbent, and picks of its own.
 pub(crate) fn make_workers<const LEVELS: usize>(
@@ -57,7 +58,7 @@ pub(crate) fn make_workers<const LEVELS: usize>(
 }
 
 /// Lets the first worker insert the root, and then all workers run, each in a thread of its own.
-pub(crate) fn search<R: Threads + Wait + Sync, G: Gate, P: Progress, const LEVELS: usize>(
+pub(crate) fn search<R: Threads + Wait + Clock + Sync, G: Gate, P: Progress, const LEVELS: usize>(
     rt: &R,
     state: &SearchState<LEVELS>,
     instance: &Instance,
@@ -80,7 +81,7 @@ pub(crate) fn search<R: Threads + Wait + Sync, G: Gate, P: Progress, const LEVEL
 }
 
 // Runs each worker in a thread of its own, which are started by halves, and waits for all.
-fn run_all<R: Threads + Wait + Sync, G: Gate, P: Progress, const LEVELS: usize>(
+fn run_all<R: Threads + Wait + Clock + Sync, G: Gate, P: Progress, const LEVELS: usize>(
     rt: &R,
     state: &SearchState<LEVELS>,
     instance: &Instance,

@@ -17,6 +17,7 @@ use klsm_progress::{Progress, Silent};
 use std::alloc::Global;
 use std::sync::Wait;
 use std::thread::Threads;
+use std::time::Clock;
 
 /// How many nodes a deletion of a shared one moves to its worker's own at most, where the caller does not
 /// say.
@@ -29,7 +30,7 @@ pub(crate) const REFILL: usize = 16;
 /// Where several selections are best, any of them may be the answer. Where workers are refused, the
 /// answer is the refusal of the least numbered one of them.
 pub fn solve<const LEVELS: usize>(
-    rt: &(impl Threads + Wait + Sync),
+    rt: &(impl Threads + Wait + Clock + Sync),
     alloc: Global,
     instance: &Instance,
     threads: usize,
@@ -55,7 +56,7 @@ pub fn solve<const LEVELS: usize>(
 
 /// The same, and tells of a long search while it lasts.
 pub fn solve_with_progress<G: Gate, P: Progress, const LEVELS: usize>(
-    rt: &(impl Threads + Wait + Sync),
+    rt: &(impl Threads + Wait + Clock + Sync),
     alloc: Global,
     instance: &Instance,
     threads: usize,
@@ -79,7 +80,7 @@ pub fn solve_with_progress<G: Gate, P: Progress, const LEVELS: usize>(
 /// The same, where a deletion of a shared node moves at most `refill` more of them to its worker's own,
 /// which is at most k. The answer is a best selection for every `refill`.
 pub fn solve_with_refill<G: Gate, P: Progress, const LEVELS: usize>(
-    rt: &(impl Threads + Wait + Sync),
+    rt: &(impl Threads + Wait + Clock + Sync),
     alloc: Global,
     instance: &Instance,
     threads: usize,
@@ -106,7 +107,7 @@ pub fn solve_with_refill<G: Gate, P: Progress, const LEVELS: usize>(
 
 /// The same, where workers do this with a node that finds no room.
 pub(crate) fn solve_on_board<G: Gate, P: Progress, const LEVELS: usize>(
-    rt: &(impl Threads + Wait + Sync),
+    rt: &(impl Threads + Wait + Clock + Sync),
     alloc: Global,
     instance: &Instance,
     threads: usize,

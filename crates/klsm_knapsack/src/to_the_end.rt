@@ -12,6 +12,7 @@ use klsm_progress::Progress;
 use std::alloc::Global;
 use std::sync::Wait;
 use std::thread::Threads;
+use std::time::Clock;
 
 /// A best selection, also where the board has no room for all open nodes.
 ///
@@ -19,7 +20,7 @@ use std::thread::Threads;
 /// insert it then searches the node depth first, without memory, and so it does with each node that it
 /// takes from the board from then on. What it finds raises the incumbent at once.
 pub fn solve_to_the_end<G: Gate, P: Progress, const LEVELS: usize>(
-    rt: &(impl Threads + Wait + Sync),
+    rt: &(impl Threads + Wait + Clock + Sync),
     alloc: Global,
     instance: &Instance,
     threads: usize,
@@ -44,7 +45,7 @@ pub fn solve_to_the_end<G: Gate, P: Progress, const LEVELS: usize>(
 /// The same, where a deletion of a shared node moves at most `refill` more of them to its worker's own,
 /// which is at most k. The answer is a best selection for every `refill`.
 pub fn solve_to_the_end_with_refill<G: Gate, P: Progress, const LEVELS: usize>(
-    rt: &(impl Threads + Wait + Sync),
+    rt: &(impl Threads + Wait + Clock + Sync),
     alloc: Global,
     instance: &Instance,
     threads: usize,

@@ -19,12 +19,13 @@ use klsm_board::{Gate, InsertError};
 use klsm_instance::{Instance, Node};
 use klsm_progress::Progress;
 use std::sync::Wait;
+use std::time::Clock;
 
 impl<const LEVELS: usize> Worker<LEVELS> {
     /// Inserts the root, as the first of all, and answers whether it was not refused.
     pub(crate) fn begin(
         &mut self,
-        rt: &impl Wait,
+        rt: &(impl Wait + Clock),
         state: &SearchState<LEVELS>,
         instance: &Instance,
     ) -> bool
@@ -51,7 +52,7 @@ impl<const LEVELS: usize> Worker<LEVELS> {
     /// Passes the gate, and works until it is idle or refused.
     pub(crate) fn run<G: Gate, P: Progress>(
         &mut self,
-        rt: &impl Wait,
+        rt: &(impl Wait + Clock),
         state: &SearchState<LEVELS>,
         instance: &Instance,
         idle: u32,
@@ -71,7 +72,7 @@ impl<const LEVELS: usize> Worker<LEVELS> {
     // no two insertions left.
     fn work(
         &mut self,
-        rt: &impl Wait,
+        rt: &(impl Wait + Clock),
         state: &SearchState<LEVELS>,
         instance: &Instance,
         idle: u32,
@@ -114,7 +115,7 @@ impl<const LEVELS: usize> Worker<LEVELS> {
     // Takes one node, where there is one.
     fn turn(
         &mut self,
-        rt: &impl Wait,
+        rt: &(impl Wait + Clock),
         state: &SearchState<LEVELS>,
         instance: &Instance,
         progress: &impl Progress,
@@ -145,7 +146,7 @@ impl<const LEVELS: usize> Worker<LEVELS> {
     // Closes the node that a load stands for, or splits it. A load that stands for none is let go.
     fn examine(
         &mut self,
-        rt: &impl Wait,
+        rt: &(impl Wait + Clock),
         state: &SearchState<LEVELS>,
         instance: &Instance,
         load: u64,
@@ -192,7 +193,7 @@ impl<const LEVELS: usize> Worker<LEVELS> {
     // is searched here; and so is each later one, since the board is then emptied and not filled again.
     fn expand(
         &mut self,
-        rt: &impl Wait,
+        rt: &(impl Wait + Clock),
         state: &SearchState<LEVELS>,
         instance: &Instance,
         node: Node,
@@ -245,7 +246,7 @@ impl<const LEVELS: usize> Worker<LEVELS> {
     // Inserts the children of a node.
     fn split(
         &mut self,
-        rt: &impl Wait,
+        rt: &(impl Wait + Clock),
         state: &SearchState<LEVELS>,
         instance: &Instance,
         node: &Node,
@@ -277,7 +278,7 @@ impl<const LEVELS: usize> Worker<LEVELS> {
     /// Inserts a node.
     pub(crate) fn insert(
         &mut self,
-        rt: &impl Wait,
+        rt: &(impl Wait + Clock),
         state: &SearchState<LEVELS>,
         instance: &Instance,
         node: &Node,
