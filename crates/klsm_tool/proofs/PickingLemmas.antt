@@ -46,7 +46,7 @@ module _ (may_pick : ThreadPicker → ℕ → ℕ → ThreadPicker → Type 0) (
       by_test true asked = let picked = chooses.asked asked in keeps before after _ picked.index picked.picked
       by_test false asked = ap (λ (p : ThreadPicker). p.thread) (chooses.unasked asked).0
 
-  same_by : (m : Sizes) (t : ℕ) (es es' : List Entry) (answer : Option Item) → AnswersDeletion may_pick before after m t es es' answer → after.thread ≡ before.thread
+  pub same_by : (m : Sizes) (t : ℕ) (es es' : List Entry) (answer : Option Item) → AnswersDeletion may_pick before after m t es es' answer → after.thread ≡ before.thread
   same_by m t es es' answer (own, inl early) = ap (λ (p : ThreadPicker). p.thread) early.1
   same_by m t es es' None (own, inr both) = ap (λ (p : ThreadPicker). p.thread) both.2.1
   same_by m t es es' (Some x) (own, inr (shared, past, inl takes)) = by_choice m.k t own shared x takes.1

@@ -10,12 +10,13 @@ use Rattle.klsm_world.specs.declared.step.Entry.{Entry}
 use Rattle.klsm_world.specs.OwnSteps.{inserted, inserted_by}
 use Rattle.klsm_board.specs.declared.sizes.Sizes.{Sizes}
 use Rattle.klsm_board.specs.declared.errors.InsertError.{InsertError}
+use Rattle.klsm_board.specs.declared.errors.TryInsertError.{TryInsertError}
 use Rattle.klsm_board.specs.Entries.{own_acquired, both_acquired}
-use Rattle.klsm_board.specs.Inserting.{Inserts, InsertsWaiting, RefusesInsertWaiting, Waits}
+use Rattle.klsm_board.specs.Inserting.{Inserts, InsertsWaiting, RefusesInsert, RefusesInsertWaiting, Waits}
 use Rattle.klsm_board.specs.Deleting.{Deletes, FindsNothing, AnswersDeletion, AnswersWaiting, victim_of, refilled}
 use Rattle.klsm_board.specs.Effects.{committed_in}
 use Rattle.klsm_board.proofs.lemmas.calls.AddLemmas.{own_quiet, both_quiet}
-use Rattle.klsm_board.proofs.lemmas.calls.AddedLemmas.{puts_events, flushes_events, refused_waiting_events}
+use Rattle.klsm_board.proofs.lemmas.calls.AddedLemmas.{puts_events, flushes_events, refused_events, refused_waiting_events}
 use Rattle.klsm_board.proofs.lemmas.calls.DeletedLemmas.{takes_events, early_events, spied_events, nothing_events}
 use Rattle.klsm_board.proofs.lemmas.calls.MissLemmas.{waits_quiet}
 use Rattle.klsm_board.proofs.lemmas.calls.RefillLemmas.{is_refilled}
@@ -52,7 +53,7 @@ after_waits : (t : ℕ) (Found : List Item → List Entry → Type 0) (es now : 
 after_waits t Found es now more waits = ap (λ z. flat_map shown z ++ more) (waits_quiet t Found es now waits)
 
 -- an insertion shows its item
-one_shows : (levels k t : ℕ) (es es' : List Entry) (x : Item) → Inserts levels k t es es' x
+pub one_shows : (levels k t : ℕ) (es es' : List Entry) (x : Item) → Inserts levels k t es es' x
     → shown_in es' ≡ shown_in es ++ Inserted x ∷ []
 one_shows levels k t es es' x (inl puts) = shows_more es es' (event.Put x ∷ []) (puts_events k t es es' x puts)
 one_shows levels k t es es' x (inr flushes) =
@@ -62,6 +63,9 @@ pub insertion_shows : (levels k t : ℕ) (es es' : List Entry) (x : Item) → In
 insertion_shows levels k t es es' x told = one_shows levels k t told.0 es' x told.2 ∙ after_waits t _ es told.0 (Inserted x ∷ []) told.1
 
 -- one that is refused shows nothing
+pub refused_shows : (levels k t : ℕ) (es es' : List Entry) (why : TryInsertError) → RefusesInsert ⊥ levels k t es es' why → shown_in es' ≡ shown_in es
+refused_shows levels k t es es' why told = ap (flat_map shown) (refused_events levels k t es es' why told)
+
 pub refusal_shows : (levels k t : ℕ) (es es' : List Entry) (why : InsertError) → RefusesInsertWaiting ⊥ levels k t es es' why → shown_in es' ≡ shown_in es
 refusal_shows levels k t es es' why told = ap (flat_map shown) (refused_waiting_events levels k t es es' why told)
 
@@ -93,11 +97,11 @@ module _ (m : Sizes) (t : ℕ) (own shared : List Item) (es es' : List Entry) wh
 
 -- what a deletion answered is what it shows
 module _ {P : Type 0} (may_pick : P → ℕ → ℕ → P → Type 0) (before after : P) (m : Sizes) (t : ℕ) where
-  one_item : (es es' : List Entry) (x : Item) → AnswersDeletion may_pick before after m t es es' (Some x) → shown_in es' ≡ shown_in es ++ Deleted x ∷ []
+  pub one_item : (es es' : List Entry) (x : Item) → AnswersDeletion may_pick before after m t es es' (Some x) → shown_in es' ≡ shown_in es ++ Deleted x ∷ []
   one_item es es' x (own, inl early) = shows_more es es' (event.Early x early.0.front ∷ []) (early_events m t own es (own_acquired t own es) es' x (own_quiet t own es) early.0)
   one_item es es' x (own, inr both) = deletion_shows m t own both.0 es es' may_pick before after x both.2
 
-  one_none : (es es' : List Entry) → AnswersDeletion may_pick before after m t es es' None → shown_in es' ≡ shown_in es ++ Nothing ∷ []
+  pub one_none : (es es' : List Entry) → AnswersDeletion may_pick before after m t es es' None → shown_in es' ≡ shown_in es ++ Nothing ∷ []
   one_none es es' (own, inl early) = absurd early.0
   one_none es es' (own, inr both) = nothing_shows m t own both.0 es es' both.2.0
 

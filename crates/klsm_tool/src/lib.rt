@@ -41,6 +41,7 @@
 //!   one thread or k is 0: all calls are made in one thread, so the members' lists are at all times those
 //!   of one schedule. And the shared part always has room for one item more: `Replays` too, by `shown`,
 //!   `greatest` and `stopped`.
+//! - **A replay waits for no lock, and returns**: one thread makes the calls of all members, so none is held.
 //! - **The totals of rows that threads run are those of some schedule**, which answers each thread's
 //!   rows in their order, and the shared part has room for all of them: `Lives`, the clause of `live_over`
 //!   and `live_with_progress`.

@@ -68,7 +68,6 @@ pub(crate) fn delete<const CAP: usize, const LEVELS: usize>(
 
 /// An insertion by the member of this number, of all that have inserted fewer items than a script can have rows.
 pub(crate) fn insert_by(
-    rt: &impl Wait,
     board: &StandardBoard,
     all: &mut AllStandardMembers,
     thread: u32,
@@ -86,7 +85,7 @@ pub(crate) fn insert_by(
     ensures refused { IfErr result (λ why. (why ≡ stop.NoMemory)
         × Goes thread (all_lists all.old) (all_lists all.new) []) }
 {
-    match all.insert(rt, board, thread, key, load) {
+    match all.insert(board, thread, key, load) {
         Ok(stamp) => Ok(Item { key, stamp, load }),
         Err(InsertError::Spent) => unreachable!(),
         // The shared part has room for more items than a script has rows.
@@ -97,7 +96,6 @@ pub(crate) fn insert_by(
 
 /// A deletion by the member of this number, and by its thread's picker.
 pub(crate) fn delete_by(
-    rt: &impl Wait,
     board: &StandardBoard,
     all: &mut AllStandardMembers,
     thread: u32,
@@ -113,7 +111,7 @@ pub(crate) fn delete_by(
     ensures few { IsFew board.now.sizes.threads board.now.sizes.k
         (skip_of (left_of all.old) result) }
 {
-    match all.delete_min(rt, board, thread, picker) {
+    match all.delete_min(board, thread, picker) {
         Some(item) => Answer::Deleted(item),
         None => Answer::Nothing,
     }

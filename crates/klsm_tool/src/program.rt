@@ -84,7 +84,7 @@ fn run_with_progress<R: Read + Drop, W: Write>(
 }
 
 fn run_replay<R: Read + Drop, W: Write>(
-    rt: &(impl AllocGlobal + Wait),
+    rt: &impl AllocGlobal,
     reader: R,
     writer: &mut W,
     settings: &Settings,

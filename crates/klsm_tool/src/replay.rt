@@ -35,10 +35,10 @@ use klsm_words::Settings;
 use std::alloc::{AllocError, Global};
 use std::io::{Read, Write};
 use std::mem;
-use std::sync::Wait;
 
-/// Answers the rows of a script over a board of its own, which is finished where all are answered.
-pub fn replay_over<P: AllocGlobal + Wait, R: Read + Drop, W: Write>(
+/// Answers the rows of a script over a board of its own, which is finished where all are answered. It waits
+/// for no lock.
+pub fn replay_over<P: AllocGlobal, R: Read + Drop, W: Write>(
     rt: &P,
     reader: R,
     writer: &mut W,
@@ -55,7 +55,7 @@ pub fn replay_over<P: AllocGlobal + Wait, R: Read + Drop, W: Write>(
 }
 
 /// The same, and tells of a long run while it lasts.
-pub fn replay_with_progress<P: AllocGlobal + Wait, R: Read + Drop, W: Write>(
+pub fn replay_with_progress<P: AllocGlobal, R: Read + Drop, W: Write>(
     rt: &P,
     reader: R,
     writer: &mut W,
@@ -100,7 +100,7 @@ pub fn replay_with_progress<P: AllocGlobal + Wait, R: Read + Drop, W: Write>(
 /// Answers the rows of a script in their order, each by the member of its thread, and each before
 /// the next one is looked at. The lines go out many at a time, and all of them before a further row
 /// is waited for.
-pub fn replay_on<P: AllocGlobal + Wait, R: Read + Drop, W: Write>(
+pub fn replay_on<P: AllocGlobal, R: Read + Drop, W: Write>(
     rt: &P,
     reader: R,
     writer: &mut W,
@@ -128,7 +128,7 @@ pub fn replay_on<P: AllocGlobal + Wait, R: Read + Drop, W: Write>(
 /// The same over a script of the caller's, of which no row was read yet; and it tells of a long run
 /// while it lasts. A read fault is answered only where the reader of that has failed. Behind a row that
 /// is refused none is read.
-pub fn replay_script<P: AllocGlobal + Wait, R: Read + Drop, W: Write>(
+pub fn replay_script<P: AllocGlobal, R: Read + Drop, W: Write>(
     rt: &P,
     script: &mut Script<R>,
     writer: &mut W,
@@ -155,7 +155,7 @@ pub fn replay_script<P: AllocGlobal + Wait, R: Read + Drop, W: Write>(
         return write_last(writer, NO_MEMORY, 0, End::NoMemory);
     };
     progress.begins(None);
-    let closing = replay.answer_rows(rt, script, writer, board, all, settings, progress);
+    let closing = replay.answer_rows(script, writer, board, all, settings, progress);
     progress.ended();
     let report = replay.output.close(writer, closing);
     advise_on_row(progress, &closing, &script.row);
@@ -188,7 +188,6 @@ impl Replay {
     // Answers rows until there is a reason to stop, and says what the last line is.
     fn answer_rows<R: Read + Drop, W: Write>(
         &mut self,
-        rt: &impl Wait,
         script: &mut Script<R>,
         writer: &mut W,
         board: &StandardBoard,
@@ -222,7 +221,7 @@ impl Replay {
         let bound = settings.threads * settings.k;
         let mut pace = Pace::new(Counted::RowsAnswered);
         for answered in 0..ROW_LIMIT {
-            if let Err(stop) = self.answer_row(rt, script, writer, board, all) {
+            if let Err(stop) = self.answer_row(script, writer, board, all) {
                 return Closing {
                     stop,
                     row: answered + 1,
@@ -243,7 +242,6 @@ impl Replay {
     // Answers one row, or says why not.
     fn answer_row<R: Read + Drop, W: Write>(
         &mut self,
-        rt: &impl Wait,
         script: &mut Script<R>,
         writer: &mut W,
         board: &StandardBoard,
@@ -278,7 +276,7 @@ impl Replay {
             → IfErr result (StandsAtRefusal R.remaining board.now.sizes.threads input script.new) }
     {
         send_before_wait(script, &mut self.output, writer)?;
-        let line = next_line(rt, script, &self.output, &mut self.state, board, all)?;
+        let line = next_line(script, &self.output, &mut self.state, board, all)?;
         self.output.put(writer, line.text().as_bytes())
     }
 }
@@ -309,7 +307,6 @@ fn send_before_wait<R: Read + Drop, W: Write>(
 
 // The answer to the next row, or why there is none.
 fn next_line<R: Read + Drop>(
-    rt: &impl Wait,
     script: &mut Script<R>,
     output: &Output,
     state: &mut ReplayState,
@@ -343,7 +340,7 @@ fn next_line<R: Read + Drop>(
 {
     script.advance(output)?;
     match request_of(&script.row, board.threads()) {
-        Ok(request) => state.answer(rt, board, all, request),
+        Ok(request) => state.answer(board, all, request),
         Err(why) => Err(Stop::Refused(why)),
     }
 }

@@ -9,7 +9,6 @@ use klsm_run::Item;
 use klsm_text::{Answer, Line, Operation, Printed, Request, Stop};
 use klsm_words::Settings;
 use std::alloc::{AllocError, Global};
-use std::sync::Wait;
 
 /// The picker of each thread, at the thread's place, the live items, and the greatest skip so far.
 #[derive(Drop)]
@@ -51,7 +50,6 @@ impl ReplayState {
     /// Lets the member of a row's thread do what the row asks for.
     pub(crate) fn answer(
         &mut self,
-        rt: &impl Wait,
         board: &StandardBoard,
         all: &mut AllStandardMembers,
         request: Request,
@@ -73,7 +71,7 @@ impl ReplayState {
         let Request { thread, operation } = request;
         match operation {
             Operation::Insert { key, load } => {
-                let item = self.insert(rt, board, all, thread, key, load)?;
+                let item = self.insert(board, all, thread, key, load)?;
                 let answer = Answer::Inserted(item);
                 Ok(Printed {
                     line: Line { thread, answer },
@@ -82,7 +80,7 @@ impl ReplayState {
             }
             Operation::Delete => {
                 let picker = &mut self.pickers[thread as usize];
-                let answer = delete_by(rt, board, all, thread, picker);
+                let answer = delete_by(board, all, thread, picker);
                 let skip = self.count_skip(answer);
                 Ok(Printed {
                     line: Line { thread, answer },
@@ -94,7 +92,6 @@ impl ReplayState {
 
     fn insert(
         &mut self,
-        rt: &impl Wait,
         board: &StandardBoard,
         all: &mut AllStandardMembers,
         thread: u32,
@@ -119,7 +116,7 @@ impl ReplayState {
         if self.live.reserve().is_err() {
             return Err(Stop::NoMemory);
         }
-        let item = insert_by(rt, board, all, thread, key, load)?;
+        let item = insert_by(board, all, thread, key, load)?;
         self.live.insert(item);
         Ok(item)
     }

@@ -6,35 +6,35 @@ use Rattle.klsm_text.specs.declared.answer.Answer.TheVariants.{Deleted, Nothing}
 use Rattle.klsm_tool.specs.Picking.{may_pick_for}
 use Rattle.klsm_tool.specs.Shown.{IsFew}
 use Rattle.klsm_tool.proofs.AllLemmas.{all_go, few_answered}
-use Rattle.klsm_tool.proofs.PickingLemmas.{same_thread}
-use Rattle.klsm_tool.proofs.ShownLemmas.{item_shows, none_shows}
+use Rattle.klsm_tool.proofs.PickingLemmas.{same_by}
+use Rattle.klsm_tool.proofs.ShownLemmas.{one_item, one_none}
 use Rattle.klsm_tool.proofs.member_calls.delete_by.Goals as goal
 
 pub returns-in-Some-clause-goes : goal.returns-in-Some-clause-goes
-returns-in-Some-clause-goes g c =
+returns-in-Some-clause-goes c =
     let all = c.args.all.now in let after = c.delete_min.new.self in let t = c.args.thread in let told = c.in-Some.ensures in let ok = told.ok in
     let threads = ap (λ (z : Sizes). z.threads) c.requires.of.1 in
     all_go all after t told.same (omega (arith, c.requires.thread, threads)) (Deleted c.in-Some.item ∷ [])
-    (item_shows may_pick_for c.args.picker.now c.delete_min.new.picker all.acting.sizes t (steps_for all t) (steps_for after t) c.in-Some.item ok) told.left (omega (arith, told.counts))
+    (one_item may_pick_for c.args.picker.now c.delete_min.new.picker all.acting.sizes t (steps_for all t) (steps_for after t) c.in-Some.item ok) told.left (omega (arith, told.counts))
 
 pub returns-in-None-clause-goes : goal.returns-in-None-clause-goes
-returns-in-None-clause-goes g c =
+returns-in-None-clause-goes c =
     let all = c.args.all.now in let after = c.delete_min.new.self in let t = c.args.thread in let told = c.in-None.ensures in let ok = told.ok in
     let threads = ap (λ (z : Sizes). z.threads) c.requires.of.1 in
     all_go all after t told.same (omega (arith, c.requires.thread, threads)) (Nothing ∷ [])
-    (none_shows may_pick_for c.args.picker.now c.delete_min.new.picker all.acting.sizes t (steps_for all t) (steps_for after t) ok) told.left (omega (arith, told.counts))
+    (one_none may_pick_for c.args.picker.now c.delete_min.new.picker all.acting.sizes t (steps_for all t) (steps_for after t) ok) told.left (omega (arith, told.counts))
 
 pub returns-in-Some-clause-few : goal.returns-in-Some-clause-few
-returns-in-Some-clause-few g c =
+returns-in-Some-clause-few c =
     let all = c.args.all.now in
     subst (λ (z : Sizes). IsFew z.threads z.k (skipped (left_of all) c.in-Some.item)) c.requires.of.1 (few_answered all.acting.sizes (all_lists all) _ c.in-Some.item c.in-Some.ensures.few)
 
 pub returns-in-Some-clause-picker : goal.returns-in-Some-clause-picker
-returns-in-Some-clause-picker g c =
+returns-in-Some-clause-picker c =
     let all = c.args.all.now in let t = c.args.thread in let ok = c.in-Some.ensures.ok in
-    same_thread may_pick_for (λ p q candidates index may. may.1) c.args.picker.now c.delete_min.new.picker all.acting.sizes t (steps_for all t) (steps_for c.delete_min.new.self t) (Some c.in-Some.item) ok
+    same_by may_pick_for (λ p q candidates index may. may.1) c.args.picker.now c.delete_min.new.picker all.acting.sizes t (steps_for all t) (steps_for c.delete_min.new.self t) (Some c.in-Some.item) ok
 
 pub returns-in-None-clause-picker : goal.returns-in-None-clause-picker
-returns-in-None-clause-picker g c =
+returns-in-None-clause-picker c =
     let all = c.args.all.now in let t = c.args.thread in let ok = c.in-None.ensures.ok in
-    same_thread may_pick_for (λ p q candidates index may. may.1) c.args.picker.now c.delete_min.new.picker all.acting.sizes t (steps_for all t) (steps_for c.delete_min.new.self t) None ok
+    same_by may_pick_for (λ p q candidates index may. may.1) c.args.picker.now c.delete_min.new.picker all.acting.sizes t (steps_for all t) (steps_for c.delete_min.new.self t) None ok

@@ -2,7 +2,7 @@ use Rattle.std.proofs.Common.{rules}
 use Rattle.klsm_tool.proofs.replay_state.ReplayState.answer.Goals as goal
 
 pub returns-in-Delete-clause-ok : goal.returns-in-Delete-clause-ok
-returns-in-Delete-clause-ok g c = search rules
+returns-in-Delete-clause-ok c = search rules
 
 pub delete_by-answer-requires : goal.delete_by-answer-requires
-delete_by-answer-requires g c = search rules
+delete_by-answer-requires c = search rules
