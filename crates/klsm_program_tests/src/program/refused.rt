@@ -5,7 +5,6 @@
 use super::replayed::{Counts, Run, run_on, run_over};
 use klsm_tool::{End, Pick, Report, Settings};
 use std::alloc::Global;
-use std::sync::Wait;
 
 const TWO_THREADS: Settings = Settings {
     threads: 2,
@@ -98,7 +97,7 @@ fn lacks_memory(run: &Run) -> bool {
 }
 
 // A run over a board of its own goes through, at the second try where a growth is refused.
-fn goes_through_over(rt: &(impl AllocGlobal + Wait)) -> Option<bool> {
+fn goes_through_over(rt: &impl AllocGlobal) -> Option<bool> {
     let run = run_over(rt, SCRIPT, &TWO_THREADS, room(rt.alloc())?)?;
     if run.is(ANSWERS, End::Done) {
         return Some(true);
@@ -129,7 +128,7 @@ fn are_told(text: &[u8], counts: &[Counts]) -> bool {
 }
 
 // Whether a run goes through over a board that is made for it.
-fn is_whole_on(rt: &(impl AllocGlobal + Wait)) -> Option<bool> {
+fn is_whole_on(rt: &impl AllocGlobal) -> Option<bool> {
     let (run, counts) = run_on(rt, SCRIPT, &TWO_THREADS, room(rt.alloc())?)?;
     Some(run.is(ANSWERS, End::Done) && counts.as_slice() == COUNTS)
 }
@@ -137,7 +136,7 @@ fn is_whole_on(rt: &(impl AllocGlobal + Wait)) -> Option<bool> {
 // A run over a board that is made for it goes through, at the second try where a growth is refused:
 // of the board, of the run, or of the list of counts. The members have made the insertions and
 // deletions of which the run wrote, and no others.
-fn goes_through_on(rt: &(impl AllocGlobal + Wait)) -> Option<bool> {
+fn goes_through_on(rt: &impl AllocGlobal) -> Option<bool> {
     let Some((run, counts)) = run_on(rt, SCRIPT, &TWO_THREADS, room(rt.alloc())?) else {
         return is_whole_on(rt);
     };

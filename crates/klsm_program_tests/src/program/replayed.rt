@@ -5,7 +5,6 @@ use klsm_board::StandardMember;
 use klsm_test_support::Made;
 use klsm_tool::{End, Report, Settings, replay_on, replay_over};
 use std::alloc::Global;
-use std::sync::Wait;
 
 /// The most insertions of a member.
 const MANY: u64 = 281_474_976_710_656;
@@ -31,7 +30,7 @@ pub(super) type Counts = (u64, u64);
 /// A run with a board of its own, whose text goes behind this one. `None` where no board has these
 /// settings.
 pub(super) fn run_over(
-    rt: &(impl AllocGlobal + Wait),
+    rt: &impl AllocGlobal,
     script: &[u8],
     settings: &Settings,
     empty: Vec<u8>,
@@ -48,7 +47,7 @@ pub(super) fn run_over(
 /// A run over a board that is made for it, and the members' counts afterwards. The text goes behind
 /// this one.
 pub(super) fn run_on(
-    rt: &(impl AllocGlobal + Wait),
+    rt: &impl AllocGlobal,
     script: &[u8],
     settings: &Settings,
     empty: Vec<u8>,

@@ -5,7 +5,6 @@
 use super::replayed::{Counts, run_on, run_over};
 use klsm_test_support::add_words;
 use klsm_tool::{End, Pick, Settings};
-use std::sync::Wait;
 
 /// A script, how it ends, its text, and what each member inserted and deleted.
 type Worked = (&'static [u8], End, &'static [u8], &'static [Counts]);
@@ -206,7 +205,7 @@ const OF_SIXTEEN: Scripts = Scripts {
 
 /// Whether a script goes so over a board of its own, and over one that is given.
 fn goes_so(
-    rt: &(impl AllocGlobal + Wait),
+    rt: &impl AllocGlobal,
     settings: &Settings,
     (script, end, text, counts): Worked,
 ) -> Option<bool> {
@@ -216,7 +215,7 @@ fn goes_so(
 }
 
 /// Whether all of these scripts do.
-fn all_go_so(rt: &(impl AllocGlobal + Wait), scripts: &Scripts) -> bool {
+fn all_go_so(rt: &impl AllocGlobal, scripts: &Scripts) -> bool {
     for worked in scripts.worked {
         if goes_so(rt, &scripts.settings, *worked) != Some(true) {
             return false;
@@ -277,7 +276,7 @@ fn add_rows(script: &mut Vec<u8>, text: &mut Vec<u8>) -> Option<()> {
 }
 
 /// Whether they are deleted in order.
-fn go_in_order(rt: &(impl AllocGlobal + Wait)) -> Option<bool> {
+fn go_in_order(rt: &impl AllocGlobal) -> Option<bool> {
     let (mut script, mut text) = (Vec::new(rt.alloc()), Vec::new(rt.alloc()));
     add_rows(&mut script, &mut text)?;
     let run = run_over(rt, script.as_slice(), &ONE_THREAD, Vec::new(rt.alloc()))?;

@@ -5,28 +5,20 @@ ghost use Rattle.klsm_board.specs.Together.{AreOf};
 
 use klsm_board::{AllStandardMembers, Board, GatherRefused, StandardBoard, StandardMember};
 use klsm_parts::First;
-use std::sync::Wait;
 
 // The most insertions of a member.
 const MANY: u64 = 1_000_000;
 
 // Whether the member of this number inserts a key.
-fn inserts(
-    rt: &impl Wait,
-    board: &StandardBoard,
-    all: &mut AllStandardMembers,
-    number: u32,
-    key: u64,
-) -> bool
+fn inserts(board: &StandardBoard, all: &mut AllStandardMembers, number: u32, key: u64) -> bool
     requires of { AreOf all.old board.now }
     ensures of { AreOf all.new board.now }
 {
-    (number as usize) < all.threads() && all.insert(rt, board, number, key, 7).is_ok()
+    (number as usize) < all.threads() && all.insert(board, number, key, 7).is_ok()
 }
 
 // Whether the member of this number deletes this key, or finds nothing.
 fn deletes(
-    rt: &impl Wait,
     board: &StandardBoard,
     all: &mut AllStandardMembers,
     number: u32,
@@ -38,7 +30,7 @@ fn deletes(
     if number as usize >= all.threads() {
         return false;
     }
-    let found = all.delete_min(rt, board, number, &mut First);
+    let found = all.delete_min(board, number, &mut First);
     found.map(|item| item.key) == key
 }
 
@@ -52,21 +44,21 @@ fn sees(board: &StandardBoard, all: &mut AllStandardMembers, front: u64) -> bool
 
 // Whether two members who keep one item each go by turns: one deletes what the other inserted, and who has
 // nothing spies. The one that is shared meanwhile is the front.
-fn go_by_turns(rt: &impl Wait, board: &StandardBoard, all: &mut AllStandardMembers) -> bool
+fn go_by_turns(board: &StandardBoard, all: &mut AllStandardMembers) -> bool
     requires of { AreOf all.old board.now }
     ensures of { AreOf all.new board.now }
 {
-    inserts(rt, board, all, 0, 5)
+    inserts(board, all, 0, 5)
         && sees(board, all, u64::MAX)
-        && inserts(rt, board, all, 0, 3)
-        && inserts(rt, board, all, 1, 9)
+        && inserts(board, all, 0, 3)
+        && inserts(board, all, 1, 9)
         && sees(board, all, 5)
-        && deletes(rt, board, all, 1, Some(5))
+        && deletes(board, all, 1, Some(5))
         && sees(board, all, u64::MAX)
-        && deletes(rt, board, all, 0, Some(3))
-        && deletes(rt, board, all, 0, Some(9))
-        && deletes(rt, board, all, 1, None)
-        && inserts(rt, board, all, 1, 4)
+        && deletes(board, all, 0, Some(3))
+        && deletes(board, all, 0, Some(9))
+        && deletes(board, all, 1, None)
+        && inserts(board, all, 1, 4)
 }
 
 // Whether this member has this number and these counts.
@@ -90,7 +82,7 @@ fn members_come_back_with_what_they_did(rt: HostRuntime) {
         panic!(rt; "a member is missing");
     };
     assert!(rt; all.threads() == 2);
-    assert!(rt; go_by_turns(&rt, &board, &mut all));
+    assert!(rt; go_by_turns(&board, &mut all));
     let members = all.spread(&board);
     assert!(rt; members.len() == 2);
     assert!(rt; is(members.as_slice(), 0, 2, 2));
