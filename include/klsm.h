@@ -421,30 +421,37 @@ KLSM_INLINE const char *klsm_text(int32_t code) {
     }
 }
 
-/* What a thread does after KLSM_BUSY: it looks away, longer each time, then lets other threads run, and
+/* What a thread does after KLSM_BUSY: it looks away, longer each time, then lets other threads run too, and
  * after many misses sleeps, so that the thread that has the lock finds a processor also where there are
  * fewer of these than threads. For a waiting loop of one's own over the calls klsm_try_..; klsm_insert
  * and klsm_delete_min show how. The lengths are those of the library's own waiting calls in Rattle. */
 typedef struct klsm_pause {
-    uint32_t length; /* of the next pause */
-    uint32_t misses; /* how many pauses came before, at most 40 */
+    uint32_t length; /* of the next pause, in nanoseconds */
+    uint32_t misses; /* how many pauses came before, at most 200 */
 } klsm_pause;
 
 KLSM_INLINE klsm_pause klsm_first_pause(void) {
-    klsm_pause first = {25, 0};
+    klsm_pause first = {50, 0};
     return first;
 }
 
+/* By time, since a pause instruction takes 5 nanoseconds on one processor and 60 on another. The time-stamp
+ * counter makes two to four ticks a nanosecond, and three are taken for one here. */
+KLSM_INLINE void klsm_look_away(uint32_t nanoseconds) {
+    const uint64_t begin = __builtin_ia32_rdtsc();
+    do
+        __builtin_ia32_pause();
+    while (__builtin_ia32_rdtsc() - begin < UINT64_C(3) * nanoseconds);
+}
+
 KLSM_INLINE void klsm_wait(klsm_pause *pause) {
-    if (pause->misses >= 40) {
+    if (pause->misses >= 200) {
         struct timeval sleep = {0, 50}; /* microseconds; select is declared under each standard */
         select(0, NULL, NULL, NULL, &sleep);
         return;
     }
-    uint32_t count = pause->length + (pause->misses <= 6 ? UINT32_C(1) << pause->misses : 0);
-    for (uint32_t i = 0; i < count; i++)
-        __builtin_ia32_pause();
-    if (pause->misses > 6)
+    klsm_look_away(pause->length);
+    if (pause->misses >= 7)
         sched_yield();
     pause->misses++;
     pause->length = pause->length < 400 ? 2 * pause->length : 800;

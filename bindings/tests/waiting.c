@@ -29,16 +29,16 @@ static int has_tried(uint32_t call, int count) {
            stub_argument(call, 0) == (uintptr_t)&queue.members[3];
 }
 
-/* Of so many pauses, those from the eighth on let other threads run, and those from the 41st on sleep. */
+/* Of so many pauses, those from the eighth on let other threads run, and those from the 201st on sleep. */
 static int has_waited(int count) {
-    int awake = count < 40 ? count : 40;
+    int awake = count < 200 ? count : 200;
     return yields == (awake > 7 ? awake - 7 : 0) && sleeps == count - awake;
 }
 
 int main(void) {
     klsm_item item = {0, 0, 0, 0};
     int once = 1, waited = 1, told = 1;
-    for (int count = 0; count < 60; count++) {
+    for (int count = 0; count < 220; count++) {
         begin(STUB_TRY_INSERT, count, KLSM_FULL);
         once = once && klsm_insert(&queue.members[3], 5, 6) == KLSM_FULL && has_tried(STUB_TRY_INSERT, count);
         waited = waited && has_waited(count);
@@ -51,15 +51,19 @@ int main(void) {
     }
     check("a try after each pause, until one is not busy", once);
     check("each try has the arguments", told);
-    check("other threads run from the eighth pause on, and the caller sleeps from the 41st on", waited);
+    check("other threads run from the eighth pause on, and the caller sleeps from the 201st on", waited);
 
-    const uint32_t lengths[] = {25, 50, 100, 200, 400, 800};
+    const uint32_t lengths[] = {50, 100, 200, 400, 800};
     klsm_pause pause = klsm_first_pause();
-    int as_told = 1;
+    int as_told = 1, lasted = 1;
     for (uint32_t i = 0; i < 20; i++) {
-        as_told = as_told && pause.length == lengths[i < 5 ? i : 5] && pause.misses == i;
+        as_told = as_told && pause.length == lengths[i < 4 ? i : 4] && pause.misses == i;
+        uint64_t begin = __builtin_ia32_rdtsc();
+        uint32_t length = pause.length;
         klsm_wait(&pause);
+        lasted = lasted && __builtin_ia32_rdtsc() - begin >= UINT64_C(3) * length;
     }
     check("the lengths of the pauses", as_told);
+    check("each lasts as long by the time-stamp counter", lasted);
     return check_status();
 }

@@ -1,25 +1,26 @@
 //! What a call that may wait does between two tries.
 //!
 //! The library's functions wait for nobody, so the waiting is here. The numbers are those of the
-//! queue's own waiting calls: pauses of 25 instructions, then twice as many up to 800, each followed by
-//! a backoff that after some misses lets other threads run, and after many sleeps.
+//! queue's own waiting calls: it looks away for 50 nanoseconds, then twice as long up to 800, after some
+//! misses lets other threads run too, and after many sleeps. By time, since a pause instruction takes 5
+//! nanoseconds on one processor and 60 on another.
 
 use crate::sys::code::BUSY;
 use std::hint::spin_loop;
 use std::thread::{sleep, yield_now};
-use std::time::Duration;
+use std::time::{Duration, Instant};
 
-const SHORTEST_PAUSE: u32 = 25;
-const LONGEST_PAUSE: u32 = 800;
+const SHORTEST_PAUSE: Duration = Duration::from_nanos(50);
+const LONGEST_PAUSE: Duration = Duration::from_nanos(800);
 
-/// Up to so many misses the backoff spins, and then it yields.
-const SPIN_LIMIT: u32 = 6;
+/// After so many misses other threads may run.
+const MISSES_ALONE: u32 = 7;
 /// After so many the thread sleeps, so that the one that has the lock finds a processor.
-const MISSES_AWAKE: u32 = 40;
+const MISSES_AWAKE: u32 = 200;
 const SLEEP: Duration = Duration::from_micros(50);
 
 pub(crate) struct Pause {
-    length: u32,
+    length: Duration,
     misses: u32,
 }
 
@@ -37,18 +38,22 @@ impl Pause {
             sleep(SLEEP);
             return;
         }
-        for _ in 0..self.length {
-            spin_loop();
-        }
-        if self.misses <= SPIN_LIMIT {
-            for _ in 0..1u32 << self.misses {
-                spin_loop();
-            }
-        } else {
+        look_away(self.length);
+        if self.misses >= MISSES_ALONE {
             yield_now();
         }
         self.misses += 1;
         self.length = (2 * self.length).min(LONGEST_PAUSE);
+    }
+}
+
+fn look_away(length: Duration) {
+    let begin = Instant::now();
+    loop {
+        spin_loop();
+        if begin.elapsed() >= length {
+            return;
+        }
     }
 }
 
@@ -83,15 +88,17 @@ mod tests {
         let mut pause = Pause::new();
         let mut seen = Vec::new();
         for _ in 0..MISSES_AWAKE + 2 {
-            seen.push((pause.length, pause.misses));
+            seen.push((pause.length.as_nanos(), pause.misses));
+            let begin = Instant::now();
             pause.wait();
+            assert!(begin.elapsed().as_nanos() >= seen.last().unwrap().0);
         }
-        let lengths: Vec<u32> = seen.iter().map(|s| s.0).collect();
+        let lengths: Vec<u128> = seen.iter().map(|s| s.0).collect();
         let misses: Vec<u32> = seen.iter().map(|s| s.1).collect();
-        assert_eq!(lengths[..6], [25, 50, 100, 200, 400, 800]);
-        assert!(lengths[6..].iter().all(|&length| length == 800));
-        assert!(misses[..40].iter().copied().eq(0..40));
-        assert_eq!(misses[40..], [40, 40]);
+        assert_eq!(lengths[..5], [50, 100, 200, 400, 800]);
+        assert!(lengths[5..].iter().all(|&length| length == 800));
+        assert!(misses[..200].iter().copied().eq(0..200));
+        assert_eq!(misses[200..], [200, 200]);
     }
 
     #[test]

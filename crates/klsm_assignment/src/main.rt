@@ -8,9 +8,9 @@ mod worker;
 use klsm_board::Board;
 use std::alloc::Global;
 use std::sync::Wait;
-use std::time::Clock;
 use std::sync::atomic::{AtomicU64, Ordering};
 use std::thread::Threads;
+use std::time::Clock;
 use std::{io, thread};
 use worker::{Search, Worker, workers_on};
 

@@ -7,8 +7,8 @@ use klsm_board::{InsertError, StandardBoard, StandardMember};
 use klsm_parts::First;
 use std::alloc::{AllocError, Global};
 use std::sync::Wait;
-use std::time::Clock;
 use std::sync::atomic::{AtomicBool, AtomicU64, Ordering};
+use std::time::Clock;
 
 /// What all threads of a search share beside the board.
 #[derive(Drop)]

@@ -33,7 +33,10 @@ fn print_queues<R: Print + AllocGlobal>(rt: &R, workload: Workload) -> io::Resul
 }
 
 // With one member each deletion is exact, whatever the picker.
-fn print_boards<R: Print + AllocGlobal + Wait + Clock>(rt: &R, workload: Workload) -> io::Result<()> {
+fn print_boards<R: Print + AllocGlobal + Wait + Clock>(
+    rt: &R,
+    workload: Workload,
+) -> io::Result<()> {
     let least = board_agrees(rt, rt.alloc(), workload, 64, First);
     print_row(
         rt,

@@ -22,7 +22,10 @@ const MISSES_AWAKE: u32 = 200;
 /// What comes between two tries.
 pub(crate) enum Rest {
     /// A look away for so many nanoseconds, behind which other threads may run, or not.
-    LookAway { nanos: u64, yields: bool },
+    LookAway {
+        nanos: u64,
+        yields: bool,
+    },
     /// A sleep of at most so many microseconds, as long as this word of the table has this number.
     Sleep {
         word: usize,

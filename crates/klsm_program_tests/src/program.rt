@@ -22,13 +22,14 @@ use std::alloc::Global;
 use std::io::Read;
 use std::sync::Wait;
 use std::thread::Threads;
+use std::time::Clock;
 
 /// The words of a process that answers a script.
 const REPLAY: &[&[u8]] = &[b"klsm", b"replay"];
 
 /// The status of the program as a process of these words.
 fn run(
-    rt: &(impl Wait + Threads + Sync),
+    rt: &(impl Wait + Clock + Threads + Sync),
     alloc: Global,
     words: &[&[u8]],
     input: impl Read + Drop,
@@ -39,7 +40,7 @@ fn run(
 
 /// Whether the program ends with this status, and this text is all that it writes.
 fn gives(
-    rt: &(impl Wait + Threads + Sync),
+    rt: &(impl Wait + Clock + Threads + Sync),
     alloc: Global,
     words: &[&[u8]],
     input: Input,
@@ -54,7 +55,7 @@ fn gives(
 type Told = (&'static [&'static [u8]], &'static [u8], u8, &'static [u8]);
 
 /// Whether each row goes as it has to.
-fn all_go(rt: &(impl Wait + Threads + Sync), alloc: Global, rows: &[Told]) -> bool {
+fn all_go(rt: &(impl Wait + Clock + Threads + Sync), alloc: Global, rows: &[Told]) -> bool {
     for (words, input, status, text) in rows {
         if !gives(rt, alloc, words, Input::whole(input), *status, text) {
             return false;

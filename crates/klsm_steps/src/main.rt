@@ -7,9 +7,9 @@ use klsm_board::{Board, StandardBoard, StandardMember};
 use klsm_parts::First;
 use std::alloc::Global;
 use std::sync::Wait;
-use std::time::Clock;
 use std::sync::atomic::{AtomicU64, Ordering};
 use std::thread::Threads;
+use std::time::Clock;
 use std::{io, thread};
 
 const TARGET: u64 = 1_003;
@@ -79,7 +79,12 @@ impl<R: Wait + Clock> Worker<'_, R> {
 }
 
 /// What the thread of a member does.
-fn take_part<R: Wait + Clock>(rt: &R, board: &StandardBoard, member: StandardMember, search: &Search)
+fn take_part<R: Wait + Clock>(
+    rt: &R,
+    board: &StandardBoard,
+    member: StandardMember,
+    search: &Search,
+)
     requires { IsOf member board.now }
 {
     let is_first = member.number() == 0;

@@ -13,6 +13,7 @@ use klsm_run::{Item, Stamp};
 use std::alloc::Global;
 use std::mem;
 use std::sync::Wait;
+use std::time::Clock;
 
 /// A board, those of its members that hold no part, the one that holds one, and those that are away.
 pub struct Crew<const LEVELS: usize> {
@@ -85,7 +86,7 @@ impl<const LEVELS: usize> Crew<LEVELS> {
     /// How a member's insertion ends that may wait.
     pub fn insert(
         &mut self,
-        rt: &impl Wait,
+        rt: &(impl Wait + Clock),
         member: usize,
         key: u64,
         load: u64,
@@ -110,7 +111,7 @@ impl<const LEVELS: usize> Crew<LEVELS> {
     }
 
     /// How a member's deletion of the first candidate ends that may wait.
-    pub fn delete_min(&mut self, rt: &impl Wait, member: usize) -> Option<Option<Item>> {
+    pub fn delete_min(&mut self, rt: &(impl Wait + Clock), member: usize) -> Option<Option<Item>> {
         let member = self.members.get_mut(member)?;
         Some(member.delete_min(rt, &self.board, &mut First))
     }

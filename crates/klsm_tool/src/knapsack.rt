@@ -14,11 +14,12 @@ use std::alloc::Global;
 use std::io::{Read, Write};
 use std::sync::Wait;
 use std::thread::Threads;
+use std::time::Clock;
 
 /// Reads an instance, solves it with workers in threads of their own, and writes a best selection.
 ///
 /// Each worker passes the gate first, and ends after `idle` answers "nothing" in a row.
-pub fn knapsack_over<P: AllocGlobal + Wait + Threads + Sync, R: Read + Drop, W: Write>(
+pub fn knapsack_over<P: AllocGlobal + Wait + Clock + Threads + Sync, R: Read + Drop, W: Write>(
     rt: &P,
     reader: R,
     writer: &mut W,
@@ -38,7 +39,11 @@ pub fn knapsack_over<P: AllocGlobal + Wait + Threads + Sync, R: Read + Drop, W: 
 }
 
 /// The same, and tells of a long search while it lasts.
-pub fn knapsack_with_progress<P: AllocGlobal + Wait + Threads + Sync, R: Read + Drop, W: Write>(
+pub fn knapsack_with_progress<
+    P: AllocGlobal + Wait + Clock + Threads + Sync,
+    R: Read + Drop,
+    W: Write,
+>(
     rt: &P,
     reader: R,
     writer: &mut W,
@@ -66,7 +71,7 @@ pub fn knapsack_with_progress<P: AllocGlobal + Wait + Threads + Sync, R: Read + 
 }
 
 // Solves an instance, and writes a best selection or why there is none.
-fn solve_read<P: AllocGlobal + Wait + Threads + Sync, W: Write, G: Gate, H: Progress>(
+fn solve_read<P: AllocGlobal + Wait + Clock + Threads + Sync, W: Write, G: Gate, H: Progress>(
     rt: &P,
     writer: &mut W,
     instance: &Instance,
@@ -86,7 +91,7 @@ fn solve_read<P: AllocGlobal + Wait + Threads + Sync, W: Write, G: Gate, H: Prog
 
 // Solves an instance, whatever the order of its things: the search goes over them with those of the
 // greatest value for their weight first, since bounds are closer then.
-fn solve_reordered<P: AllocGlobal + Wait + Threads + Sync, G: Gate, H: Progress>(
+fn solve_reordered<P: AllocGlobal + Wait + Clock + Threads + Sync, G: Gate, H: Progress>(
     rt: &P,
     instance: &Instance,
     search: &Search,
@@ -106,7 +111,7 @@ fn solve_reordered<P: AllocGlobal + Wait + Threads + Sync, G: Gate, H: Progress>
 
 // Solves an instance. Who hears of it is told when it begins and ends, so that no line stands before the
 // answer.
-fn solve_heard<P: AllocGlobal + Wait + Threads + Sync, G: Gate, H: Progress>(
+fn solve_heard<P: AllocGlobal + Wait + Clock + Threads + Sync, G: Gate, H: Progress>(
     rt: &P,
     instance: &Instance,
     search: &Search,

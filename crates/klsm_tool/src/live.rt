@@ -31,6 +31,7 @@ use std::io::{Read, Write};
 use std::sync::Wait;
 use std::thread;
 use std::thread::Threads;
+use std::time::Clock;
 
 /// Reads a whole script, then runs each thread's rows in a thread of its own over one board, each
 /// thread's in their order, and writes the totals. Each of these threads passes the gate first.
@@ -39,7 +40,7 @@ use std::thread::Threads;
 /// row, and the others go on; then the line of the least numbered such thread is written in place of
 /// the totals. There is always room, as the shared part can have more items than a script has rows.
 /// Where no thread can be made, the rows are run one thread after the other.
-pub fn live_over<P: AllocGlobal + Wait + Threads + Sync, R: Read + Drop, W: Write>(
+pub fn live_over<P: AllocGlobal + Wait + Clock + Threads + Sync, R: Read + Drop, W: Write>(
     rt: &P,
     reader: R,
     writer: &mut W,
@@ -57,7 +58,7 @@ pub fn live_over<P: AllocGlobal + Wait + Threads + Sync, R: Read + Drop, W: Writ
 }
 
 /// The same, and tells of a long run while it lasts.
-pub fn live_with_progress<P: AllocGlobal + Wait + Threads + Sync, R: Read + Drop, W: Write>(
+pub fn live_with_progress<P: AllocGlobal + Wait + Clock + Threads + Sync, R: Read + Drop, W: Write>(
     rt: &P,
     reader: R,
     writer: &mut W,
@@ -78,7 +79,7 @@ pub fn live_with_progress<P: AllocGlobal + Wait + Threads + Sync, R: Read + Drop
 
 /// The same over a script of the caller's, of which no row was read yet. A read fault is answered only
 /// where the reader of that has failed. Behind a row that is refused none is read.
-pub fn live_script<P: AllocGlobal + Wait + Threads + Sync, R: Read + Drop, W: Write>(
+pub fn live_script<P: AllocGlobal + Wait + Clock + Threads + Sync, R: Read + Drop, W: Write>(
     rt: &P,
     script: &mut Script<R>,
     writer: &mut W,
@@ -125,7 +126,7 @@ fn write_outcome<W: Write>(writer: &mut W, outcome: Result<Totals, Closing>) -> 
 }
 
 // Reads a whole script and runs it.
-fn run_script<P: AllocGlobal + Wait + Threads + Sync, R: Read + Drop>(
+fn run_script<P: AllocGlobal + Wait + Clock + Threads + Sync, R: Read + Drop>(
     rt: &P,
     script: &mut Script<R>,
     settings: &Settings,
@@ -156,7 +157,7 @@ fn run_script<P: AllocGlobal + Wait + Threads + Sync, R: Read + Drop>(
 }
 
 // Runs the rows of all threads over a new board.
-fn run_rows<P: AllocGlobal + Wait + Threads + Sync>(
+fn run_rows<P: AllocGlobal + Wait + Clock + Threads + Sync>(
     rt: &P,
     rows: &[Vec<ThreadRow>],
     settings: &Settings,
@@ -209,7 +210,7 @@ struct LiveRun<'a, G, P> {
 
 // Each worker in a thread of its own. It leaves its place while it runs, so that what it changes at
 // each row lies on its own stack, and not beside what the next one changes.
-fn run_all<R: Wait + Threads + Sync, G: Gate, P: Progress>(
+fn run_all<R: Wait + Clock + Threads + Sync, G: Gate, P: Progress>(
     rt: &R,
     live: &LiveRun<G, P>,
     crew: &mut [Option<Worker>],
@@ -244,7 +245,7 @@ fn run_all<R: Wait + Threads + Sync, G: Gate, P: Progress>(
 
 // The worker at its place, which passes the gate and then runs its rows.
 fn run_at<G: Gate, P: Progress>(
-    rt: &impl Wait,
+    rt: &(impl Wait + Clock),
     live: &LiveRun<G, P>,
     place: &mut Option<Worker>,
     index: usize,

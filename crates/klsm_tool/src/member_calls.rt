@@ -18,10 +18,11 @@ use klsm_board::{AllStandardMembers, Board, InsertError, Member, StandardBoard};
 use klsm_run::Item;
 use klsm_text::{Answer, Stop};
 use std::sync::Wait;
+use std::time::Clock;
 
 /// An insertion, whose item is answered.
 pub(crate) fn insert<const CAP: usize, const LEVELS: usize>(
-    rt: &impl Wait,
+    rt: &(impl Wait + Clock),
     board: &Board<CAP, LEVELS>,
     member: &mut Member<CAP, LEVELS>,
     key: u64,
@@ -47,7 +48,7 @@ pub(crate) fn insert<const CAP: usize, const LEVELS: usize>(
 
 /// A deletion, by the picker of the member's thread.
 pub(crate) fn delete<const CAP: usize, const LEVELS: usize>(
-    rt: &impl Wait,
+    rt: &(impl Wait + Clock),
     board: &Board<CAP, LEVELS>,
     member: &mut Member<CAP, LEVELS>,
     picker: &mut ThreadPicker,

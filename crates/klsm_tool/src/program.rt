@@ -20,9 +20,10 @@ use std::io::{Read, Write};
 use std::rt::Env;
 use std::sync::Wait;
 use std::thread::Threads;
+use std::time::Clock;
 
 /// Runs the program on the words that its process was given. Of a long run it tells while it lasts.
-pub fn run_program<P: Env + AllocGlobal + Wait + Threads + Sync, R: Read + Drop, W: Write>(
+pub fn run_program<P: Env + AllocGlobal + Wait + Clock + Threads + Sync, R: Read + Drop, W: Write>(
     rt: &P,
     reader: R,
     writer: &mut W,
@@ -41,7 +42,7 @@ pub fn run_program<P: Env + AllocGlobal + Wait + Threads + Sync, R: Read + Drop,
 /// 0 where all is done, 1 where a row is refused, 2 for a fault of the command line,
 /// 3 where room or memory is wanted, and 4 where reading or writing failed.
 pub fn run_words<R: Read + Drop, W: Write>(
-    rt: &(impl AllocGlobal + Wait + Threads + Sync),
+    rt: &(impl AllocGlobal + Wait + Clock + Threads + Sync),
     words: &[Vec<u8>],
     reader: R,
     writer: &mut W,
@@ -57,7 +58,7 @@ pub fn run_words<R: Read + Drop, W: Write>(
 
 // The same, and tells of a long run.
 fn run_with_progress<R: Read + Drop, W: Write>(
-    rt: &(impl AllocGlobal + Wait + Threads + Sync),
+    rt: &(impl AllocGlobal + Wait + Clock + Threads + Sync),
     words: &[Vec<u8>],
     reader: R,
     writer: &mut W,
@@ -101,7 +102,7 @@ fn run_replay<R: Read + Drop, W: Write>(
 }
 
 fn run_live<R: Read + Drop, W: Write>(
-    rt: &(impl AllocGlobal + Wait + Threads + Sync),
+    rt: &(impl AllocGlobal + Wait + Clock + Threads + Sync),
     reader: R,
     writer: &mut W,
     settings: &Settings,
@@ -118,7 +119,7 @@ fn run_live<R: Read + Drop, W: Write>(
 }
 
 fn run_knapsack<R: Read + Drop, W: Write>(
-    rt: &(impl AllocGlobal + Wait + Threads + Sync),
+    rt: &(impl AllocGlobal + Wait + Clock + Threads + Sync),
     reader: R,
     writer: &mut W,
     search: &Search,

@@ -16,6 +16,7 @@ use klsm_progress::{Counted, Pace, Progress};
 use klsm_text::{Answer, Operation, Stop, ThreadRow};
 use klsm_words::Settings;
 use std::sync::Wait;
+use std::time::Clock;
 
 /// A member, that it has passed the gate, once it has, and at which row it gave up, if it did.
 #[derive(Drop)]
@@ -37,7 +38,7 @@ impl Worker {
     /// thread. It has passed the gate before.
     pub(crate) fn run(
         self,
-        rt: &impl Wait,
+        rt: &(impl Wait + Clock),
         board: &StandardBoard,
         rows: &[ThreadRow],
         settings: &Settings,
@@ -70,7 +71,7 @@ impl Worker {
 
 // The settings are only looked at by the premise that they chose the picker.
 fn answer_all(
-    rt: &impl Wait,
+    rt: &(impl Wait + Clock),
     board: &StandardBoard,
     member: &mut StandardMember,
     settings: &Settings,
@@ -100,7 +101,7 @@ fn answer_all(
 }
 
 fn answer(
-    rt: &impl Wait,
+    rt: &(impl Wait + Clock),
     board: &StandardBoard,
     member: &mut StandardMember,
     picker: &mut ThreadPicker,

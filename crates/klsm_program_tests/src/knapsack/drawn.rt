@@ -9,6 +9,7 @@ use rand_pcg::Pcg32;
 use std::alloc::Global;
 use std::sync::Wait;
 use std::thread::Threads;
+use std::time::Clock;
 
 // Adds the rows of up to 12 things.
 fn add_drawn(text: &mut Vec<u8>, mix: &mut Pcg32) -> Option<()> {
@@ -67,7 +68,7 @@ fn agrees_in_turn(instance: &Instance, best: u64) -> bool {
 
 // Whether one by so many threads does at this k, also where it finds no room on a board of two levels.
 fn agrees(
-    rt: &(impl Threads + Wait + Sync),
+    rt: &(impl Threads + Wait + Clock + Sync),
     alloc: Global,
     instance: &Instance,
     best: u64,
@@ -82,7 +83,7 @@ fn agrees(
 
 // Whether one does that finds no room on a board of two levels.
 fn agrees_alone(
-    rt: &(impl Threads + Wait + Sync),
+    rt: &(impl Threads + Wait + Clock + Sync),
     alloc: Global,
     instance: &Instance,
     best: u64,
@@ -112,7 +113,7 @@ const BOARDS: &[(usize, usize)] = &[
 ];
 
 // Whether all searches of an instance give a selection of the best value.
-fn agree(rt: &(impl Threads + Wait + Sync), alloc: Global, instance: &Instance) -> bool {
+fn agree(rt: &(impl Threads + Wait + Clock + Sync), alloc: Global, instance: &Instance) -> bool {
     let best = best_value(instance);
     for board in BOARDS {
         if !agrees(rt, alloc, instance, best, *board) {
@@ -123,7 +124,11 @@ fn agree(rt: &(impl Threads + Wait + Sync), alloc: Global, instance: &Instance) 
 }
 
 // The same of a drawn one.
-fn agree_on_drawn(rt: &(impl Threads + Wait + Sync), alloc: Global, seed: u64) -> Option<bool> {
+fn agree_on_drawn(
+    rt: &(impl Threads + Wait + Clock + Sync),
+    alloc: Global,
+    seed: u64,
+) -> Option<bool> {
     let text = drawn(alloc, seed)?;
     let instance = Instance::read(alloc, text.as_slice()).ok()?;
     Some(agree(rt, alloc, &instance))

@@ -11,6 +11,7 @@ use std::alloc::Global;
 use std::sync::Wait;
 use std::sync::atomic::{AtomicBool, AtomicU64, Ordering};
 use std::thread::Threads;
+use std::time::Clock;
 
 #[test]
 fn two_workers_run_side_by_side(rt: HostRuntime) {
@@ -119,7 +120,7 @@ capacity,15
 // The value that three workers find, how many of them waited until the first one told of nodes, and whether that
 // one then heard of theirs.
 fn heard_of(
-    rt: &(impl Threads + Wait + Sync),
+    rt: &(impl Threads + Wait + Clock + Sync),
     alloc: Global,
     first: usize,
 ) -> Option<(u64, u64, bool)> {

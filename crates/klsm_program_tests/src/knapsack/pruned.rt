@@ -6,11 +6,12 @@ use klsm_knapsack::{Best, Instance, SolveError, solve};
 use std::alloc::Global;
 use std::sync::Wait;
 use std::thread::Threads;
+use std::time::Clock;
 
 // How a search of these rows ends, by one worker that takes the least node first and ends at the
 // first answer "nothing".
 fn solved<const LEVELS: usize>(
-    rt: &(impl Threads + Wait + Sync),
+    rt: &(impl Threads + Wait + Clock + Sync),
     alloc: Global,
     text: &[u8],
 ) -> Option<Result<Best, SolveError>>

@@ -6,6 +6,7 @@ use klsm_knapsack::{Best, Instance, SolveError, solve, solve_in_turn};
 use std::alloc::Global;
 use std::sync::Wait;
 use std::thread::Threads;
+use std::time::Clock;
 
 const WORKED: &[u8] = b"capacity,10\n60,5\n50,4\n70,6\n30,3\n";
 
@@ -45,7 +46,7 @@ fn bounds_of_three_nodes(rt: HostRuntime) {
 
 // How a search of the worked instance ends.
 fn solved<const LEVELS: usize>(
-    rt: &(impl Threads + Wait + Sync),
+    rt: &(impl Threads + Wait + Clock + Sync),
     alloc: Global,
     threads: usize,
     k: usize,

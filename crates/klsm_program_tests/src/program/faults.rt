@@ -11,6 +11,7 @@ use klsm_tool::{End, Pick, Report, Settings, knapsack_over, live_over, replay_ov
 use std::alloc::Global;
 use std::sync::Wait;
 use std::thread::Threads;
+use std::time::Clock;
 
 /// Words, the bytes of an input that then fails, and all that the program writes: a replay's answers
 /// before it, and the one line of another command.
@@ -33,7 +34,7 @@ const UNREAD: &[(&[&[u8]], &[u8], &[u8])] = &[
 ];
 
 /// Whether the inputs that give so many bytes at a time are told so.
-fn are_told(rt: &(impl Wait + Threads + Sync), alloc: Global, at_a_time: usize) -> bool {
+fn are_told(rt: &(impl Wait + Clock + Threads + Sync), alloc: Global, at_a_time: usize) -> bool {
     for (words, left, text) in UNREAD {
         let input = Input {
             left,
@@ -60,7 +61,7 @@ type Written = (&'static [&'static [u8]], &'static [u8], &'static [u8]);
 /// Whether an output that refuses after so many bytes has just so many, the first of them those of
 /// the text, and the program then tries no further write and ends with status 4.
 fn leaves_first(
-    rt: &(impl Wait + Threads + Sync),
+    rt: &(impl Wait + Clock + Threads + Sync),
     alloc: Global,
     (words, input, text): Written,
     room: usize,
@@ -72,7 +73,11 @@ fn leaves_first(
 }
 
 /// The same for each number of bytes below that of the text, and for both kinds of refusal.
-fn leaves_any_first(rt: &(impl Wait + Threads + Sync), alloc: Global, written: Written) -> bool {
+fn leaves_any_first(
+    rt: &(impl Wait + Clock + Threads + Sync),
+    alloc: Global,
+    written: Written,
+) -> bool {
     for room in 0..written.2.len() {
         if !leaves_first(rt, alloc, written, room, true)
             || !leaves_first(rt, alloc, written, room, false)
@@ -110,7 +115,7 @@ enum Command {
 
 /// What a run of a command leaves.
 fn report_of(
-    rt: &(impl AllocGlobal + Wait + Threads + Sync),
+    rt: &(impl AllocGlobal + Wait + Clock + Threads + Sync),
     command: Command,
     output: &mut Output,
 ) -> Report {
@@ -124,7 +129,7 @@ fn report_of(
 /// Whether a run over an output that refuses after so many bytes says that it wrote just those that
 /// the output took.
 fn tells_written(
-    rt: &(impl AllocGlobal + Wait + Threads + Sync),
+    rt: &(impl AllocGlobal + Wait + Clock + Threads + Sync),
     command: Command,
     room: usize,
     fails: bool,
@@ -138,7 +143,7 @@ fn tells_written(
 
 /// The same for each number of bytes below that of the text, and for both kinds of refusal.
 fn tells_any_written(
-    rt: &(impl AllocGlobal + Wait + Threads + Sync),
+    rt: &(impl AllocGlobal + Wait + Clock + Threads + Sync),
     command: Command,
     text: &[u8],
 ) -> bool {
@@ -175,7 +180,7 @@ fn a_failed_write_of_another_text_is_status_4(rt: HostRuntime) {
 
 /// Whether an output that takes so many bytes at a time, and no more than the answers have, takes
 /// them all.
-fn takes_all(rt: &(impl Wait + Threads + Sync), alloc: Global, at_a_time: usize) -> bool {
+fn takes_all(rt: &(impl Wait + Clock + Threads + Sync), alloc: Global, at_a_time: usize) -> bool {
     let mut output = Output {
         room: 134,
         at_a_time,

@@ -6,6 +6,7 @@ use klsm_tool::{End, knapsack_over};
 use std::alloc::Global;
 use std::sync::Wait;
 use std::thread::Threads;
+use std::time::Clock;
 
 /// The words of a process that solves an instance.
 pub(super) const KNAPSACK: &[&[u8]] = &[b"klsm", b"knapsack"];
@@ -90,7 +91,11 @@ fn instances_are_solved_or_refused(rt: HostRuntime) {
 }
 
 /// Whether four workers find a selection of this value and this weight.
-fn finds(rt: &(impl AllocGlobal + Wait + Threads + Sync), instance: &[u8], head: &[u8]) -> bool {
+fn finds(
+    rt: &(impl AllocGlobal + Wait + Clock + Threads + Sync),
+    instance: &[u8],
+    head: &[u8],
+) -> bool {
     let mut text = Vec::new(rt.alloc());
     let report = knapsack_over(rt, instance, &mut text, 4, 16, 8, &Open);
     report.end == End::Done && text.as_slice().starts_with(head)
@@ -107,7 +112,7 @@ fn things_that_are_as_steep(rt: HostRuntime) {
 
 /// Whether one worker that ends after so many answers "nothing" leads to this line.
 fn leads_to(
-    rt: &(impl AllocGlobal + Wait + Threads + Sync),
+    rt: &(impl AllocGlobal + Wait + Clock + Threads + Sync),
     instance: &[u8],
     idle: u32,
     line: &[u8],

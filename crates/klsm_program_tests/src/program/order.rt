@@ -16,6 +16,7 @@ use std::io::Read;
 use std::sync::Wait;
 use std::sync::atomic::{AtomicU64, Ordering};
 use std::thread::Threads;
+use std::time::Clock;
 
 /// Notes how often an input is asked for bytes.
 #[derive(Drop)]
@@ -32,7 +33,7 @@ impl Read for Noting<'_> {
 }
 
 /// How often a process of these words asks for input.
-fn reads_of(rt: &(impl Wait + Threads + Sync), alloc: Global, words: &[&[u8]]) -> u64 {
+fn reads_of(rt: &(impl Wait + Clock + Threads + Sync), alloc: Global, words: &[&[u8]]) -> u64 {
     let reads = Cell::new(0);
     let input = Noting {
         input: Input::whole(b"0,d,,\n"),
@@ -96,7 +97,10 @@ const OF_THREE: Settings = Settings {
 };
 
 /// How often each of three threads passes the gate, and how the run ends, over this input.
-fn passed_over(rt: &(impl AllocGlobal + Wait + Threads + Sync), input: Input) -> ([u64; 3], End) {
+fn passed_over(
+    rt: &(impl AllocGlobal + Wait + Clock + Threads + Sync),
+    input: Input,
+) -> ([u64; 3], End) {
     let gate = Counting::new();
     let mut text = Vec::new(rt.alloc());
     let report = live_over(rt, input, &mut text, &OF_THREE, &gate);
@@ -132,7 +136,7 @@ fn no_thread_runs_where_reading_fails(rt: HostRuntime) {
 
 /// How often each of three workers passes the gate, and how the search ends, over this instance.
 fn passed_by_workers(
-    rt: &(impl AllocGlobal + Wait + Threads + Sync),
+    rt: &(impl AllocGlobal + Wait + Clock + Threads + Sync),
     instance: &[u8],
 ) -> ([u64; 3], End) {
     let gate = Counting::new();
@@ -194,7 +198,7 @@ impl Gate for Hall {
 
 /// Whether each of two threads, which have rows enough to tell of, came to the gate before any row was
 /// run, and told of its rows behind it.
-fn come_before_rows(rt: &(impl AllocGlobal + Wait + Threads + Sync)) -> Option<bool> {
+fn come_before_rows(rt: &(impl AllocGlobal + Wait + Clock + Threads + Sync)) -> Option<bool> {
     let script = repeated(rt.alloc(), b"0,d,,\n1,d,,\n", STRIDE)?;
     let hall = Hall::new();
     let mut text = Vec::new(rt.alloc());

@@ -8,6 +8,7 @@ use std::io::{Error, ErrorKind, Read, Write};
 use std::rt::Env;
 use std::sync::Wait;
 use std::thread::Threads;
+use std::time::Clock;
 
 /// A process that was given these words, of which the first is the program's path.
 #[derive(Drop)]
@@ -17,7 +18,7 @@ pub(super) struct Process<'a, R> {
     pub words: &'a [&'a [u8]],
 }
 
-impl<R: Wait> Wait for Process<'_, R> {}
+impl<R: Wait + Clock> Wait for Process<'_, R> {}
 
 impl<R: Threads> Threads for Process<'_, R> {}
 

@@ -286,7 +286,7 @@ impl Progress for Heard {
 
 /// A run over an input, of which all is heard.
 fn run_heard(
-    rt: &(impl Wait + Threads + Sync),
+    rt: &(impl Wait + Clock + Threads + Sync),
     alloc: Global,
     words: &[&[u8]],
     input: &[u8],
@@ -302,7 +302,7 @@ fn run_heard(
 
 /// What is heard of a run of this command over an input.
 fn heard_of(
-    rt: &(impl Wait + Threads + Sync),
+    rt: &(impl Wait + Clock + Threads + Sync),
     alloc: Global,
     command: &[u8],
     input: &[u8],
@@ -359,7 +359,7 @@ impl Write for SameTerminal<'_> {
 
 /// All that a command writes over an input, where each look at the clock takes more than a second.
 fn shown(
-    rt: &(impl Wait + Threads + Sync),
+    rt: &(impl Wait + Clock + Threads + Sync),
     alloc: Global,
     command: &[u8],
     input: &[u8],

@@ -5,6 +5,7 @@ use klsm_board::{Busy, FinishError, HoldError, TryInsertError};
 use klsm_test_support::{Crew, refused};
 use std::alloc::Global;
 use std::sync::Wait;
+use std::time::Clock;
 
 // What one is answered who needs the shared part, which member 1 held when it was dropped.
 const BY_ONE: Busy = Busy { lock: 0, by: 1 };
@@ -33,7 +34,7 @@ const WITH_THE_SHARED_PART: &[Step] = &[
 ];
 
 // Whether the steps go as they have to, and the board of two members then misses member 1.
-fn misses_one(rt: &impl Wait, alloc: Global, steps: &[Step]) -> bool {
+fn misses_one(rt: &(impl Wait + Clock), alloc: Global, steps: &[Step]) -> bool {
     let Ok(mut crew) = Crew::<21>::new(alloc, 2, 1, 10) else {
         return false;
     };

@@ -7,13 +7,14 @@ use klsm_run::Item;
 use klsm_test_support::{Crew, refused};
 use std::alloc::Global;
 use std::sync::Wait;
+use std::time::Clock;
 
 // The most insertions of a member.
 const MANY: u64 = 281_474_976_710_656;
 
 // A new board after some steps.
 fn after<const LEVELS: usize>(
-    rt: &impl Wait,
+    rt: &(impl Wait + Clock),
     alloc: Global,
     threads: usize,
     k: usize,
@@ -99,7 +100,7 @@ fn all_but_some(alloc: Global, crew: Crew<21>) -> Option<Crew<21>> {
     refused_then_relieved(alloc, crew, FinishError::Missing(0), &[])
 }
 
-fn two_members_come_back(rt: &impl Wait, alloc: Global) -> Option<bool> {
+fn two_members_come_back(rt: &(impl Wait + Clock), alloc: Global) -> Option<bool> {
     let crew = all_but_some(alloc, after(rt, alloc, 2, 1, MANY, TWO_MEMBERS)?)?;
     let account = account_of(alloc, crew, &[1, 0])?;
     Some(tells(&account, 3, 1, &[(4, 0, 0), (6, 1, 0)]))
@@ -129,7 +130,7 @@ const FULL_ONCE: &[Step] = &[
 
 // The account of a board of one member.
 fn account_after<const LEVELS: usize>(
-    rt: &impl Wait,
+    rt: &(impl Wait + Clock),
     alloc: Global,
     k: usize,
     quota: u64,
@@ -142,7 +143,7 @@ fn account_after<const LEVELS: usize>(
 
 // Whether a board that takes no insertion has its account, and one whose shared part of two levels
 // takes two items.
-fn have_accounts(rt: &impl Wait, alloc: Global) -> Option<bool> {
+fn have_accounts(rt: &(impl Wait + Clock), alloc: Global) -> Option<bool> {
     let none = account_after::<21>(rt, alloc, 1, 0, NONE_INSERTED)?;
     let full = account_after::<2>(rt, alloc, 2, MANY, FULL_ONCE)?;
     let left = [(3, 0, 2), (4, 0, 3), (5, 0, 4)];

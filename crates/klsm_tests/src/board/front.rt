@@ -6,6 +6,7 @@ use klsm_board::{Busy, TryInsertError};
 use klsm_test_support::Crew;
 use std::alloc::Global;
 use std::sync::Wait;
+use std::time::Clock;
 
 const MANY: u64 = 1000;
 
@@ -126,12 +127,12 @@ fn insert_each(crew: &mut Crew<21>) -> Option<()> {
 }
 
 // Whether the member at a place, which is this one, deletes what it inserted, by the call that may wait.
-fn deletes_own(rt: &impl Wait, crew: &mut Crew<21>, place: usize, member: u32) -> bool {
+fn deletes_own(rt: &(impl Wait + Clock), crew: &mut Crew<21>, place: usize, member: u32) -> bool {
     crew.delete_min(rt, place) == Some(Some(item((9, member, 0))))
 }
 
 // Whether all but the last do so while that one holds the shared part.
-fn all_others_delete(rt: &impl Wait, crew: &mut Crew<21>) -> Option<bool> {
+fn all_others_delete(rt: &(impl Wait + Clock), crew: &mut Crew<21>) -> Option<bool> {
     crew.try_hold(0)?.ok()?;
     for member in 0..LAST {
         if !deletes_own(rt, crew, member as usize, member) {
@@ -143,14 +144,14 @@ fn all_others_delete(rt: &impl Wait, crew: &mut Crew<21>) -> Option<bool> {
 }
 
 // Whether the last does so while the one before it holds the shared part.
-fn the_last_deletes(rt: &impl Wait, crew: &mut Crew<21>) -> Option<bool> {
+fn the_last_deletes(rt: &(impl Wait + Clock), crew: &mut Crew<21>) -> Option<bool> {
     crew.leave()?;
     crew.try_hold(0)?.ok()?;
     crew.relieve();
     Some(deletes_own(rt, crew, 0, LAST))
 }
 
-fn each_goes_by_the_front(rt: &impl Wait, alloc: Global) -> Option<bool> {
+fn each_goes_by_the_front(rt: &(impl Wait + Clock), alloc: Global) -> Option<bool> {
     let mut crew = Crew::new(alloc, MEMBERS as usize, 4, MANY).ok()?;
     insert_each(&mut crew)?;
     Some(all_others_delete(rt, &mut crew)? && the_last_deletes(rt, &mut crew)?)

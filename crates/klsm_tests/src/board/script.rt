@@ -7,6 +7,7 @@ use klsm_run::{Item, Stamp};
 use klsm_test_support::Crew;
 use std::alloc::Global;
 use std::sync::Wait;
+use std::time::Clock;
 
 /// An item as key, owner and number. Its load is one more than its number.
 pub(super) type Name = (u64, u32, u64);
@@ -66,7 +67,7 @@ fn as_tried(answer: Result<Stamp, InsertError>) -> Result<Stamp, TryInsertError>
 
 // How a member's insertion of a key ends, by the call that may wait or by the one that waits for nobody.
 fn insert<const LEVELS: usize>(
-    rt: &impl Wait,
+    rt: &(impl Wait + Clock),
     crew: &mut Crew<LEVELS>,
     waits: bool,
     member: u32,
@@ -82,7 +83,7 @@ fn insert<const LEVELS: usize>(
 
 // How a member's deletion ends, by either call likewise.
 fn delete<const LEVELS: usize>(
-    rt: &impl Wait,
+    rt: &(impl Wait + Clock),
     crew: &mut Crew<LEVELS>,
     waits: bool,
     member: u32,
@@ -96,7 +97,7 @@ fn delete<const LEVELS: usize>(
 
 // Whether a member's insertion of a key ends so. What meets a lock that is held would wait for ever.
 fn inserts<const LEVELS: usize>(
-    rt: &impl Wait,
+    rt: &(impl Wait + Clock),
     crew: &mut Crew<LEVELS>,
     waits: bool,
     (member, key): (u32, u64),
@@ -108,7 +109,7 @@ fn inserts<const LEVELS: usize>(
 
 // Whether a member's deletion ends so.
 fn deletes<const LEVELS: usize>(
-    rt: &impl Wait,
+    rt: &(impl Wait + Clock),
     crew: &mut Crew<LEVELS>,
     waits: bool,
     member: u32,
@@ -142,7 +143,7 @@ fn named(name: Option<Name>) -> Option<Item> {
 
 // Whether a step goes as it has to.
 fn goes<const LEVELS: usize>(
-    rt: &impl Wait,
+    rt: &(impl Wait + Clock),
     crew: &mut Crew<LEVELS>,
     waits: bool,
     step: Step,
@@ -167,7 +168,7 @@ fn goes<const LEVELS: usize>(
 
 /// Whether each step goes as it has to.
 pub(super) fn all_go<const LEVELS: usize>(
-    rt: &impl Wait,
+    rt: &(impl Wait + Clock),
     crew: &mut Crew<LEVELS>,
     waits: bool,
     steps: &[Step],
@@ -182,7 +183,7 @@ pub(super) fn all_go<const LEVELS: usize>(
 
 // The same on a new board.
 fn all_go_on_new<const LEVELS: usize>(
-    rt: &impl Wait,
+    rt: &(impl Wait + Clock),
     alloc: Global,
     script: &Script,
     waits: bool,
@@ -197,7 +198,11 @@ fn all_go_on_new<const LEVELS: usize>(
 
 /// Whether each step of a script goes as it has to, by the calls that do not wait and by those that may, also
 /// while a part is held.
-pub(super) fn passes<const LEVELS: usize>(rt: &impl Wait, alloc: Global, script: &Script) -> bool
+pub(super) fn passes<const LEVELS: usize>(
+    rt: &(impl Wait + Clock),
+    alloc: Global,
+    script: &Script,
+) -> bool
     requires { IsLevelCount LEVELS }
 {
     all_go_on_new::<LEVELS>(rt, alloc, script, false)

@@ -13,6 +13,7 @@ use std::alloc::Global;
 use std::sync::Wait;
 use std::thread;
 use std::thread::Threads;
+use std::time::Clock;
 
 // What a thread does in each of its rounds.
 #[derive(Clone, Copy)]
@@ -123,7 +124,7 @@ impl Worker {
     }
 
     // Inserts an item of a key, by a call that may wait or by one that does not.
-    fn insert(&mut self, rt: &impl Wait, board: &StandardBoard, waits: bool, key: u64)
+    fn insert(&mut self, rt: &(impl Wait + Clock), board: &StandardBoard, waits: bool, key: u64)
         requires { IsOf self.old.member board.now }
         ensures { IsOf self.new.member board.now }
     {
@@ -137,7 +138,7 @@ impl Worker {
     }
 
     // Deletes an item likewise.
-    fn delete(&mut self, rt: &impl Wait, board: &StandardBoard, waits: bool)
+    fn delete(&mut self, rt: &(impl Wait + Clock), board: &StandardBoard, waits: bool)
         requires { IsOf self.old.member board.now }
         ensures { IsOf self.new.member board.now }
     {
@@ -175,7 +176,7 @@ impl Worker {
     }
 
     // Makes a call of some kind. Deletions are more than insertions, so that parts are often empty.
-    fn mix(mut self, rt: &impl Wait, board: &StandardBoard) -> Self
+    fn mix(mut self, rt: &(impl Wait + Clock), board: &StandardBoard) -> Self
         requires { IsOf self.member board.now }
         ensures { IsOf result.member board.now }
     {
@@ -194,7 +195,7 @@ impl Worker {
     }
 
     // Makes a call that may wait. Insertions and deletions are alike in number.
-    fn wait(mut self, rt: &impl Wait, board: &StandardBoard) -> Self
+    fn wait(mut self, rt: &(impl Wait + Clock), board: &StandardBoard) -> Self
         requires { IsOf self.member board.now }
         ensures { IsOf result.member board.now }
     {
@@ -209,7 +210,7 @@ impl Worker {
 
     // Inserts an item whose key is below all shared ones and deletes it, by calls that may wait or by
     // others.
-    fn stay_below(mut self, rt: &impl Wait, board: &StandardBoard, waits: bool) -> Self
+    fn stay_below(mut self, rt: &(impl Wait + Clock), board: &StandardBoard, waits: bool) -> Self
         requires { IsOf self.member board.now }
         ensures { IsOf result.member board.now }
     {
@@ -221,7 +222,7 @@ impl Worker {
     }
 
     // Inserts an item that may be shared, and then stays below.
-    fn share(mut self, rt: &impl Wait, board: &StandardBoard) -> Self
+    fn share(mut self, rt: &(impl Wait + Clock), board: &StandardBoard) -> Self
         requires { IsOf self.member board.now }
         ensures { IsOf result.member board.now }
     {
@@ -231,7 +232,7 @@ impl Worker {
     }
 
     // Does what there is to do in a round.
-    fn go_on(self, rt: &impl Wait, board: &StandardBoard, kind: Kind, round: u32) -> Self
+    fn go_on(self, rt: &(impl Wait + Clock), board: &StandardBoard, kind: Kind, round: u32) -> Self
         requires { IsOf self.member board.now }
         ensures { IsOf result.member board.now }
     {
@@ -245,7 +246,7 @@ impl Worker {
     }
 
     // Does what there is to do in each of its rounds.
-    fn run(self, rt: &impl Wait, board: &StandardBoard, team: &Team) -> Self
+    fn run(self, rt: &(impl Wait + Clock), board: &StandardBoard, team: &Team) -> Self
         requires { IsOf self.member board.now }
         ensures { IsOf result.member board.now }
     {
@@ -266,7 +267,7 @@ impl Worker {
 }
 
 // Lets each member work in a thread of its own.
-fn run_all<R: Threads + Wait + Sync>(
+fn run_all<R: Threads + Wait + Clock + Sync>(
     rt: &R,
     alloc: Global,
     board: &StandardBoard,
@@ -400,7 +401,7 @@ fn crew_of(alloc: Global, team: &Team) -> Option<Crew<21>> {
 }
 
 // What is found once all threads of a team have ended.
-fn run_team<R: Threads + Wait + Sync>(rt: &R, alloc: Global, team: &Team) -> Option<Found> {
+fn run_team<R: Threads + Wait + Clock + Sync>(rt: &R, alloc: Global, team: &Team) -> Option<Found> {
     let mut crew = crew_of(alloc, team)?;
     let members = crew.take_members(alloc);
     let workers = run_all(rt, alloc, &crew.board, members, team)?;
@@ -409,7 +410,7 @@ fn run_team<R: Threads + Wait + Sync>(rt: &R, alloc: Global, team: &Team) -> Opt
 
 // Whether each item was inserted once, and deleted once by a thread or by some member afterwards,
 // or is left in the account.
-fn each_once<R: Threads + Wait + Sync>(rt: &R, alloc: Global, team: &Team) -> Option<bool> {
+fn each_once<R: Threads + Wait + Clock + Sync>(rt: &R, alloc: Global, team: &Team) -> Option<bool> {
     let mut found = run_team(rt, alloc, team)?;
     let many = found.inserted.len() > team.calls as usize / 4;
     let all = team
