@@ -6,7 +6,7 @@ use lib.ListN.{get_elem?}
 use Rattle.klsm_world.specs.declared.step.Entry.{Entry}
 use Rattle.klsm_board.specs.declared.board.Board.{Board}
 use Rattle.klsm_board.specs.declared.board.Member.{Member}
-use Rattle.klsm_board.specs.Boards.{AreMembersOf, AreNewMembersOf, IsOf, own_steps}
+use Rattle.klsm_board.specs.Boards.{AreMembersOf, AreNewMembersOf, own_steps}
 use Rattle.klsm_board.specs.Finishing.{AreAll, lists_of, steps_among}
 use Rattle.klsm_board.specs.Rule.{IsReached}
 use Rattle.klsm_board.proofs.lemmas.hands.PossibleLemmas.{each_reached}

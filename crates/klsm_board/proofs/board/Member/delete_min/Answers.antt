@@ -1,4 +1,4 @@
-use Rattle.std.proofs.Common.{◌≡◌, ℕ, List, ◌∙◌, [], subst}
+use Rattle.std.proofs.Common.{ℕ, List, ◌∙◌, [], subst}
 use Rattle.std.specs.Option.{option_to_list}
 use Rattle.klsm_parts.proofs.FitLemmas.{local_fits}
 use Rattle.klsm_board.specs.declared.rule.Own.{Own}

@@ -1,4 +1,4 @@
-use Rattle.std.proofs.Common.{◌≡◌, ℕ, List, ◌∙◌, [], ◌∷◌, length, ap, sym, refl, subst, inr}
+use Rattle.std.proofs.Common.{◌≡◌, ℕ, ◌∙◌, [], ◌∷◌, length, ap, sym, refl, subst, inr}
 use Rattle.std.specs.List.{flat_map}
 use Rattle.klsm_parts.proofs.FitLemmas.{local_fits}
 use Rattle.klsm_world.specs.OwnSteps.{inserted, inserted_by}
