@@ -10,7 +10,8 @@
 //! let instance = Instance::read(alloc, text)?;                  // capacity,10 and then value,weight
 //! let best = solve_in_turn(&instance);                          // depth first, in one thread
 //! let best = solve::<21>(&rt, alloc, &instance, 4, 16, 64, &Open)?;      // four workers, k = 16
-//! let best = solve_to_the_end::<_, _, 21>(&rt, alloc, &instance, 4, 16, 64, &listeners)?;   // and never full
+//! let options = SearchOptions::new(4, 16, 64);
+//! let best = solve_to_the_end::<_, _, 21>(&rt, alloc, &instance, &options, &listeners)?;   // and never full
 //! ```
 //!
 //! The search goes over the things in the order of its instance: `Instance::steepest_first` gives the
@@ -18,7 +19,7 @@
 //!
 //! - **The answer is a best selection**, for every number of workers, every k, `idle` and gate, and
 //!   whatever the threads do: clause `best` of `solve`; and for every number of nodes that deletions
-//!   move: that of `solve_with_refill`.
+//!   move: that of `solve_to_the_end`.
 //! - **A refusal is that of the least numbered worker that met one.** Of a full board clause `refused` of
 //!   `solve` says so; want of memory could also be that of the board itself. The clauses `bad_threads`,
 //!   `bad_k` and `bad_refill` say when the arguments are refused. No growth stands between the joins and
@@ -48,6 +49,7 @@ mod errors;
 mod incumbent;
 mod incumbent_seat;
 pub mod laws;
+mod options;
 mod rule;
 mod search_state;
 mod solving;
@@ -57,7 +59,8 @@ mod worker;
 pub use errors::{SolveError, UnsolvedError};
 pub use incumbent::{Incumbent, IncumbentSeat};
 pub use klsm_instance::{Best, Instance, Node, ReadError, Reordered, Thing, solve_in_turn};
+pub use options::SearchOptions;
 pub use rule::{Highest, View};
 pub use search_state::Listeners;
-pub use solving::{solve, solve_with_progress, solve_with_refill};
-pub use to_the_end::{solve_to_the_end, solve_to_the_end_with_refill};
+pub use solving::solve;
+pub use to_the_end::solve_to_the_end;

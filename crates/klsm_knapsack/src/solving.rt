@@ -10,6 +10,7 @@ use crate::crew::{join_workers, make_workers, search};
 use crate::ending::conclude;
 use crate::errors::SolveError;
 use crate::incumbent::Incumbent;
+use crate::options::SearchOptions;
 use crate::search_state::{Listeners, NoRoom, SearchState};
 use klsm_board::{Board, Gate, MOST_INSERTIONS, MakeError, Member};
 use klsm_instance::{Best, Instance};
@@ -18,10 +19,6 @@ use std::alloc::Global;
 use std::sync::Wait;
 use std::thread::Threads;
 use std::time::Clock;
-
-/// How many nodes a deletion of a shared one moves to its worker's own at most, where the caller does not
-/// say.
-pub(crate) const REFILL: usize = 16;
 
 /// A best selection, found by `threads` workers over a board with this k.
 ///
@@ -47,87 +44,41 @@ pub fn solve<const LEVELS: usize>(
         ↔ ((1 ≤ threads) × (threads ≤ 16) × (64 < k)) }
     ensures bad_refill { IsErrAnd result (λ why. why ≡ SolveError.BadRefill) ↔ ⊥ }
 {
+    let options = SearchOptions::new(threads, k, idle);
     let listeners = Listeners {
         gate,
         progress: &Silent,
     };
-    solve_with_progress::<_, _, LEVELS>(rt, alloc, instance, threads, k, idle, &listeners)
+    solve_on_board::<_, _, LEVELS>(rt, alloc, instance, &options, &listeners, NoRoom::Refuses)
 }
 
-/// The same, and tells of a long search while it lasts.
-pub fn solve_with_progress<G: Gate, P: Progress, const LEVELS: usize>(
-    rt: &(impl Threads + Wait + Clock + Sync),
-    alloc: Global,
-    instance: &Instance,
-    threads: usize,
-    k: usize,
-    idle: u32,
-    listeners: &Listeners<G, P>,
-) -> Result<Best, SolveError>
-    requires levels { IsLevelCount LEVELS }
-    ensures best { IfOk result (λ best. IsBestAnswer instance.now best) }
-    ensures refused { IfErr result (λ why. RefusesSearch LEVELS threads k why) }
-    ensures bad_threads { IsErrAnd result (λ why. why ≡ SolveError.BadThreads)
-        ↔ ((threads ≡ 0) ⊎ (16 < threads)) }
-    ensures bad_k { IsErrAnd result (λ why. why ≡ SolveError.BadK)
-        ↔ ((1 ≤ threads) × (threads ≤ 16) × (64 < k)) }
-    ensures bad_refill { IsErrAnd result (λ why. why ≡ SolveError.BadRefill) ↔ ⊥ }
-{
-    let refill = k.min(REFILL);
-    solve_with_refill::<G, P, LEVELS>(rt, alloc, instance, threads, k, refill, idle, listeners)
-}
-
-/// The same, where a deletion of a shared node moves at most `refill` more of them to its worker's own,
-/// which is at most k. The answer is a best selection for every `refill`.
-pub fn solve_with_refill<G: Gate, P: Progress, const LEVELS: usize>(
-    rt: &(impl Threads + Wait + Clock + Sync),
-    alloc: Global,
-    instance: &Instance,
-    threads: usize,
-    k: usize,
-    refill: usize,
-    idle: u32,
-    listeners: &Listeners<G, P>,
-) -> Result<Best, SolveError>
-    requires levels { IsLevelCount LEVELS }
-    ensures best { IfOk result (λ best. IsBestAnswer instance.now best) }
-    ensures refused { IfErr result (λ why. RefusesWithRefill LEVELS threads k refill why) }
-    ensures bad_threads { IsErrAnd result (λ why. why ≡ SolveError.BadThreads)
-        ↔ ((threads ≡ 0) ⊎ (16 < threads)) }
-    ensures bad_k { IsErrAnd result (λ why. why ≡ SolveError.BadK)
-        ↔ ((1 ≤ threads) × (threads ≤ 16) × (64 < k)) }
-    ensures bad_refill { IsErrAnd result (λ why. why ≡ SolveError.BadRefill)
-        ↔ ((1 ≤ threads) × (threads ≤ 16) × (k ≤ 64) × (k < refill)) }
-{
-    let no_room = NoRoom::Refuses;
-    solve_on_board::<G, P, LEVELS>(
-        rt, alloc, instance, threads, k, refill, idle, listeners, no_room,
-    )
-}
-
-/// The same, where workers do this with a node that finds no room.
+/// The same with these options and listeners, where workers do this with a node that finds no room.
 pub(crate) fn solve_on_board<G: Gate, P: Progress, const LEVELS: usize>(
     rt: &(impl Threads + Wait + Clock + Sync),
     alloc: Global,
     instance: &Instance,
-    threads: usize,
-    k: usize,
-    refill: usize,
-    idle: u32,
+    options: &SearchOptions,
     listeners: &Listeners<G, P>,
     no_room: NoRoom,
 ) -> Result<Best, SolveError>
     requires levels { IsLevelCount LEVELS }
     ensures best { IfOk result (λ best. IsBestAnswer instance.now best) }
     ensures refused { IfErr result (λ why. no_room ≡ NoRoom.Refuses
-        → RefusesWithRefill LEVELS threads k refill why) }
+        → RefusesWithRefill LEVELS options.now.threads options.now.k options.now.refill why) }
     ensures bad_threads { IsErrAnd result (λ why. why ≡ SolveError.BadThreads)
-        ↔ ((threads ≡ 0) ⊎ (16 < threads)) }
+        ↔ ((options.now.threads ≡ 0) ⊎ (16 < options.now.threads)) }
     ensures bad_k { IsErrAnd result (λ why. why ≡ SolveError.BadK)
-        ↔ ((1 ≤ threads) × (threads ≤ 16) × (64 < k)) }
+        ↔ ((1 ≤ options.now.threads) × (options.now.threads ≤ 16) × (64 < options.now.k)) }
     ensures bad_refill { IsErrAnd result (λ why. why ≡ SolveError.BadRefill)
-        ↔ ((1 ≤ threads) × (threads ≤ 16) × (k ≤ 64) × (k < refill)) }
+        ↔ ((1 ≤ options.now.threads) × (options.now.threads ≤ 16) × (options.now.k ≤ 64)
+        × (options.now.k < options.now.refill)) }
 {
+    let SearchOptions {
+        threads,
+        k,
+        refill,
+        idle,
+    } = *options;
     let (board, members) = board_for::<LEVELS>(alloc, threads, k, refill)?;
     let Ok((incumbent, mut first)) = Incumbent::new(alloc, instance) else {
         return Err(SolveError::NoMemory);

@@ -6,7 +6,9 @@ ghost use Rattle.klsm_tool.specs.Knapsack.{Solves, SolvesProblem, RefusesIn, Wri
 
 use crate::advising::advise_on_instance;
 use klsm_board::Gate;
-use klsm_knapsack::{Best, Instance, Listeners, ReadError, UnsolvedError, solve_to_the_end};
+use klsm_knapsack::{
+    Best, Instance, Listeners, ReadError, SearchOptions, UnsolvedError, solve_to_the_end,
+};
 use klsm_progress::{Progress, Silent};
 use klsm_text::{End, NO_MEMORY, Report, refusal_text, selection_text, write_last};
 use klsm_words::Search;
@@ -120,15 +122,8 @@ fn solve_heard<P: AllocGlobal + Wait + Clock + Threads + Sync, G: Gate, H: Progr
     ensures best { IfOk result (λ best. IsBestAnswer instance.now best) }
 {
     listeners.progress.begins(None);
-    let answer = solve_to_the_end::<G, H, 21>(
-        rt,
-        rt.alloc(),
-        instance,
-        search.threads,
-        search.k,
-        search.idle,
-        listeners,
-    );
+    let options = SearchOptions::new(search.threads, search.k, search.idle);
+    let answer = solve_to_the_end::<G, H, 21>(rt, rt.alloc(), instance, &options, listeners);
     listeners.progress.ended();
     answer
 }

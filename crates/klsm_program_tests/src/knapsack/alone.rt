@@ -3,9 +3,7 @@ ghost use Rattle.klsm_parts.specs.Limit.{IsLevelCount};
 
 use super::worked::{BEST, worked};
 use klsm_board::Open;
-use klsm_knapsack::{
-    Best, Instance, Listeners, UnsolvedError, solve_to_the_end, solve_to_the_end_with_refill,
-};
+use klsm_knapsack::{Best, Instance, Listeners, SearchOptions, UnsolvedError, solve_to_the_end};
 use klsm_tool::{Counted, Progress, Silent};
 use std::alloc::Global;
 use std::sync::Wait;
@@ -27,7 +25,8 @@ fn solved<const LEVELS: usize>(
         gate: &Open,
         progress: &Silent,
     };
-    Some(solve_to_the_end::<_, _, LEVELS>(rt, alloc, &instance, threads, k, 4, &listeners))
+    let options = SearchOptions::new(threads, k, 4);
+    Some(solve_to_the_end::<_, _, LEVELS>(rt, alloc, &instance, &options, &listeners))
 }
 
 #[test]
@@ -54,9 +53,11 @@ fn refilled(
         gate: &Open,
         progress: &Silent,
     };
-    Some(solve_to_the_end_with_refill::<_, _, 2>(
-        rt, alloc, &instance, threads, k, refill, 4, &listeners,
-    ))
+    let options = SearchOptions {
+        refill,
+        ..SearchOptions::new(threads, k, 4)
+    };
+    Some(solve_to_the_end::<_, _, 2>(rt, alloc, &instance, &options, &listeners))
 }
 
 #[test]
@@ -98,7 +99,8 @@ fn searched_alone(rt: &(impl Threads + Wait + Clock + Sync), alloc: Global) -> O
         gate: &Open,
         progress: &examined,
     };
-    let best = solve_to_the_end::<_, _, 1>(rt, alloc, &instance, 1, 0, 1, &listeners).ok()?;
+    let options = SearchOptions::new(1, 0, 1);
+    let best = solve_to_the_end::<_, _, 1>(rt, alloc, &instance, &options, &listeners).ok()?;
     Some((best.value, examined.0.load(Ordering::SeqCst)))
 }
 

@@ -1,7 +1,7 @@
 //! Drawn instances, whose best selection is found by a plain loop over all.
 
 use klsm_board::Open;
-use klsm_knapsack::{Instance, Listeners, solve, solve_in_turn, solve_to_the_end};
+use klsm_knapsack::{Instance, Listeners, SearchOptions, solve, solve_in_turn, solve_to_the_end};
 use klsm_test_support::add_words;
 use klsm_tool::Silent;
 use rand_core::{Rng, SeedableRng};
@@ -93,7 +93,8 @@ fn agrees_alone(
         gate: &Open,
         progress: &Silent,
     };
-    match solve_to_the_end::<_, _, 2>(rt, alloc, instance, threads, k, 4, &listeners) {
+    let options = SearchOptions::new(threads, k, 4);
+    match solve_to_the_end::<_, _, 2>(rt, alloc, instance, &options, &listeners) {
         Ok(found) => is_best(instance, best, found.value, found.picks),
         Err(_) => false,
     }

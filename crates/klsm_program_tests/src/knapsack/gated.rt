@@ -4,7 +4,7 @@
 use super::worked::{BEST, worked};
 use crate::three::Three;
 use klsm_board::Gate;
-use klsm_knapsack::{Instance, Listeners, solve, solve_to_the_end};
+use klsm_knapsack::{Instance, Listeners, SearchOptions, solve, solve_to_the_end};
 use klsm_test_support::{LOOKS, Meeting};
 use klsm_tool::{Counted, Progress};
 use std::alloc::Global;
@@ -135,7 +135,8 @@ fn heard_of(
         gate: &listening,
         progress: &listening,
     };
-    let best = solve_to_the_end::<_, _, 21>(rt, alloc, &instance, 3, 1, 8, &listeners).ok()?;
+    let options = SearchOptions::new(3, 1, 8);
+    let best = solve_to_the_end::<_, _, 21>(rt, alloc, &instance, &options, &listeners).ok()?;
     let heard = listening.heard.load(Ordering::SeqCst);
     Some((best.value, heard, listening.joined.load(Ordering::SeqCst)))
 }

@@ -22,7 +22,7 @@ search-requires-after_bounds g c κs within =
     let state : SearchState g.row.LEVELS = record { board = board; incumbent = c.in-Ok.incumbent; no_room = c.args.no_room } in
     let workers : List (Worker g.row.LEVELS) = c.in-Ok-make_workers.crew.items in
     let made = c.in_ok-board.ensures in
-    let threads : board.sizes.threads ≡ c.args.threads = ap (λ (m : Sizes). m.threads) made.sizes in
+    let threads : board.sizes.threads ≡ c.args.options.now.threads = ap (λ (m : Sizes). m.threads) made.sizes in
     let quota : board.sizes.quota ≡ most_insertions = ap (λ (m : Sizes). m.quota) made.sizes in
     let some_thread : 0 < board.sizes.threads = omega (arith, threads, made.in_range.0) in
     let crew : AreWorkersOf state workers = workers_made state workers c.in_ok-board.members.items c.in-Ok-make_workers.ensures.members made.crew some_thread c.in-Ok-make_workers.ensures.seats in
@@ -37,7 +37,7 @@ join_workers-requires g c =
     let crew : AreWorkersOf state after = c.search.ensures.crew in
     let as_long : c.in-Ok-make_workers.crew.len ≡ length after = search rules in
     let is : take c.in-Ok-make_workers.crew.len (after ++ drop (length after) c.in-Ok-make_workers.crew.items) ≡ after = whole c.in-Ok-make_workers.crew.len after (drop (length after) c.in-Ok-make_workers.crew.items) as_long in
-    let threads : c.in_ok-board.board.sizes.threads ≡ c.args.threads = ap (λ (m : Sizes). m.threads) c.in_ok-board.ensures.sizes in
+    let threads : c.in_ok-board.board.sizes.threads ≡ c.args.options.now.threads = ap (λ (m : Sizes). m.threads) c.in_ok-board.ensures.sizes in
     let room : length after ≤ vec_capacity c.in-Ok-with_capacity.back = omega (arith, so_many_workers state after crew, threads, c.in-Ok-with_capacity.ensures.exact) in
     let seats : All (λ (w : Worker g.row.LEVELS). IsSeatAt c.in-Ok.incumbent w.seat) after = crew.seats in (
       lit< tt,
@@ -61,9 +61,9 @@ returns-in-Err-clause-refused g c = λ not_alone.
     let is : take c.in-Ok-make_workers.crew.len (after ++ drop (length after) c.in-Ok-make_workers.crew.items) ≡ after = whole c.in-Ok-make_workers.crew.len after (drop (length after) c.in-Ok-make_workers.crew.items) as_long in
     let first = rw is at c.in-Err.ensures.refused in
     let least : IsLeastRefusal g.row.LEVELS c.in_ok-board.board.sizes c.in-Err.why = least_refusal state after c.search.ensures.crew c.in-Err.why (subst (λ (m : NoRoom). All (HasEndedSo m) after) not_alone c.search.ensures.ended) first in
-    let told = refused_too g.row.LEVELS (sizes_of c.args.threads c.args.k) c.args.refill c.in-Err.why (subst (λ (m : Sizes). IsLeastRefusal g.row.LEVELS m c.in-Err.why) c.in_ok-board.ensures.sizes least) in
-    subst (λ (why : SolveError). RefusesWithRefill g.row.LEVELS c.args.threads c.args.k c.args.refill why) (sym c.error.ensures)
-    (refuses g.row.LEVELS c.args.threads c.args.k c.args.refill c.in-Err.why c.in_ok-board.ensures.in_range told)
+    let told = refused_too g.row.LEVELS (sizes_of c.args.options.now.threads c.args.options.now.k) c.args.options.now.refill c.in-Err.why (subst (λ (m : Sizes). IsLeastRefusal g.row.LEVELS m c.in-Err.why) c.in_ok-board.ensures.sizes least) in
+    subst (λ (why : SolveError). RefusesWithRefill g.row.LEVELS c.args.options.now.threads c.args.options.now.k c.args.options.now.refill why) (sym c.error.ensures)
+    (refuses g.row.LEVELS c.args.options.now.threads c.args.options.now.k c.args.options.now.refill c.in-Err.why c.in_ok-board.ensures.in_range told)
 
 pub finish-requires : goal.finish-requires
 finish-requires g c =
