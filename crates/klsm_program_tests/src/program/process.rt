@@ -8,17 +8,27 @@ use std::io::{Error, ErrorKind, Read, Write};
 use std::rt::Env;
 use std::sync::Wait;
 use std::thread::Threads;
-use std::time::Clock;
+use std::time::{Clock, Duration};
 
 /// A process that was given these words, of which the first is the program's path.
 #[derive(Drop)]
 pub(super) struct Process<'a, R> {
-    /// Where threads are made and may wait.
+    /// Where threads are made and may wait, and whose clock they look at.
     pub rt: &'a R,
     pub words: &'a [&'a [u8]],
 }
 
-impl<R: Wait + Clock> Wait for Process<'_, R> {}
+impl<R: Wait> Wait for Process<'_, R> {}
+
+impl<R: Clock> Clock for Process<'_, R> {
+    fn monotonic(&self) -> io::Result<Duration> {
+        self.rt.monotonic()
+    }
+
+    fn since_1970(&self) -> io::Result<Duration> {
+        self.rt.since_1970()
+    }
+}
 
 impl<R: Threads> Threads for Process<'_, R> {}
 
