@@ -32,8 +32,8 @@ pub(crate) mod code {
 
 /// One member's slot, on two cache lines, since processors fetch two at once.
 ///
-/// The library writes to it in each call, also where it only reads a count: it takes the member out and
-/// puts it back. So all of it is in a cell.
+/// The library writes to it in each call, also where it only reads a count, so that a tool which looks for
+/// races sees two calls at once. So all of it is in a cell.
 #[repr(C, align(128))]
 pub(crate) struct Slot(UnsafeCell<Fields>);
 

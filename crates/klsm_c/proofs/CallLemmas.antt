@@ -1,4 +1,4 @@
--- What a call tells, by the member that was taken out of the slot and put back.
+-- What a call tells, by the member that the slot lent.
 use Rattle.std.proofs.Common.{◌≡◌, ℕ, List, [], ◌∷◌, Result, Option, refl, sym, subst}
 use Rattle.std.specs.Prelude.{ℤ, pos}
 use Rattle.klsm_run.specs.declared.item.Item.{Item}

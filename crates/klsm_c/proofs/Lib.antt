@@ -1,4 +1,5 @@
 pub mod ListLemmas  -- lists whose front is written over
+pub mod HeldLemmas  -- what a handle has that has one member
 mod SlotLemmas  -- the members in the slots
 mod CallLemmas  -- what a call of a slot tells
 mod SumLemmas  -- the items of the members' lists, slot by slot

@@ -115,7 +115,7 @@ fn close_slots(
     let Ok(mut members) = Vec::with_capacity(alloc, slots.len()) else {
         return Err(CloseError::NoMemory);
     };
-    let count = count_left(alloc, slots);
+    let count = count_left(slots);
     let Ok(items) = Vec::with_capacity(alloc, count as usize) else {
         return Err(CloseError::NoMemory);
     };
@@ -129,7 +129,7 @@ fn close_slots(
 }
 
 // How many items are left: those inserted by the members in these slots less those deleted by them.
-fn count_left(alloc: Global, slots: &mut [Slot]) -> u64
+fn count_left(slots: &mut [Slot]) -> u64
     requires few { length slots.old ≤ 16 }
     ensures same { held_in slots.new ≡ held_in slots.old }
     ensures count { length (flat_map inserted (all_steps (owned_in slots.old)))
@@ -138,7 +138,7 @@ fn count_left(alloc: Global, slots: &mut [Slot]) -> u64
     let mut inserted: u64 = 0;
     let mut deleted: u64 = 0;
     for i in 0..slots.len() {
-        let counts = counts_of(alloc, &mut slots[i]);
+        let counts = counts_of(&mut slots[i]);
         inserted += counts.0;
         deleted += counts.1;
     }
@@ -146,13 +146,13 @@ fn count_left(alloc: Global, slots: &mut [Slot]) -> u64
 }
 
 // How many items the slot's member inserted and deleted.
-fn counts_of(alloc: Global, slot: &mut Slot) -> (u64, u64)
+fn counts_of(slot: &mut Slot) -> (u64, u64)
     ensures counts { (result.0 ≡ inserted_in slot.old.handle.held)
         × (result.1 ≡ deleted_in slot.old.handle.held) }
     ensures within { (result.0 ≤ most_insertions) × (result.1 ≤ most_deletions) }
     ensures same { slot.new.handle.held ≡ slot.old.handle.held }
 {
-    (klsm_inserted(alloc, slot), klsm_deleted(alloc, slot))
+    (klsm_inserted(slot), klsm_deleted(slot))
 }
 
 // Takes the members out of their slots, in order, and answers the last share of the board.

@@ -1,5 +1,6 @@
 // A member on the heap, behind a pointer that names no type, so that C can keep it.
 ghost use Rattle.std.specs.Prelude.{◌≡◌, ◌∷◌, [], List, length};
+ghost use Rattle.std.specs.Borrow.{sem};
 ghost use base.Stored.{coded_list};
 ghost use Rattle.klsm_owned.specs.contracts.owned.OwnedMember.{the_row};
 ghost use Rattle.klsm_owned.specs.declared.owned.OwnedMember.{OwnedMember as Owned};
@@ -23,6 +24,8 @@ impl Model for Handle {
 }
 
 impl Handle {
+    ghost use Rattle.klsm_c.specs.Lending.{LendsMember};
+
     /// No member.
     pub fn empty() -> Handle
         ensures { result.held ≡ [] }
@@ -50,6 +53,16 @@ impl Handle {
             at: at as *mut OwnedMember,
             alloc,
         }
+    }
+
+    /// Lends the member where it lies.
+    #[inline]
+    pub fn member_mut(&mut self) -> &mut OwnedMember
+        requires { length self.old.held ≡ 1 }
+        ensures* writes_back { sem 𝓛 (LendsMember self.entry result) }
+        ensures value { self.old.held ≡ result.now ∷ [] }
+    {
+        unsafe { &mut *(self.at as *mut OwnedMember) }
     }
 }
 

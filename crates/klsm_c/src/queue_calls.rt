@@ -5,53 +5,52 @@ ghost use Rattle.klsm_c.specs.Calls.{CallsSlot, DeletesBySlot, InsertsBySlot, Lo
 use crate::calls::{klsm_deleted, klsm_front, klsm_inserted, klsm_try_delete_min, klsm_try_insert};
 use crate::item::PlainItem;
 use crate::queue::Queue;
-use std::alloc::Global;
 
 impl Queue {
     /// Inserts by the member of this number, as C does by a pointer to its slot. The members stay those of
     /// one board.
-    pub fn try_insert(&mut self, alloc: Global, number: usize, key: u64, load: u64) -> i32
+    pub fn try_insert(&mut self, number: usize, key: u64, load: u64) -> i32
         requires { number < 16 }
         ensures { CallsSlot number self.old.slots self.new.slots
             (λ before after. InsertsBySlot before after key load result) }
     {
-        klsm_try_insert(alloc, &mut self.slots[number], key, load)
+        klsm_try_insert(&mut self.slots[number], key, load)
     }
 
     /// Deletes a small item by the member of this number, as C does by a pointer to its slot. The members
     /// stay those of one board.
-    pub fn try_delete_min(&mut self, alloc: Global, number: usize, item: &mut PlainItem) -> i32
+    pub fn try_delete_min(&mut self, number: usize, item: &mut PlainItem) -> i32
         requires { number < 16 }
         ensures { CallsSlot number self.old.slots self.new.slots
             (λ before after. DeletesBySlot before after item.old item.new result) }
     {
-        klsm_try_delete_min(alloc, &mut self.slots[number], item)
+        klsm_try_delete_min(&mut self.slots[number], item)
     }
 
     /// The front, as C asks for it by a pointer to this slot. The members stay those of one board.
-    pub fn front(&mut self, alloc: Global, number: usize) -> u64
+    pub fn front(&mut self, number: usize) -> u64
         requires { number < 16 }
         ensures { CallsSlot number self.old.slots self.new.slots
             (λ before after. LooksAt before after result) }
     {
-        klsm_front(alloc, &mut self.slots[number])
+        klsm_front(&mut self.slots[number])
     }
 
     /// How many insertions the member of this number has made, and 0 where it is not open.
-    pub fn inserted(&mut self, alloc: Global, number: usize) -> u64
+    pub fn inserted(&mut self, number: usize) -> u64
         requires { number < 16 }
         ensures { CallsSlot number self.old.slots self.new.slots
             (λ before after. (result ≡ inserted_in before) × (after ≡ before)) }
     {
-        klsm_inserted(alloc, &mut self.slots[number])
+        klsm_inserted(&mut self.slots[number])
     }
 
     /// How many items it has deleted, and 0 where it is not open.
-    pub fn deleted(&mut self, alloc: Global, number: usize) -> u64
+    pub fn deleted(&mut self, number: usize) -> u64
         requires { number < 16 }
         ensures { CallsSlot number self.old.slots self.new.slots
             (λ before after. (result ≡ deleted_in before) × (after ≡ before)) }
     {
-        klsm_deleted(alloc, &mut self.slots[number])
+        klsm_deleted(&mut self.slots[number])
     }
 }

@@ -1,5 +1,6 @@
 //! A handle with the number that says whether it has a member.
 ghost use Rattle.std.specs.Prelude.{◌≡◌, ◌∷◌, [], ◌≤◌, nat_lt, length, MatchOption};
+ghost use Rattle.std.specs.Borrow.{sem};
 
 use crate::handle::Handle;
 use crate::raw_box::RawBox;
@@ -19,6 +20,8 @@ pub struct Slot {
 }
 
 impl Slot {
+    ghost use Rattle.klsm_c.specs.Lending.{LendsFromSlot};
+
     /// A slot as C begins with it.
     pub fn closed() -> Slot
         ensures { result.handle.held ≡ [] }
@@ -34,6 +37,23 @@ impl Slot {
         ensures { result ≡ nat_lt 0 (length self.now.handle.held) }
     {
         self.live != 0
+    }
+
+    /// Lends the member where it lies, if there is one.
+    ///
+    /// The slot is written to, also for a call that reads its member alone: so a tool that looks for races
+    /// sees two calls of one member at once.
+    #[inline]
+    pub(crate) fn member_mut(&mut self) -> Option<&mut OwnedMember>
+        ensures* writes_back { sem 𝓛 (LendsFromSlot self.entry result) }
+        ensures value { MatchOption result (self.old.handle.held ≡ [])
+            (λ member. self.old.handle.held ≡ member.now ∷ []) }
+    {
+        if self.live == 0 {
+            return None;
+        }
+        self.live = 1;
+        Some(self.handle.member_mut())
     }
 
     /// Takes the member out, if there is one.

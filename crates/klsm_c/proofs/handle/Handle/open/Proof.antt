@@ -1,5 +1,5 @@
 -- `open` gives the pointer its type again.
-use Rattle.std.proofs.Common.{◌≡◌, List, [], ◌∷◌, ◌++◌, length, arith, refl, sym, ap, subst, ◌∙◌}
+use Rattle.std.proofs.Common.{◌≡◌, List, [], ◌∷◌, ◌++◌, length, refl, sym, ap, subst, ◌∙◌}
 use mir.Val.{Val, vptr, vstruct, vcons, vnil, of_list}
 use mir.Raw.{raw as bare}
 use base.Logic.{SProp, ent, id⊢, fst∗, never}
@@ -34,17 +34,13 @@ use Rattle.klsm_c.specs.contracts.handle.Handle as handle
 use Rattle.klsm_c.specs.contracts.handle.Handle.open as f
 use Rattle.klsm_c.proofs.handle.Handle.open.Statement.{statement}
 use Rattle.klsm_c.proofs.handle.Handle.open.Code as code
+use Rattle.klsm_c.proofs.HeldLemmas.{one}
 
 abbrev Parts : RattleType
 Parts = raw_box.the_row owned.the_row heap.the_row ghosts
 
 abbrev stayed : Stays f.ended.signature.params f.ended.kept
 stayed = (stay_dropped (plain (λ _. handle.the_row)) yes, (stay_dropped (plain (λ _. heap.the_row)) yes, tt))
-
-one : (xs : List OwnedMember) → length xs ≡ 1 → (x : OwnedMember) × (xs ≡ x ∷ [])
-one [] e = let no : ⊥ = omega arith in absurd no
-one (x ∷ []) e = (x, refl)
-one (x ∷ y ∷ xs) e = let no : ⊥ = omega arith in absurd no
 
 pub open_spec : {M : Type 1} → statement M
 unfolding held_owns
