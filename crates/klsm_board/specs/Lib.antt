@@ -13,5 +13,6 @@ pub mod Knowing  -- what a seat knows that has the lists of several threads
 pub mod Together  -- all members of a board in one hand
 pub mod Steps  -- what a step on a lock tells
 pub mod Seats  -- what a seat has between two steps
+pub mod TakingOut  -- what a deletion does to two parts while it has both
 pub mod Slots  -- the parts as slots have them
 pub mod Members  -- what always holds of a member; no public contract cites it

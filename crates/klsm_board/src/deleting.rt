@@ -1,20 +1,21 @@
 //! Deletion. It takes effect where the front is looked at, where it is set, or where the shared lock is
 //! released.
-ghost use Rattle.std.specs.Prelude.{◌≡◌, ◌≢◌, ◌≤◌, ◌++◌, ℕ, List, [], ◌∷◌, length, IfOk, IfErr, MatchOption};
+ghost use Rattle.std.specs.Prelude.{◌≡◌, ◌++◌, ℕ, List, [], ◌∷◌, IfOk, IfErr, MatchOption};
 ghost use Rattle.klsm_run.specs.declared.item.Item.{Item};
 ghost use Rattle.klsm_run.specs.Content.{ShareNone};
-ghost use Rattle.klsm_parts.specs.Events.{MayTake, MayFindNothing, MayRefill, own_after_take, shared_after_take, own_after_refill, shared_after_refill, front_of};
+ghost use Rattle.klsm_parts.specs.Events.{MayTake, MayFindNothing, own_after_take, shared_after_take};
 ghost use Rattle.klsm_parts.specs.Refilling.{refill_of};
 ghost use Rattle.klsm_world.specs.declared.step.Event.TheVariants.{Take};
 ghost use Rattle.klsm_world.specs.declared.step.Entry.TheVariants.{Committed};
-ghost use Rattle.klsm_world.specs.OwnSteps.{shared_part, hand_of};
+ghost use Rattle.klsm_world.specs.OwnSteps.{hand_of};
 ghost use Rattle.klsm_world.specs.OwnListLaws.{SkipsFew, KeepsOwnOrder};
 ghost use Rattle.klsm_board.specs.Rule.{world_limits};
-ghost use Rattle.klsm_board.specs.Steps.{mine, rest_of};
+ghost use Rattle.klsm_board.specs.Steps.{mine, rest_of, AreReached};
 ghost use Rattle.klsm_board.specs.Seats.{Carries, Stands, Has, CarriedOut, QuotaAllows, LeavesShared, SetsFront, IsSeatOf, both_in_hand};
 ghost use Rattle.klsm_board.specs.Entries.{both_released};
 ghost use Rattle.klsm_board.specs.Choosing.{Chooses};
 ghost use Rattle.klsm_board.specs.Effects.{MeetsHolder, TakesEffect};
+ghost use Rattle.klsm_board.specs.TakingOut.{RefillsInHand, TakesTo};
 ghost use Rattle.klsm_board.specs.Deleting.{AnswersDeletion, Deletes, FindsNothing, MissesDeletion, refilled, refilled_after};
 
 use crate::acquiring::try_acquire;
@@ -27,6 +28,7 @@ use crate::spying::search_victims;
 use crate::steps::{
     Refilling, commit_by_front, commit_event, commit_moving_by_front, release_both, release_part,
 };
+use crate::taking::{Fronts, take_and_refill};
 use klsm_parts::Picker;
 use klsm_run::Item;
 use klsm_world::Event;
@@ -140,113 +142,84 @@ fn take_both_out<S: PartSlot, P: Picker>(
         ≡ mine seat.old.me.0 ++ Committed (Take item)
         ∷ (refilled_after refill table.now.key.k own shared item ++ both_released thread))) }
 {
-    let (item, front) = take_out(table, seat, thread, picker)?;
-    match front {
-        Some(front) => release_by_front(table, seat, threads, thread, refill, front, item),
+    let (item, fronts) = take_out(table, seat, thread, refill, picker)?;
+    match fronts {
+        Some(fronts) => release_by_front(table, seat, threads, thread, fronts, item),
         None => release_committed(table, seat, thread, &Event::Take(item)),
     }
     Some(item)
 }
 
-// Commits the deletion of a shared item, which was taken out of the two parts in hand, by setting the
-// front, moves the least shared items to the own part, at most `refill`, and releases both parts.
+// Commits the deletion of a shared item by setting the front, and then, where items moved to the own part, that;
+// and releases both parts. The seat carries what both events leave.
 fn release_by_front<S: PartSlot>(
     table: &Locks<S>,
     seat: &mut MemberSeat<S>,
     threads: usize,
     thread: usize,
-    refill: usize,
-    front: u64,
+    fronts: Fronts,
     item: Item,
 )
-    requires sized { S.is_sized }
     requires seat { IsSeatOf seat.old.table_id table.now.table_id table.now.key thread }
     requires threads { threads ≡ table.now.key.threads }
     requires room { QuotaAllows table.now.key.quota (mine seat.old.me.0) (Take item) }
-    requires sets { SetsFront thread (hand_of thread (mine seat.old.me.0)) (Take item) front }
-    requires out { (own : List Item) × (shared : List Item)
-        × CarriedOut S.content S.suits table.now.key thread (Take item)
-        (both_in_hand thread own shared) seat.old.me }
+    requires sets { SetsFront thread (hand_of thread (mine seat.old.me.0)) (Take item) fronts.taken }
+    requires out { (most : ℕ) × (own : List Item) × (shared : List Item)
+        × (hand_of thread (mine seat.old.me.0) ≡ both_in_hand thread own shared)
+        × MayTake table.now.key.k thread own shared item
+        × RefillsInHand S.content S.suits table.now.key thread most (own_after_take own item)
+        (shared_after_take own shared item) fronts.refilled seat.old.me }
     ensures same { seat.new.table_id ≡ seat.old.table_id }
     ensures others { rest_of seat.new.me.0 ≡ rest_of seat.old.me.0 }
     ensures has { Has S.content S.suits table.now.key thread [] seat.new.me }
-    ensures list { (own : List Item) → (shared : List Item)
-        → CarriedOut S.content S.suits table.now.key thread (Take item)
-        (both_in_hand thread own shared) seat.old.me
+    ensures list { (most : ℕ) (own shared : List Item)
+        → hand_of thread (mine seat.old.me.0) ≡ both_in_hand thread own shared
+        → RefillsInHand S.content S.suits table.now.key thread most (own_after_take own item)
+        (shared_after_take own shared item) fronts.refilled seat.old.me
         → mine seat.new.me.0 ≡ mine seat.old.me.0 ++ Committed (Take item)
-        ∷ (refilled (refill_of refill table.now.key.k own shared) ++ both_released thread) }
+        ∷ (refilled (refill_of most table.now.key.k (own_after_take own item)
+        (shared_after_take own shared item)) ++ both_released thread) }
 {
-    commit_by_front(table, seat, threads, thread, front, &Event::Take(item));
-    refill_own(table, seat, threads, thread, refill);
+    commit_by_front(
+        table,
+        seat,
+        threads,
+        thread,
+        fronts.taken,
+        &Event::Take(item),
+    );
+    commit_refill(table, seat, threads, thread, fronts.refilled);
     release_both(table, seat, thread);
 }
 
-// Moves the least shared items to the own part, at most `refill` and as many as it has room for, and
-// commits that by setting the front. The seat keeps both parts.
-fn refill_own<S: PartSlot>(
+// Commits a moving of shared items to the own part by setting the front, where some moved. The seat keeps both
+// parts.
+fn commit_refill<S: PartSlot>(
     table: &Locks<S>,
     seat: &mut MemberSeat<S>,
     threads: usize,
     thread: usize,
-    refill: usize,
+    front: Option<u64>,
 )
-    requires sized { S.is_sized }
     requires seat { IsSeatOf seat.old.table_id table.now.table_id table.now.key thread }
     requires threads { threads ≡ table.now.key.threads }
-    requires has { (own : List Item) × (shared : List Item)
-        × Has S.content S.suits table.now.key thread (both_in_hand thread own shared) seat.old.me }
+    requires reached { AreReached table.now.key thread seat.old.me.0 }
+    requires out { (most : ℕ) × (own : List Item) × (shared : List Item)
+        × (hand_of thread (mine seat.old.me.0) ≡ both_in_hand thread own shared)
+        × RefillsInHand S.content S.suits table.now.key thread most own shared front seat.old.me }
     ensures same { seat.new.table_id ≡ seat.old.table_id }
     ensures others { rest_of seat.new.me.0 ≡ rest_of seat.old.me.0 }
     ensures has { (own : List Item) × (shared : List Item)
         × Has S.content S.suits table.now.key thread (both_in_hand thread own shared) seat.new.me }
-    ensures list { (own : List Item) → (shared : List Item)
-        → Has S.content S.suits table.now.key thread (both_in_hand thread own shared) seat.old.me
+    ensures list { (most : ℕ) (own shared : List Item)
+        → hand_of thread (mine seat.old.me.0) ≡ both_in_hand thread own shared
+        → RefillsInHand S.content S.suits table.now.key thread most own shared front seat.old.me
         → mine seat.new.me.0
-        ≡ mine seat.old.me.0 ++ refilled (refill_of refill table.now.key.k own shared) }
+        ≡ mine seat.old.me.0 ++ refilled (refill_of most table.now.key.k own shared) }
 {
-    if refill == 0 {
-        return;
-    }
-    if let Some(front) = refill_in(table, seat, thread, refill) {
+    if let Some(front) = front {
         commit_moving_by_front(table, seat, threads, thread, front, &Refilling);
     }
-}
-
-// Moves the least shared items to the own part, at most `refill` and as many as it has room for. The seat
-// carries both. It answers the front of what the shared part then has, where some moved.
-fn refill_in<S: PartSlot>(
-    table: &Locks<S>,
-    seat: &mut MemberSeat<S>,
-    thread: usize,
-    refill: usize,
-) -> Option<u64>
-    requires sized { S.is_sized }
-    requires seat { IsSeatOf seat.old.table_id table.now.table_id table.now.key thread }
-    requires carries { (own : List Item) × (shared : List Item)
-        × Carries S.content S.suits table.now.key thread (both_in_hand thread own shared)
-        seat.old.me
-        × ShareNone own shared }
-    ensures same { (seat.new.table_id ≡ seat.old.table_id) × (seat.new.id ≡ seat.old.id)
-        × (seat.new.me.0 ≡ seat.old.me.0) }
-    ensures done { (own : List Item) → (shared : List Item)
-        → Carries S.content S.suits table.now.key thread (both_in_hand thread own shared)
-        seat.old.me
-        → MatchOption result
-        ((refill_of refill table.now.key.k own shared ≡ [])
-        × Carries S.content S.suits table.now.key thread (both_in_hand thread own shared)
-        seat.new.me)
-        (λ front. MayRefill table.now.key.k own shared (refill_of refill table.now.key.k own shared)
-        × Carries S.content S.suits table.now.key thread (both_in_hand thread
-        (own_after_refill own (refill_of refill table.now.key.k own shared))
-        (shared_after_refill shared (refill_of refill table.now.key.k own shared))) seat.new.me
-        × (front ≡ front_of
-        (shared_after_refill shared (refill_of refill table.now.key.k own shared)))) }
-{
-    let mut shared = lend_shared(table, seat, thread);
-    let moves = seat.slot_mut(table, thread + 1).refill(&mut shared, refill);
-    let front = shared.front();
-    return_shared(table, seat, thread, shared);
-    if moves { Some(front) } else { None }
 }
 
 // Commits an event that inserts nothing, leaves the shared part and was carried out in the two parts in
@@ -273,14 +246,15 @@ fn release_committed<S: PartSlot>(
     release_part(table, seat, thread + 1, thread);
 }
 
-// Takes an item out of the two parts that the seat carries, and answers it with the front of what the
-// shared part then has, where it is from there.
+// Takes an item out of the two parts that the seat carries. Where it was a shared one, the least shared items move
+// to the own part, at most `refill`, and it is answered with the fronts that this leaves.
 fn take_out<S: PartSlot, P: Picker>(
     table: &Locks<S>,
     seat: &mut MemberSeat<S>,
     thread: usize,
+    refill: usize,
     picker: &mut P,
-) -> Option<(Item, Option<u64>)>
+) -> Option<(Item, Option<Fronts>)>
     requires sized { S.is_sized }
     requires seat { IsSeatOf seat.old.table_id table.now.table_id table.now.key thread }
     requires carries { (own : List Item) × (shared : List Item)
@@ -298,31 +272,15 @@ fn take_out<S: PartSlot, P: Picker>(
         seat.new.me
         × (picker.new ≡ picker.old))
         (λ taken. MayTake table.now.key.k thread own shared taken.0
-        × Carries S.content S.suits table.now.key thread (both_in_hand thread
-        (own_after_take own taken.0) (shared_after_take own shared taken.0)) seat.new.me
         × Chooses P.may_pick picker.old picker.new table.now.key.k thread own shared taken.0
-        × MatchOption taken.1 (shared_after_take own shared taken.0 ≡ shared)
-        (λ front. (shared_after_take own shared taken.0 ≢ shared)
-        × (front ≡ front_of (shared_after_take own shared taken.0)))) }
+        × ((own' : List Item) × (shared' : List Item)
+        × Carries S.content S.suits table.now.key thread (both_in_hand thread own' shared')
+        seat.new.me
+        × TakesTo refill table.now.key.k own shared taken.0 taken.1 own' shared')) }
 {
     let mut shared = lend_shared(table, seat, thread);
-    let count = shared.len();
-    let answer = seat
-        .slot_mut(table, thread + 1)
-        .take(thread as u32, &mut shared, picker);
-    let front = front_if_changed(&shared, count);
+    let own = seat.slot_mut(table, thread + 1);
+    let taken = take_and_refill(own, &mut shared, thread as u32, refill, picker);
     return_shared(table, seat, thread, shared);
-    Some((answer?, front))
-}
-
-// The front of a shared part which has no longer so many items.
-fn front_if_changed<S: PartSlot>(shared: &S, count: usize) -> Option<u64>
-    requires { (k : ℕ) × S.suits k shared_part shared.now }
-    ensures { MatchOption result (length (S.content shared.now) ≡ count)
-        (λ front. (length (S.content shared.now) ≢ count) × (front ≡ front_of (S.content shared.now))) }
-{
-    if shared.len() == count {
-        return None;
-    }
-    Some(shared.front())
+    taken
 }

@@ -72,7 +72,7 @@
 //! The files, from the atomic steps up: `rule` and `plays` (what always holds, and what a step tells),
 //! `steps` (acquire, release, the two commits, the look at the front), `slot` (what is done to the parts),
 //! `lending`, `acquiring` (one try, or as many as it needs), `inserting`, `spying`, `early` (deletions by the
-//! front), `deleting`, and the public calls in `making`, `member`, `held`, `together` and `finishing`. `tally` has the
+//! front), `taking`, `deleting`, and the public calls in `making`, `member`, `held`, `together` and `finishing`. `tally` has the
 //! counts of members that are in one hand. `gate` is for programs that run members in threads.
 #![tactic(auto)]
 
@@ -97,6 +97,7 @@ mod sizes;
 mod slot;
 mod spying;
 mod steps;
+mod taking;
 mod tally;
 mod together;
 

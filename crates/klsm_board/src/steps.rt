@@ -10,7 +10,7 @@ ghost use Rattle.klsm_parts.specs.Least.{IsLeast};
 ghost use Rattle.klsm_board.specs.Rule.{place, view, SeesFront};
 ghost use Rattle.klsm_board.specs.Turning.{turned, HasList};
 ghost use Rattle.klsm_world.specs.LegalSteps.{MayCommit};
-ghost use Rattle.klsm_board.specs.Steps.{mine, rest_of, IsMine, AreReached, HasFront, HasHolder, attempted, released, committed, looked, glanced, set_front, turned_to};
+ghost use Rattle.klsm_board.specs.Steps.{mine, rest_of, gain, IsMine, AreReached, HasFront, HasHolder, attempted, released, committed, looked, glanced, set_front, turned_to};
 ghost use Rattle.klsm_board.specs.Seats.{Carries, Stands, Has, CarriedOut, QuotaAllows, LeavesShared, SetsFront, IsSeatOf, own_in_hand, both_in_hand};
 ghost use Rattle.klsm_board.specs.Entries.{both_released};
 
@@ -351,8 +351,8 @@ pub(crate) fn commit_moving<S: Holding, T: Moving>(
     commit::<S, Brand, T>(table, seat, part, thread, about);
 }
 
-/// Commits an event that was carried out in the parts that the seat carries, by setting the front to
-/// what the event leaves it.
+/// Commits an event by setting the front to what the event leaves it. The parts that the seat carries stay as they
+/// are: what was done to them may be another event too, which is still to be committed.
 pub(crate) fn commit_by_front<S: Holding>(
     table: &Locks<S>,
     seat: &mut MemberSeat<S>,
@@ -363,15 +363,14 @@ pub(crate) fn commit_by_front<S: Holding>(
 )
     requires seat { IsSeatOf seat.old.table_id table.now.table_id table.now.key thread }
     requires threads { threads ≡ table.now.key.threads }
+    requires view { IsMine seat.old.me.0 thread }
     requires room { QuotaAllows table.now.key.quota (mine seat.old.me.0) event.now }
     requires sets { SetsFront thread (hand_of thread (mine seat.old.me.0)) event.now front }
-    requires out { (hand : Hand)
-        × CarriedOut S.content S.suits table.now.key thread event.now hand seat.old.me }
-    ensures same { (seat.new.table_id ≡ seat.old.table_id) × (seat.new.id ≡ seat.old.id) }
-    ensures others { rest_of seat.new.me.0 ≡ rest_of seat.old.me.0 }
-    ensures has { (hand : Hand) → Carries S.content S.suits table.now.key thread hand seat.old.me
-        → Has S.content S.suits table.now.key thread hand seat.new.me }
-    ensures list { mine seat.new.me.0 ≡ mine seat.old.me.0 ++ Committed event.now ∷ [] }
+    requires may { MayCommit table.now.key.k thread (hand_of thread (mine seat.old.me.0))
+        (length (inserted (mine seat.old.me.0))) event.now }
+    ensures same { (seat.new.table_id ≡ seat.old.table_id) × (seat.new.id ≡ seat.old.id)
+        × (seat.new.me ≡ (gain seat.old.me.0 (Committed event.now), seat.old.me.1)) }
+    ensures reached { AreReached table.now.key thread seat.new.me.0 }
 {
     store_front::<S, Brand, Event>(table, seat, threads, thread, front, event);
 }

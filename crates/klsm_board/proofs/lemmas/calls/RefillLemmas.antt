@@ -47,14 +47,14 @@ is_refilled most k own shared x = elim (times x own == 0) as (λ b. (moved : Lis
 ]
 
 -- where no item may move, none does
-pub refills_none : (most k : ℕ) (own shared : List Item) → most ≡ 0 → refilled (refill_of most k own shared) ≡ []
+pub refills_none : (most k : ℕ) (own shared : List Item) → most ≡ 0 → refill_of most k own shared ≡ []
 refills_none most k own shared none =
     let zero : refill_count most k own shared ≡ 0 = omega (arith, none) in
-    ap (λ n. refilled (take n shared)) zero
+    ap (λ n. take n shared) zero
 
 -- so a board that says 0 adds nothing behind a Take
 pub refills_none_after : (most k : ℕ) (own shared : List Item) (x : Item) → most ≡ 0 → refilled_after most k own shared x ≡ []
 refills_none_after most k own shared x none = elim (times x own == 0) as (λ b. (if b then refilled (refill_of most k (own_after_take own x) (shared_after_take own shared x)) else []) ≡ []) [
-  | true ↦ refills_none most k (own_after_take own x) (shared_after_take own shared x) none
+  | true ↦ ap refilled (refills_none most k (own_after_take own x) (shared_after_take own shared x) none)
   | false ↦ refl
 ]

@@ -1,12 +1,15 @@
--- The deletion from an own part alone.
-use Rattle.std.proofs.Common.{◌≡◌, ◌≢◌, ℕ, ◌+◌, List, [], length, Option, Some, None, MatchOption, sym, ap, ◌∙◌, subst, inl, inr, arith, if◌then◌else◌}
+-- What is left of two parts, out of which a deletion took an item.
+use Rattle.std.proofs.Common.{◌≡◌, ℕ, ◌+◌, ◌==◌, true, false, List, [], ◌∷◌, length, ap, subst, inl, inr, arith, if◌then◌else◌}
 use Rattle.std.proofs.lemmas.Bool.{cases_eq, eq-eqb, ne_eqb}
 use Rattle.std.proofs.Math.Seq.{take-nil}
 use Rattle.std.specs.List.{Contains}
 use Rattle.klsm_run.specs.declared.item.Item.{Item}
-use Rattle.klsm_run.specs.Content.{without}
+use Rattle.klsm_run.specs.Content.{without, ShareNone}
+use Rattle.klsm_run.specs.ItemOrder.{is_same}
+use Rattle.klsm_run.proofs.LeastLemmas.{Has}
+use Rattle.klsm_run.proofs.ContainsLemmas.{contains_if_has, has_if_contains}
 use Rattle.klsm_parts.specs.Least.{IsLeast}
-use Rattle.klsm_parts.specs.Events.{times, IsInReach, MayTake, shared_after_take, front_of}
+use Rattle.klsm_parts.specs.Events.{times, IsInReach, MayTake, own_after_take, shared_after_take}
 use Rattle.klsm_world.proofs.lemmas.counts.EventCountLemmas.{length_without, taken_from_shared}
 
 none_within : (x : Item) → Contains [] x → ⊥
@@ -29,8 +32,22 @@ stays_if_as_many k owner own shared x may same = elim (cases_eq (times x own) 0)
   | inr some ↦ ap (λ b. if b then without x shared else shared) (ne_eqb (times x own) 0 some)
 ]
 
--- what is known of the front, by the number of items that the shared part had and has
-pub front_told : (o : Option ℕ) (c left shared : List Item) (n : ℕ) → MatchOption o (length c ≡ n) (λ front. (length c ≢ n) × (front ≡ front_of c)) → c ≡ left → n ≡ length shared → (length left ≡ length shared → left ≡ shared)
-    → MatchOption o (left ≡ shared) (λ front. (left ≢ shared) × (front ≡ front_of left))
-front_told None c left shared n outcome is count stays = stays (sym (ap length is) ∙ (outcome ∙ count))
-front_told (Some front) c left shared n outcome is count stays = (λ same. outcome.0 (ap length (is ∙ same) ∙ sym count), outcome.1 ∙ ap front_of is)
+has_without : (x y : Item) (c : List Item) → Has y (without x c) → Has y c
+has_without x y [] has = absurd has
+has_without x y (z ∷ zs) has = elim (is_same x z) as (λ b. Has y (if b then zs else z ∷ without x zs) → Has y (z ∷ zs)) [
+  | true ↦ λ there. inr there
+  | false ↦ λ either. elim either [ inl here ↦ inl here | inr there ↦ inr (has_without x y zs there) ]
+] has
+
+contains_without : (x y : Item) (c : List Item) → Contains (without x c) y → Contains c y
+contains_without x y c within = contains_if_has y c (has_without x y c (has_if_contains y (without x c) within))
+
+contains_left : (own shared : List Item) (x y : Item) → Contains (shared_after_take own shared x) y → Contains shared y
+contains_left own shared x y within = elim (times x own == 0) as (λ b. Contains (if b then without x shared else shared) y → Contains shared y) [
+  | true ↦ contains_without x y shared
+  | false ↦ λ same. same
+] within
+
+-- what is left of two parts that share no item share none
+pub left_apart : (own shared : List Item) (x : Item) → ShareNone own shared → ShareNone (own_after_take own x) (shared_after_take own shared x)
+left_apart own shared x apart y in_own in_shared = apart y (contains_without x y own in_own) (contains_left own shared x y in_shared)

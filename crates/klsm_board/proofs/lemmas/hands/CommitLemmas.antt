@@ -9,7 +9,7 @@ use Rattle.klsm_run.proofs.WithoutLemmas.{sorted_cancel}
 use Rattle.klsm_parts.specs.Events.{MayPut, MayFlush, MayTake, MayTakeEarly, MaySpy, MayRefill, own_after_put, own_after_flush, shared_after_flush, own_after_take, shared_after_take, own_after_early, own_after_spy, victim_after_spy, own_after_refill, shared_after_refill, front_of}
 use Rattle.klsm_world.specs.declared.step.Event.TheVariants.{Put, Flush, Take, Early, Spy, Refill}
 use Rattle.klsm_world.specs.OwnSteps.{Hand, Holds, found_in, hand_of, inserted, content_in, after_event, shared_part}
-use Rattle.klsm_world.specs.LegalSteps.{BearsStamp}
+use Rattle.klsm_world.specs.LegalSteps.{BearsStamp, MayCommit}
 use Rattle.klsm_world.proofs.lemmas.counts.EventCountLemmas.{length_plus}
 use Rattle.std.specs.Prelude.{unwrap_or}
 use Rattle.std.proofs.lemmas.Option.{same_Some}
@@ -111,29 +111,47 @@ module _ {S : Type 0} (content : S → List Item) (suits : ℕ → ℕ → S →
     done = take_leaves t (hand_of t (mine me'.0)) own shared (still (both_in_hand t own shared) me me' has same) x;
   }
 
-  pub refill_done : (own shared moved : List Item) (me me' : Me S View) → Has content suits m t (both_in_hand t own shared) me → me'.0 ≡ me.0 → MayRefill m.k own shared moved
-      → Carries content suits m t (both_in_hand t (own_after_refill own moved) (shared_after_refill shared moved)) me'
-      → CarriedOut content suits m t (Refill moved) (both_in_hand t (own_after_refill own moved) (shared_after_refill shared moved)) me'
-  refill_done own shared moved me me' has same may carries = record {
+  -- a Take may be committed by whoever has both parts in hand
+  pub take_may : (own shared : List Item) (x : Item) (v : View) → hand_of t (mine v) ≡ both_in_hand t own shared → MayTake m.k t own shared x
+      → MayCommit m.k t (hand_of t (mine v)) (length (inserted (mine v))) (Take x)
+  take_may own shared x v hand_is may = record {
+    own = own;
+    other = shared;
+    holds_own = ap (λ h. found_in h (t + 1)) hand_is ∙ own_in_both t own shared;
+    holds_other = ap (λ h. found_in h 0) hand_is ∙ shared_in_both t own shared;
+    fits = may;
+  }
+
+  -- what a Refill makes of both parts in hand
+  refill_left : (own shared moved own' shared' : List Item) (v : View) → hand_of t (mine v) ≡ both_in_hand t own shared → own' ≡ own_after_refill own moved → shared' ≡ shared_after_refill shared moved
+      → after_event t (hand_of t (mine v)) (Refill moved) ≡ both_in_hand t own' shared'
+  refill_left own shared moved own' shared' v hand_is own_is shared_is =
+      refill_leaves t (hand_of t (mine v)) own shared hand_is moved ∙ (λ i. both_in_hand t (sym own_is i) (sym shared_is i))
+
+  pub refill_done : (own shared moved own' shared' : List Item) (me : Me S View) → hand_of t (mine me.0) ≡ both_in_hand t own shared → MayRefill m.k own shared moved
+      → own' ≡ own_after_refill own moved → shared' ≡ shared_after_refill shared moved
+      → Carries content suits m t (both_in_hand t own' shared') me
+      → CarriedOut content suits m t (Refill moved) (both_in_hand t own' shared') me
+  refill_done own shared moved own' shared' me hand_is may own_is shared_is carries = record {
     carries = carries;
     may = record {
       own = own;
       other = shared;
-      holds_own = holds_still (both_in_hand t own shared) me me' (t + 1) own has same (own_in_both t own shared);
-      holds_other = holds_still (both_in_hand t own shared) me me' 0 shared has same (shared_in_both t own shared);
+      holds_own = ap (λ h. found_in h (t + 1)) hand_is ∙ own_in_both t own shared;
+      holds_other = ap (λ h. found_in h 0) hand_is ∙ shared_in_both t own shared;
       fits = may;
     };
-    done = refill_leaves t (hand_of t (mine me'.0)) own shared (still (both_in_hand t own shared) me me' has same) moved;
+    done = refill_left own shared moved own' shared' me.0 hand_is own_is shared_is;
   }
 
   -- the items that a Refill names are the ones that the own part gained
-  pub refill_told : (own shared moved named : List Item) (me me' : Me S View) → Has content suits m t (both_in_hand t own shared) me → me'.0 ≡ me.0 → IsAscending moved
-      → CarriedOut content suits m t (Refill named) (both_in_hand t (own_after_refill own moved) (shared_after_refill shared moved)) me'
+  pub refill_told : (own shared moved named own' shared' : List Item) (me : Me S View) → hand_of t (mine me.0) ≡ both_in_hand t own shared → IsAscending moved → own' ≡ own_after_refill own moved
+      → CarriedOut content suits m t (Refill named) (both_in_hand t own' shared') me
       → named ≡ moved
-  refill_told own shared moved named me me' has same up out =
-      let left : both_in_hand t (own_after_refill own named) (shared_after_refill shared named) ≡ both_in_hand t (own_after_refill own moved) (shared_after_refill shared moved) =
-      sym (refill_leaves t (hand_of t (mine me'.0)) own shared (still (both_in_hand t own shared) me me' has same) named) ∙ out.done in
-      let joined = ap second_content left in
+  refill_told own shared moved named own' shared' me hand_is up own_is out =
+      let left : both_in_hand t (own_after_refill own named) (shared_after_refill shared named) ≡ both_in_hand t own' shared' =
+      sym (refill_leaves t (hand_of t (mine me.0)) own shared hand_is named) ∙ out.done in
+      let joined = ap second_content left ∙ own_is in
       let same_items = sorted_cancel own named moved (sorted_swap own named ∙ (joined ∙ sorted_swap moved own)) in
       sym (sorted_ascending named out.may.fits.ascending) ∙ (same_items ∙ sorted_ascending moved up)
 
@@ -174,11 +192,10 @@ module _ {S : Type 0} (content : S → List Item) (suits : ℕ → ℕ → S →
       ∙ ap (λ o. front_of (unwrap_or o [])) (shared_in_both t (own_after_flush own x moved) (shared_after_flush shared moved)))
 
   -- and so does a Refill
-  pub refill_sets_front : (own shared moved : List Item) (front : ℕ) (me me' : Me S View) → Has content suits m t (both_in_hand t own shared) me → me'.0 ≡ me.0 → front ≡ front_of (shared_after_refill shared moved)
-      → SetsFront t (hand_of t (mine me'.0)) (Refill moved) front
-  refill_sets_front own shared moved front me me' has same is =
-      let hand_is = still (both_in_hand t own shared) me me' has same in
-      is ∙ sym (ap (λ h. front_of (unwrap_or (found_in h 0) [])) (refill_leaves t (hand_of t (mine me'.0)) own shared hand_is moved)
+  pub refill_sets_front : (own shared moved : List Item) (front : ℕ) (v : View) → hand_of t (mine v) ≡ both_in_hand t own shared → front ≡ front_of (shared_after_refill shared moved)
+      → SetsFront t (hand_of t (mine v)) (Refill moved) front
+  refill_sets_front own shared moved front v hand_is is =
+      is ∙ sym (ap (λ h. front_of (unwrap_or (found_in h 0) [])) (refill_leaves t (hand_of t (mine v)) own shared hand_is moved)
       ∙ ap (λ o. front_of (unwrap_or o [])) (shared_in_both t (own_after_refill own moved) (shared_after_refill shared moved)))
 
   pub spy_done : (v : ℕ) (found own shared moved : List Item) (me me' : Me S View) → v ≢ t → Has content suits m t (three_in_hand t v found own shared) me → me'.0 ≡ me.0 → MaySpy own found moved

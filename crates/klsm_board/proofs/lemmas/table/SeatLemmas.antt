@@ -150,20 +150,25 @@ module _ {S : Type 0} (content : S → List Item) (suits : ℕ → ℕ → S →
       ∙ (mine_gain (gain me.0 (Committed event)) t (Released p) mid
       ∙ (ap (λ z. z ++ Released p ∷ []) (mine_gain me.0 t (Committed event) acts) ∙ append_assoc (mine me.0) (Committed event ∷ []) (Released p ∷ [])))
 
-  -- an event was committed, and no part released
+  -- an event was committed, and no part released: the seat carries what it did
+  pub set_carries : (event : Event) (hand : Hand) (me me' : Me S View) → Carries content suits m t hand me → me' ≡ (gain me.0 (Committed event), me.1) → Carries content suits m t hand me'
+  set_carries event hand me me' old is = subst (Carries content suits m t hand) (sym is) (record {
+    acts = gain_mine me.0 t (Committed event) old.acts;
+    contents_are = old.contents_are;
+    suited = old.suited;
+  })
+
+  -- and the hand by the list is the one that the event leaves
+  pub set_hand : (event : Event) (me me' : Me S View) → IsMine me.0 t → me' ≡ (gain me.0 (Committed event), me.1) → hand_of t (mine me'.0) ≡ after_event t (hand_of t (mine me.0)) event
+  set_hand event me me' acts is = ap (λ (z : Me S View). hand_of t (mine z.0)) is ∙ hand_gain me.0 (Committed event) acts
+
   pub has_set : (event : Event) (hand : Hand) (me me' : Me S View) → CarriedOut content suits m t event hand me
       → me' ≡ (gain me.0 (Committed event), me.1) → AreReached m t me'.0 → Has content suits m t hand me'
-  has_set event hand me me' out is reached =
-      let old = out.carries in
-      subst (Has content suits m t hand) (sym is) (record {
-        carries = record {
-          acts = gain_mine me.0 t (Committed event) old.acts;
-          contents_are = old.contents_are;
-          suited = old.suited;
-        };
-        hand_is = hand_gain me.0 (Committed event) old.acts ∙ out.done;
-        reached = subst (λ (z : Me S View). AreReached m t z.0) is reached;
-      })
+  has_set event hand me me' out is reached = let old = out.carries in record {
+    carries = set_carries event hand me me' old is;
+    hand_is = set_hand event me me' old.acts is ∙ out.done;
+    reached = reached;
+  }
 
   pub mine_set : (event : Event) (me me' : Me S View) → IsMine me.0 t → me' ≡ (gain me.0 (Committed event), me.1) → mine me'.0 ≡ mine me.0 ++ Committed event ∷ []
   mine_set event me me' acts is = ap (λ (z : Me S View). mine z.0) is ∙ mine_gain me.0 t (Committed event) acts

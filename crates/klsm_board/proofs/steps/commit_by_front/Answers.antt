@@ -1,30 +1,18 @@
 use Rattle.std.proofs.Common.{ap, ◌∙◌, refl}
 use Rattle.klsm_world.specs.declared.step.Entry.TheVariants.{Committed}
 use Rattle.klsm_board.specs.Steps.{gain}
-use Rattle.klsm_board.proofs.lemmas.table.SeatLemmas.{out_of, has_set, mine_set, set_others}
 use Rattle.klsm_board.proofs.steps.commit_by_front.Goals as goal
 
 pub store_front-requires-clause-outcome : goal.store_front-requires-clause-outcome
 store_front-requires-clause-outcome g c = (refl, refl)
 
-pub store_front-requires-clause-view : goal.store_front-requires-clause-view
-store_front-requires-clause-view g c = let out = c.requires.out.1 in let carries = out.carries in carries.acts
-
 pub store_front-requires-clause-event : goal.store_front-requires-clause-event
-store_front-requires-clause-event g c = let out = c.requires.out.1 in (c.args.event.now, refl, out.may, c.requires.room, c.requires.sets)
+store_front-requires-clause-event g c = (c.args.event.now, refl, c.requires.may, c.requires.room, c.requires.sets)
 
-pub returns-clause-has : goal.returns-clause-has
-returns-clause-has g c = λ hand carries.
-    let me = c.args.seat.now.me in let me' = c.store_front.new.seat.me in let m = c.args.table.now.key in let t = c.args.thread in
-    let outcome = c.store_front.ensures.outcome in let q = c.requires.out in let e = c.args.event.now in
-    has_set g.S.Holding.content g.S.Holding.suits m t e hand me me' (out_of g.S.Holding.content g.S.Holding.suits m t e q.0 hand me q.1 carries)
-    (outcome.2 ∙ ap (λ z. (gain me.0 (Committed z), me.1)) outcome.1) outcome.3
+pub returns-clause-same : goal.returns-clause-same
+returns-clause-same g c =
+    let me = c.args.seat.now.me in let outcome = c.store_front.ensures.outcome in let same = c.store_front.ensures.same in
+    (same.0, same.1, outcome.2 ∙ ap (λ z. (gain me.0 (Committed z), me.1)) outcome.1)
 
-pub returns-clause-list : goal.returns-clause-list
-returns-clause-list g c =
-    let me = c.args.seat.now.me in let me' = c.store_front.new.seat.me in
-    let outcome = c.store_front.ensures.outcome in let out = c.requires.out.1 in let carries = out.carries in
-    mine_set g.S.Holding.content g.S.Holding.suits c.args.table.now.key c.args.thread c.args.event.now me me' carries.acts (outcome.2 ∙ ap (λ z. (gain me.0 (Committed z), me.1)) outcome.1)
-
-pub returns-clause-others : goal.returns-clause-others
-returns-clause-others g c = let outcome = c.store_front.ensures.outcome in set_others g.S.Holding.content g.S.Holding.suits c.args.table.now.key c.args.thread outcome.0 c.args.seat.now.me c.store_front.new.seat.me outcome.2
+pub returns-clause-reached : goal.returns-clause-reached
+returns-clause-reached g c = let outcome = c.store_front.ensures.outcome in outcome.3
