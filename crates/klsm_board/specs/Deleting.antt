@@ -1,5 +1,5 @@
 -- What a deletion adds to its member's list.
-use Rattle.std.specs.Prelude.{◌≡◌, ℕ, zero, suc, ◌+◌, ◌-◌, ◌<◌, ◌≤◌, ◌⊎◌, ◌==◌, if◌then◌else◌, ltb, List, [], ◌∷◌, ◌++◌, Option, MatchOption, IsSomeAnd}
+use Rattle.std.specs.Prelude.{◌≡◌, ℕ, zero, suc, ◌+◌, ◌-◌, ◌<◌, ◌≤◌, ◌⊎◌, ◌==◌, if◌then◌else◌, ltb, List, [], ◌∷◌, ◌++◌, Option, Some, None, MatchOption, IsSomeAnd}
 use Rattle.klsm_run.specs.declared.item.Item.{Item}
 use Rattle.klsm_parts.specs.Least.{IsLeast}
 use Rattle.klsm_parts.specs.Events.{times, MayTake, MayTakeEarly, MaySpy, own_after_take, shared_after_take}
@@ -10,8 +10,8 @@ use Rattle.klsm_world.specs.declared.step.Entry.TheVariants.{Acquired, Committed
 use Rattle.klsm_world.specs.OwnSteps.{own_part}
 use Rattle.klsm_world.specs.OwnListLaws.{SkipsFew, SkipsFewBy, KeepsOwnOrder, KeepsOwnOrderBy, LeavesFew}
 use Rattle.klsm_board.specs.declared.sizes.Sizes.{Sizes}
-use Rattle.klsm_board.specs.Rule.{world_limits, SeesFront}
-use Rattle.klsm_board.specs.Entries.{own_acquired, both_acquired, both_released}
+use Rattle.klsm_board.specs.Rule.{world_limits}
+use Rattle.klsm_board.specs.Entries.{own_acquired, both_released, both_looked}
 use Rattle.klsm_board.specs.declared.errors.Busy.{Busy}
 use Rattle.klsm_board.specs.Inserting.{Misses, Waits}
 use Rattle.klsm_board.specs.Choosing.{Chooses}
@@ -78,11 +78,11 @@ pub record TakesEarly (m : Sizes) (t : ℕ) (own : List Item) (acquired es' : Li
   pub keeps : KeepsOwnOrderBy front (world_limits m) t acquired x
   pub steps : es' ≡ acquired ++ Committed (Early x front) ∷ Released (own_part t) ∷ []
 
--- Thread t, with this list and its own part in hand, could not delete by the front: the part was empty, or the
--- front that it read, which is that of a world with this list, was not above its least key.
-abbrev pub FrontIsNotAbove : Sizes → ℕ → List Item → List Entry → Type 0
-FrontIsNotAbove m t own acquired = (own ≡ [])
-    ⊎ ((x : Item) × (front : ℕ) × IsLeast x own × (front ≤ x.key) × SeesFront m t acquired front)
+-- With the own part in hand a deletion did not go by the front: it looked at none, as the part was empty, or the
+-- front that it loaded was not above the least key there.
+abbrev pub LooksInVain : List Item → Option ℕ → Type 0
+LooksInVain own None = own ≡ []
+LooksInVain own (Some front) = (x : Item) × IsLeast x own × (front ≤ x.key)
 
 -- Both parts were found empty. Some victims were passed by, items moved from the next one's part,
 -- and the least of them was taken. It skips at most T·k items, and none of the two parts that the
@@ -115,21 +115,21 @@ Deletes may_pick before after m t own shared acquired es' x =
     ⊎ (TakesSpied m t own shared acquired es' x × (after ≡ before))
 
 -- A deletion answered. It deleted the least own item by the front, with the own part in hand alone, and
--- did not ask the picker. Or it could not, and acquired both parts.
+-- did not ask the picker. Or it looked there in vain, and acquired both parts.
 abbrev pub AnswersDeletion : {P : Type 0} → (P → ℕ → ℕ → P → Type 0) → P → P → Sizes → ℕ → List Entry → List Entry → Option Item → Type 0
 AnswersDeletion may_pick before after m t es es' answer = (own : List Item)
     × ((IsSomeAnd answer (λ x. TakesEarly m t own (own_acquired t own es) es' x)
     × (after ≡ before))
-    ⊎ ((shared : List Item) × FrontIsNotAbove m t own (own_acquired t own es) × MatchOption answer
-    (FindsNothing m t own shared (both_acquired t own shared es) es' × (after ≡ before))
-    (Deletes may_pick before after m t own shared (both_acquired t own shared es) es')))
+    ⊎ ((shared : List Item) × (look : Option ℕ) × LooksInVain own look × MatchOption answer
+    (FindsNothing m t own shared (both_looked t own look shared es) es' × (after ≡ before))
+    (Deletes may_pick before after m t own shared (both_looked t own look shared es) es')))
 
--- A lock was not free: the own one, or the shared one, which was tried where it could not delete by the
--- front, and then the own part was released.
-abbrev pub MissesDeletion : Sizes → ℕ → List Entry → List Entry → Busy → Type 0
-MissesDeletion m t es es' busy = Misses t (FrontIsNotAbove m t) es es' busy
+-- A lock was not free: the own one, or the shared one, which was tried after a look at the front in vain,
+-- and then the own part was released.
+abbrev pub MissesDeletion : ℕ → List Entry → List Entry → Busy → Type 0
+MissesDeletion t es es' busy = Misses t LooksInVain es es' busy
 
 -- A deletion that may wait: some tries are refused for a lock, and the next one is not.
 abbrev pub AnswersWaiting : {P : Type 0} → (P → ℕ → ℕ → P → Type 0) → P → P → Sizes → ℕ → List Entry → List Entry → Option Item → Type 0
 AnswersWaiting may_pick before after m t es es' answer = (now : List Entry)
-    × Waits t (FrontIsNotAbove m t) es now × AnswersDeletion may_pick before after m t now es' answer
+    × Waits t LooksInVain es now × AnswersDeletion may_pick before after m t now es' answer

@@ -1,8 +1,8 @@
--- What stands in a member's list where it acquires its parts.
-use Rattle.std.specs.Prelude.{ℕ, List, [], ◌∷◌, ◌++◌}
+-- What stands in a member's list where it acquires its parts, and looks at the front between.
+use Rattle.std.specs.Prelude.{ℕ, List, [], ◌∷◌, ◌++◌, Option, Some, None}
 use Rattle.klsm_run.specs.declared.item.Item.{Item}
 use Rattle.klsm_world.specs.declared.step.Entry.{Entry}
-use Rattle.klsm_world.specs.declared.step.Entry.TheVariants.{Acquired, Released}
+use Rattle.klsm_world.specs.declared.step.Entry.TheVariants.{Acquired, Released, Looked}
 use Rattle.klsm_world.specs.OwnSteps.{own_part, shared_part}
 
 -- thread t acquired its own part
@@ -12,6 +12,19 @@ own_acquired t own es = es ++ Acquired (own_part t) own ∷ []
 -- and then the shared part
 abbrev pub both_acquired : ℕ → List Item → List Item → List Entry → List Entry
 both_acquired t own shared es = own_acquired t own es ++ Acquired shared_part shared ∷ []
+
+-- a list, and behind it the load of the front that committed nothing, where there was one
+abbrev pub with_look : Option ℕ → List Entry → List Entry
+with_look None es = es
+with_look (Some front) es = es ++ Looked front ∷ []
+
+-- thread t acquired its own part, and perhaps looked at the front
+abbrev pub own_looked : ℕ → List Item → Option ℕ → List Entry → List Entry
+own_looked t own look es = with_look look (own_acquired t own es)
+
+-- and then acquired the shared part
+abbrev pub both_looked : ℕ → List Item → Option ℕ → List Item → List Entry → List Entry
+both_looked t own look shared es = own_looked t own look es ++ Acquired shared_part shared ∷ []
 
 -- both parts are released
 abbrev pub both_released : ℕ → List Entry

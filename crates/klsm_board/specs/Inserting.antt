@@ -1,5 +1,5 @@
 -- What an insertion adds to its member's list.
-use Rattle.std.specs.Prelude.{◌≡◌, ℕ, zero, suc, ◌+◌, ◌<◌, ◌≤◌, ◌⊎◌, max, List, [], ◌∷◌, ◌++◌, length}
+use Rattle.std.specs.Prelude.{◌≡◌, ℕ, zero, suc, ◌+◌, ◌<◌, ◌≤◌, ◌⊎◌, max, List, [], ◌∷◌, ◌++◌, length, Option, None}
 use Rattle.klsm_run.specs.declared.item.Item.{Item}
 use Rattle.klsm_run.specs.declared.item.Stamp.{Stamp}
 use Rattle.klsm_run.specs.Capacity.{heap_room}
@@ -14,7 +14,7 @@ use Rattle.klsm_board.specs.declared.errors.TryInsertError.{TryInsertError}
 use Rattle.klsm_board.specs.declared.errors.TryInsertError.TheVariants as try_insert
 use Rattle.klsm_board.specs.declared.errors.InsertError.{InsertError}
 use Rattle.klsm_board.specs.declared.errors.InsertError.TheVariants as insert
-use Rattle.klsm_board.specs.Entries.{own_acquired, both_acquired, both_released}
+use Rattle.klsm_board.specs.Entries.{own_acquired, both_acquired, both_released, own_looked}
 
 -- the stamp of a member's next insertion, and the item that it inserts
 abbrev pub stamp_of : ℕ → ℕ → Stamp
@@ -64,33 +64,39 @@ pub record MissesOwn (t : ℕ) (es es' : List Entry) (busy : Busy) : Type 0 wher
   pub lock : busy.lock ≡ own_part t
   pub steps : es' ≡ es ++ Missed (own_part t) busy.by ∷ []
 
--- it was, but the shared lock was not
-pub record MissesShared (t : ℕ) (es es' : List Entry) (busy : Busy) (Found : List Item → List Entry → Type 0) : Type 0 where
+-- it was, but the shared lock was not, which was tried after this was found in the own part and, where the
+-- front was looked at, there
+pub record MissesShared (t : ℕ) (es es' : List Entry) (busy : Busy) (Found : List Item → Option ℕ → Type 0) : Type 0 where
   pub own : List Item
-  pub found : Found own (own_acquired t own es)
+  pub look : Option ℕ
+  pub found : Found own look
   pub lock : busy.lock ≡ shared_part
-  pub steps : es' ≡ own_acquired t own es ++ Missed shared_part busy.by ∷ Released (own_part t) ∷ []
+  pub steps : es' ≡ own_looked t own look es ++ Missed shared_part busy.by ∷ Released (own_part t) ∷ []
 
 -- one of the two was not, and all is released
-abbrev pub Misses : ℕ → (List Item → List Entry → Type 0) → List Entry → List Entry → Busy → Type 0
+abbrev pub Misses : ℕ → (List Item → Option ℕ → Type 0) → List Entry → List Entry → Busy → Type 0
 Misses t Found es es' busy = MissesOwn t es es' busy ⊎ MissesShared t es es' busy Found
 
 -- so many tries that met a lock that was not free, one after another
-abbrev pub MissesTimes : ℕ → ℕ → (List Item → List Entry → Type 0) → List Entry → List Entry → Type 0
+abbrev pub MissesTimes : ℕ → ℕ → (List Item → Option ℕ → Type 0) → List Entry → List Entry → Type 0
 MissesTimes zero t Found es es' = es' ≡ es
 MissesTimes (suc n) t Found es es' = (before : List Entry) × (busy : Busy)
     × MissesTimes n t Found es before × Misses t Found before es' busy
 
 -- any number of them
-pub record Waits (t : ℕ) (Found : List Item → List Entry → Type 0) (es es' : List Entry) : Type 0 where
+pub record Waits (t : ℕ) (Found : List Item → Option ℕ → Type 0) (es es' : List Entry) : Type 0 where
   pub tries : ℕ
   pub missed : MissesTimes tries t Found es es'
+
+-- an insertion tries the shared lock where the own part has k items, and does not look at the front
+abbrev pub FindsFull : ℕ → List Item → Option ℕ → Type 0
+FindsFull k own look = (length own ≡ k) × (look ≡ None)
 
 -- why an insertion that waits for nobody is refused
 abbrev pub RefusesInsert : Type 0 → ℕ → ℕ → ℕ → List Entry → List Entry → TryInsertError → Type 0
 RefusesInsert IsSpent levels k t es es' try_insert.Spent = IsSpent × (es' ≡ es)
 RefusesInsert IsSpent levels k t es es' (try_insert.Busy busy) =
-    Misses t (λ own acquired. length own ≡ k) es es' busy
+    Misses t (FindsFull k) es es' busy
 RefusesInsert IsSpent levels k t es es' try_insert.Full = GivesUp k t es es' (LacksRoom levels k)
 RefusesInsert IsSpent levels k t es es' try_insert.NoMemory = GivesUp k t es es' (IsBelowLimit levels)
 
@@ -103,12 +109,12 @@ as_tried insert.NoMemory = try_insert.NoMemory
 -- an insertion that may wait: some tries are refused for a lock, and the next one is not
 abbrev pub InsertsWaiting : ℕ → ℕ → ℕ → List Entry → List Entry → Item → Type 0
 InsertsWaiting levels k t es es' x = (now : List Entry)
-    × Waits t (λ own acquired. length own ≡ k) es now × Inserts levels k t now es' x
+    × Waits t (FindsFull k) es now × Inserts levels k t now es' x
 
 -- why it is refused
 abbrev pub RefusesInsertWaiting : Type 0 → ℕ → ℕ → ℕ → List Entry → List Entry → InsertError → Type 0
 RefusesInsertWaiting IsSpent levels k t es es' insert.Spent = IsSpent × (es' ≡ es)
 RefusesInsertWaiting IsSpent levels k t es es' insert.Full =
-    (now : List Entry) × Waits t (λ own acquired. length own ≡ k) es now × GivesUp k t now es' (LacksRoom levels k)
+    (now : List Entry) × Waits t (FindsFull k) es now × GivesUp k t now es' (LacksRoom levels k)
 RefusesInsertWaiting IsSpent levels k t es es' insert.NoMemory =
-    (now : List Entry) × Waits t (λ own acquired. length own ≡ k) es now × GivesUp k t now es' (IsBelowLimit levels)
+    (now : List Entry) × Waits t (FindsFull k) es now × GivesUp k t now es' (IsBelowLimit levels)

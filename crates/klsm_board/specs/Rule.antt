@@ -9,10 +9,9 @@ use Rattle.atomic_table.specs.Seated.{TableId}
 use Rattle.klsm_run.specs.declared.item.Item.{Item}
 use Rattle.klsm_world.specs.declared.step.Entry.{Entry}
 use Rattle.klsm_world.specs.declared.step.Step.{Step as WorldStep}
-use Rattle.klsm_parts.specs.Events.{front_of}
-use Rattle.klsm_world.specs.OwnSteps.{inserted, shared_part}
+use Rattle.klsm_world.specs.OwnSteps.{inserted}
 use Rattle.klsm_world.specs.Laws.{IsWithinQuota}
-use Rattle.klsm_world.specs.Worlds.{Limits, World, steps_of, content_of}
+use Rattle.klsm_world.specs.Worlds.{Limits, World, steps_of}
 use Rattle.klsm_world.specs.Schedules.{Leads}
 use Rattle.klsm_board.specs.declared.sizes.Sizes.{Sizes}
 use Rattle.klsm_board.specs.declared.rule.Own.{Own}
@@ -103,16 +102,6 @@ pub record IsReached (m : Sizes) (t : ℕ) (es : List Entry) : Type 0 where
   pub within : IsWithinQuota (world_limits m) m.quota world
   pub list_is : steps_of world t ≡ es
   pub thread : t < m.threads
-
--- The same of a world with this front: the key of its least shared item, and the greatest number where no item
--- is shared, so no key of a shared item is less.
-pub record SeesFront (m : Sizes) (t : ℕ) (es : List Entry) (front : ℕ) : Type 0 where
-  pub world : World
-  pub schedule : List WorldStep
-  pub leads : Leads (world_limits m) schedule world
-  pub within : IsWithinQuota (world_limits m) m.quota world
-  pub list_is : steps_of world t ≡ es
-  pub front_is : front ≡ front_of (content_of world shared_part)
 
 -- a lock, in its place, and a slot for each part, and the front word
 abbrev pub IsSized : TableId → Sizes → Type 0

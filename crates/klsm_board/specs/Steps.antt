@@ -8,7 +8,7 @@ use Rattle.klsm_parts.specs.Events.{front_of}
 use Rattle.klsm_world.specs.declared.step.Event.{Event}
 use Rattle.klsm_world.specs.declared.step.Event.TheVariants.{Early}
 use Rattle.klsm_world.specs.declared.step.Entry.{Entry}
-use Rattle.klsm_world.specs.declared.step.Entry.TheVariants.{Acquired, Committed, Released, Missed}
+use Rattle.klsm_world.specs.declared.step.Entry.TheVariants.{Acquired, Committed, Released, Missed, Looked}
 use Rattle.klsm_world.specs.declared.step.Step.{Step as WorldStep}
 use Rattle.klsm_world.specs.Laws.{IsWithinQuota}
 use Rattle.klsm_world.specs.OwnSteps.{HoldsSome, shared_part}
@@ -17,7 +17,7 @@ use Rattle.klsm_world.specs.Schedules.{Leads}
 use Rattle.klsm_board.specs.declared.sizes.Sizes.{Sizes}
 use Rattle.klsm_board.specs.declared.rule.Own.{Own}
 use Rattle.klsm_board.specs.declared.rule.View.{View}
-use Rattle.klsm_board.specs.Rule.{own, view, place, world_limits, SeesFront}
+use Rattle.klsm_board.specs.Rule.{own, view, place, world_limits}
 use Rattle.klsm_board.specs.Turning.{turned}
 
 -- the first list gains an entry
@@ -66,7 +66,7 @@ pub record AreReached (m : Sizes) (t : ℕ) (v : View) : Type 0 where
       → get_elem? world.lists o.thread ≡ some o.steps
 
 -- The same of a world with this front: the key of its least shared item, and the greatest number where no item
--- is shared.
+-- is shared, so no key of a shared item is less.
 pub record HasFront (m : Sizes) (t : ℕ) (v : View) (front : ℕ) : Type 0 where
   pub reached : AreReached m t v
   pub front_is : front ≡ front_of (content_of reached.world shared_part)
@@ -113,17 +113,18 @@ module _ {S : Type 0} where
   abbrev pub set_front : (Event → Type 0) → Sizes → ℕ → Step S → Me S View → ℕ → Me S View → Type 0
   set_front fits m t st me n me' = (e : Event) × fits e × (me' ≡ (gain me.0 (Committed e), me.1)) × is_reached m t me'
 
-  -- the front was loaded, in a world of that front: an item whose key is below it was deleted by it
+  -- the front was loaded, in a world of that front: an item whose key is below it was deleted by it, and else
+  -- the look was noted
   abbrev pub looked : Item → Sizes → ℕ → Step S → Me S View → ℕ → Me S View → Type 0
   looked x m t st me n me' =
       MatchBool (ltb x.key n)
       ((me' ≡ (gain me.0 (Committed (Early x n)), me.1)) × is_reached m t me'
       × ((before : AreReached m t me.0) × (before.world.front ≡ n)))
-      ((me' ≡ me) × SeesFront m t (mine me.0) n)
+      ((me' ≡ (gain me.0 (Looked n), me.1)) × is_reached m t me')
 
-  -- the front was loaded, and nothing else happened
+  -- the front was loaded, in a world of that front, and that was noted
   abbrev pub glanced : Sizes → ℕ → Step S → Me S View → ℕ → Me S View → Type 0
-  glanced m t st me n me' = (me' ≡ me) × SeesFront m t (mine me.0) n × HasFront m t me.0 n
+  glanced m t st me n me' = (me' ≡ (gain me.0 (Looked n), me.1)) × is_reached m t me' × HasFront m t me.0 n
 
   -- thread t's list came to the front of those that the seat knows, and they are of one world
   abbrev pub turned_to : Sizes → ℕ → Step S → Me S View → ℕ → Me S View → Type 0

@@ -39,6 +39,10 @@ module _ {CAP LEVELS : ℕ} where
   abbrev pub sizes_of_all : AllMembers CAP LEVELS → Sizes
   sizes_of_all all = all.acting.sizes
 
+  -- the number of the member whose turn it is
+  abbrev pub turn_of : AllMembers CAP LEVELS → ℕ
+  turn_of all = all.acting.number
+
   -- they are the members of this board
   abbrev pub AreOf : AllMembers CAP LEVELS → Board CAP LEVELS → Type 0
   AreOf all board = IsOf all.acting board

@@ -55,7 +55,7 @@ pub(crate) fn delete_now<S: PartSlot, P: Picker>(
     ensures effect { IfOk result (TakesEffect table.now.key thread (rest_of seat.old.me.0)
         (mine seat.old.me.0) (mine seat.new.me.0)) }
     ensures busy { IfErr result (λ busy. (picker.new ≡ picker.old)
-        × MissesDeletion table.now.key thread (mine seat.old.me.0) (mine seat.new.me.0) busy) }
+        × MissesDeletion thread (mine seat.old.me.0) (mine seat.new.me.0) busy) }
     ensures holder { IfErr result (MeetsHolder table.now.key thread (rest_of seat.old.me.0)
         (mine seat.new.me.0)) }
 {

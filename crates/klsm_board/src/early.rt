@@ -1,10 +1,11 @@
 //! The deletion from an own part alone, by the front of the shared part.
-ghost use Rattle.std.specs.Prelude.{◌≡◌, List, [], MatchOption, IfSome, Some};
+ghost use Rattle.std.specs.Prelude.{◌≡◌, ℕ, List, [], Option, MatchOption, IfSome, Some};
 ghost use Rattle.klsm_run.specs.declared.item.Item.{Item};
 ghost use Rattle.klsm_parts.specs.Least.{IsLeast};
 ghost use Rattle.klsm_board.specs.Steps.{mine, rest_of};
 ghost use Rattle.klsm_board.specs.Seats.{Has, IsSeatOf, own_in_hand};
-ghost use Rattle.klsm_board.specs.Deleting.{FrontIsNotAbove, TakesEarly};
+ghost use Rattle.klsm_board.specs.Deleting.{LooksInVain, TakesEarly};
+ghost use Rattle.klsm_board.specs.Entries.{with_look};
 ghost use Rattle.klsm_board.specs.Effects.{TakesEffect};
 
 use crate::rule::{Locks, MemberSeat};
@@ -29,9 +30,9 @@ pub(crate) fn delete_early<S: PartSlot>(
     ensures done { (own : List Item)
         → Has S.content S.suits table.now.key thread (own_in_hand thread own) seat.old.me
         → MatchOption result
-        (Has S.content S.suits table.now.key thread (own_in_hand thread own) seat.new.me
-        × (mine seat.new.me.0 ≡ mine seat.old.me.0)
-        × FrontIsNotAbove table.now.key thread own (mine seat.old.me.0))
+        ((look : Option ℕ) × LooksInVain own look
+        × Has S.content S.suits table.now.key thread (own_in_hand thread own) seat.new.me
+        × (mine seat.new.me.0 ≡ with_look look (mine seat.old.me.0)))
         (λ item. Has S.content S.suits table.now.key thread [] seat.new.me
         × TakesEarly table.now.key thread own (mine seat.old.me.0) (mine seat.new.me.0) item) }
     ensures effect { IfSome result (λ item. TakesEffect table.now.key thread

@@ -2,8 +2,9 @@
 ghost use Rattle.std.specs.Prelude.{◌≡◌, ◌<◌, ◌≤◌, ◌+◌, ◌++◌, ◌↔◌, ℕ, List, [], ◌∷◌, length, IfOk, IfErr, IsErrAnd, None};
 ghost use Rattle.std.specs.Option.{option_to_list};
 ghost use Rattle.klsm_run.specs.declared.item.Item.{Item};
+ghost use Rattle.klsm_world.specs.declared.step.Entry.TheVariants.{Looked};
 ghost use Rattle.klsm_world.specs.OwnSteps.{inserted, deleted};
-ghost use Rattle.klsm_board.specs.Rule.{IsReached, SeesFront, own, view};
+ghost use Rattle.klsm_board.specs.Rule.{IsReached, own, view};
 ghost use Rattle.klsm_board.specs.Steps.{HasFront};
 ghost use Rattle.klsm_board.specs.Members.{most_deletions};
 ghost use Rattle.klsm_board.specs.Boards.{Adds, IsOf, IsSame, known_of_others, own_steps};
@@ -52,17 +53,19 @@ impl<const CAP: usize, const LEVELS: usize> Member<CAP, LEVELS> {
     }
 
     /// The front: the key of the least shared item, and the greatest number where no item is shared. The items in
-    /// members' own parts may have lesser keys. It takes no lock, waits for nobody, and changes nothing.
+    /// members' own parts may have lesser keys. It takes no lock, waits for nobody, and changes no part. The member's
+    /// list notes the look.
     ///
-    /// The clauses say so of a lawful world in which the lists that the member knows are what they are. That it is
-    /// the world of the moment of the look is kept by the rule of the board's table, and is no clause.
+    /// The clauses say so of a lawful world in which the lists that the member knows are what they were. And by
+    /// `laws::looks_tell_fronts` of `klsm_world` no schedule leads to a list with a look that notes another number
+    /// than the front just before it.
     #[inline]
     pub fn front(&mut self, board: &Board<CAP, LEVELS>) -> u64
         requires { IsOf self.old board.now }
         ensures same { IsSame self.old self.new }
         ensures others { known_of_others self.new ≡ known_of_others self.old }
-        ensures steps { own_steps self.new ≡ own_steps self.old }
-        ensures seen { SeesFront self.old.sizes self.old.number (own_steps self.old) result }
+        ensures steps { own_steps self.new ≡ own_steps self.old ++ Looked result ∷ [] }
+        ensures adds { Adds self.old self.new [] [] }
         ensures known { HasFront self.old.sizes self.old.number
             (view (own self.old.number (own_steps self.old) ∷ known_of_others self.old)) result }
     {
@@ -192,7 +195,7 @@ impl<const CAP: usize, const LEVELS: usize> Member<CAP, LEVELS> {
         ensures adds { IfOk result (λ answer. Adds self.old self.new [] (option_to_list answer)) }
         ensures busy { IfErr result (λ busy. Adds self.old self.new [] []
             × (picker.new ≡ picker.old)
-            × MissesDeletion self.old.sizes self.old.number (own_steps self.old) (own_steps self.new) busy) }
+            × MissesDeletion self.old.number (own_steps self.old) (own_steps self.new) busy) }
         ensures holder { IfErr result (MeetsHolder self.old.sizes self.old.number
             (known_of_others self.old) (own_steps self.new)) }
     {

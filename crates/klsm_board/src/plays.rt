@@ -86,7 +86,7 @@ impl<S: Holding, D: Intent> Play<S, View> for SetFront<D> {
     ghost then = { set_front D.fits D.sizes D.thread };
 }
 
-/// The front is looked at, and an item whose key is below it is deleted.
+/// The front is looked at: an item whose key is below it is deleted, and else the look is noted.
 pub(crate) struct Look<D> {
     of: PhantomData<D>,
 }
@@ -97,7 +97,7 @@ impl<S: Holding, D: Intent> Play<S, View> for Look<D> {
     ghost then = { looked D.least D.sizes D.thread };
 }
 
-/// The front is looked at, and no more.
+/// The front is looked at, and that is noted.
 pub(crate) struct Glance<D> {
     of: PhantomData<D>,
 }

@@ -4,10 +4,10 @@ ghost use mathlib.Core.Option.{none};
 ghost use Rattle.atomic_table.specs.Table.{rest, step};
 ghost use Rattle.klsm_run.specs.declared.item.Item.{Item};
 ghost use Rattle.klsm_world.specs.declared.step.Event.{Event};
-ghost use Rattle.klsm_world.specs.declared.step.Entry.TheVariants.{Acquired, Committed, Released, Missed};
+ghost use Rattle.klsm_world.specs.declared.step.Entry.TheVariants.{Acquired, Committed, Released, Missed, Looked};
 ghost use Rattle.klsm_world.specs.OwnSteps.{Hand, Holds, own_part, found_in, after_event, hand_of, inserted};
 ghost use Rattle.klsm_parts.specs.Least.{IsLeast};
-ghost use Rattle.klsm_board.specs.Rule.{place, view, SeesFront};
+ghost use Rattle.klsm_board.specs.Rule.{place, view};
 ghost use Rattle.klsm_board.specs.Turning.{turned, HasList};
 ghost use Rattle.klsm_world.specs.LegalSteps.{MayCommit};
 ghost use Rattle.klsm_board.specs.Steps.{mine, rest_of, gain, IsMine, AreReached, HasFront, HasHolder, attempted, released, committed, looked, glanced, set_front, turned_to};
@@ -124,7 +124,8 @@ fn store_front<S: Holding, D: Intent, T>(
     table.store::<SetFront<D>>(seat, (threads + 1) * STRIDE, front);
 }
 
-// Loads the front. Where the key of D's item is below it, the load commits the deletion of that item.
+// Loads the front. Where the key of D's item is below it, the load commits the deletion of that item, and
+// else the list notes the look.
 fn load_front<S: Holding, D: Intent>(
     table: &Locks<S>,
     seat: &mut MemberSeat<S>,
@@ -149,7 +150,7 @@ fn load_front<S: Holding, D: Intent>(
     table.load::<Look<D>>(seat, (threads + 1) * STRIDE)
 }
 
-// Loads the front, and no more.
+// Loads the front, and the list notes that.
 fn load_front_alone<S: Holding, D: Intent>(
     table: &Locks<S>,
     seat: &mut MemberSeat<S>,
@@ -408,7 +409,7 @@ pub(crate) fn commit_moving_by_front<S: Holding, T: Moving>(
 }
 
 /// Loads the front. Where the key of the least item of the own part is below it, the load commits the
-/// deletion of that item, which is still to be taken out.
+/// deletion of that item, which is still to be taken out. Else the list notes the look.
 pub(crate) fn look_at_front<S: Holding>(
     table: &Locks<S>,
     seat: &mut MemberSeat<S>,
@@ -430,7 +431,7 @@ pub(crate) fn look_at_front<S: Holding>(
     load_front::<S, Brand>(table, seat, threads, thread, least)
 }
 
-/// Loads the front, and no more.
+/// Loads the front, and the list notes that.
 pub(crate) fn see_front<S: Holding>(
     table: &Locks<S>,
     seat: &mut MemberSeat<S>,
@@ -440,9 +441,11 @@ pub(crate) fn see_front<S: Holding>(
     requires seat { IsSeatOf seat.old.table_id table.now.table_id table.now.key thread }
     requires threads { threads ≡ table.now.key.threads }
     requires view { IsMine seat.old.me.0 thread }
-    ensures same { (seat.new.table_id ≡ seat.old.table_id) × (seat.new.id ≡ seat.old.id)
-        × (seat.new.me ≡ seat.old.me) }
-    ensures seen { SeesFront table.now.key thread (mine seat.old.me.0) result }
+    ensures same { (seat.new.table_id ≡ seat.old.table_id) × (seat.new.id ≡ seat.old.id) }
+    ensures others { rest_of seat.new.me.0 ≡ rest_of seat.old.me.0 }
+    ensures still { (hand : Hand) → Stands S.content S.suits table.now.key thread hand seat.old.me
+        → Has S.content S.suits table.now.key thread hand seat.new.me }
+    ensures list { mine seat.new.me.0 ≡ mine seat.old.me.0 ++ Looked result ∷ [] }
     ensures known { HasFront table.now.key thread seat.old.me.0 result }
 {
     load_front_alone::<S, Brand>(table, seat, threads, thread)

@@ -1,5 +1,5 @@
 //! What all members of a board do in one hand.
-ghost use Rattle.std.specs.Prelude.{All, ◌≡◌, ◌≢◌, ◌<◌, ◌≤◌, ◌∷◌, ◌↔◌, ◌+◌, max, ℕ, List, [], length, IfOk, IfErr, IsErrAnd, OnErr};
+ghost use Rattle.std.specs.Prelude.{All, ◌≡◌, ◌≢◌, ◌<◌, ◌≤◌, ◌∷◌, ◌++◌, ◌↔◌, ◌+◌, max, ℕ, List, [], length, IfOk, IfErr, IsErrAnd, OnErr};
 ghost use Rattle.std.specs.Option.{option_to_list};
 ghost use Rattle.klsm_run.specs.Capacity.{heap_room};
 ghost use Rattle.klsm_parts.specs.Events.{plus};
@@ -8,13 +8,14 @@ ghost use mathlib.Core.Option.{some};
 ghost use lib.ListN.{get_elem?};
 ghost use Rattle.klsm_world.specs.Account.{account};
 ghost use Rattle.klsm_world.specs.OwnSteps.{inserted};
+ghost use Rattle.klsm_world.specs.declared.step.Entry.TheVariants.{Looked};
 ghost use Rattle.klsm_board.specs.Boards.{AreMembersOf, Gains, IsOf, own_steps};
 ghost use Rattle.klsm_board.specs.Inserting.{Inserts, RefusesInsert, as_tried, stamp_of, stamped};
 ghost use Rattle.klsm_board.specs.Deleting.{AnswersDeletion};
 ghost use Rattle.klsm_board.specs.Finishing.{AreAll, AreListsAtEnd, IsLeastAbsent, lists_of};
 ghost use Rattle.klsm_board.specs.Knowing.{AreCounted, IsAtRest};
 ghost use Rattle.klsm_board.specs.Rule.{view};
-ghost use Rattle.klsm_board.specs.Together.{ActsFor, AreOf, IsFrontOf, PassesFewLeft, all_lists, left_after, left_of, sizes_of_all, steps_for};
+ghost use Rattle.klsm_board.specs.Together.{ActsFor, AreOf, IsFrontOf, PassesFewLeft, all_lists, left_after, left_of, sizes_of_all, steps_for, turn_of};
 ghost use Rattle.klsm_board.specs.Turning.{HasList, left_behind, steps_known, turned};
 
 use crate::all_members::{AllMembers, GatherRefused};
@@ -41,6 +42,7 @@ impl<const CAP: usize, const LEVELS: usize> Board<CAP, LEVELS> {
         ensures same { IfOk result (λ all. AreAll members.entry.items self.now.sizes.threads
             × (all_lists all ≡ lists_of self.now.sizes.threads members.entry.items)) }
         ensures lists { IfOk result (λ all. AreListsAtEnd self.now.sizes (all_lists all)) }
+        ensures turn { IfOk result (λ all. turn_of all ≡ 0) }
         ensures missing { (number : ℕ) → IsErrAnd result (λ refused. refused.missing ≡ number)
             ↔ IsLeastAbsent members.entry.items self.now.sizes.threads number }
         ensures refused { IfErr result (λ refused. refused.members.items ≡ members.entry.items) }
@@ -89,6 +91,7 @@ impl<const CAP: usize, const LEVELS: usize> AllMembers<CAP, LEVELS> {
         requires of { AreOf self.old board.now }
         requires number { number < (sizes_of_all self.old).threads }
         ensures same { ActsFor number self.old self.new }
+        ensures turn { turn_of self.new ≡ number }
         ensures stamp { IfOk result (λ stamp.
             stamp ≡ stamp_of number (length (inserted (steps_for self.old number)))) }
         ensures ok { IfOk result (λ stamp. Inserts LEVELS (sizes_of_all self.old).k number
@@ -130,6 +133,7 @@ impl<const CAP: usize, const LEVELS: usize> AllMembers<CAP, LEVELS> {
         requires of { AreOf self.old board.now }
         requires number { number < (sizes_of_all self.old).threads }
         ensures same { ActsFor number self.old self.new }
+        ensures turn { turn_of self.new ≡ number }
         ensures ok { AnswersDeletion P.may_pick picker.old picker.new (sizes_of_all self.old) number
             (steps_for self.old number) (steps_for self.new number) result }
         ensures adds { Gains (steps_for self.old number) (steps_for self.new number) []
@@ -148,13 +152,19 @@ impl<const CAP: usize, const LEVELS: usize> AllMembers<CAP, LEVELS> {
     }
 
     /// The front that a member's own `front` would see now: the key of the least shared item, or the greatest number
-    /// where no item is shared. It changes nothing.
+    /// where no item is shared. The list of the member whose turn it is notes the look, and nothing else changes. It
+    /// is the turn of the member that acted last, and at first of member 0.
     #[inline]
     pub fn front(&mut self, board: &Board<CAP, LEVELS>) -> u64
         requires of { AreOf self.old board.now }
         ensures of { AreOf self.new board.now }
-        ensures sizes { sizes_of_all self.new ≡ sizes_of_all self.old }
-        ensures lists { (u : ℕ) → steps_for self.new u ≡ steps_for self.old u }
+        ensures same { ActsFor (turn_of self.old) self.old self.new }
+        ensures turn { turn_of self.new ≡ turn_of self.old }
+        ensures steps { steps_for self.new (turn_of self.old)
+            ≡ steps_for self.old (turn_of self.old) ++ Looked result ∷ [] }
+        ensures left { left_of self.new ≡ left_of self.old }
+        ensures counts { (account (all_lists self.new)).inserted
+            ≡ (account (all_lists self.old)).inserted }
         ensures front { IsFrontOf (sizes_of_all self.old) (all_lists self.old) result }
     {
         self.acting.front(board)

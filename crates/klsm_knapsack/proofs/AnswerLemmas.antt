@@ -7,10 +7,10 @@ use Rattle.klsm_world.specs.declared.step.Entry.{Entry}
 use Rattle.klsm_world.specs.declared.step.Entry.TheVariants.{Committed, Released}
 use Rattle.klsm_world.specs.OwnSteps.{own_part}
 use Rattle.klsm_board.specs.declared.sizes.Sizes.{Sizes}
-use Rattle.klsm_board.specs.Inserting.{GivesUp, Inserts, InsertsWaiting, Waits}
+use Rattle.klsm_board.specs.Inserting.{FindsFull, GivesUp, Inserts, InsertsWaiting, Waits}
 use Rattle.klsm_board.specs.Deleting.{Deletes, FindsNothing, AnswersDeletion, AnswersWaiting, victim_of, refilled}
-use Rattle.klsm_board.specs.Entries.{own_acquired, both_acquired, both_released}
-use Rattle.klsm_board.proofs.lemmas.calls.AddLemmas.{goes_on, own_quiet, both_quiet}
+use Rattle.klsm_board.specs.Entries.{own_acquired, both_acquired, both_looked, both_released}
+use Rattle.klsm_board.proofs.lemmas.calls.AddLemmas.{goes_on, own_quiet, both_quiet, both_look_quiet}
 use Rattle.klsm_board.specs.Effects.{committed_in}
 use Rattle.klsm_board.proofs.lemmas.calls.MissLemmas.{waits_quiet}
 use Rattle.klsm_board.proofs.lemmas.calls.RefillLemmas.{is_refilled}
@@ -41,9 +41,9 @@ after_nothing m t own shared taken es' finds = inr (taken ++ finds.added, Nothin
 pub after_answer : {P : Type 0} (may_pick : P → ℕ → ℕ → P → Type 0) (before after : P) (m : Sizes) (t : ℕ) (es es' : List Entry) (answer : Option Item) → AnswersDeletion may_pick before after m t es es' answer → EndsAnswered t es'
 after_answer may_pick before after m t es es' None (own, inl early) = absurd early.0
 after_answer may_pick before after m t es es' (Some x) (own, inl early) = inr (own_acquired t own es, Early x early.0.front, inl early.0.steps)
-after_answer may_pick before after m t es es' None (own, inr both) = after_nothing m t own both.0 (both_acquired t own both.0 es) es' both.2.0
+after_answer may_pick before after m t es es' None (own, inr both) = after_nothing m t own both.0 (both_looked t own both.1 both.0 es) es' both.3.0
 after_answer may_pick before after m t es es' (Some x) (own, inr both) =
-    after_deletion may_pick before after m t own both.0 (both_acquired t own both.0 es) es' x both.2
+    after_deletion may_pick before after m t own both.0 (both_looked t own both.1 both.0 es) es' x both.3
 
 -- and of one that gave an item
 pub after_item : {P : Type 0} (may_pick : P → ℕ → ℕ → P → Type 0) (before after : P) (m : Sizes) (t : ℕ) (es es' : List Entry) (x : Item) → AnswersWaiting may_pick before after m t es es' (Some x) → EndsAnswered t es'
@@ -77,7 +77,7 @@ one_refusal k t es es' Found gives = record {
   events = goes_on es (both_acquired t gives.own gives.shared es) (both_released t) es' (both_quiet t gives.own gives.shared es) gives.steps;
 }
 
-pub refusal_gains : (k t : ℕ) (es es' : List Entry) (Found : List Item → Type 0) → (now : List Entry) × Waits t (λ own acquired. length own ≡ k) es now × GivesUp k t now es' Found → GainsOthers es es'
+pub refusal_gains : (k t : ℕ) (es es' : List Entry) (Found : List Item → Type 0) → (now : List Entry) × Waits t (FindsFull k) es now × GivesUp k t now es' Found → GainsOthers es es'
 refusal_gains k t es es' Found told = later es told.0 es' (waits_quiet t _ es told.0 told.1) (one_refusal k t told.0 es' Found told.2)
 
 -- neither a Take nor what moves behind it is an answer "nothing"
@@ -96,20 +96,20 @@ one_deletion may_pick before after m t es es' x (own, inl early) = record {
   };
   some = omega arith;
 }
-one_deletion may_pick before after m t es es' x (own, inr (shared, past, inl takes)) = record {
+one_deletion may_pick before after m t es es' x (own, inr (shared, look, past, inl takes)) = record {
   gains = record {
     gained = Take x ∷ committed_in (refilled (is_refilled m.refill m.k own shared x).0);
     others = take_and_more x (is_refilled m.refill m.k own shared x).0;
-    events = takes_events m t own shared es (both_acquired t own shared es) es' (both_quiet t own shared es) x takes.0
+    events = takes_events m t own shared es (both_looked t own look shared es) es' (both_look_quiet t own look shared es) x takes.0
         ∙ ap (λ z. committed_in es ++ Take x ∷ committed_in z) (is_refilled m.refill m.k own shared x).1;
   };
   some = omega arith;
 }
-one_deletion may_pick before after m t es es' x (own, inr (shared, past, inr takes)) = record {
+one_deletion may_pick before after m t es es' x (own, inr (shared, look, past, inr takes)) = record {
   gains = record {
     gained = Spy (victim_of m.threads t (suc takes.0.spies.passed)) takes.0.moved ∷ Take x ∷ [];
     others = (λ is. cc, (λ is. cc, tt));
-    events = spied_events m t own shared es (both_acquired t own shared es) es' (both_quiet t own shared es) x takes.0;
+    events = spied_events m t own shared es (both_looked t own look shared es) es' (both_look_quiet t own look shared es) x takes.0;
   };
   some = omega arith;
 }
@@ -126,7 +126,7 @@ one_nothing : {P : Type 0} (may_pick : P → ℕ → ℕ → P → Type 0) (befo
     → AnswersDeletion may_pick before after m t es es' None → GainsNothing es es'
 one_nothing may_pick before after m t es es' (own, inl early) = absurd early.0
 one_nothing may_pick before after m t es es' (own, inr both) =
-    nothing_events m t own both.0 es (both_acquired t own both.0 es) es' (both_quiet t own both.0 es) both.2.0
+    nothing_events m t own both.0 es (both_looked t own both.1 both.0 es) es' (both_look_quiet t own both.1 both.0 es) both.3.0
 
 pub no_deletion_gains : {P : Type 0} (may_pick : P → ℕ → ℕ → P → Type 0) (before after : P) (m : Sizes) (t : ℕ) (es es' : List Entry)
     → AnswersWaiting may_pick before after m t es es' None → GainsNothing es es'

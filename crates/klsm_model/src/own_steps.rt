@@ -23,6 +23,7 @@ pub(crate) enum KeptStep {
     Refill,
     Released(u32),
     Missed(u32, u32),
+    Looked(u64),
 }
 
 /// A step of a thread's list.

@@ -101,6 +101,7 @@ impl<A: Allocator + Copy> World<A> {
             Step::Commit { thread, event } => self.commit(*thread, event),
             Step::Release { thread, part } => self.release(*thread, *part),
             Step::Miss { thread, part } => self.miss(*thread, *part),
+            Step::Look { thread } => self.look(*thread),
         }
     }
 

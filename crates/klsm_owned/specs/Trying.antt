@@ -1,5 +1,5 @@
 -- What the calls of a member that wait for nobody tell, in its own words.
-use Rattle.std.specs.Prelude.{◌≡◌, ◌↔◌, ℕ, [], ◌∷◌, length, Result, Option, IfOk, IfErr, IsErrAnd}
+use Rattle.std.specs.Prelude.{◌≡◌, ◌↔◌, ℕ, [], ◌∷◌, ◌++◌, length, Result, Option, IfOk, IfErr, IsErrAnd}
 use Rattle.std.specs.Option.{option_to_list}
 use Rattle.klsm_run.specs.declared.item.Item.{Item}
 use Rattle.klsm_run.specs.declared.item.Stamp.{Stamp}
@@ -7,8 +7,10 @@ use Rattle.klsm_world.specs.OwnSteps.{inserted}
 use Rattle.klsm_board.specs.declared.errors.Busy.{Busy}
 use Rattle.klsm_board.specs.declared.errors.TryInsertError.{TryInsertError}
 use Rattle.klsm_board.specs.declared.errors.TryInsertError.TheVariants.{Spent}
-use Rattle.klsm_board.specs.Boards.{Adds, own_steps}
-use Rattle.klsm_board.specs.Rule.{SeesFront}
+use Rattle.klsm_world.specs.declared.step.Entry.TheVariants.{Looked}
+use Rattle.klsm_board.specs.Boards.{Adds, known_of_others, own_steps}
+use Rattle.klsm_board.specs.Rule.{own, view}
+use Rattle.klsm_board.specs.Steps.{HasFront}
 use Rattle.klsm_board.specs.Inserting.{Inserts, RefusesInsert, stamp_of, stamped}
 use Rattle.klsm_board.specs.Deleting.{AnswersDeletion, MissesDeletion}
 use Rattle.klsm_owned.specs.declared.owned.OwnedMember.{OwnedMember}
@@ -41,11 +43,14 @@ pub record TriesDelete (before after : OwnedMember) (result : Result (Option Ite
       Adds (member_of before) (member_of after) [] (option_to_list answer))
   pub busy : IfErr result (λ busy. Adds (member_of before) (member_of after) [] []
       × (choice_of after ≡ choice_of before)
-      × MissesDeletion (member_of before).sizes (member_of before).number
-      (own_steps (member_of before)) (own_steps (member_of after)) busy)
+      × MissesDeletion (member_of before).number (own_steps (member_of before))
+      (own_steps (member_of after)) busy)
 
--- A look at the front, which leaves the member's list as it was: the front of a world with that list.
+-- A look at the front, which the member's list notes: the front of a world of the lists that the member knew.
 pub record LooksAtFront (before after : OwnedMember) (front : ℕ) : Type 0 where
-  pub steps : own_steps (member_of after) ≡ own_steps (member_of before)
-  pub sees : SeesFront (member_of before).sizes (member_of before).number (own_steps (member_of before)) front
+  pub steps : own_steps (member_of after) ≡ own_steps (member_of before) ++ Looked front ∷ []
+  pub adds : Adds (member_of before) (member_of after) [] []
+  pub sees : HasFront (member_of before).sizes (member_of before).number
+      (view (own (member_of before).number (own_steps (member_of before))
+      ∷ known_of_others (member_of before))) front
   pub choice : choice_of after ≡ choice_of before

@@ -48,9 +48,9 @@ module _ (may_pick : ThreadPicker → ℕ → ℕ → ThreadPicker → Type 0) (
 
   pub same_by : (m : Sizes) (t : ℕ) (es es' : List Entry) (answer : Option Item) → AnswersDeletion may_pick before after m t es es' answer → after.thread ≡ before.thread
   same_by m t es es' answer (own, inl early) = ap (λ (p : ThreadPicker). p.thread) early.1
-  same_by m t es es' None (own, inr both) = ap (λ (p : ThreadPicker). p.thread) both.2.1
-  same_by m t es es' (Some x) (own, inr (shared, past, inl takes)) = by_choice m.k t own shared x takes.1
-  same_by m t es es' (Some x) (own, inr (shared, past, inr spied)) = ap (λ (p : ThreadPicker). p.thread) spied.1
+  same_by m t es es' None (own, inr both) = ap (λ (p : ThreadPicker). p.thread) both.3.1
+  same_by m t es es' (Some x) (own, inr (shared, look, past, inl takes)) = by_choice m.k t own shared x takes.1
+  same_by m t es es' (Some x) (own, inr (shared, look, past, inr spied)) = ap (λ (p : ThreadPicker). p.thread) spied.1
 
   pub same_thread : (m : Sizes) (t : ℕ) (es es' : List Entry) (answer : Option Item) → AnswersWaiting may_pick before after m t es es' answer → after.thread ≡ before.thread
   same_thread m t es es' answer told = same_by m t told.0 es' answer told.2

@@ -1,5 +1,5 @@
 -- What the calls of a member show in the text.
-use Rattle.std.proofs.Common.{◌≡◌, ◌≤◌, ℕ, suc, List, [], ◌∷◌, ◌++◌, length, length-append, refl, ap, ◌∙◌, inl, inr, arith, Some, None}
+use Rattle.std.proofs.Common.{◌≡◌, ◌≤◌, ℕ, suc, List, [], ◌∷◌, ◌++◌, length, length-append, refl, ap, ◌∙◌, inl, inr, arith, Option, Some, None}
 use Rattle.std.proofs.lemmas.Grind.{flat_map-append}
 use Rattle.std.proofs.lemmas.List.Concat.{flat_map-cons}
 use Rattle.std.specs.List.{flat_map}
@@ -11,11 +11,11 @@ use Rattle.klsm_world.specs.OwnSteps.{inserted, inserted_by}
 use Rattle.klsm_board.specs.declared.sizes.Sizes.{Sizes}
 use Rattle.klsm_board.specs.declared.errors.InsertError.{InsertError}
 use Rattle.klsm_board.specs.declared.errors.TryInsertError.{TryInsertError}
-use Rattle.klsm_board.specs.Entries.{own_acquired, both_acquired}
+use Rattle.klsm_board.specs.Entries.{own_acquired, both_looked}
 use Rattle.klsm_board.specs.Inserting.{Inserts, InsertsWaiting, RefusesInsert, RefusesInsertWaiting, Waits}
 use Rattle.klsm_board.specs.Deleting.{Deletes, FindsNothing, AnswersDeletion, AnswersWaiting, victim_of, refilled}
 use Rattle.klsm_board.specs.Effects.{committed_in}
-use Rattle.klsm_board.proofs.lemmas.calls.AddLemmas.{own_quiet, both_quiet}
+use Rattle.klsm_board.proofs.lemmas.calls.AddLemmas.{own_quiet, both_look_quiet}
 use Rattle.klsm_board.proofs.lemmas.calls.AddedLemmas.{puts_events, flushes_events, refused_events, refused_waiting_events}
 use Rattle.klsm_board.proofs.lemmas.calls.DeletedLemmas.{takes_events, early_events, spied_events, nothing_events}
 use Rattle.klsm_board.proofs.lemmas.calls.MissLemmas.{waits_quiet}
@@ -49,7 +49,7 @@ inserted_within es = by_events (committed_in es)
         omega (arith, more, shows, one e, by_events all)
 
 -- what comes after tries that met a lock shows the same as without them
-after_waits : (t : ℕ) (Found : List Item → List Entry → Type 0) (es now : List Entry) (more : List Answer) → Waits t Found es now → shown_in now ++ more ≡ shown_in es ++ more
+after_waits : (t : ℕ) (Found : List Item → Option ℕ → Type 0) (es now : List Entry) (more : List Answer) → Waits t Found es now → shown_in now ++ more ≡ shown_in es ++ more
 after_waits t Found es now more waits = ap (λ z. flat_map shown z ++ more) (waits_quiet t Found es now waits)
 
 -- an insertion shows its item
@@ -74,12 +74,12 @@ take_shows : (x : Item) (moved : List Item) → flat_map shown (event.Take x ∷
 take_shows x [] = refl
 take_shows x (y ∷ moved) = refl
 
-module _ (m : Sizes) (t : ℕ) (own shared : List Item) (es es' : List Entry) where
+module _ (m : Sizes) (t : ℕ) (own shared : List Item) (look : Option ℕ) (es es' : List Entry) where
   abbrev taken : List Entry
-  taken = both_acquired t own shared es
+  taken = both_looked t own look shared es
 
   quiet : committed_in taken ≡ committed_in es
-  quiet = both_quiet t own shared es
+  quiet = both_look_quiet t own look shared es
 
   -- a deletion from both parts shows its item
   deletion_shows : {P : Type 0} (may_pick : P → ℕ → ℕ → P → Type 0) (before after : P) (x : Item) → Deletes may_pick before after m t own shared taken es' x
@@ -99,11 +99,11 @@ module _ (m : Sizes) (t : ℕ) (own shared : List Item) (es es' : List Entry) wh
 module _ {P : Type 0} (may_pick : P → ℕ → ℕ → P → Type 0) (before after : P) (m : Sizes) (t : ℕ) where
   pub one_item : (es es' : List Entry) (x : Item) → AnswersDeletion may_pick before after m t es es' (Some x) → shown_in es' ≡ shown_in es ++ Deleted x ∷ []
   one_item es es' x (own, inl early) = shows_more es es' (event.Early x early.0.front ∷ []) (early_events m t own es (own_acquired t own es) es' x (own_quiet t own es) early.0)
-  one_item es es' x (own, inr both) = deletion_shows m t own both.0 es es' may_pick before after x both.2
+  one_item es es' x (own, inr both) = deletion_shows m t own both.0 both.1 es es' may_pick before after x both.3
 
   pub one_none : (es es' : List Entry) → AnswersDeletion may_pick before after m t es es' None → shown_in es' ≡ shown_in es ++ Nothing ∷ []
   one_none es es' (own, inl early) = absurd early.0
-  one_none es es' (own, inr both) = nothing_shows m t own both.0 es es' both.2.0
+  one_none es es' (own, inr both) = nothing_shows m t own both.0 both.1 es es' both.3.0
 
   pub item_shows : (es es' : List Entry) (x : Item) → AnswersWaiting may_pick before after m t es es' (Some x) → shown_in es' ≡ shown_in es ++ Deleted x ∷ []
   item_shows es es' x told = one_item told.0 es' x told.2 ∙ after_waits t _ es told.0 (Deleted x ∷ []) told.1

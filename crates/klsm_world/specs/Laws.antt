@@ -1,13 +1,15 @@
 -- What follows from the definitions alone, for every number of threads and every k.
-use Rattle.std.specs.Prelude.{ℕ, ◌≡◌, ◌≢◌, ◌*◌, ◌-◌, ◌+◌, ◌<◌, ◌≤◌, ◌==◌, if◌then◌else◌, List, [], ◌∷◌, ◌++◌, length, reverse, Some}
+use Rattle.std.specs.Prelude.{ℕ, ◌≡◌, ◌≢◌, ◌*◌, ◌-◌, ◌+◌, ◌<◌, ◌≤◌, ◌==◌, if◌then◌else◌, List, [], ◌∷◌, ◌++◌, length, reverse, slice_get, take, Some}
 use Rattle.std.specs.List.{flat_map}
 use Rattle.klsm_run.specs.declared.item.Item.{Item}
 use Rattle.klsm_run.specs.Content.{sorted, skipped, ShareNone}
-use Rattle.klsm_parts.specs.Events.{times, SkipsNoneOf}
+use Rattle.klsm_parts.specs.Events.{times, front_of, SkipsNoneOf}
 use Rattle.klsm_world.specs.declared.step.Event.{Event}
 use Rattle.klsm_world.specs.declared.step.Event.TheVariants.{Take, Early, Nothing}
 use Rattle.klsm_world.specs.declared.step.Step.{Step}
-use Rattle.klsm_world.specs.declared.step.Step.TheVariants.{Acquire, Commit, Release, Miss}
+use Rattle.klsm_world.specs.declared.step.Step.TheVariants.{Acquire, Commit, Release, Miss, Look}
+use Rattle.klsm_world.specs.declared.step.Entry.{Entry}
+use Rattle.klsm_world.specs.declared.step.Entry.TheVariants.{Looked}
 use Rattle.klsm_world.specs.OwnSteps.{shared_part, own_part, event_at, inserted}
 use Rattle.klsm_world.specs.Worlds.{Limits, World, word_of, home_of, steps_of, content_of, live, first_world}
 use Rattle.klsm_world.specs.LawfulWorlds.{IsLawful}
@@ -72,6 +74,29 @@ AcquiresFindContents = (limits : Limits) (v w : World) (t p : ℕ) (found : List
     → w ≡ acquired v t p found
     → (c : List Item) × (home_of v p ≡ Some c) × (sorted found ≡ sorted c)
 
+-- in a lawful world a look notes the front of the shared part, be that free or held
+abbrev pub LooksTellFronts : Type 0
+LooksTellFronts = (limits : Limits) (w : World) (t : ℕ) → IsLawful limits w
+    → MayStep limits w (Look t)
+    → steps_of (next w (Look t)) t ≡ steps_of w t ++ Looked (front_of (content_of w shared_part)) ∷ []
+
+-- on the way of a schedule, just before a look of thread t, its list was this one, and this the front of the
+-- shared part
+pub record WasFront (limits : Limits) (steps : List Step) (t : ℕ) (own : List Entry) (front : ℕ) : Type 0 where
+  pub before : List Step
+  pub later : List Step
+  pub on_the_way : steps ≡ later ++ Look t ∷ before
+  pub world : World
+  pub leads : Leads limits before world
+  pub list_is : steps_of world t ≡ own
+  pub front_is : front ≡ front_of (content_of world shared_part)
+
+-- so it is of each look that a list notes, and the entries before it
+abbrev pub ListsTellFronts : Type 0
+ListsTellFronts = (limits : Limits) (steps : List Step) (w : World) (t i front : ℕ) → Leads limits steps w
+    → slice_get (steps_of w t) i ≡ Some (Looked front)
+    → WasFront limits steps t (take i (steps_of w t)) front
+
 -- in a lawful world the items left by the account are the live ones
 abbrev pub AccountsLeaveLive : Type 0
 AccountsLeaveLive = (limits : Limits) (w : World) → IsLawful limits w
@@ -110,6 +135,7 @@ event_by t (Acquire u p) = []
 event_by t (Commit u event) = if u == t then event ∷ [] else []
 event_by t (Release u p) = []
 event_by t (Miss u p) = []
+event_by t (Look u) = []
 
 -- a thread's own steps have its events of the schedule, in their order
 abbrev pub ListsHaveEvents : Type 0

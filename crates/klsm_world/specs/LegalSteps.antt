@@ -5,7 +5,7 @@ use Rattle.klsm_parts.specs.Events.{MayPut, MayFlush, MayTake, MayTakeEarly, May
 use Rattle.klsm_world.specs.declared.step.Event.{Event}
 use Rattle.klsm_world.specs.declared.step.Event.TheVariants.{Put, Flush, Take, Early, Nothing, Spy, Refill}
 use Rattle.klsm_world.specs.declared.step.Entry.{Entry}
-use Rattle.klsm_world.specs.declared.step.Entry.TheVariants.{Acquired, Committed, Released, Missed}
+use Rattle.klsm_world.specs.declared.step.Entry.TheVariants.{Acquired, Committed, Released, Missed, Looked}
 use Rattle.klsm_world.specs.OwnSteps.{Hand, Holds, HoldsSome, found_in, shared_part, own_part, hand_of, inserted}
 
 -- an item bears the stamp of a thread's next insertion, after n of them
@@ -63,6 +63,7 @@ MayFollow k t before (Committed event) =
     MayCommit k t (hand_of t before) (length (inserted before)) event
 MayFollow k t before (Released p) = HoldsSome (hand_of t before) p
 MayFollow k t before (Missed p by) = found_in (hand_of t before) p ≡ None
+MayFollow k t before (Looked front) = Unit {0}
 
 -- each entry of thread t's list may follow those before it
 abbrev pub IsLegal : ℕ → ℕ → List Entry → Type 0

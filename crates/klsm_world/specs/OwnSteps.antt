@@ -8,7 +8,7 @@ use Rattle.klsm_parts.specs.Events.{own_after_put, own_after_flush, shared_after
 use Rattle.klsm_world.specs.declared.step.Event.{Event}
 use Rattle.klsm_world.specs.declared.step.Event.TheVariants.{Put, Flush, Take, Early, Nothing, Spy, Refill}
 use Rattle.klsm_world.specs.declared.step.Entry.{Entry}
-use Rattle.klsm_world.specs.declared.step.Entry.TheVariants.{Acquired, Committed, Released, Missed}
+use Rattle.klsm_world.specs.declared.step.Entry.TheVariants.{Acquired, Committed, Released, Missed, Looked}
 
 -- a hand: the parts held with their contents, the last acquired first
 abbrev pub Hand : Type 0
@@ -78,6 +78,7 @@ after_entry t hand (Acquired p found) = (p, found) ∷ hand
 after_entry t hand (Committed event) = after_event t hand event
 after_entry t hand (Released p) = without_part hand p
 after_entry t hand (Missed p by) = hand
+after_entry t hand (Looked front) = hand
 
 -- thread t's hand, which is empty at first, after all its own steps
 abbrev pub hand_of : ℕ → List Entry → Hand
@@ -108,6 +109,7 @@ event_at (Acquired p found) = []
 event_at (Committed event) = event ∷ []
 event_at (Released p) = []
 event_at (Missed p by) = []
+event_at (Looked front) = []
 
 -- the items that a thread inserted, and those that it deleted, in order
 abbrev pub inserted : List Entry → List Item

@@ -5,9 +5,9 @@ use Rattle.klsm_parts.specs.Events.{front_of}
 use Rattle.klsm_world.specs.declared.step.Event.{Event}
 use Rattle.klsm_world.specs.declared.step.Event.TheVariants.{Put, Flush, Take, Early, Nothing, Spy, Refill}
 use Rattle.klsm_world.specs.declared.step.Step.{Step}
-use Rattle.klsm_world.specs.declared.step.Step.TheVariants.{Acquire, Commit, Release, Miss}
+use Rattle.klsm_world.specs.declared.step.Step.TheVariants.{Acquire, Commit, Release, Miss, Look}
 use Rattle.klsm_world.specs.declared.step.Entry.{Entry}
-use Rattle.klsm_world.specs.declared.step.Entry.TheVariants.{Acquired, Committed, Released, Missed}
+use Rattle.klsm_world.specs.declared.step.Entry.TheVariants.{Acquired, Committed, Released, Missed, Looked}
 use Rattle.klsm_world.specs.OwnSteps.{Hand, HoldsSome, shared_part, content_in, after_event, inserted}
 use Rattle.klsm_world.specs.LegalSteps.{MayCommit}
 use Rattle.klsm_world.specs.Worlds.{Limits, World, word_of, home_of, holder_of, steps_of, hand_in, first_world}
@@ -46,12 +46,17 @@ pub record MayMiss (limits : Limits) (w : World) (t p : ℕ) : Type 0 where
   pub taken : word_of w p ≢ 0
   pub by_another : word_of w p ≢ t + 1
 
+-- thread t may load the front, whatever it holds
+pub record MayLook (limits : Limits) (w : World) (t : ℕ) : Type 0 where
+  pub thread : t < limits.threads
+
 -- a step is legal in a world
 abbrev pub MayStep : Limits → World → Step → Type 0
 MayStep limits w (Acquire t p) = MayAcquire limits w t p
 MayStep limits w (Commit t event) = MayTakeEffect limits w t event
 MayStep limits w (Release t p) = MayRelease limits w t p
 MayStep limits w (Miss t p) = MayMiss limits w t p
+MayStep limits w (Look t) = MayLook limits w t
 
 -- thread t's list gains an entry
 abbrev pub noted : World → ℕ → Entry → List (List Entry)
@@ -80,7 +85,7 @@ acquired w t p found = record {
   lists = noted w t (Acquired p found);
 }
 
--- the world after a step; an acquire records the content at home
+-- the world after a step; an acquire records the content at home, and a look the front word
 abbrev pub next : World → Step → World
 next w (Acquire t p) = acquired w t p (unwrap_or (home_of w p) [])
 next w (Commit t event) = record {
@@ -100,6 +105,12 @@ next w (Miss t p) = record {
   front = w.front;
   homes = w.homes;
   lists = noted w t (Missed p (holder_of w p));
+}
+next w (Look t) = record {
+  words = w.words;
+  front = w.front;
+  homes = w.homes;
+  lists = noted w t (Looked w.front);
 }
 
 -- a legal step leads to this world from one of which this is true

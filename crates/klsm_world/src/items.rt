@@ -56,15 +56,6 @@ impl<A: Allocator> Items<A> {
     {
         self.items.as_slice()
     }
-
-    /// The vector of the items.
-    #[inline]
-    pub fn into_vec(self) -> Vec<Item, A>
-        ensures { result.items ≡ self }
-    {
-        let Items { items } = self;
-        items
-    }
 }
 
 /// It prints as a vector does.

@@ -1,6 +1,6 @@
 //! Laws of the definitions that the contracts cite. The functions do nothing: what they ensure is a
 //! theorem.
-ghost use Rattle.klsm_world.specs.Laws.{AccountsAddUp, AccountsLeaveLive, AcquiresFindContents, DeletionsAreFew, EarliesKeepOwnOrder, EarliesSkipFew, FirstWorldIsLawful, ListsHaveEvents, LiveItemsDiffer, NothingLeavesFew, PartsShareNone, SchedulesAreRuns, SchedulesKeepLawful, StepsKeepLawful, TakesKeepOwnOrder, TakesSkipFew};
+ghost use Rattle.klsm_world.specs.Laws.{AccountsAddUp, AccountsLeaveLive, AcquiresFindContents, DeletionsAreFew, EarliesKeepOwnOrder, EarliesSkipFew, FirstWorldIsLawful, ListsHaveEvents, ListsTellFronts, LiveItemsDiffer, LooksTellFronts, NothingLeavesFew, PartsShareNone, SchedulesAreRuns, SchedulesKeepLawful, StepsKeepLawful, TakesKeepOwnOrder, TakesSkipFew};
 ghost use Rattle.klsm_world.specs.OwnListLaws.{HandsAreApart, ListsKeepOwnOrder, ListsKeepOwnOrderEarly, ListsLeaveFew, ListsSkipFew, ListsSkipFewEarly, NextIsNewInHand, OwnDeletionsAreFew, RefilledMayFollowEarly};
 ghost use Rattle.klsm_world.specs.Reached.{ReachesMostLeft, ReachesMostLeftRefilled, ReachesMostSkipped, ReachesMostSkippedEarly, ReachesMostSkippedEarlyRefilled, ReachesMostSkippedRefilled, two_threads};
 
@@ -52,6 +52,13 @@ pub fn schedules_are_runs()
 /// was at home.
 pub fn acquires_find_contents()
     ensures { AcquiresFindContents }
+{}
+
+/// In a lawful world a look notes the front of the shared part, be that free or held. So each look that a
+/// thread's list notes was at the front of a world on the way, in which the list was what stands before it.
+pub fn looks_tell_fronts()
+    ensures steps { LooksTellFronts }
+    ensures lists { ListsTellFronts }
 {}
 
 /// In a lawful world no item is live twice, and no two parts share one.

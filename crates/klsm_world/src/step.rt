@@ -73,6 +73,11 @@ pub enum Step {
         /// The part that it tries.
         part: u32,
     },
+    /// The thread loads the front, and commits nothing by it.
+    Look {
+        /// The thread that steps.
+        thread: u32,
+    },
 }
 
 /// One of a thread's own steps, as its list has it.
@@ -96,4 +101,6 @@ pub enum Entry {
         /// The thread that held it.
         by: u32,
     },
+    /// The front was loaded, and was this.
+    Looked(u64),
 }

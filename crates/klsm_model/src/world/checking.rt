@@ -1,7 +1,7 @@
 //! Whether a step of a world is legal, and why it is not.
 ghost use Rattle.std.specs.Prelude.{◌≡◌, ◌+◌, ◌<◌, ◌≤◌, ◌↔◌, IsTrue, length, OnOk, IfErr};
 ghost use Rattle.klsm_run.specs.Content.{sorted};
-ghost use Rattle.klsm_world.specs.declared.step.Step.TheVariants.{Acquire, Commit, Release, Miss};
+ghost use Rattle.klsm_world.specs.declared.step.Step.TheVariants.{Acquire, Commit, Release, Miss, Look};
 ghost use Rattle.klsm_model.specs.Kept.{HoldsAll};
 ghost use Rattle.klsm_world.specs.LawfulWorlds.{IsLawful};
 ghost use Rattle.klsm_world.specs.LegalSteps.{BearsStamp, MayCommit};
@@ -42,6 +42,7 @@ impl<A: Allocator + Copy> World<A> {
             Step::Commit { thread, event } => self.check_commit(*thread, event),
             Step::Release { thread, part } => self.check_release(*thread, *part),
             Step::Miss { thread, part } => self.check_miss(*thread, *part),
+            Step::Look { thread: _ } => Ok(()),
         }
     }
 
@@ -57,6 +58,7 @@ impl<A: Allocator + Copy> World<A> {
             Step::Commit { thread, event } => {
                 *thread >= self.threads || self.names_no_victim(*thread, event)
             }
+            Step::Look { thread } => *thread >= self.threads,
         }
     }
 

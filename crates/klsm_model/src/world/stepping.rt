@@ -2,7 +2,7 @@
 ghost use Rattle.std.specs.Prelude.{◌≡◌, ◌<◌, ◌++◌, ◌∷◌, [], slice_index_or, slice_set, OnOk, OnErr, IfErr};
 ghost use Rattle.std.specs.Vec.{vec_len};
 ghost use Rattle.klsm_world.specs.declared.step.Event.TheVariants.{Put, Flush, Take, Early, Nothing, Spy, Refill};
-ghost use Rattle.klsm_world.specs.declared.step.Step.TheVariants.{Acquire, Commit, Release, Miss};
+ghost use Rattle.klsm_world.specs.declared.step.Step.TheVariants.{Acquire, Commit, Release, Miss, Look};
 ghost use Rattle.klsm_model.specs.Kept.{entry_of};
 ghost use Rattle.klsm_model.specs.WorldView.{IsStepped};
 ghost use Rattle.klsm_world.specs.Schedules.{MayStep};
@@ -62,6 +62,16 @@ impl<A: Allocator + Copy> World<A> {
         let by = self.words[part as usize] - 1;
         let none = Items::new(Vec::new(self.alloc));
         note(&mut self.lists, thread, KeptStep::Missed(part, by), none)?;
+        Ok(())
+    }
+
+    pub(super) fn look(&mut self, thread: u32) -> Result<(), StepError>
+        requires { MayStep self.old.limits self.old.world (Look thread) }
+        ensures { IsStepped self.old (Look thread) result self.new }
+    {
+        let front = self.front();
+        let none = Items::new(Vec::new(self.alloc));
+        note(&mut self.lists, thread, KeptStep::Looked(front), none)?;
         Ok(())
     }
 

@@ -17,6 +17,7 @@ const ALL_KINDS: &[Row] = &[
     Row::Acquire(1, 2),
     Row::Put(1, FIVE),
     Row::Miss(0, 2),
+    Row::Look(0),
     Row::Acquire(1, 0),
     Row::Flush(1, TWO, Moved::One(FIVE)),
     Row::Put(1, NINE),

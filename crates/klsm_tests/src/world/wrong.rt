@@ -40,6 +40,8 @@ const STEPS: &[(Row, Option<StepError>)] = &[
     (Row::Miss(1, 4), Some(StepError::NoSuchPart)),
     (Row::Miss(0, 0), Some(StepError::WrongEvent)),
     (Row::Miss(1, 2), Some(StepError::WrongEvent)),
+    (Row::Look(3), Some(StepError::NoSuchPart)),
+    (Row::Look(2), None),
     (Row::Put(3, (1, 3, 0)), Some(StepError::NoSuchPart)),
     (Row::Put(2, (1, 2, 0)), Some(StepError::NotHeld)),
     (Row::Put(1, (1, 1, 3)), Some(StepError::WrongEvent)),

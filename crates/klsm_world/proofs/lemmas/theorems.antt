@@ -5,6 +5,7 @@ pub mod RefillReachedLemmas  -- such schedules with a refill
 pub mod StampLemmas  -- the item of the next insertion is new
 pub mod RunLemmas  -- a schedule is a run of the relaxed queue
 pub mod FoundContentLemmas  -- an acquire records the content at home
+pub mod LookLemmas  -- a look notes the front, and each look in a list did
 pub mod LiveOnceLemmas  -- no item is live twice
 pub mod OwnListLemmas  -- what a list of own steps tells
 pub mod OwnEventLemmas  -- lists have the events of a schedule

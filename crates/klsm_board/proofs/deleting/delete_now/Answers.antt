@@ -3,10 +3,10 @@ use Rattle.std.specs.Prelude.{MatchOption, Some}
 use Rattle.klsm_world.specs.declared.step.Entry.TheVariants.{Acquired, Released, Missed}
 use Rattle.klsm_board.specs.Steps.{mine, rest_of}
 use Rattle.klsm_board.specs.Seats.{own_in_hand}
-use Rattle.klsm_board.specs.Entries.{own_acquired, both_acquired}
-use Rattle.klsm_board.specs.Deleting.{Deletes, FindsNothing, FrontIsNotAbove, TakesEarly}
+use Rattle.klsm_board.specs.Entries.{both_looked, own_looked, with_look}
+use Rattle.klsm_board.specs.Deleting.{Deletes, FindsNothing, TakesEarly}
 use Rattle.klsm_board.specs.Effects.{committed_in, MeetsHolder, TakesEffect}
-use Rattle.klsm_board.proofs.lemmas.calls.AddLemmas.{own_quiet, both_quiet}
+use Rattle.klsm_board.proofs.lemmas.calls.AddLemmas.{own_quiet, both_look_quiet}
 use Rattle.klsm_board.proofs.lemmas.calls.EffectLemmas.{effect_since}
 use Rattle.klsm_board.proofs.lemmas.calls.AddedLemmas.{passed_on}
 use Rattle.klsm_board.proofs.lemmas.calls.MissLemmas.{meets}
@@ -28,17 +28,17 @@ returns-in-Some-clause-ok g c =
 pub try_acquire-requires-2-clause-has : goal.try_acquire-requires-2-clause-has
 try_acquire-requires-2-clause-has g c =
     let t = c.args.thread in let own = c.in_ok-try_acquire.ensures.ok [] c.requires.stands in let kept = c.in_default.ensures.done own.0 own.1 in
-    (own_in_hand t own.0, stands kept.0, shared_not_in_one t own.0)
+    (own_in_hand t own.0, stands kept.2, shared_not_in_one t own.0)
 
 pub release_part-requires-clause-has : goal.release_part-requires-clause-has
 release_part-requires-clause-has g c =
     let own = c.in_ok-try_acquire.ensures.ok [] c.requires.stands in let kept = c.in_default.ensures.done own.0 own.1 in let busy = c.in-Err.ensures.busy in
-    (own.0, [], stands (busy.1 (own_in_hand c.args.thread own.0) (stands kept.0)), refl)
+    (own.0, [], stands (busy.1 (own_in_hand c.args.thread own.0) (stands kept.2)), refl)
 
 pub returns-in-Err-clause-has : goal.returns-in-Err-clause-has
 returns-in-Err-clause-has g c =
     let own = c.in_ok-try_acquire.ensures.ok [] c.requires.stands in let kept = c.in_default.ensures.done own.0 own.1 in let busy = c.in-Err.ensures.busy in
-    c.release_part.ensures.released own.0 [] (stands (busy.1 (own_in_hand c.args.thread own.0) (stands kept.0))) refl
+    c.release_part.ensures.released own.0 [] (stands (busy.1 (own_in_hand c.args.thread own.0) (stands kept.2))) refl
 
 pub returns-in-Err-clause-busy : goal.returns-in-Err-clause-busy
 returns-in-Err-clause-busy g c =
@@ -47,30 +47,32 @@ returns-in-Err-clause-busy g c =
       refl,
       inr (record {
         own = own.0;
-        found = subst (FrontIsNotAbove c.args.table.now.key t own.0) own.2 kept.2;
+        look = kept.0;
+        found = kept.1;
         lock = busy.0;
-        steps = c.release_part.ensures.list ∙ (ap (λ z. z ++ Released (t + 1) ∷ []) (busy.2 ∙ ap (λ z. z ++ Missed 0 by ∷ []) (kept.1 ∙ own.2))
-            ∙ append_assoc (own_acquired t own.0 (mine c.args.seat.now.me.0)) (Missed 0 by ∷ []) (Released (t + 1) ∷ []));
+        steps = c.release_part.ensures.list ∙ (ap (λ z. z ++ Released (t + 1) ∷ []) (busy.2 ∙ ap (λ z. z ++ Missed 0 by ∷ []) (kept.3 ∙ ap (with_look kept.0) own.2))
+            ∙ append_assoc (own_looked t own.0 kept.0 (mine c.args.seat.now.me.0)) (Missed 0 by ∷ []) (Released (t + 1) ∷ []));
       }),
     )
 
 pub delete_under_both-requires-clause-has : goal.delete_under_both-requires-clause-has
 delete_under_both-requires-clause-has g c =
     let own = c.in_ok-try_acquire.ensures.ok [] c.requires.stands in let kept = c.in_default.ensures.done own.0 own.1 in
-    let shared = c.in_default-try_acquire.ensures.ok (own_in_hand c.args.thread own.0) (stands kept.0) in
+    let shared = c.in_default-try_acquire.ensures.ok (own_in_hand c.args.thread own.0) (stands kept.2) in
     (own.0, shared.0, shared.1)
 
 pub returns-clause-ok : goal.returns-clause-ok
 returns-clause-ok g c =
     let m = c.args.table.now.key in let t = c.args.thread in let es = mine c.args.seat.now.me.0 in
     let own = c.in_ok-try_acquire.ensures.ok [] c.requires.stands in let kept = c.in_default.ensures.done own.0 own.1 in
-    let shared = c.in_default-try_acquire.ensures.ok (own_in_hand t own.0) (stands kept.0) in
-    let acquired : mine c.try_acquire-2.new.seat.me.0 ≡ both_acquired t own.0 shared.0 es = shared.2 ∙ ap (λ z. z ++ Acquired 0 shared.0 ∷ []) (kept.1 ∙ own.2) in
+    let shared = c.in_default-try_acquire.ensures.ok (own_in_hand t own.0) (stands kept.2) in
+    let acquired : mine c.try_acquire-2.new.seat.me.0 ≡ both_looked t own.0 kept.0 shared.0 es = shared.2 ∙ ap (λ z. z ++ Acquired 0 shared.0 ∷ []) (kept.3 ∙ ap (with_look kept.0) own.2) in
     let did = c.delete_under_both in let es' = mine did.new.seat.me.0 in (
       own.0,
       inr (
         shared.0,
-        subst (FrontIsNotAbove m t own.0) own.2 kept.2,
+        kept.0,
+        kept.1,
         subst
             (λ z. MatchOption did.result (FindsNothing m t own.0 shared.0 z es' × (did.new.picker ≡ c.args.picker.now)) (Deletes g.P.Picker.may_pick c.args.picker.now did.new.picker m t own.0 shared.0 z es'))
             acquired (did.ensures.done own.0 shared.0 shared.1),
@@ -88,10 +90,10 @@ pub returns-clause-effect : goal.returns-clause-effect
 returns-clause-effect g c =
     let m = c.args.table.now.key in let t = c.args.thread in let es = mine c.args.seat.now.me.0 in
     let own = c.in_ok-try_acquire.ensures.ok [] c.requires.stands in let kept = c.in_default.ensures.done own.0 own.1 in
-    let shared = c.in_default-try_acquire.ensures.ok (own_in_hand t own.0) (stands kept.0) in
+    let shared = c.in_default-try_acquire.ensures.ok (own_in_hand t own.0) (stands kept.2) in
     let me2 = c.try_acquire-2.new.seat.me in let did = c.delete_under_both in let es' = mine did.new.seat.me.0 in
-    let acquired : mine me2.0 ≡ both_acquired t own.0 shared.0 es = shared.2 ∙ ap (λ z. z ++ Acquired 0 shared.0 ∷ []) (kept.1 ∙ own.2) in
-    effect_since m t (rest_of c.args.seat.now.me.0) es (mine me2.0) es' did.result (ap committed_in acquired ∙ both_quiet t own.0 shared.0 es)
+    let acquired : mine me2.0 ≡ both_looked t own.0 kept.0 shared.0 es = shared.2 ∙ ap (λ z. z ++ Acquired 0 shared.0 ∷ []) (kept.3 ∙ ap (with_look kept.0) own.2) in
+    effect_since m t (rest_of c.args.seat.now.me.0) es (mine me2.0) es' did.result (ap committed_in acquired ∙ both_look_quiet t own.0 kept.0 shared.0 es)
     (subst (λ z. TakesEffect m t z (mine me2.0) es' did.result) (c.try_acquire-2.ensures.others ∙ (c.delete_early.ensures.others ∙ c.try_acquire.ensures.others)) did.ensures.effect)
 
 pub returns-in_err-try_acquire-clause-has : goal.returns-in_err-try_acquire-clause-has
@@ -107,7 +109,7 @@ returns-in_err-try_acquire-clause-holder g c =
 pub returns-in-Err-clause-holder : goal.returns-in-Err-clause-holder
 returns-in-Err-clause-holder g c =
     let m = c.args.table.now.key in let t = c.args.thread in let me = c.delete_early.new.seat.me in let es' = mine c.release_part.new.seat.me.0 in
-    let own = c.in_ok-try_acquire.ensures.ok [] c.requires.stands in let kept = (c.in_default.ensures.done own.0 own.1).0 in let carries = kept.carries in
+    let own = c.in_ok-try_acquire.ensures.ok [] c.requires.stands in let kept = (c.in_default.ensures.done own.0 own.1).2 in let carries = kept.carries in
     let told = c.in-Err.ensures in let busy = c.in-Err.busy in
     let steps = c.release_part.ensures.list ∙ (ap (λ z. z ++ Released (t + 1) ∷ []) told.busy.2 ∙ append_assoc (mine me.0) (Missed 0 busy.by ∷ []) (Released (t + 1) ∷ [])) in
     subst (λ z. MeetsHolder m t z es' busy) (c.delete_early.ensures.others ∙ c.try_acquire.ensures.others)

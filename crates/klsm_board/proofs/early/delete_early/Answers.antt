@@ -1,17 +1,19 @@
-use Rattle.std.proofs.Common.{◌≡◌, ◌<◌, ◌∙◌, [], ap, arith, refl, subst, sym, inl, inr}
+use Rattle.std.proofs.Common.{◌≡◌, ◌<◌, ◌∙◌, [], ◌∷◌, ◌++◌, ap, arith, refl, subst, sym}
 use Rattle.std.proofs.lemmas.Option.{same_Some}
 use Rattle.klsm_parts.specs.Least.{IsLeast}
 use Rattle.klsm_parts.specs.Events.{own_after_early}
-use Rattle.klsm_board.specs.Rule.{SeesFront}
+use Rattle.klsm_world.specs.declared.step.Entry.{Entry}
+use Rattle.klsm_world.specs.declared.step.Entry.TheVariants.{Looked}
 use Rattle.klsm_board.specs.Steps.{mine, rest_of}
-use Rattle.klsm_board.specs.Seats.{Has, own_in_hand}
-use Rattle.std.specs.Prelude.{Some}
+use Rattle.klsm_board.specs.Seats.{own_in_hand}
+use Rattle.std.specs.Prelude.{Some, None}
 use Rattle.klsm_board.specs.declared.rule.View.{View}
 use Rattle.klsm_board.specs.Deleting.{TakesEarly}
 use Rattle.klsm_board.specs.Effects.{TakesEffect}
 use Rattle.klsm_board.proofs.lemmas.seats.StandLemmas.{stands}
 use Rattle.klsm_board.proofs.lemmas.calls.EarlyLemmas.{looked_only, early_out, takes_early, early_effect, slot_there, slot_is}
 use Rattle.klsm_board.proofs.lemmas.calls.TestLemmas.{none_told}
+use Rattle.klsm_board.proofs.lemmas.table.SeatLemmas.{has_noted, mine_noted}
 use Rattle.klsm_board.proofs.early.delete_early.Goals as goal
 
 pub look_at_front-requires-clause-has : goal.look_at_front-requires-clause-has
@@ -22,10 +24,11 @@ returns-then-least-look_at_front-clause-done g c own has =
     let content = g.S.Holding.content in let suits = g.S.Holding.suits in let m = c.args.table.now.key in let t = c.args.thread in
     let did = c.in_ok-least.ensures.looked own has in
     let told = looked_only content suits m t c.in_ok-least.least c.look_at_front.result c.least_own.new.seat.me c.look_at_front.new.seat.me c.if-least-look_at_front.true c.look_at_front.ensures.looked in
-    let list = ap mine c.least_own.ensures.same.2 in (
-      subst (λ z. Has content suits m t (own_in_hand t own) z) (sym told.0) did.0,
-      ap (λ z. mine z.0) told.0 ∙ list,
-      inr (c.in_ok-least.least, c.look_at_front.result, did.1, c.if-least-look_at_front.true, subst (λ es. SeesFront m t es c.look_at_front.result) list told.1),
+    let entry : Entry = Looked c.look_at_front.result in let me = c.least_own.new.seat.me in let me' = c.look_at_front.new.seat.me in (
+      Some c.look_at_front.result,
+      (c.in_ok-least.least, did.1, c.if-least-look_at_front.true),
+      has_noted content suits m t entry (own_in_hand t own) me me' (λ _. refl) (stands did.0) told.0 told.1,
+      mine_noted content suits m t entry me me' did.0.carries.acts told.0 ∙ ap (λ z. mine z ++ entry ∷ []) c.least_own.ensures.same.2,
     )
 
 pub slot_mut-requires : goal.slot_mut-requires
@@ -96,4 +99,4 @@ returns-clause-effect g c =
 pub returns-in_err-least-clause-done : goal.returns-in_err-least-clause-done
 returns-in_err-least-clause-done g c own has =
     let did = c.in_err-least.ensures.looked own has in
-    none_told c.from_residual.result _ _ c.from_residual.ensures (did.0, ap mine c.least_own.ensures.same.2, inl did.1)
+    none_told c.from_residual.result _ _ c.from_residual.ensures (None, did.1, did.0, ap mine c.least_own.ensures.same.2)

@@ -1,4 +1,5 @@
 use Rattle.std.proofs.Common.{◌+◌, ◌∷◌, ◌++◌, ◌∙◌, [], ap, refl, subst, inl, inr, append_assoc}
+use Rattle.std.specs.Prelude.{None}
 use Rattle.klsm_world.specs.declared.step.Event.TheVariants.{Put}
 use Rattle.klsm_world.specs.declared.step.Entry.TheVariants.{Acquired, Committed, Released, Missed}
 use Rattle.klsm_board.specs.Effects.{MeetsHolder}
@@ -71,7 +72,8 @@ returns-in-Err-try_acquire-clause-refused g c =
     let busy = c.in-Err-try_acquire.ensures.busy in let by = c.in-Err-try_acquire.busy.by in
     inr (record {
       own = own.0;
-      found = kept.0;
+      look = None;
+      found = (kept.0, refl);
       lock = busy.0;
       steps = c.release_part.ensures.list ∙ (ap (λ z. z ++ Released (t + 1) ∷ []) (busy.2 ∙ ap (λ z. z ++ Missed 0 by ∷ []) (kept.2 ∙ own.2))
           ∙ append_assoc (own_acquired t own.0 es) (Missed 0 by ∷ []) (Released (t + 1) ∷ []));

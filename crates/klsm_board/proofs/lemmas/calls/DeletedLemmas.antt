@@ -14,10 +14,10 @@ use Rattle.klsm_world.specs.OwnSteps.{own_part, event_at, inserted, inserted_by,
 use Rattle.klsm_board.specs.Effects.{committed_in}
 use Rattle.klsm_board.specs.declared.sizes.Sizes.{Sizes}
 use Rattle.klsm_board.specs.declared.errors.Busy.{Busy}
-use Rattle.klsm_board.specs.Entries.{own_acquired, both_acquired, both_released}
+use Rattle.klsm_board.specs.Entries.{own_acquired, both_released, both_looked}
 use Rattle.klsm_board.specs.Deleting.{Passes, PassesBy, SpiesAfter, TakesOut, TakesEarly, TakesSpied, FindsNothing, Deletes, AnswersDeletion, MissesDeletion, victim_of, refilled, refilled_after}
 use Rattle.klsm_board.proofs.lemmas.calls.EventLemmas.{IsQuiet, events_append, quiet_append, same_events}
-use Rattle.klsm_board.proofs.lemmas.calls.AddLemmas.{goes_on, inserts, deletes, own_quiet, both_quiet}
+use Rattle.klsm_board.proofs.lemmas.calls.AddLemmas.{goes_on, inserts, deletes, own_quiet, both_look_quiet}
 use Rattle.klsm_board.specs.Boards.{Gains}
 use Rattle.klsm_board.proofs.lemmas.calls.MissLemmas.{misses_quiet}
 use Rattle.klsm_board.proofs.lemmas.calls.AddedLemmas.{quiet_gains}
@@ -112,7 +112,7 @@ pub answers_gain : {P : Type 0} (may_pick : P → ℕ → ℕ → P → Type 0) 
 answers_gain may_pick before after m t es es' answer (own, inl early) =
     early_gains m t own es (own_acquired t own es) es' answer (own_quiet t own es) early.0
 answers_gain may_pick before after m t es es' answer (own, inr both) =
-    answer_gains m t own both.0 es (both_acquired t own both.0 es) es' (both_quiet t own both.0 es) may_pick before after answer both.2
+    answer_gains m t own both.0 es (both_looked t own both.1 both.0 es) es' (both_look_quiet t own both.1 both.0 es) may_pick before after answer both.3
 
 -- how many items were answered
 pub some_is_one : {A : Type 0} (o : Option A) → is_some o ≡ true → length (option_to_list o) ≡ 1
@@ -124,5 +124,5 @@ none_is_zero None is = refl
 none_is_zero (Some a) is = absurd (true≢false is)
 
 -- a deletion that met a lock that was held
-pub misses_gain : (m : Sizes) (t : ℕ) (es es' : List Entry) (busy : Busy) → MissesDeletion m t es es' busy → Gains es es' [] []
-misses_gain m t es es' busy outcome = quiet_gains es es' (misses_quiet t _ es es' busy outcome)
+pub misses_gain : (t : ℕ) (es es' : List Entry) (busy : Busy) → MissesDeletion t es es' busy → Gains es es' [] []
+misses_gain t es es' busy outcome = quiet_gains es es' (misses_quiet t _ es es' busy outcome)

@@ -8,11 +8,10 @@ use Rattle.klsm_parts.specs.Least.{IsLeast}
 use Rattle.klsm_parts.specs.Events.{MayTakeEarly, own_after_early}
 use Rattle.klsm_world.specs.declared.step.Event.TheVariants.{Early}
 use Rattle.klsm_world.specs.declared.step.Entry.{Entry}
-use Rattle.klsm_world.specs.declared.step.Entry.TheVariants.{Committed, Released}
+use Rattle.klsm_world.specs.declared.step.Entry.TheVariants.{Committed, Released, Looked}
 use Rattle.klsm_world.specs.OwnSteps.{own_part}
 use Rattle.klsm_board.specs.declared.sizes.Sizes.{Sizes}
 use Rattle.klsm_board.specs.declared.rule.View.{View}
-use Rattle.klsm_board.specs.Rule.{SeesFront}
 use Rattle.klsm_board.specs.Steps.{gain, mine, rest_of, AreReached}
 use Rattle.klsm_board.specs.Seats.{Has, own_in_hand}
 use Rattle.klsm_board.specs.Deleting.{TakesEarly}
@@ -22,7 +21,7 @@ use Rattle.klsm_board.proofs.lemmas.seats.CarryLemmas.{first_of, first_here, fir
 use Rattle.klsm_board.proofs.lemmas.seats.TurnLemmas.{as_rest}
 use Rattle.klsm_board.proofs.lemmas.hands.CommitLemmas.{early_done}
 use Rattle.klsm_board.proofs.lemmas.hands.PossibleLemmas.{early_skips_few, early_keeps_order}
-use Rattle.klsm_board.proofs.lemmas.table.SeatLemmas.{has_set, mine_set, set_others}
+use Rattle.klsm_board.proofs.lemmas.table.SeatLemmas.{has_set, mine_set, noted_others, set_others}
 
 module _ {S : Type 0} (content : S → List Item) (suits : ℕ → ℕ → S → Type 0) (m : Sizes) (t : ℕ) where
   -- what a look at the front tells that deletes an item
@@ -31,13 +30,13 @@ module _ {S : Type 0} (content : S → List Item) (suits : ℕ → ℕ → S →
 
   -- and what one that deletes none
   abbrev Stays : ℕ → Me S View → Me S View → Type 0
-  Stays n me me' = (me' ≡ me) × SeesFront m t (mine me.0) n
+  Stays n me me' = (me' ≡ (gain me.0 (Looked n), me.1)) × AreReached m t me'.0
 
   -- what a look at the front tells
   abbrev LooksAt : Item → ℕ → Me S View → Me S View → Type 0
   LooksAt x n me me' = MatchBool (ltb x.key n) (Deleted x n me me') (Stays n me me')
 
-  -- where the front is not above the least own key, the look leaves all as it is
+  -- where the front is not above the least own key, the look is noted
   pub looked_only : (x : Item) (n : ℕ) (me me' : Me S View) → n ≤ x.key → LooksAt x n me me' → Stays n me me'
   looked_only x n me me' above outcome =
       subst (λ b. MatchBool b (Deleted x n me me') (Stays n me me')) (le-ltb x.key n above) outcome
@@ -53,7 +52,7 @@ module _ {S : Type 0} (content : S → List Item) (suits : ℕ → ℕ → S →
     where
       by_test : (b : Bool) → MatchBool b (Deleted x n me me') (Stays n me me') → rest_of me'.0 ≡ rest_of me.0
       by_test true took = set_others content suits m t (Early x n) me me' took.0
-      by_test false same = ap (λ (z : Me S View). rest_of z.0) same.0
+      by_test false same = noted_others content suits m t (Looked n) me me' same.0
 
   module _ (own : List Item) (x : Item) (n : ℕ) (me me' : Me S View) (has : Has content suits m t (own_in_hand t own) me) (least : IsLeast x own) (below : x.key < n) (outcome : LooksAt x n me me') where
     -- what the seat has, once the item is out of the part

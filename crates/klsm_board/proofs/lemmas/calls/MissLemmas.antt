@@ -1,5 +1,6 @@
 -- Tries that met a lock that was not free, one after another.
 use Rattle.std.proofs.Common.{◌≡◌, ℕ, zero, suc, ◌<◌, ◌≤◌, List, [], ◌∷◌, ◌++◌, refl, sym, ap, ◌∙◌, subst, inl, inr, arith}
+use Rattle.std.specs.Prelude.{Option}
 use Rattle.klsm_run.specs.declared.item.Item.{Item}
 use Rattle.klsm_world.specs.declared.step.Entry.{Entry}
 use Rattle.klsm_world.specs.declared.step.Entry.TheVariants.{Missed, Released}
@@ -12,19 +13,19 @@ use Rattle.klsm_board.specs.declared.rule.Own.{Own}
 use Rattle.klsm_board.specs.declared.rule.View.{View}
 use Rattle.klsm_board.specs.declared.sizes.Sizes.{Sizes}
 use Rattle.klsm_board.specs.Effects.{MeetsHolder, committed_in}
-use Rattle.klsm_board.specs.Entries.{own_acquired}
+use Rattle.klsm_board.specs.Entries.{own_looked}
 use Rattle.klsm_board.specs.Inserting.{Misses, MissesTimes, Waits, as_tried}
 use Rattle.klsm_board.specs.Rule.{own, view}
 use Rattle.klsm_board.specs.Steps.{mine, rest_of, HasHolder, IsMine}
 use Rattle.klsm_board.proofs.lemmas.calls.EventLemmas.{same_events}
-use Rattle.klsm_board.proofs.lemmas.calls.AddLemmas.{own_quiet}
+use Rattle.klsm_board.proofs.lemmas.calls.AddLemmas.{look_quiet}
 
-module _ (t : ℕ) (Found : List Item → List Entry → Type 0) where
+module _ (t : ℕ) (Found : List Item → Option ℕ → Type 0) where
   -- they bring no event
   pub misses_quiet : (es es' : List Entry) (busy : Busy) → Misses t Found es es' busy → committed_in es' ≡ committed_in es
   misses_quiet es es' busy (inl own) = same_events es (Missed (own_part t) busy.by ∷ []) es' own.steps refl
   misses_quiet es es' busy (inr shared) =
-      same_events (own_acquired t shared.own es) (Missed 0 busy.by ∷ Released (own_part t) ∷ []) es' shared.steps refl ∙ own_quiet t shared.own es
+      same_events (own_looked t shared.own shared.look es) (Missed 0 busy.by ∷ Released (own_part t) ∷ []) es' shared.steps refl ∙ look_quiet t shared.own shared.look es
 
   times_quiet : (n : ℕ) (es es' : List Entry) → MissesTimes n t Found es es' → committed_in es' ≡ committed_in es
   times_quiet zero es es' none = ap committed_in none

@@ -13,9 +13,9 @@ use Rattle.klsm_parts.specs.Events.{front_of}
 use Rattle.klsm_world.specs.declared.step.Event.{Event}
 use Rattle.klsm_world.specs.declared.step.Event.TheVariants.{Put, Flush, Take, Early, Nothing, Spy, Refill}
 use Rattle.klsm_world.specs.declared.step.Entry.{Entry}
-use Rattle.klsm_world.specs.declared.step.Entry.TheVariants.{Committed}
+use Rattle.klsm_world.specs.declared.step.Entry.TheVariants.{Committed, Looked}
 use Rattle.klsm_world.specs.declared.step.Step.{Step as WorldStep}
-use Rattle.klsm_world.specs.declared.step.Step.TheVariants.{Commit}
+use Rattle.klsm_world.specs.declared.step.Step.TheVariants.{Commit, Look}
 use Rattle.klsm_world.specs.OwnSteps.{Hand, Holds, found_in, content_in, own_part, shared_part, hand_of, inserted}
 use Rattle.klsm_world.specs.LegalSteps.{MayCommit}
 use Rattle.klsm_world.specs.Worlds.{Limits, World, steps_of, hand_in, content_of}
@@ -27,11 +27,10 @@ use Rattle.klsm_board.specs.declared.sizes.Sizes.{Sizes}
 use Rattle.klsm_board.specs.declared.rule.Own.{Own}
 use Rattle.klsm_board.specs.declared.rule.View.{View}
 use Rattle.klsm_board.specs.Rule.{place, lock_words, front_word, world_limits, content_at, board_world, Ruled}
-use Rattle.klsm_board.specs.Rule.{SeesFront}
 use Rattle.klsm_board.specs.Steps.{AreReached, gain, glanced, looked, set_front}
 use Rattle.klsm_board.specs.Seats.{QuotaAllows, LeavesShared, SetsFront}
 use Rattle.klsm_board.proofs.lemmas.table.PlaceLemmas.{locks_stay, front_set_at}
-use Rattle.klsm_board.proofs.lemmas.table.KeepLemmas.{Goes, world, acting, reached_now, keeps_rule, keeps_reached, here, same_steps, inside, few_now, few_more, room_for, stays, each_within}
+use Rattle.klsm_board.proofs.lemmas.table.KeepLemmas.{Goes, world, acting, reached_now, keeps_rule, keeps_reached, same_steps, inside, few_now, few_more, room_for, stays}
 
 -- an event that leaves the shared part names no front
 pub no_front : (word t : ℕ) (hand : Hand) (event : Event) → LeavesShared t hand event → NamesFront word event
@@ -138,47 +137,59 @@ module _ {S : Type 0} (content : S → List Item) (suits : ℕ → ℕ → S →
           keeps,
           tt,
           keeps_rule content suits m s r id t xs es behind at lt ws s.homes ls ms (stays content suits m s r id t xs behind at lt (m.threads + 1) n) led stands else r.suited few,
-          subst (λ b. MatchBool b Took ((now ≡ before) × SeesFront m t xs n)) (sym below) (refl, keeps_reached content suits m s r id t xs es behind at lt ws s.homes ls ms led stands else few, (seen.0, ap (λ (w : World). w.front) seen.1)),
+          subst (λ b. MatchBool b Took ((now ≡ (gain before.0 (Looked n), cs)) × AreReached m t now.0)) (sym below) (refl, keeps_reached content suits m s r id t xs es behind at lt ws s.homes ls ms led stands else few, (seen.0, ap (λ (w : World). w.front) seen.1)),
         )
 
-    -- a load of the front that changes nothing keeps the rule
-    unchanged : Ruled content suits m (record { words = set s.words (place (m.threads + 1)) (front_word m s.words); homes = s.homes; views = set s.views id (acting content suits m t xs behind) })
-    unchanged =
+    -- the front is loaded, and the look noted
+    notes : Ruled content suits m (record { words = set s.words (place (m.threads + 1)) (front_word m s.words); homes = s.homes; views = set s.views id (acting content suits m t (xs ++ Looked (front_word m s.words) ∷ []) behind) })
+        × AreReached m t (acting content suits m t (xs ++ Looked (front_word m s.words) ∷ []) behind)
+    notes =
         let n : ℕ = front_word m s.words in
+        let same : steps_of w0 t ≡ xs = same_steps content suits m s r id t xs behind at lt in
+        let es : List Entry = xs ++ Looked n ∷ [] in
+        let ls : List (List Entry) = set r.lists t es in
+        let ms : List WorldStep = Look t ∷ r.schedule in
         let ws : List ℕ = set s.words (place (m.threads + 1)) n in
-        let led : Leads (world_limits m) r.schedule (board_world content (lock_words m ws) (front_word m ws) s.homes r.lists) =
-        subst (λ z. Leads (world_limits m) r.schedule (board_world content (lock_words m z) (front_word m z) s.homes r.lists)) (sym (set-get_or s.words (place (m.threads + 1)) 0)) r.leads in
-        keeps_rule content suits m s r id t xs xs behind at lt ws s.homes r.lists r.schedule (stays content suits m s r id t xs behind at lt (m.threads + 1) n) led (here content suits m s r id t xs behind at lt) (λ u d. refl) r.suited (few_now content suits m s r id t xs behind at lt)
+        let led : Leads (world_limits m) ms (board_world content (lock_words m ws) (front_word m ws) s.homes ls) = record {
+          before = w0;
+          led = r.leads;
+          legal = record { thread = lt };
+          after = λ i. record { words = lock_words m (set-get_or s.words (place (m.threads + 1)) 0 i); front = front_word m (set-get_or s.words (place (m.threads + 1)) 0 i); homes = map (content_at content) s.homes; lists = set r.lists t (sym same i ++ Looked n ∷ []) };
+        } in
+        let stands : get_elem? ls t ≡ some es = set_here r.lists t es (inside content suits m s r id t xs behind at lt) in
+        let else : (u : ℕ) → u ≢ t → get_elem? ls u ≡ get_elem? r.lists u = (λ u d. set_else r.lists t u es d) in
+        let few = few_more content suits m s r id t xs behind at lt (Looked n) refl in (
+          keeps_rule content suits m s r id t xs es behind at lt ws s.homes ls ms (stays content suits m s r id t xs behind at lt (m.threads + 1) n) led stands else r.suited few,
+          keeps_reached content suits m s r id t xs es behind at lt ws s.homes ls ms led stands else few,
+        )
 
-    -- the front is that of this world
-    sees : SeesFront m t xs (front_word m s.words)
-    sees =
-        let lawful : IsLawful (world_limits m) w0 = schedules_keep_lawful (world_limits m) r.schedule w0 r.leads in
-        let few = r.within in
-        record { world = w0; schedule = r.schedule; leads = r.leads; within = λ u ltu. each_within m.quota r.lists few u; list_is = same_steps content suits m s r id t xs behind at lt; front_is = lawful.front_is }
-
-    -- or all stays as it is
+    -- the least item of the own part stays where its key is not below the front
     looks_only : (x : Item) → ltb x.key (front_word m s.words) ≡ false
         → Goes content suits m s id (m.threads + 1) cs (looked x m t (step slots (place (m.threads + 1)) 0 0 none) (acting content suits m t xs behind, cs)) (front_word m s.words)
     looks_only x above =
         let n : ℕ = front_word m s.words in
-        let now : Me S View = (acting content suits m t xs behind, cs) in
-        let gained_one : View = gain now.0 (Committed (Early x n)) in
-        let Took : Type 0 = (now ≡ (gained_one, cs)) × AreReached m t now.0 × ((z : AreReached m t now.0) × (z.world.front ≡ n)) in
-        (acting content suits m t xs behind, keeps, tt, unchanged, subst (λ b. MatchBool b Took ((now ≡ now) × SeesFront m t xs n)) (sym above) (refl, sees))
+        let before : Me S View = (acting content suits m t xs behind, cs) in
+        let now : Me S View = (acting content suits m t (xs ++ Looked n ∷ []) behind, cs) in
+        let Took : Type 0 = (now ≡ (gain before.0 (Committed (Early x n)), cs)) × AreReached m t now.0 × ((z : AreReached m t before.0) × (z.world.front ≡ n)) in (
+          now.0,
+          keeps,
+          tt,
+          notes.0,
+          subst (λ b. MatchBool b Took ((now ≡ (gain before.0 (Looked n), cs)) × AreReached m t now.0)) (sym above) (refl, notes.1),
+        )
 
-    -- the front is loaded, and all stays as it is
+    -- the front is loaded, whatever the own part has
     glances : Goes content suits m s id (m.threads + 1) cs (glanced m t (step slots (place (m.threads + 1)) 0 0 none) (acting content suits m t xs behind, cs)) (front_word m s.words)
     glances =
         let lawful : IsLawful (world_limits m) w0 = schedules_keep_lawful (world_limits m) r.schedule w0 r.leads in
         let seen = reached_now content suits m s r id t xs behind at lt in (
-          acting content suits m t xs behind,
+          acting content suits m t (xs ++ Looked (front_word m s.words) ∷ []) behind,
           keeps,
           tt,
-          unchanged,
+          notes.0,
           (
             refl,
-            sees,
+            notes.1,
             record { reached = seen.0; front_is = lawful.front_is ∙ ap (λ (w : World). front_of (content_of w shared_part)) (sym seen.1) },
           ),
         )

@@ -74,20 +74,26 @@ module _ {S : Type 0} (content : S → List Item) (suits : ℕ → ℕ → S →
         reached = subst (λ (z : Me S View). AreReached m t z.0) is reached;
       })
 
-  -- a part was tried in vain
-  has_lost : (p by : ℕ) (hand : Hand) (me me' : Me S View) → Stands content suits m t hand me
-      → me' ≡ (gain me.0 (Missed p by), me.1) → AreReached m t me'.0 → Has content suits m t hand me'
-  has_lost p by hand me me' has is reached =
+  -- the list gained an entry that leaves the hand as it was: a part was tried in vain, or the front loaded
+  pub has_noted : (e : Entry) (hand : Hand) (me me' : Me S View) → ((h : Hand) → after_entry t h e ≡ h) → Stands content suits m t hand me
+      → me' ≡ (gain me.0 e, me.1) → AreReached m t me'.0 → Has content suits m t hand me'
+  has_noted e hand me me' leaves has is reached =
       let old = has.carries in
       subst (Has content suits m t hand) (sym is) (record {
         carries = record {
-          acts = gain_mine me.0 t (Missed p by) old.acts;
+          acts = gain_mine me.0 t e old.acts;
           contents_are = old.contents_are;
           suited = old.suited;
         };
-        hand_is = hand_gain me.0 (Missed p by) old.acts ∙ has.hand_is;
+        hand_is = hand_gain me.0 e old.acts ∙ (leaves (hand_of t (mine me.0)) ∙ has.hand_is);
         reached = subst (λ (z : Me S View). AreReached m t z.0) is reached;
       })
+
+  pub mine_noted : (e : Entry) (me me' : Me S View) → IsMine me.0 t → me' ≡ (gain me.0 e, me.1) → mine me'.0 ≡ mine me.0 ++ e ∷ []
+  mine_noted e me me' acts is = ap (λ (z : Me S View). mine z.0) is ∙ mine_gain me.0 t e acts
+
+  pub noted_others : (e : Entry) (me me' : Me S View) → me' ≡ (gain me.0 e, me.1) → rest_of me'.0 ≡ rest_of me.0
+  noted_others e me me' is = ap (λ (z : Me S View). rest_of z.0) is ∙ others_gain me.0 e
 
   -- a seat that carries a part has a slot for it
   front_slot : (xs : List (ℕ × S)) (p : ℕ) (c : List Item) (hand : Hand) → contents content suits m t xs ≡ (p, c) ∷ hand → AreSuited content suits m t xs
@@ -171,7 +177,7 @@ module _ {S : Type 0} (content : S → List Item) (suits : ℕ → ℕ → S →
   }
 
   pub mine_set : (event : Event) (me me' : Me S View) → IsMine me.0 t → me' ≡ (gain me.0 (Committed event), me.1) → mine me'.0 ≡ mine me.0 ++ Committed event ∷ []
-  mine_set event me me' acts is = ap (λ (z : Me S View). mine z.0) is ∙ mine_gain me.0 t (Committed event) acts
+  mine_set event = mine_noted (Committed event)
 
   -- a part that a seat has can be released
   pub can_release : (p : ℕ) (c : List Item) (hand : Hand) (me : Me S View) → Stands content suits m t ((p, c) ∷ hand) me
@@ -220,7 +226,7 @@ module _ {S : Type 0} (content : S → List Item) (suits : ℕ → ℕ → S →
       (λ e. let k : Won = where_zero Won Lost n e outcome.0 in subst (λ b. MatchBool b Hits Misses) (sym (eq-eqb n 0 e))
       (content k.0, has_won p k.0 hand me me' has k.1 k.2 outcome.1, ap (λ (z : Me S View). mine z.0) k.2 ∙ mine_gain me.0 t (Acquired p (content k.0)) old.acts))
       (λ e. let k : Lost = where_not_zero Won Lost n e outcome.0 in subst (λ b. MatchBool b Hits Misses) (sym (ne_eqb n 0 e))
-      (has_lost p (n - 1) hand me me' has k.0 outcome.1, ap (λ (z : Me S View). mine z.0) k.0 ∙ mine_gain me.0 t (Missed p (n - 1)) old.acts, k.1))
+      (has_noted (Missed p (n - 1)) hand me me' (λ _. refl) has k.0 outcome.1, ap (λ (z : Me S View). mine z.0) k.0 ∙ mine_gain me.0 t (Missed p (n - 1)) old.acts, k.1))
 
   -- it leaves the lists behind the first as they were
   pub tried_others : (p slots n : ℕ) (me me' : Me S View) → attempted content suits m t (step slots p 0 (t + 1) none) me n me' → rest_of me'.0 ≡ rest_of me.0
@@ -249,4 +255,4 @@ module _ {S : Type 0} (content : S → List Item) (suits : ℕ → ℕ → S →
       ap (λ (z : Me S View). rest_of z.0) is ∙ (others_gain (gain me.0 (Committed event)) (Released p) ∙ others_gain me.0 (Committed event))
 
   pub set_others : (event : Event) (me me' : Me S View) → me' ≡ (gain me.0 (Committed event), me.1) → rest_of me'.0 ≡ rest_of me.0
-  set_others event me me' is = ap (λ (z : Me S View). rest_of z.0) is ∙ others_gain me.0 (Committed event)
+  set_others event = noted_others (Committed event)

@@ -5,9 +5,9 @@ use Rattle.klsm_run.specs.declared.item.Item.{Item}
 use Rattle.klsm_run.specs.Content.{sorted}
 use Rattle.klsm_parts.specs.Events.{front_of, key_or_greatest}
 use Rattle.klsm_world.specs.declared.step.Step.{Step}
-use Rattle.klsm_world.specs.declared.step.Step.TheVariants.{Acquire, Release, Miss}
+use Rattle.klsm_world.specs.declared.step.Step.TheVariants.{Acquire, Release, Miss, Look}
 use Rattle.klsm_world.specs.declared.step.Entry.{Entry}
-use Rattle.klsm_world.specs.declared.step.Entry.TheVariants.{Acquired, Released, Missed}
+use Rattle.klsm_world.specs.declared.step.Entry.TheVariants.{Acquired, Released, Missed, Looked}
 use Rattle.klsm_model.specs.Kept.{IsKept, homes_of, world_of}
 use Rattle.klsm_world.specs.OwnSteps.{Holds, content_in, shared_part}
 use Rattle.klsm_world.specs.Worlds.{Limits, World, word_of, home_of, hand_in, content_of}
@@ -16,7 +16,7 @@ use Rattle.klsm_world.specs.Schedules.{MayStep, next}
 use Rattle.klsm_model.proofs.lemmas.kept.HomesLemmas.{homes_taken, homes_freed}
 use Rattle.klsm_world.proofs.lemmas.lawful.LawfulLemmas.{lawful_kept}
 use Rattle.klsm_world.proofs.lemmas.lawful.LegalLemmas.{found_at_home}
-use Rattle.klsm_world.proofs.lemmas.hands.PartContentLemmas.{content_held, content_acquired, content_released, content_missed}
+use Rattle.klsm_world.proofs.lemmas.hands.PartContentLemmas.{content_held, content_acquired, content_released, content_missed, content_looked}
 
 -- a thread's list after one more entry
 abbrev pub lists_with : List (List Entry) → ℕ → Entry → List (List Entry)
@@ -107,4 +107,15 @@ kept_missed limits words contents lists t p kept may = (
   refl,
   kept_after limits words words contents contents lists (lists_with lists t (Missed p (get_or words p 0 - 1))) (Miss t p) kept may refl kept.contents_are
       (λ q within. content_missed limits (world_of words contents lists) t p q kept.lawful.agreed may ∙ kept.current q within) kept.ascending,
+)
+
+-- after a look
+pub kept_looked : (limits : Limits) (words : List ℕ) (contents : List (List Item)) (lists : List (List Entry)) (t : ℕ)
+    → IsKept limits words contents lists → MayStep limits (world_of words contents lists) (Look t)
+    → (world_of words contents (lists_with lists t (Looked (front_of (get_or contents 0 [])))) ≡ next (world_of words contents lists) (Look t))
+    × IsKept limits words contents (lists_with lists t (Looked (front_of (get_or contents 0 []))))
+kept_looked limits words contents lists t kept may = (
+  refl,
+  kept_after limits words words contents contents lists (lists_with lists t (Looked (front_of (get_or contents 0 [])))) (Look t) kept may refl kept.contents_are
+      (λ q within. content_looked limits (world_of words contents lists) t q kept.lawful.agreed may ∙ kept.current q within) kept.ascending,
 )

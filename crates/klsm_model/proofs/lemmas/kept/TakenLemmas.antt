@@ -2,15 +2,16 @@
 use Rattle.std.proofs.Common.{◌≡◌, ℕ, ◌+◌, ◌-◌, ◌<◌, List, [], length, get_or, set, Ok, refl, sym, ap, ◌∙◌, subst, arith}
 use Rattle.klsm_run.specs.declared.item.Item.{Item}
 use Rattle.klsm_world.specs.declared.step.Step.{Step}
-use Rattle.klsm_world.specs.declared.step.Step.TheVariants.{Acquire, Commit, Release, Miss}
+use Rattle.klsm_world.specs.declared.step.Step.TheVariants.{Acquire, Commit, Release, Miss, Look}
 use Rattle.klsm_world.specs.declared.step.Event.{Event}
 use Rattle.klsm_world.specs.declared.step.Entry.{Entry}
-use Rattle.klsm_world.specs.declared.step.Entry.TheVariants.{Acquired, Committed, Released, Missed}
+use Rattle.klsm_world.specs.declared.step.Entry.TheVariants.{Acquired, Committed, Released, Missed, Looked}
+use Rattle.klsm_parts.specs.Events.{front_of}
 use Rattle.klsm_model.specs.Kept.{IsKept, world_of}
 use Rattle.klsm_model.specs.WorldView.{WorldView, IsStepped}
 use Rattle.klsm_world.specs.Schedules.{MayStep, next}
 use Rattle.klsm_world.specs.Worlds.{Limits, World}
-use Rattle.klsm_model.proofs.lemmas.kept.KeptLemmas.{lists_with, kept_acquired, kept_released, kept_missed}
+use Rattle.klsm_model.proofs.lemmas.kept.KeptLemmas.{lists_with, kept_acquired, kept_released, kept_missed, kept_looked}
 use Rattle.klsm_model.proofs.lemmas.kept.KeptCommitLemmas.{contents_after, kept_committed}
 
 -- a running world, by what it keeps
@@ -64,6 +65,14 @@ module _ (before : WorldView) (limits : Limits) (words : List ℕ) (contents : L
         let within : p < length words = omega (arith, legal.part, kept.lawful.agreed.words_are) in
         step_taken before limits words words contents contents contents lists (lists_with lists t (Missed p (get_or words p 0 - 1))) lists'' (Miss t p) is may refl
         (noted ∙ ap (λ v. lists_with lists t (Missed p (v - 1))) (read within)) (kept_missed limits words contents lists t p kept legal)
+
+    -- a look
+    pub look_taken : (front : ℕ) → MayStep before.limits before.world (Look t) → lists'' ≡ lists_with lists t (Looked front) → front ≡ before.world.front
+        → IsKept limits words contents lists'' × IsStepped before (Look t) (Ok tt) (shown limits words contents lists'')
+    look_taken front may noted read =
+        let legal : MayStep limits (world_of words contents lists) (Look t) = may_shown before limits words contents lists (Look t) is may in
+        step_taken before limits words words contents contents contents lists (lists_with lists t (Looked (front_of (get_or contents 0 [])))) lists'' (Look t) is may refl
+        (noted ∙ ap (λ n. lists_with lists t (Looked n)) (read ∙ sym (ap (λ (r : WorldView). r.world.front) is))) (kept_looked limits words contents lists t kept legal)
 
     -- a commit
     pub commit_taken : (event : Event) (contents'' : List (List Item)) → MayStep before.limits before.world (Commit t event) → lists'' ≡ lists_with lists t (Committed event)

@@ -141,6 +141,7 @@ impl Plain {
             Step::Acquire { thread, part } => self.refusal_of_acquire(*thread, *part),
             Step::Release { thread, part } => self.refusal_of_release(*thread, *part),
             Step::Miss { thread, part } => self.refusal_of_miss(*thread, *part),
+            Step::Look { thread } => self.refusal_of_look(*thread),
             Step::Commit { thread, event } => self.refusal_of_event(*thread, event),
         }
     }
@@ -178,6 +179,13 @@ impl Plain {
             Some(by) if by != thread => None,
             _ => Some(StepError::WrongEvent),
         }
+    }
+
+    fn refusal_of_look(&self, thread: u32) -> Option<StepError> {
+        if self.lacks(thread, 0) {
+            return Some(StepError::NoSuchPart);
+        }
+        None
     }
 
     fn refusal_of_event(&self, thread: u32, event: &Event) -> Option<StepError> {
@@ -276,7 +284,7 @@ impl Plain {
         match step {
             Step::Acquire { thread, part } => self.set_holder(*part, Some(*thread)),
             Step::Release { thread: _, part } => self.set_holder(*part, None),
-            Step::Miss { .. } => {}
+            Step::Miss { .. } | Step::Look { .. } => {}
             Step::Commit { thread, event } => self.take_event(*thread, event)?,
         }
         Some(())

@@ -39,19 +39,21 @@ fn proposed_thread(mix: &mut Pcg32, plain: &Plain) -> u32 {
     }
 }
 
-// A step that takes a part, gives one back or tries one in vain. `None` stands for an event.
+// A step that takes a part, gives one back, tries one in vain or looks at the front. `None` stands for
+// an event.
 fn proposed_row(mix: &mut Pcg32, plain: &Plain, thread: u32) -> Option<Row> {
     let own_part = thread.saturating_add(1);
     let any_part = any_of(mix, plain.threads.saturating_add(1));
     let has_own = plain.holder(own_part) == Some(thread);
     let has_shared = plain.holder(0) == Some(thread);
-    match below(mix, 10) {
+    match below(mix, 11) {
         0 => Some(Row::Release(thread, own_part)),
         1 => Some(Row::Release(thread, any_part)),
         2 => Some(Row::Miss(thread, any_part)),
         3 => Some(Row::Acquire(thread, any_part)),
+        4 => Some(Row::Look(thread)),
         _ if !has_own => Some(Row::Acquire(thread, own_part)),
-        4 | 5 if !has_shared => Some(Row::Acquire(thread, 0)),
+        5 | 6 if !has_shared => Some(Row::Acquire(thread, 0)),
         _ => None,
     }
 }
@@ -163,7 +165,7 @@ fn proposed_early(mix: &mut Pcg32, plain: &Plain, thread: u32, item: Item) -> St
 fn spoilt(alloc: Global, mix: &mut Pcg32, threads: u32) -> Option<Step> {
     let wrong = (3, 0, 99);
     let moved = Moved::One(wrong);
-    let row = match below(mix, 9) {
+    let row = match below(mix, 10) {
         0 => Row::Acquire(threads, 0),
         1 => Row::Release(0, threads.saturating_add(1)),
         2 => Row::Put(0, wrong),
@@ -172,6 +174,7 @@ fn spoilt(alloc: Global, mix: &mut Pcg32, threads: u32) -> Option<Step> {
         5 => Row::Spy(0, 0, moved),
         6 => Row::Spy(0, threads, moved),
         7 => Row::Refill(0, moved),
+        8 => Row::Look(threads),
         _ => Row::Nothing(threads),
     };
     step_of(alloc, row)

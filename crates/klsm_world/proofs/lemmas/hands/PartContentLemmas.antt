@@ -5,9 +5,9 @@ use Rattle.std.proofs.lemmas.List.{get_or-set_same, get_or-set_other}
 use Rattle.std.proofs.lemmas.Option.{none-some}
 use Rattle.klsm_run.specs.declared.item.Item.{Item}
 use Rattle.klsm_world.specs.declared.step.Event.{Event}
-use Rattle.klsm_world.specs.declared.step.Step.TheVariants.{Acquire, Commit, Release, Miss}
+use Rattle.klsm_world.specs.declared.step.Step.TheVariants.{Acquire, Commit, Release, Miss, Look}
 use Rattle.klsm_world.specs.declared.step.Entry.{Entry}
-use Rattle.klsm_world.specs.declared.step.Entry.TheVariants.{Acquired, Committed, Released, Missed}
+use Rattle.klsm_world.specs.declared.step.Entry.TheVariants.{Acquired, Committed, Released, Missed, Looked}
 use Rattle.klsm_world.specs.OwnSteps.{Hand, Holds, found_in, content_in, after_event, after_entry}
 use Rattle.klsm_world.specs.Worlds.{Limits, World, word_of, home_of, hand_in, content_of, holder_of}
 use Rattle.klsm_world.specs.LawfulWorlds.{AreAgreed}
@@ -93,6 +93,12 @@ pub content_missed : (limits : Limits) (w : World) (t p q : ℕ) → AreAgreed l
 content_missed limits w t p q agreed may =
     content_same w (next w (Miss t p)) q refl refl
     (found_same w (next w (Miss t p)) t (Missed p (holder_of w p)) q (listed limits w t agreed may.thread) refl refl)
+
+-- and a look
+pub content_looked : (limits : Limits) (w : World) (t q : ℕ) → AreAgreed limits w → MayStep limits w (Look t) → content_of (next w (Look t)) q ≡ content_of w q
+content_looked limits w t q agreed may =
+    content_same w (next w (Look t)) q refl refl
+    (found_same w (next w (Look t)) t (Looked w.front) q (listed limits w t agreed may.thread) refl refl)
 
 -- a commit leaves a content as it was where the event leaves in the hand what was there
 pub content_unchanged : (limits : Limits) (w : World) (t : ℕ) (event : Event) (q : ℕ) → AreAgreed limits w → t < limits.threads → found_in (after_event t (hand_in w t) event) q ≡ found_in (hand_in w t) q

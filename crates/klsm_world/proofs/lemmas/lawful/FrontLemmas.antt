@@ -4,13 +4,13 @@ use Rattle.klsm_parts.specs.Events.{front_of, own_after_put, own_after_early, ow
 use Rattle.klsm_world.specs.declared.step.Event.{Event}
 use Rattle.klsm_world.specs.declared.step.Event.TheVariants.{Put, Flush, Take, Early, Nothing, Spy, Refill}
 use Rattle.klsm_world.specs.declared.step.Step.{Step}
-use Rattle.klsm_world.specs.declared.step.Step.TheVariants.{Acquire, Commit, Release, Miss}
+use Rattle.klsm_world.specs.declared.step.Step.TheVariants.{Acquire, Commit, Release, Miss, Look}
 use Rattle.klsm_world.specs.OwnSteps.{content_in, changed, own_part, shared_part}
 use Rattle.klsm_world.specs.Worlds.{Limits, World, hand_in, content_of}
 use Rattle.klsm_world.specs.LawfulWorlds.{AreAgreed}
 use Rattle.klsm_world.specs.Schedules.{MayStep, next}
 use Rattle.klsm_world.proofs.lemmas.hands.HandLemmas.{found_elsewhere}
-use Rattle.klsm_world.proofs.lemmas.hands.PartContentLemmas.{content_acquired, content_released, content_missed, content_unchanged, content_committed}
+use Rattle.klsm_world.proofs.lemmas.hands.PartContentLemmas.{content_acquired, content_released, content_missed, content_looked, content_unchanged, content_committed}
 
 -- the front word of a world is that of its shared part
 abbrev pub IsFront : World → Type 0
@@ -50,3 +50,4 @@ module _ (limits : Limits) (w : World) (agreed : AreAgreed limits w) (is : IsFro
   front_kept (Commit t event) may = front_committed t event may
   front_kept (Release t p) may = stays (next w (Release t p)) refl (content_released limits w t p shared_part agreed may)
   front_kept (Miss t p) may = stays (next w (Miss t p)) refl (content_missed limits w t p shared_part agreed may)
+  front_kept (Look t) may = stays (next w (Look t)) refl (content_looked limits w t shared_part agreed may)

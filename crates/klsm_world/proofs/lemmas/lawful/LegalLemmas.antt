@@ -5,9 +5,9 @@ use Rattle.std.proofs.lemmas.Bool.{cases_eq}
 use Rattle.std.proofs.lemmas.Option.{none-some, same_Some}
 use Rattle.klsm_run.specs.declared.item.Item.{Item}
 use Rattle.klsm_world.specs.declared.step.Step.{Step}
-use Rattle.klsm_world.specs.declared.step.Step.TheVariants.{Acquire, Commit, Release, Miss}
+use Rattle.klsm_world.specs.declared.step.Step.TheVariants.{Acquire, Commit, Release, Miss, Look}
 use Rattle.klsm_world.specs.declared.step.Entry.{Entry}
-use Rattle.klsm_world.specs.declared.step.Entry.TheVariants.{Acquired, Committed, Released, Missed}
+use Rattle.klsm_world.specs.declared.step.Entry.TheVariants.{Acquired, Committed, Released, Missed, Looked}
 use Rattle.klsm_world.specs.OwnSteps.{own_part, shared_part, found_in}
 use Rattle.klsm_world.specs.LegalSteps.{MayFollow, IsLegal}
 use Rattle.klsm_world.specs.Worlds.{Limits, World, word_of, home_of, steps_of, hand_in, content_of, first_world, holder_of}
@@ -17,7 +17,7 @@ use Rattle.klsm_world.proofs.lemmas.hands.NotedLemmas.{steps_noted, steps_else}
 use Rattle.klsm_world.proofs.lemmas.hands.AgreeLemmas.{no_steps, content_at_home}
 
 -- an entry of a list with one more is an earlier one or the last
-earlier_or_last : (own : List Entry) (last : Entry) (i : ℕ) (entry : Entry) → slice_get (own ++ last ∷ []) i ≡ Some entry
+pub earlier_or_last : (own : List Entry) (last : Entry) (i : ℕ) (entry : Entry) → slice_get (own ++ last ∷ []) i ≡ Some entry
     → ((slice_get own i ≡ Some entry) × (take i (own ++ last ∷ []) ≡ take i own)) ⊎ ((last ≡ entry) × (take i (own ++ last ∷ []) ≡ own))
 earlier_or_last [] last zero entry found = inr (same_Some last entry found, refl)
 earlier_or_last [] last (suc i) entry found = absurd (none-some entry found)
@@ -86,6 +86,8 @@ legal_kept limits w (Release t p) agreed legal few may =
 legal_kept limits w (Miss t p) agreed legal few may =
     legal_noted limits w (next w (Miss t p)) t (Missed p (holder_of w p)) (omega (arith, agreed.lists_are, may.thread)) refl legal may.thread
     (not_held limits w t p agreed may.thread may.by_another)
+legal_kept limits w (Look t) agreed legal few may =
+    legal_noted limits w (next w (Look t)) t (Looked w.front) (omega (arith, agreed.lists_are, may.thread)) refl legal may.thread tt
 
 -- each list of the first world is legal
 pub legal_first : (limits : Limits) (t : ℕ) → t < limits.threads → IsLegal limits.k t (steps_of (first_world limits) t)

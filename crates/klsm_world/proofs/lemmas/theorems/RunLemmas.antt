@@ -19,9 +19,9 @@ use Rattle.klsm_parts.proofs.EventLemmas.{is_in}
 use Rattle.klsm_world.specs.declared.step.Event.{Event}
 use Rattle.klsm_world.specs.declared.step.Event.TheVariants.{Put, Flush, Take, Early, Nothing, Spy, Refill}
 use Rattle.klsm_world.specs.declared.step.Step.{Step}
-use Rattle.klsm_world.specs.declared.step.Step.TheVariants.{Acquire, Commit, Release, Miss}
+use Rattle.klsm_world.specs.declared.step.Step.TheVariants.{Acquire, Commit, Release, Miss, Look}
 use Rattle.klsm_world.specs.declared.step.Entry.{Entry}
-use Rattle.klsm_world.specs.declared.step.Entry.TheVariants.{Acquired, Committed, Released, Missed}
+use Rattle.klsm_world.specs.declared.step.Entry.TheVariants.{Acquired, Committed, Released, Missed, Looked}
 use Rattle.klsm_world.specs.OwnSteps.{Holds, own_part, shared_part, inserted_by, deleted_by, event_at}
 use Rattle.klsm_world.specs.Worlds.{Limits, World, home_of, holder_of, hand_in, content_of, live_below, live, first_world}
 use Rattle.klsm_world.specs.LawfulWorlds.{IsLawful}
@@ -158,6 +158,9 @@ module _ (before : List Step) where
   pub miss_adds_none : (t p : ℕ) → events_of (Miss t p ∷ before) ≡ events_of before
   miss_adds_none t p = flat_map-cons event_of (Miss t p) before
 
+  pub look_adds_none : (t : ℕ) → events_of (Look t ∷ before) ≡ events_of before
+  look_adds_none t = flat_map-cons event_of (Look t) before
+
 -- each schedule leads to a lawful world
 pub schedules_keep_lawful : (limits : Limits) (steps : List Step) (w : World) → Leads limits steps w → IsLawful limits w
 schedules_keep_lawful limits [] w leads = subst (IsLawful limits) (sym leads) (first_is_lawful limits)
@@ -188,6 +191,8 @@ queue_is_live limits (step ∷ before) w leads =
         ap queue_of (release_adds_none before t p) ∙ (old ∙ quiet limits v (next v (Release t p)) t lawful after may.thread (Released p) refl refl refl)
     by_step (Miss t p) {v} lawful may after old =
         ap queue_of (miss_adds_none before t p) ∙ (old ∙ quiet limits v (next v (Miss t p)) t lawful after may.thread (Missed p (holder_of v p)) refl refl refl)
+    by_step (Look t) {v} lawful may after old =
+        ap queue_of (look_adds_none before t) ∙ (old ∙ quiet limits v (next v (Look t)) t lawful after may.thread (Looked v.front) refl refl refl)
 
 -- the events of a schedule are a run of the relaxed queue
 pub schedules_are_runs : SchedulesAreRuns
@@ -200,6 +205,7 @@ schedules_are_runs limits (Commit t event ∷ before) w leads =
     (schedules_are_runs limits before v leads.led, subst (λ c. MayMove limits c event) (sym (queue_is_live limits before v leads.led)) moves)
 schedules_are_runs limits (Release t p ∷ before) w leads = subst (IsRun limits) (sym (release_adds_none before t p)) (schedules_are_runs limits before leads.before leads.led)
 schedules_are_runs limits (Miss t p ∷ before) w leads = subst (IsRun limits) (sym (miss_adds_none before t p)) (schedules_are_runs limits before leads.before leads.led)
+schedules_are_runs limits (Look t ∷ before) w leads = subst (IsRun limits) (sym (look_adds_none before t)) (schedules_are_runs limits before leads.before leads.led)
 
 -- in a run each item inserted is one deleted or one that the queue still has, each as often
 pub queue_counts_insertions : (limits : Limits) (events : List Event) → IsRun limits events

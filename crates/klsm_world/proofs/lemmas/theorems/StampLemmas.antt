@@ -9,7 +9,7 @@ use Rattle.std.proofs.lemmas.List.Concat.{flat_map-cons}
 use Rattle.klsm_run.specs.declared.item.Item.{Item}
 use Rattle.klsm_world.specs.declared.step.Event.TheVariants.{Put, Flush, Take, Early, Nothing, Spy, Refill}
 use Rattle.klsm_world.specs.declared.step.Entry.{Entry}
-use Rattle.klsm_world.specs.declared.step.Entry.TheVariants.{Acquired, Committed, Released, Missed}
+use Rattle.klsm_world.specs.declared.step.Entry.TheVariants.{Acquired, Committed, Released, Missed, Looked}
 use Rattle.klsm_world.specs.OwnSteps.{inserted_by, event_at, inserted}
 use Rattle.klsm_world.specs.LegalSteps.{BearsStamp, MayFollow, IsLegal}
 use Rattle.klsm_world.specs.Worlds.{Limits, World, steps_of, live}
@@ -42,6 +42,7 @@ stamp_at k t before (Committed (Spy victim moved)) x may within = absurd (contai
 stamp_at k t before (Committed (Refill moved)) x may within = absurd (contains_none x within)
 stamp_at k t before (Released p) x may within = absurd (contains_none x within)
 stamp_at k t before (Missed p by) x may within = absurd (contains_none x within)
+stamp_at k t before (Looked front) x may within = absurd (contains_none x within)
 
 -- what the first entries of a list insert, with one entry more
 pub inserted_longer : (own : List Entry) (n : ℕ) → n < length own

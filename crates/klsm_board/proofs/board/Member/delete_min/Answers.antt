@@ -4,7 +4,7 @@ use Rattle.klsm_parts.proofs.FitLemmas.{local_fits}
 use Rattle.klsm_board.specs.declared.rule.Own.{Own}
 use Rattle.klsm_board.specs.declared.sizes.Sizes.{Sizes}
 use Rattle.klsm_board.specs.Boards.{known_of_others, own_steps}
-use Rattle.klsm_board.specs.Deleting.{AnswersDeletion, FrontIsNotAbove, MissesDeletion}
+use Rattle.klsm_board.specs.Deleting.{AnswersDeletion, LooksInVain, MissesDeletion}
 use Rattle.klsm_board.specs.Effects.{TakesEffect}
 use Rattle.klsm_board.proofs.lemmas.calls.EffectLemmas.{effect_since}
 use Rattle.klsm_board.proofs.lemmas.calls.MissLemmas.{waits_quiet, waits_more}
@@ -43,6 +43,6 @@ loop-preserved g c =
     record {
       same = same_then me now new inv.same c.in-Err.ensures.same;
       others = c.in-Err.ensures.others ∙ inv.others;
-      waits = waits_more me.number (FrontIsNotAbove me.sizes me.number) (own_steps me) (own_steps now) (own_steps new) c.in-Err.busy inv.waits (subst (λ (z : Sizes × ℕ). MissesDeletion z.0 z.1 (own_steps now) (own_steps new) c.in-Err.busy) (λ i. (inv.same.1 i, inv.same.0 i)) busy.2);
+      waits = waits_more me.number LooksInVain (own_steps me) (own_steps now) (own_steps new) c.in-Err.busy inv.waits (subst (λ n. MissesDeletion n (own_steps now) (own_steps new) c.in-Err.busy) inv.same.0 busy.2);
       picker = busy.1 ∙ inv.picker;
     }

@@ -1,6 +1,6 @@
 use Rattle.std.specs.Prelude.{◌≡◌}
 use Rattle.klsm_board.specs.Boards.{IsSame, known_of_others, own_steps}
-use Rattle.klsm_board.specs.Deleting.{FrontIsNotAbove}
+use Rattle.klsm_board.specs.Deleting.{LooksInVain}
 use Rattle.klsm_board.specs.Inserting.{Waits}
 use Rattle.klsm_board.proofs.board.Member.delete_min.Given as goal
 
@@ -8,6 +8,6 @@ abbrev pub invariant-loop : goal.invariant-loop
 invariant-loop g l = record {
   same : IsSame l.initial.self l.self;
   others : known_of_others l.self ≡ known_of_others l.initial.self;
-  waits : Waits l.initial.self.number (FrontIsNotAbove l.initial.self.sizes l.initial.self.number) (own_steps l.initial.self) (own_steps l.self);
+  waits : Waits l.initial.self.number LooksInVain (own_steps l.initial.self) (own_steps l.self);
   picker : l.picker ≡ l.initial.picker;
 }

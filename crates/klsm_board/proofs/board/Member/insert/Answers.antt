@@ -4,7 +4,7 @@ use Rattle.klsm_parts.proofs.FitLemmas.{local_fits}
 use Rattle.klsm_world.specs.OwnSteps.{inserted, inserted_by}
 use Rattle.klsm_board.specs.declared.sizes.Sizes.{Sizes}
 use Rattle.klsm_board.specs.Boards.{own_steps}
-use Rattle.klsm_board.specs.Inserting.{GivesUp, Inserts, LacksRoom, IsBelowLimit, Misses, RefusesInsert, stamp_of, stamped}
+use Rattle.klsm_board.specs.Inserting.{FindsFull, GivesUp, Inserts, LacksRoom, IsBelowLimit, Misses, RefusesInsert, stamp_of, stamped}
 use Rattle.klsm_board.proofs.lemmas.calls.MissLemmas.{waits_quiet, waits_more}
 use Rattle.klsm_board.proofs.lemmas.calls.WaitLemmas.{same_then, adds_then, first_of_two, busy_not_spent}
 use Rattle.klsm_board.proofs.board.Member.insert.Goals as goal
@@ -72,7 +72,7 @@ loop-preserved g c =
     record {
       same = same_then me now new inv.same told.same;
       others = told.others ∙ inv.others;
-      waits = waits_more me.number (λ own acquired. length own ≡ me.sizes.k) (own_steps me) (own_steps now) (own_steps new) busy inv.waits
-          (subst (λ (z : Sizes × ℕ). Misses z.1 (λ own acquired. length own ≡ z.0.k) (own_steps now) (own_steps new) busy) (λ i. (inv.same.1 i, inv.same.0 i)) why);
+      waits = waits_more me.number (FindsFull me.sizes.k) (own_steps me) (own_steps now) (own_steps new) busy inv.waits
+          (subst (λ (z : Sizes × ℕ). Misses z.1 (FindsFull z.0.k) (own_steps now) (own_steps new) busy) (λ i. (inv.same.1 i, inv.same.0 i)) why);
       first = inr (λ full. busy_not_spent busy (sym c.in-Err-Busy.field-0-is ∙ told.spent.1 (ap (λ z. length (flat_map inserted_by z)) quiet ∙ (full ∙ sym (ap (λ (z : Sizes). z.quota) inv.same.1)))));
     }

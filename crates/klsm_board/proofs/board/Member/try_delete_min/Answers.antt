@@ -58,7 +58,7 @@ invariant_of-self g c =
     let me = c.args.self.now in let t = me.number in let es = mine me.seat.me.0 in let did = c.delete_now in let es' = mine did.new.seat.me.0 in
     let rests = me.rests in let board = c.args.board.now in let same = board.key ∙ sym c.requires.1 in
     let busy = c.in_err-answer.ensures.busy in
-    let gains = misses_gain _ t es es' _ busy.1 in
+    let gains = misses_gain t es es' _ busy.1 in
     let counts = gained_counts es es' [] [] me.inserted me.deleted gains rests.insertions_are rests.deletions_are in
     let first : length (inserted es') ≡ me.inserted = omega (arith, counts.0) in let second : length (deleted es') ≡ me.deleted = omega (arith, counts.1) in
     record { rests = rests_after g.row.CAP me.sizes me.in_range t me.inserted me.deleted did.new.seat.me (subst (λ m. Has slot_content IsSlotOf m t [] did.new.seat.me) same c.in_err-answer.ensures.has) first second; in_range = me.in_range; capacity = me.capacity; levels = me.levels }
@@ -66,12 +66,12 @@ invariant_of-self g c =
 pub returns-in_err-answer-clause-busy : goal.returns-in_err-answer-clause-busy
 returns-in_err-answer-clause-busy g c =
     let me = c.args.self.now in let t = me.number in let es = mine me.seat.me.0 in let es' = mine c.delete_now.new.seat.me.0 in
-    let told = c.in_err-answer.ensures.busy in let busy = c.in_err-answer.field-0.0 in let same = c.args.board.now.key ∙ sym c.requires.1 in
-    let gains = misses_gain _ t es es' _ told.1 in
+    let told = c.in_err-answer.ensures.busy in
+    let gains = misses_gain t es es' _ told.1 in
     passed_on c.from_residual.result _ _ c.from_residual.ensures.1 (λ why is. (
       record { inserted_are = gains.inserted_are; deleted_are = gains.deleted_are },
       told.0,
-      subst (λ (z : Sizes × Busy). MissesDeletion z.0 t es es' z.1) (λ i. (same i, sym is i)) told.1,
+      subst (MissesDeletion t es es') (sym is) told.1,
     ))
 
 pub returns-in_err-answer-clause-holder : goal.returns-in_err-answer-clause-holder

@@ -1,4 +1,4 @@
-use Rattle.std.proofs.Common.{◌≡◌, IfErr, OnOk, false, true, sym, subst}
+use Rattle.std.proofs.Common.{◌≡◌, ◌≤◌, IfErr, OnOk, arith, false, true, sym, subst}
 use Rattle.klsm_model.specs.Refusals.{NamesNone, Refuses}
 use Rattle.klsm_world.specs.Schedules.{MayStep}
 use Rattle.klsm_model.proofs.world.World.check.Goals as goal
@@ -38,3 +38,11 @@ returns-in-Miss g c = record {
   legal = subst (λ step. OnOk c.check_miss.result (MayStep c.args.self.now.limits c.args.self.now.world step)) (sym c.in-Miss.is) c.check_miss.ensures.legal;
   refused = subst (λ step. IfErr c.check_miss.result (Refuses c.args.self.now.limits c.args.self.now.world step)) (sym c.in-Miss.is) c.check_miss.ensures.refused;
 }
+
+pub returns-in-Look : goal.returns-in-Look
+returns-in-Look g c =
+    let no : c.args.self.now.limits.threads ≤ c.in-Look.thread → ⊥ = subst (λ step. NamesNone c.args.self.now.limits step → ⊥) c.in-Look.is (λ names. let bad : false ≡ true = c.if-names_none.ensures.1 names in cc) in
+    record {
+      legal = subst (MayStep c.args.self.now.limits c.args.self.now.world) (sym c.in-Look.is) (record { thread = omega (arith, no) });
+      refused = tt;
+    }

@@ -26,3 +26,9 @@ miss-requires g c = subst (MayStep c.args.self.now.limits c.args.self.now.world)
 
 pub returns-in-Miss : goal.returns-in-Miss
 returns-in-Miss g c = subst (λ step. IsStepped c.args.self.now step c.miss.result c.miss.new.self) (sym c.in-Miss.is) c.miss.ensures
+
+pub look-requires : goal.look-requires
+look-requires g c = subst (MayStep c.args.self.now.limits c.args.self.now.world) c.in-Look.is c.in_ok-check.ensures.legal
+
+pub returns-in-Look : goal.returns-in-Look
+returns-in-Look g c = subst (λ step. IsStepped c.args.self.now step c.look.result c.look.new.self) (sym c.in-Look.is) c.look.ensures
