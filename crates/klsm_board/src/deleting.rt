@@ -180,15 +180,9 @@ fn release_by_front<S: PartSlot>(
         ∷ (refilled (refill_of most table.now.key.k (own_after_take own item)
         (shared_after_take own shared item)) ++ both_released thread) }
 {
-    commit_by_front(
-        table,
-        seat,
-        threads,
-        thread,
-        fronts.taken,
-        &Event::Take(item),
-    );
-    commit_refill(table, seat, threads, thread, fronts.refilled);
+    let Fronts { taken, refilled } = fronts;
+    commit_by_front(table, seat, threads, thread, taken, &Event::Take(item));
+    commit_refill(table, seat, threads, thread, refilled);
     release_both(table, seat, thread);
 }
 
