@@ -97,7 +97,6 @@ row_refused rem threads input rows b row why many before lists so_many accepted 
 pub stops_reading : (failed : Bool) (threads : ℕ) (input : Option (List ℕ)) (rows : List Row) (why : Stop) → ReadStops failed input rows why → StopsReading threads input rows why
 stops_reading failed threads input rows stop.AtEnd h = h
 stops_reading failed threads input rows (stop.Refused why) h = absurd h
-stops_reading failed threads input rows stop.Full h = absurd h
 stops_reading failed threads input rows stop.NoMemory h = h.0
 stops_reading failed threads input rows stop.ReadFault h = h.0
 stops_reading failed threads input rows stop.WriteFault h = absurd h

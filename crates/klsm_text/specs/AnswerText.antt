@@ -76,7 +76,6 @@ abbrev pub closing_text : ℕ → ℕ → ℕ → Stop → List ℕ
 closing_text row most bound stop.AtEnd =
     concat (codes "max skip " ∷ decimal most ∷ codes " bound " ∷ decimal bound ∷ codes "\n" ∷ [])
 closing_text row most bound (stop.Refused why) = row_text row (refusal_word why)
-closing_text row most bound stop.Full = concat (codes "full row " ∷ decimal row ∷ codes "\n" ∷ [])
 closing_text row most bound stop.NoMemory = codes "no memory\n"
 closing_text row most bound stop.ReadFault = codes "read fault\n"
 closing_text row most bound stop.WriteFault = []

@@ -10,7 +10,6 @@ use Rattle.klsm_text.specs.declared.stop.Stop.TheVariants as stop
 abbrev pub end_of : Stop → End
 end_of stop.AtEnd = end.Done
 end_of (stop.Refused why) = end.Refused
-end_of stop.Full = end.Full
 end_of stop.NoMemory = end.NoMemory
 end_of stop.ReadFault = end.ReadFault
 end_of stop.WriteFault = end.WriteFault

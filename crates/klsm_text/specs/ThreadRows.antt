@@ -44,7 +44,6 @@ abbrev pub StopsReading : ℕ → Option (List ℕ) → List Row → Stop → Ty
 StopsReading threads input rows stop.AtEnd = AreAllRows input rows
 StopsReading threads input rows (stop.Refused why) =
     (row : Row) × AreFirstRows input (row ∷ rows) × (request_after threads rows row ≡ Err why)
-StopsReading threads input rows stop.Full = ⊥
 StopsReading threads input rows stop.NoMemory = AreFirstRows input rows
 StopsReading threads input rows stop.ReadFault = AreFirstRows input rows
 StopsReading threads input rows stop.WriteFault = ⊥

@@ -7,8 +7,6 @@ pub enum End {
     Done,
     /// A row was refused.
     Refused,
-    /// There was no room for an insertion, or for a node of a search.
-    Full,
     /// A growth was refused.
     NoMemory,
     /// The reader failed.

@@ -14,8 +14,6 @@ pub enum Stop {
     AtEnd,
     /// The next row is refused.
     Refused(Refusal),
-    /// The next row's insertion finds no room.
-    Full,
     /// A growth was refused.
     NoMemory,
     /// The reader failed.
@@ -35,7 +33,6 @@ impl Stop {
         match self {
             Stop::AtEnd => End::Done,
             Stop::Refused(_) => End::Refused,
-            Stop::Full => End::Full,
             Stop::NoMemory => End::NoMemory,
             Stop::ReadFault => End::ReadFault,
             Stop::WriteFault => End::WriteFault,
@@ -108,11 +105,6 @@ impl Closing {
                 text.prepend(b"max skip ");
             }
             Stop::Refused(why) => return refused_row(self.row, why.word()),
-            Stop::Full => {
-                text.prepend(b"\n");
-                text.prepend_number(self.row);
-                text.prepend(b"full row ");
-            }
             Stop::NoMemory => text.prepend(NO_MEMORY),
             Stop::ReadFault => text.prepend(b"read fault\n"),
             Stop::WriteFault => {}

@@ -62,7 +62,6 @@ all_are_first (Some text) rows all = (all.0, all.1, all.2)
 stopped_first : (threads : ℕ) (input : Option (List ℕ)) (rows : List Row) (why : Stop) → Stopped threads input rows why → AreFirstRows input rows
 stopped_first threads input rows stop.AtEnd h = all_are_first input rows h
 stopped_first threads input rows (stop.Refused why) h = fewer_rows input rows h.0 h.1
-stopped_first threads input rows stop.Full h = absurd h
 stopped_first threads input rows stop.NoMemory h = h
 stopped_first threads input rows stop.ReadFault h = h
 stopped_first threads input rows stop.WriteFault h = h
@@ -70,7 +69,6 @@ stopped_first threads input rows stop.WriteFault h = h
 told_in_full : (why : Stop) (before now : Option (List ℕ)) (lines : List Line) (output : Output) → why ≢ stop.WriteFault → IsToldUntil why before now lines output → IsTold before now lines output
 told_in_full stop.AtEnd before now lines output other told = told
 told_in_full (stop.Refused why) before now lines output other told = told
-told_in_full stop.Full before now lines output other told = told
 told_in_full stop.NoMemory before now lines output other told = told
 told_in_full stop.ReadFault before now lines output other told = told
 told_in_full stop.WriteFault before now lines output other told = absurd (other refl)
@@ -78,7 +76,6 @@ told_in_full stop.WriteFault before now lines output other told = absurd (other 
 other_end : (why : Stop) → why ≢ stop.WriteFault → end_of why ≢ end.WriteFault
 other_end stop.AtEnd other = λ e. cc
 other_end (stop.Refused why) other = λ e. cc
-other_end stop.Full other = λ e. cc
 other_end stop.NoMemory other = λ e. cc
 other_end stop.ReadFault other = λ e. cc
 other_end stop.WriteFault other = absurd (other refl)
@@ -107,7 +104,6 @@ whole_or_cut before after text why report other (inr cut) =
 closing_same : (why : Stop) (row number most greatest bound : ℕ) → row ≡ number → (why ≡ stop.AtEnd → most ≡ greatest) → closing_text row most bound why ≡ closing_text number greatest bound why
 closing_same stop.AtEnd row number most greatest bound same is = ap (λ n. closing_text row n bound stop.AtEnd) (is refl) ∙ ap (λ n. closing_text n greatest bound stop.AtEnd) same
 closing_same (stop.Refused why) row number most greatest bound same is = ap (λ n. closing_text n greatest bound (stop.Refused why)) same
-closing_same stop.Full row number most greatest bound same is = ap (λ n. closing_text n greatest bound stop.Full) same
 closing_same stop.NoMemory row number most greatest bound same is = refl
 closing_same stop.ReadFault row number most greatest bound same is = refl
 closing_same stop.WriteFault row number most greatest bound same is = refl
@@ -185,7 +181,6 @@ replays_nothing threads k lists input before after report shown goes = record {
 read_fault : (why : Stop) → end_of why ≡ end.ReadFault → why ≡ stop.ReadFault
 read_fault stop.AtEnd is = cc
 read_fault (stop.Refused why) is = cc
-read_fault stop.Full is = cc
 read_fault stop.NoMemory is = cc
 read_fault stop.ReadFault is = refl
 read_fault stop.WriteFault is = cc
@@ -201,7 +196,6 @@ fault_failed failed threads k lists input before now after closing output report
 pub refused_end : (why : Stop) → end_of why ≡ end.Refused → (refusal : Refusal) × (why ≡ stop.Refused refusal)
 refused_end stop.AtEnd is = absurd (let bad : end.Done ≡ end.Refused = is in cc)
 refused_end (stop.Refused refusal) is = (refusal, refl)
-refused_end stop.Full is = absurd (let bad : end.Full ≡ end.Refused = is in cc)
 refused_end stop.NoMemory is = absurd (let bad : end.NoMemory ≡ end.Refused = is in cc)
 refused_end stop.ReadFault is = absurd (let bad : end.ReadFault ≡ end.Refused = is in cc)
 refused_end stop.WriteFault is = absurd (let bad : end.WriteFault ≡ end.Refused = is in cc)

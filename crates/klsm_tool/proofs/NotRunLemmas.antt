@@ -21,7 +21,6 @@ use Rattle.klsm_tool.proofs.ClosingLemmas.{refused_end}
 pub not_run : {R : Type 0} (rem : R → Option (List ℕ)) (m : Sizes) (number : ℕ) (input : Option (List ℕ)) (lists : List (List ThreadRow)) (script : Script R) (why : Stop) → KeepsNoMore rem m.threads input lists script number why → why ≢ stop.AtEnd → HasNoTotals (reader_failed script) m input number why
 not_run rem m number input lists script stop.AtEnd ended other = absurd (other refl)
 not_run rem m number input lists script (stop.Refused why) ended other = record { rows = ended.rows; accepted = ended.accepted; stops = ended.stops; number_is = ended.number_is }
-not_run rem m number input lists script stop.Full ended other = absurd ended.stops
 not_run rem m number input lists script stop.NoMemory ended other = tt
 not_run rem m number input lists script stop.ReadFault ended other = (record { rows = ended.rows; accepted = ended.accepted; stops = ended.stops; number_is = ended.number_is }, ended.fault refl)
 not_run rem m number input lists script stop.WriteFault ended other = absurd ended.stops
@@ -30,16 +29,11 @@ not_run rem m number input lists script stop.WriteFault ended other = absurd end
 pub memory_refuses_no_row : (refusal : Refusal) (why : Stop) → why ≡ stop.NoMemory → why ≢ stop.Refused refusal
 memory_refuses_no_row refusal why memory is = let bad : stop.NoMemory ≡ stop.Refused refusal = sym memory ∙ is in cc
 
--- nor does a board that is not finished for that
-pub rows_not_refused : (result : Result Totals Closing) → IfErr result (λ closing. closing.stop ≡ stop.NoMemory) → IfErr result (λ closing. (why : Refusal) → closing.stop ≢ stop.Refused why)
-rows_not_refused (Ok totals) memory = tt
-rows_not_refused (Err closing) memory = λ why. memory_refuses_no_row why closing.stop memory
-
--- where no row is refused nothing is said of the script
-pub stands_unrefused : {R : Type 0} (rem : R → Option (List ℕ)) (threads : ℕ) (input : Option (List ℕ)) (script : Script R) (result : Result Totals Closing) → IfErr result (λ closing. (why : Refusal) → closing.stop ≢ stop.Refused why)
+-- so of the script nothing is said then
+pub stands_unrefused : {R : Type 0} (rem : R → Option (List ℕ)) (threads : ℕ) (input : Option (List ℕ)) (script : Script R) (result : Result Totals Closing) → IfErr result (λ closing. closing.stop ≡ stop.NoMemory)
     → IfErr result (λ closing. StandsAtRefusal rem threads input script closing.stop)
-stands_unrefused rem threads input script (Ok totals) other = tt
-stands_unrefused rem threads input script (Err closing) other = λ refusal is. absurd (other refusal is)
+stands_unrefused rem threads input script (Ok totals) memory = tt
+stands_unrefused rem threads input script (Err closing) memory = λ refusal is. absurd (memory_refuses_no_row refusal closing.stop memory is)
 
 -- a run whose end is a refusal has read up to the row that is refused
 pub outcome_refused : {R : Type 0} (rem : R → Option (List ℕ)) (threads : ℕ) (input before after : Option (List ℕ)) (script : Script R) (outcome : Result Totals Closing) (written : ℕ) (result : End) → GoesOrFails before after (outcome_text outcome) 0 written (outcome_end outcome) result

@@ -1,5 +1,5 @@
 -- The workers at their places, before they begin and when all are back.
-use Rattle.std.proofs.Common.{◌≡◌, ◌≢◌, ℕ, Bool, zero, suc, ◌+◌, ◌<◌, ◌≤◌, List, [], ◌∷◌, length, map, slice_index_or, Option, Some, None, Result, Ok, Err, IfOk, IfErr, refl, sym, ap, ◌∙◌, subst, arith}
+use Rattle.std.proofs.Common.{◌≡◌, ℕ, Bool, zero, suc, ◌+◌, ◌<◌, ◌≤◌, List, [], ◌∷◌, length, map, slice_index_or, Option, Some, None, Result, Ok, Err, IfOk, IfErr, refl, sym, ap, ◌∙◌, subst, arith}
 use Rattle.std.specs.List.{All}
 use Rattle.std.proofs.lemmas.List.{length-map}
 use mathlib.Core.Option.{some, some-injective, some-ne-none}
@@ -12,11 +12,10 @@ use Rattle.klsm_board.specs.Boards.{AreMembersOf, AreNewMembersOf, IsOf, own_ste
 use Rattle.klsm_board.specs.Finishing.{AreListsAtEnd}
 use Rattle.klsm_board.proofs.lemmas.ending.FoundLemmas.{insertions}
 use Rattle.klsm_board.proofs.lemmas.ending.EndLemmas.{each_of}
-use Rattle.klsm_text.specs.declared.request.Refusal.{Refusal}
-use Rattle.klsm_text.specs.declared.stop.Stop.{Stop}
 use Rattle.klsm_text.specs.declared.stop.Stop.TheVariants as stop
 use Rattle.klsm_text.specs.declared.stop.Closing.{Closing}
 use Rattle.klsm_text.specs.declared.totals.Totals.{Totals}
+use Rattle.klsm_tool.specs.declared.member_calls.Want.TheVariants as want
 use Rattle.klsm_tool.specs.declared.worker.GaveUp.{GaveUp}
 use Rattle.klsm_tool.specs.declared.worker.Worker.{Worker}
 use Rattle.klsm_tool.specs.Crews.{lists_in, steps_in}
@@ -25,7 +24,7 @@ use Rattle.klsm_rows.specs.Rows.{AreAllRows, Row}
 use Rattle.klsm_tool.specs.Shown.{shown_in}
 use Rattle.klsm_text.specs.Script.{row_limit}
 use Rattle.klsm_text.specs.ThreadRows.{AreAccepted, Asked, asked_of}
-use Rattle.klsm_tool.specs.MemberCalls.{AreAnswers, StopsInsertion}
+use Rattle.klsm_tool.specs.MemberCalls.{AreAnswers, Wants}
 use Rattle.klsm_tool.specs.Working.{AreAccounted, HasRunRows, HasRunAt, IsReady, IsReadyAt, Works, gave_up_at, members_in, ready, steps_at}
 use Rattle.klsm_tool.proofs.RoomLemmas.{all_few, never_full, works_few}
 use Rattle.klsm_tool.proofs.TotalLemmas.{adds_up, insertions_are}
@@ -114,7 +113,7 @@ all_run m input rows lists totals all accepted many answers accounted =
       sum = omega (arith, sum, accounted.inserted_is, accounted.deleted_is, accounted.left_is);
     }
 
-module _ (m : Sizes) (input : Option (List ℕ)) (rows : List Row) (all : AreAllRows input rows) (accepted : AreAccepted m.threads rows) (board : Board 64 21) (sizes : board.sizes ≡ m) (crew : List (Option Worker)) (many : length crew ≡ m.threads)
+module _ (m : Sizes) (rows : List Row) (accepted : AreAccepted m.threads rows) (board : Board 64 21) (sizes : board.sizes ≡ m) (crew : List (Option Worker)) (many : length crew ≡ m.threads)
     (ran : (t : ℕ) (d : Option Worker) → t < length crew → HasRunAt board t (asked_of m.threads t rows) (slice_index_or crew t d)) where
   back : AreMembersOf board (members_in crew) × (lists_in (members_in crew) ≡ map steps_at crew)
   back = all_back board (λ t. asked_of m.threads t rows) crew (many ∙ sym (ap (λ (z : Sizes). z.threads) sizes)) ran
@@ -134,32 +133,20 @@ module _ (m : Sizes) (input : Option (List ℕ)) (rows : List Row) (all : AreAll
   so_many = length-map (members_in crew) own_steps ∙ (back.0.many ∙ ap (λ (z : Sizes). z.threads) sizes)
 
   -- where none gave up there are totals, unless memory was wanted for them
-  pub finished : (failed : Bool) (result : Result Totals Closing) → ((t : ℕ) → t < m.threads → gave_up_at (slice_index_or crew t None) ≡ None)
+  pub finished : (failed : Bool) (input : Option (List ℕ)) → AreAllRows input rows → (result : Result Totals Closing) → ((t : ℕ) → t < m.threads → gave_up_at (slice_index_or crew t None) ≡ None)
       → IfOk result (λ totals. AreAccounted board.sizes (lists_in (members_in crew)) totals) → IfErr result (λ closing. closing.stop ≡ stop.NoMemory) → RunsScript failed m input result
-  finished failed (Ok totals) none ok err =
+  finished failed input all (Ok totals) none ok err =
       all_run m input rows (lists_in (members_in crew)) totals all accepted so_many
       (λ t below. subst (Works m.k t (asked_of m.threads t rows) (steps_in (lists_in (members_in crew)) t)) (none t below) (works t below))
       (subst (λ (z : Sizes). AreAccounted z (lists_in (members_in crew)) totals) sizes ok)
-  finished failed (Err closing) none ok err = subst (HasNoTotals failed m input closing.row) (sym err) tt
+  finished failed input all (Err closing) none ok err = subst (HasNoTotals failed m input closing.row) (sym err) tt
 
-  -- where one did, and their lists are those of one schedule, there are none for want of memory
-  pub one_gave_up : (failed : Bool) (number : ℕ) (gave_up : GaveUp) (t : ℕ) → t < m.threads → m.k ≤ 64 → gave_up_at (slice_index_or crew t None) ≡ Some gave_up → AreListsAtEnd board.sizes (lists_in (members_in crew)) → HasNoTotals failed m input number gave_up.stop
-  one_gave_up failed number gave_up t below small is at_end =
-      by_cause gave_up.stop (subst (Works m.k t (asked_of m.threads t rows) (steps_in (lists_in (members_in crew)) t)) is (works t below)).gives_up
+  -- where one did, and their lists are those of one schedule, it was not for want of room
+  pub room_was_there : (gave_up : GaveUp) (t : ℕ) → t < m.threads → m.k ≤ 64 → gave_up_at (slice_index_or crew t None) ≡ Some gave_up → gave_up.want ≡ want.Room → AreListsAtEnd board.sizes (lists_in (members_in crew)) → ⊥
+  room_was_there gave_up t below small is room at_end =
+      never_full m (lists_in (members_in crew)) t (subst (λ (z : Sizes). AreListsAtEnd z (lists_in (members_in crew))) sizes at_end) few small
+      (subst (Wants 21 m.k t (steps_in (lists_in (members_in crew)) t)) room (subst (Works m.k t (asked_of m.threads t rows) (steps_in (lists_in (members_in crew)) t)) is (works t below)).wants)
     where
       few : insertions (lists_in (members_in crew)) ≤ row_limit
       few = all_few m.threads rows (lists_in (members_in crew)) accepted so_many
           (λ u within. works_few m.k u (asked_of m.threads u rows) (steps_in (lists_in (members_in crew)) u) (gave_up_at (slice_index_or crew u None)) (works u within))
-
-      by_cause : (why : Stop) → StopsInsertion 21 m.k t (steps_in (lists_in (members_in crew)) t) why → HasNoTotals failed m input number why
-      by_cause stop.AtEnd gives_up = absurd gives_up
-      by_cause (stop.Refused refusal) gives_up = absurd gives_up
-      by_cause stop.Full gives_up = never_full m (lists_in (members_in crew)) t (subst (λ (z : Sizes). AreListsAtEnd z (lists_in (members_in crew))) sizes at_end) few small gives_up
-      by_cause stop.NoMemory gives_up = tt
-      by_cause stop.ReadFault gives_up = absurd gives_up
-      by_cause stop.WriteFault gives_up = absurd gives_up
-
--- no worker gives up since a row is refused
-pub gives_up_unrefused : (board : Board 64 21) (t : ℕ) (asked : List Asked) (place : Option Worker) (gave_up : GaveUp) → HasRunAt board t asked place → gave_up_at place ≡ Some gave_up → (why : Refusal) → gave_up.stop ≢ stop.Refused why
-gives_up_unrefused board t asked place gave_up ran gave why is =
-    subst (StopsInsertion 21 board.sizes.k t (steps_at place)) is (subst (Works board.sizes.k t asked (steps_at place)) gave (works_at board t asked place ran)).gives_up

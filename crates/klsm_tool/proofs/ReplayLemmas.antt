@@ -40,7 +40,6 @@ use Rattle.klsm_text.proofs.ScriptLemmas.{first_read, judged}
 pub read_stops : (failed : Bool) (threads : ℕ) (input : Option (List ℕ)) (rows : List Row) (why : Stop) → ReadStops failed input rows why → Stopped threads input rows why × (why ≢ stop.WriteFault) × (why ≡ stop.ReadFault → failed ≡ true)
 read_stops failed threads input rows stop.AtEnd h = (h, λ e. cc, λ e. absurd (let bad : stop.AtEnd ≡ stop.ReadFault = e in cc))
 read_stops failed threads input rows (stop.Refused why) h = absurd h
-read_stops failed threads input rows stop.Full h = absurd h
 read_stops failed threads input rows stop.NoMemory h = (h.0, λ e. cc, λ e. h.1)
 read_stops failed threads input rows stop.ReadFault h = (h.0, λ e. cc, λ e. h.1)
 read_stops failed threads input rows stop.WriteFault h = absurd h

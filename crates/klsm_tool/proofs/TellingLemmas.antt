@@ -43,7 +43,6 @@ answered_lengths threads (row ∷ rows) (line ∷ lines) h = omega (arith, answe
 told_until : (why : Stop) (before now : Option (List ℕ)) (lines : List Line) (output : Output) → why ≢ stop.WriteFault → IsTold before now lines output → IsToldUntil why before now lines output
 told_until stop.AtEnd before now lines output other told = told
 told_until (stop.Refused why) before now lines output other told = told
-told_until stop.Full before now lines output other told = told
 told_until stop.NoMemory before now lines output other told = told
 told_until stop.ReadFault before now lines output other told = told
 told_until stop.WriteFault before now lines output other told = absurd (other refl)

@@ -3,14 +3,14 @@ use Rattle.std.proofs.Common.{◌≡◌, ℕ, zero, suc, ◌+◌, ◌<◌, ◌�
 use Rattle.std.proofs.lemmas.List.{length-map, map_more, take_all}
 use Rattle.klsm_world.specs.declared.step.Entry.{Entry}
 use Rattle.klsm_text.specs.declared.answer.Answer.{Answer}
-use Rattle.klsm_text.specs.declared.stop.Stop.{Stop}
 use Rattle.klsm_text.specs.declared.thread_rows.ThreadRow.{ThreadRow}
 use Rattle.klsm_text.specs.Keeping.{asked_in, operation_in}
 use Rattle.klsm_tool.specs.Working.{GaveUpAt}
 use Rattle.klsm_tool.specs.Shown.{shown_in}
 use Rattle.klsm_tool.specs.MemberCalls.{AreAnswers}
 use Rattle.klsm_text.specs.ThreadRows.{Asked}
-use Rattle.klsm_tool.specs.MemberCalls.{StopsInsertion, IsAnswerTo}
+use Rattle.klsm_tool.specs.MemberCalls.{IsAnswerTo, Wants}
+use Rattle.klsm_tool.specs.declared.member_calls.Want.{Want}
 
 -- one answer more
 pub answers_more : (asked : List Asked) (answers : List Answer) (next : Asked) (answer : Answer) → AreAnswers asked answers → IsAnswerTo next.operation answer → AreAnswers (asked ++ next ∷ []) (answers ++ answer ∷ [])
@@ -44,15 +44,15 @@ module _ (rows : List ThreadRow) (i : ℕ) (d : ThreadRow) (within : i < length 
       rw (more, shows) (answers_more (map asked_in (take i rows)) (shown_in es) (asked_in (get_or rows i d)) answer before is_answer)
 
   -- the worker gives up at it
-  pub row_given_up : (k t : ℕ) (es es' : List Entry) (why : Stop) → AreAnswers (map asked_in (take i rows)) (shown_in es) → shown_in es' ≡ shown_in es → StopsInsertion 21 k t es' why → GaveUpAt k t (map asked_in rows) es' (get_or rows i d).number why
-  row_given_up k t es es' why before same gives = record {
+  pub row_given_up : (k t : ℕ) (es es' : List Entry) (want : Want) → AreAnswers (map asked_in (take i rows)) (shown_in es) → shown_in es' ≡ shown_in es → Wants 21 k t es' want → GaveUpAt k t (map asked_in rows) es' (get_or rows i d).number want
+  row_given_up k t es es' want before same wants = record {
     earlier = map asked_in (take i rows);
     here = asked_in (get_or rows i d);
     later = map asked_in (drop (suc i) rows);
     all = all_are rows i d within;
     answers = subst (AreAnswers (map asked_in (take i rows))) (sym same) before;
     number_is = refl;
-    gives_up = gives;
+    wants = wants;
   }
 
   -- so many answers were given

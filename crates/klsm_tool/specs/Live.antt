@@ -45,13 +45,12 @@ pub record IsNotRun (threads : ℕ) (input : Option (List ℕ)) (number : ℕ) (
   pub stops : StopsReading threads input rows why
   pub number_is : number ≡ length rows + 1
 
--- why there are no totals. The shared part has room for all rows, so it is never full. `failed` says here and
--- below whether the reader has failed. Of want of memory nothing is said
+-- why there are no totals. Want of room is no reason, as the shared part has room for all rows. `failed` says here
+-- and below whether the reader has failed. Of want of memory nothing is said
 abbrev pub HasNoTotals : Bool → Sizes → Option (List ℕ) → ℕ → Stop → Type 0
 HasNoTotals failed m input number stop.AtEnd = ⊥
 HasNoTotals failed m input number (stop.Refused why) =
     IsNotRun m.threads input number (stop.Refused why)
-HasNoTotals failed m input number stop.Full = ⊥
 HasNoTotals failed m input number stop.NoMemory = ⊤
 HasNoTotals failed m input number stop.ReadFault =
     IsNotRun m.threads input number stop.ReadFault × (failed ≡ true)

@@ -1,4 +1,4 @@
--- What a member may answer to a row, and why it may not.
+-- What a member may answer to a row, and what one alone may lack.
 use Rattle.std.specs.Prelude.{ℕ, ⊤, ◌≡◌, List, [], ◌∷◌}
 use Rattle.klsm_world.specs.declared.step.Entry.{Entry}
 use Rattle.klsm_board.specs.Inserting.{RefusesInsertWaiting}
@@ -7,9 +7,9 @@ use Rattle.klsm_text.specs.declared.answer.Answer.{Answer}
 use Rattle.klsm_text.specs.declared.answer.Answer.TheVariants.{Inserted, Deleted, Nothing}
 use Rattle.klsm_text.specs.declared.request.Operation.{Operation}
 use Rattle.klsm_text.specs.declared.request.Operation.TheVariants.{Insert, Delete}
-use Rattle.klsm_text.specs.declared.stop.Stop.{Stop}
-use Rattle.klsm_text.specs.declared.stop.Stop.TheVariants as stop
 use Rattle.klsm_text.specs.ThreadRows.{Asked}
+use Rattle.klsm_tool.specs.declared.member_calls.Want.{Want}
+use Rattle.klsm_tool.specs.declared.member_calls.Want.TheVariants as want
 
 -- an item, or nothing
 abbrev pub IsDeletion : Answer → Type 0
@@ -40,11 +40,7 @@ AreAnswers (asked ∷ more) (answer ∷ answers) =
 abbrev pub EndsFull : ℕ → ℕ → ℕ → List Entry → Type 0
 EndsFull levels k t es = (before : List Entry) × RefusesInsertWaiting ⊥ levels k t before es insert.Full
 
--- why an insertion is not answered
-abbrev pub StopsInsertion : ℕ → ℕ → ℕ → List Entry → Stop → Type 0
-StopsInsertion levels k t es stop.AtEnd = ⊥
-StopsInsertion levels k t es (stop.Refused why) = ⊥
-StopsInsertion levels k t es stop.Full = EndsFull levels k t es
-StopsInsertion levels k t es stop.NoMemory = ⊤
-StopsInsertion levels k t es stop.ReadFault = ⊥
-StopsInsertion levels k t es stop.WriteFault = ⊥
+-- what an insertion by a member alone was refused for. Its list does not show that memory was wanted
+abbrev pub Wants : ℕ → ℕ → ℕ → List Entry → Want → Type 0
+Wants levels k t es want.Room = EndsFull levels k t es
+Wants levels k t es want.Memory = ⊤

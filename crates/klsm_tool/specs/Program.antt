@@ -19,7 +19,6 @@ use Rattle.klsm_tool.specs.Knapsack.{Solves}
 abbrev pub status_of : End → ℕ
 status_of end.Done = 0
 status_of end.Refused = 1
-status_of end.Full = 3
 status_of end.NoMemory = 3
 status_of end.ReadFault = 4
 status_of end.WriteFault = 4

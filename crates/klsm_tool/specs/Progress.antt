@@ -43,7 +43,6 @@ abbrev pub IsToldUntil : Stop → Option (List ℕ) → Option (List ℕ) → Li
 IsToldUntil stop.WriteFault before now lines output = IsCutOff before now lines output.written
 IsToldUntil stop.AtEnd before now lines output = IsTold before now lines output
 IsToldUntil (stop.Refused why) before now lines output = IsTold before now lines output
-IsToldUntil stop.Full before now lines output = IsTold before now lines output
 IsToldUntil stop.NoMemory before now lines output = IsTold before now lines output
 IsToldUntil stop.ReadFault before now lines output = IsTold before now lines output
 

@@ -28,12 +28,11 @@ Answered threads (row ∷ rows) (line ∷ lines) =
     × (line.thread ≡ request.thread) × IsAnswerTo request.operation line.answer)
     × Answered threads rows lines
 
--- why no further row of the input is answered. The shared part always has room for an item
+-- why no further row of the input is answered. Want of room is no reason: the shared part always has room
 abbrev pub Stopped : ℕ → Option (List ℕ) → List Row → Stop → Type 0
 Stopped threads input rows stop.AtEnd = AreAllRows input rows
 Stopped threads input rows (stop.Refused why) =
     (row : Row) × AreFirstRows input (row ∷ rows) × (request_after threads rows row ≡ Err why)
-Stopped threads input rows stop.Full = ⊥
 Stopped threads input rows stop.NoMemory = AreFirstRows input rows
 Stopped threads input rows stop.ReadFault = AreFirstRows input rows
 Stopped threads input rows stop.WriteFault = AreFirstRows input rows

@@ -7,16 +7,16 @@ use Rattle.klsm_board.specs.declared.board.Member.{Member}
 use Rattle.klsm_board.specs.Boards.{IsOf, own_steps}
 use Rattle.klsm_board.specs.declared.sizes.Sizes.{Sizes}
 use Rattle.klsm_board.specs.Finishing.{AreListsAtEnd}
-use Rattle.klsm_text.specs.declared.stop.Stop.{Stop}
 use Rattle.klsm_text.specs.declared.totals.Totals.{Totals}
+use Rattle.klsm_tool.specs.declared.member_calls.Want.{Want}
 use Rattle.klsm_tool.specs.declared.worker.GaveUp.{GaveUp}
 use Rattle.klsm_tool.specs.declared.worker.Worker.{Worker}
 use Rattle.klsm_tool.specs.Shown.{shown_in}
-use Rattle.klsm_tool.specs.MemberCalls.{AreAnswers, StopsInsertion}
+use Rattle.klsm_tool.specs.MemberCalls.{AreAnswers, Wants}
 use Rattle.klsm_text.specs.ThreadRows.{Asked}
 
 -- a thread's list answers what it was asked for up to a row of this number, at which it gave up
-pub record GaveUpAt (k t : ℕ) (asked : List Asked) (es : List Entry) (number : ℕ) (why : Stop)
+pub record GaveUpAt (k t : ℕ) (asked : List Asked) (es : List Entry) (number : ℕ) (want : Want)
     : Type 0 where
   pub earlier : List Asked
   pub here : Asked
@@ -24,12 +24,12 @@ pub record GaveUpAt (k t : ℕ) (asked : List Asked) (es : List Entry) (number :
   pub all : asked ≡ earlier ++ here ∷ later
   pub answers : AreAnswers earlier (shown_in es)
   pub number_is : here.number ≡ number
-  pub gives_up : StopsInsertion 21 k t es why
+  pub wants : Wants 21 k t es want
 
 -- a list answers all that the thread was asked for, or up to where the thread gave up
 abbrev pub Works : ℕ → ℕ → List Asked → List Entry → Option GaveUp → Type 0
 Works k t asked es None = AreAnswers asked (shown_in es)
-Works k t asked es (Some gave_up) = GaveUpAt k t asked es gave_up.row gave_up.stop
+Works k t asked es (Some gave_up) = GaveUpAt k t asked es gave_up.row gave_up.want
 
 -- the worker that a member is before it begins
 abbrev pub ready : Member 64 21 → Option Worker

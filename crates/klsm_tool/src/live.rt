@@ -1,23 +1,22 @@
 //! `klsm live`: each thread's rows in a thread of its own.
-ghost use Rattle.std.specs.Prelude.{◌≡◌, ◌≢◌, ◌<◌, ◌≤◌, ◌⊎◌, ℕ, Bool, List, [], length, map};
+ghost use Rattle.std.specs.Prelude.{All, ◌≡◌, ◌<◌, ◌≤◌, ℕ, Bool, List, [], length, map};
 ghost use Rattle.std.specs.Prelude.{slice_index_or, Option, Some, None, IfErr, IfOk, IfSome};
 ghost use Rattle.klsm_rows.specs.Rows.{Row, AreAllRows};
 ghost use Rattle.klsm_text.specs.Script.{row_limit};
 ghost use Rattle.klsm_text.specs.Reports.{GoesOrFails};
 ghost use Rattle.klsm_tool.specs.Crews.{board_sizes, lists_in};
 ghost use Rattle.klsm_text.specs.ThreadRows.{AreAccepted, HasReadToRefusal, StandsAtRefusal};
-ghost use Rattle.klsm_text.specs.declared.request.Refusal.{Refusal};
-ghost use Rattle.klsm_text.specs.declared.stop.Stop.TheVariants as stop;
 ghost use Rattle.klsm_text.specs.Keeping.{AreKept, kept_for};
 ghost use Rattle.klsm_text.specs.Reading.{HasReadScript, reader_failed};
 ghost use Rattle.klsm_tool.specs.Working.{AreAccounted, HasRunAt, IsReadyAt, gave_up_at, members_in, ready};
 ghost use Rattle.klsm_tool.specs.Live.{Lives, LivesBy, RunsScript, outcome_end, outcome_text};
 ghost use Rattle.klsm_tool.specs.declared.worker.Worker.{Worker};
-ghost use Rattle.klsm_board.specs.Boards.{AreMembersOf};
+ghost use Rattle.klsm_board.specs.Boards.{AreMembersOf, AreNewMembersOf, IsOf};
 ghost use Rattle.klsm_board.specs.Finishing.{AreListsAtEnd};
 
 use crate::advising::advise_on_outcome;
 use crate::making::board_for;
+use crate::member_calls::Want;
 use crate::passing::pass;
 use crate::worker::{GaveUp, Worker};
 use klsm_board::{Gate, StandardBoard, StandardMember};
@@ -169,17 +168,15 @@ fn run_rows<P: AllocGlobal + Wait + Clock + Threads + Sync>(
     requires k { settings.now.k ≤ 64 }
     requires refill { settings.now.refill ≤ settings.now.k }
     requires many { length rows.now ≡ settings.now.threads }
-    requires few { (t : ℕ) → length (kept_for (map (λ list. list.items) rows.now) t) ≤ row_limit }
+    requires script { (all : List Row) × AreAccepted settings.now.threads all
+        × AreKept settings.now.threads all (map (λ list. list.items) rows.now) }
     ensures runs { (failed : Bool) (input : Option (List ℕ)) (all : List Row) → AreAllRows input all
         → AreAccepted settings.now.threads all
         → AreKept settings.now.threads all (map (λ list. list.items) rows.now)
         → RunsScript failed (board_sizes settings.now) input result }
-    ensures other { IfErr result (λ closing. (why : Refusal) → closing.stop ≢ stop.Refused why) }
+    ensures memory { IfErr result (λ closing. closing.stop ≡ Stop.NoMemory) }
 {
     let Ok((board, members)) = board_for(rt.alloc(), settings) else {
-        return Err(Closing::at(Stop::NoMemory, 1));
-    };
-    let Ok(mut crew) = crew_of(rt.alloc(), members) else {
         return Err(Closing::at(Stop::NoMemory, 1));
     };
     let live = LiveRun {
@@ -189,9 +186,11 @@ fn run_rows<P: AllocGlobal + Wait + Clock + Threads + Sync>(
         gate,
         progress,
     };
-    run_all(rt, &live, crew.as_mut_slice());
-    if let Some(GaveUp { stop, row }) = first_to_give_up(crew.as_slice()) {
-        let cause = cause_in_one_hand(rt.alloc(), &board, crew, stop);
+    let Ok(crew) = run_members(rt, &live, members) else {
+        return Err(Closing::at(Stop::NoMemory, 1));
+    };
+    if let Some(GaveUp { want, row }) = first_to_give_up(crew.as_slice()) {
+        let cause = cause_in_one_hand(rt.alloc(), &board, crew, want);
         return Err(Closing::at(cause, row as u64));
     }
     finish(rt.alloc(), board, crew)
@@ -206,6 +205,30 @@ struct LiveRun<'a, G, P> {
     settings: &'a Settings,
     gate: &'a G,
     progress: &'a P,
+}
+
+// Runs the rows of each thread by the member of its number, and gives the workers back.
+fn run_members<R: AllocGlobal + Wait + Clock + Threads + Sync, G: Gate, P: Progress>(
+    rt: &R,
+    live: &LiveRun<G, P>,
+    members: Vec<StandardMember>,
+) -> Result<Vec<Option<Worker>>, AllocError>
+    requires some { 0 < length members.items }
+    requires many { length live.now.rows.now ≡ length members.items }
+    requires few { (t : ℕ)
+        → length (kept_for (map (λ list. list.items) live.now.rows.now) t) ≤ row_limit }
+    requires quota { row_limit < live.now.board.now.sizes.quota }
+    requires of { All (λ member. IsOf member live.now.board.now) members.items }
+    requires new { AreNewMembersOf live.now.board.now members.items }
+    ensures many { IfOk result (λ crew. length crew.items ≡ length members.items) }
+    ensures ran { IfOk result (λ crew. (t : ℕ) (d : Option Worker) → t < length crew.items
+        → HasRunAt live.now.board.now t
+        (kept_for (map (λ list. list.items) live.now.rows.now) t)
+        (slice_index_or crew.items t d)) }
+{
+    let mut crew = crew_of(rt.alloc(), members)?;
+    run_all(rt, live, crew.as_mut_slice());
+    Ok(crew)
 }
 
 // Each worker in a thread of its own. It leaves its place while it runs, so that what it changes at
@@ -305,17 +328,18 @@ fn gave_up_of(place: &Option<Worker>) -> Option<GaveUp>
     }
 }
 
-// Why a run ends of which a worker gave up for this reason, once all members are in one hand: their lists
-// are then those of one schedule, by which no worker can have found the shared part full.
+// Why a run ends of which a worker gave up: memory was wanted. Once all members are in one hand, their
+// lists are those of one schedule, by which no worker can have found the shared part full.
 fn cause_in_one_hand(
     alloc: Global,
     board: &StandardBoard,
     crew: Vec<Option<Worker>>,
-    stop: Stop,
+    want: Want,
 ) -> Stop
     requires crew { AreMembersOf board.now (members_in crew.items) }
-    ensures { (result ≡ Stop.NoMemory) ⊎ ((result ≡ stop)
-        × AreListsAtEnd board.now.sizes (lists_in (members_in crew.items))) }
+    requires room { want ≡ Want.Room
+        → ¬ (AreListsAtEnd board.now.sizes (lists_in (members_in crew.items))) }
+    ensures { result ≡ Stop.NoMemory }
 {
     let Ok(members) = members_of(alloc, crew) else {
         return Stop::NoMemory;
@@ -324,7 +348,10 @@ fn cause_in_one_hand(
     let Ok(_all) = board.gather(members) else {
         unreachable!();
     };
-    stop
+    match want {
+        Want::Room => unreachable!(),
+        Want::Memory => Stop::NoMemory,
+    }
 }
 
 // Ends the board, once its members have run all their rows.

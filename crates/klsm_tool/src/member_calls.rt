@@ -11,7 +11,7 @@ ghost use Rattle.klsm_text.specs.Script.{row_limit};
 ghost use Rattle.klsm_text.specs.declared.stop.Stop.TheVariants as stop;
 ghost use Rattle.klsm_tool.specs.Crews.{Goes};
 ghost use Rattle.klsm_tool.specs.Shown.{IsFew, shown_in};
-ghost use Rattle.klsm_tool.specs.MemberCalls.{StopsInsertion, IsDeletion};
+ghost use Rattle.klsm_tool.specs.MemberCalls.{IsDeletion, Wants};
 
 use crate::picking::ThreadPicker;
 use klsm_board::{AllStandardMembers, Board, InsertError, Member, StandardBoard};
@@ -20,6 +20,15 @@ use klsm_text::{Answer, Stop};
 use std::sync::Wait;
 use std::time::Clock;
 
+/// What an insertion by a member alone was refused for.
+#[derive(Clone, Copy)]
+pub(crate) enum Want {
+    /// The shared part had no room. Whether it can have had none, the lists of all members say.
+    Room,
+    /// A growth was refused.
+    Memory,
+}
+
 /// An insertion, whose item is answered.
 pub(crate) fn insert<const CAP: usize, const LEVELS: usize>(
     rt: &(impl Wait + Clock),
@@ -27,22 +36,22 @@ pub(crate) fn insert<const CAP: usize, const LEVELS: usize>(
     member: &mut Member<CAP, LEVELS>,
     key: u64,
     load: u64,
-) -> Result<Item, Stop>
+) -> Result<Item, Want>
     requires of { IsOf member.old board.now }
     requires room { length (inserted (own_steps member.old)) < member.old.sizes.quota }
     ensures same { IsSame member.old member.new }
     ensures item { IfOk result (λ x. (x.key ≡ key) × (x.load ≡ load)) }
     ensures shown { IfOk result (λ x.
         shown_in (own_steps member.new) ≡ shown_in (own_steps member.old) ++ Inserted x ∷ []) }
-    ensures refused { IfErr result (λ why.
+    ensures refused { IfErr result (λ wanted.
         (shown_in (own_steps member.new) ≡ shown_in (own_steps member.old))
-        × StopsInsertion LEVELS member.old.sizes.k member.old.number (own_steps member.new) why) }
+        × Wants LEVELS member.old.sizes.k member.old.number (own_steps member.new) wanted) }
 {
     match member.insert(rt, board, key, load) {
         Ok(stamp) => Ok(Item { key, stamp, load }),
         Err(InsertError::Spent) => unreachable!(),
-        Err(InsertError::Full) => Err(Stop::Full),
-        Err(InsertError::NoMemory) => Err(Stop::NoMemory),
+        Err(InsertError::Full) => Err(Want::Room),
+        Err(InsertError::NoMemory) => Err(Want::Memory),
     }
 }
 

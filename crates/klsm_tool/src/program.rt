@@ -40,7 +40,7 @@ pub fn run_program<P: Env + AllocGlobal + Wait + Clock + Threads + Sync, R: Read
 
 /// Runs the program on its words, which are those after its own name, and answers its status:
 /// 0 where all is done, 1 where a row is refused, 2 for a fault of the command line,
-/// 3 where room or memory is wanted, and 4 where reading or writing failed.
+/// 3 where memory is wanted, and 4 where reading or writing failed.
 pub fn run_words<R: Read + Drop, W: Write>(
     rt: &(impl AllocGlobal + Wait + Clock + Threads + Sync),
     words: &[Vec<u8>],
@@ -174,7 +174,7 @@ fn status_of(end: End) -> Status
     Status::new(match end {
         End::Done => 0,
         End::Refused => REFUSED,
-        End::Full | End::NoMemory => EXHAUSTED,
+        End::NoMemory => EXHAUSTED,
         End::ReadFault | End::WriteFault => FAULT,
     })
 }

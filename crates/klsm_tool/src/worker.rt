@@ -3,17 +3,17 @@ ghost use Rattle.std.specs.Prelude.{◌≡◌, ◌<◌, ◌++◌, [], ◌∷◌,
 ghost use Rattle.klsm_world.specs.OwnSteps.{inserted};
 ghost use Rattle.klsm_board.specs.Boards.{IsOf, IsSame, own_steps};
 ghost use Rattle.klsm_tool.specs.Shown.{shown_in};
-ghost use Rattle.klsm_tool.specs.MemberCalls.{StopsInsertion, IsAnswerTo};
+ghost use Rattle.klsm_tool.specs.MemberCalls.{IsAnswerTo, Wants};
 ghost use Rattle.klsm_text.specs.Keeping.{asked_in};
 ghost use Rattle.klsm_tool.specs.Picking.{picker_of};
 ghost use Rattle.klsm_tool.specs.Working.{HasRunRows, IsReady, Works};
 
-use crate::member_calls::{delete, insert};
+use crate::member_calls::{Want, delete, insert};
 use crate::passing::Passed;
 use crate::picking::ThreadPicker;
 use klsm_board::{StandardBoard, StandardMember};
 use klsm_progress::{Counted, Pace, Progress};
-use klsm_text::{Answer, Operation, Stop, ThreadRow};
+use klsm_text::{Answer, Operation, ThreadRow};
 use klsm_words::Settings;
 use std::sync::Wait;
 use std::time::Clock;
@@ -26,10 +26,10 @@ pub(crate) struct Worker {
     pub gave_up: Option<GaveUp>,
 }
 
-/// Why a worker ran no further row, and the number of the row at which it stopped.
+/// What a worker lacked that ran no further row, and the number of the row at which it stopped.
 #[derive(Clone, Copy)]
 pub(crate) struct GaveUp {
-    pub stop: Stop,
+    pub want: Want,
     pub row: u32,
 }
 
@@ -89,9 +89,9 @@ fn answer_all(
 {
     let mut pace = Pace::new(Counted::RowsRun);
     for row in rows {
-        if let Err(stop) = answer(rt, board, member, picker, row.operation()) {
+        if let Err(want) = answer(rt, board, member, picker, row.operation()) {
             return Some(GaveUp {
-                stop,
+                want,
                 row: row.number,
             });
         }
@@ -106,7 +106,7 @@ fn answer(
     member: &mut StandardMember,
     picker: &mut ThreadPicker,
     operation: Operation,
-) -> Result<Answer, Stop>
+) -> Result<Answer, Want>
     requires of { IsOf member.old board.now }
     requires room { length (inserted (own_steps member.old)) < member.old.sizes.quota }
     requires picks { picker.old.thread ≡ member.old.number }
@@ -115,14 +115,14 @@ fn answer(
     ensures answer { IfOk result (IsAnswerTo operation) }
     ensures shown { IfOk result (λ answer.
         shown_in (own_steps member.new) ≡ shown_in (own_steps member.old) ++ answer ∷ []) }
-    ensures refused { IfErr result (λ why.
+    ensures refused { IfErr result (λ wanted.
         (shown_in (own_steps member.new) ≡ shown_in (own_steps member.old))
-        × StopsInsertion 21 member.old.sizes.k member.old.number (own_steps member.new) why) }
+        × Wants 21 member.old.sizes.k member.old.number (own_steps member.new) wanted) }
 {
     match operation {
         Operation::Insert { key, load } => match insert(rt, board, member, key, load) {
             Ok(item) => Ok(Answer::Inserted(item)),
-            Err(stop) => Err(stop),
+            Err(want) => Err(want),
         },
         Operation::Delete => Ok(delete(rt, board, member, picker)),
     }

@@ -1,4 +1,4 @@
-use Rattle.std.proofs.Common.{rules, ◌∙◌, inr, List, refl, sym, ap, subst}
+use Rattle.std.proofs.Common.{rules, ◌∙◌, List, refl, sym, ap, subst}
 use Rattle.klsm_world.specs.declared.step.Entry.{Entry}
 use Rattle.klsm_board.specs.declared.board.Member.{Member}
 use Rattle.klsm_board.specs.Boards.{AreMembersOf}
@@ -20,9 +20,9 @@ unreachable-requires c =
     let refused = c.in_default-gather.field-0 in
     none_missing c.args.board.now c.in-Ok.members.items crew refused.missing ((c.in_default-gather.ensures.missing refused.missing).0 refl)
 
-pub returns : goal.returns
-returns c =
+pub unreachable-requires-in-Room : goal.unreachable-requires-in-Room
+unreachable-requires-in-Room c =
     let board = c.args.board.now in let members = c.in-Ok.members.items in
     let crew : AreMembersOf board members = subst (λ (z : List (Member 64 21)). AreMembersOf board z) (sym c.in-Ok.ensures) c.requires.crew in
     let lists = c.in-Ok-gather.ensures.same.1 ∙ (sym (lists_in_order board members crew) ∙ ap (λ (z : List (Member 64 21)). lists_in z) c.in-Ok.ensures) in
-    inr (refl, subst (λ (z : List (List Entry)). AreListsAtEnd board.sizes z) lists c.in-Ok-gather.ensures.lists)
+    c.requires.room c.in-Room.is (subst (λ (z : List (List Entry)). AreListsAtEnd board.sizes z) lists c.in-Ok-gather.ensures.lists)

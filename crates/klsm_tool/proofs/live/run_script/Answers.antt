@@ -6,10 +6,8 @@ use Rattle.klsm_text.specs.Keeping.{AreKept}
 use Rattle.klsm_text.specs.Reading.{reader_failed}
 use Rattle.klsm_tool.specs.Crews.{board_sizes}
 use Rattle.klsm_tool.specs.Live.{HasNoTotals}
-use Rattle.klsm_text.specs.Script.{row_limit}
 use Rattle.klsm_text.specs.ThreadRows.{StopsReading}
 use Rattle.klsm_tool.proofs.CrewLemmas.{written_back}
-use Rattle.klsm_text.proofs.KeepingLemmas.{few_kept}
 use Rattle.klsm_tool.proofs.NotRunLemmas.{memory_refuses_no_row, not_run, stands_unrefused}
 use Rattle.klsm_tool.proofs.live.run_script.Goals as goal
 
@@ -27,15 +25,15 @@ returns-then-ne-clause-runs g c = λ input read.
     let kept : AreKept threads [] (kept_lists c.as_mut_slice.result.now) = subst (λ (z : List (Vec ThreadRow Global)). AreKept threads [] (kept_lists z)) (sym c.as_mut_slice.ensures.value) c.in-Ok.ensures in
     not_run g.R.Read.remaining (board_sizes c.args.settings.now) c.keep_rows-closing.result.row _ _ c.keep_rows-closing.new.script _ (c.keep_rows-closing.ensures threads input read kept) other
 
-pub run_rows-requires-clause-few : goal.run_rows-requires-clause-few
-run_rows-requires-clause-few g c =
+pub run_rows-requires-clause-script : goal.run_rows-requires-clause-script
+run_rows-requires-clause-script g c =
     let threads = c.args.settings.now.threads in let lists = c.keep_rows-closing.new.lists in
     let at_end : c.keep_rows-closing.result.stop ≡ stop.AtEnd = search rules in
     let kept : AreKept threads [] (kept_lists c.as_mut_slice.result.now) = subst (λ (z : List (Vec ThreadRow Global)). AreKept threads [] (kept_lists z)) (sym c.as_mut_slice.ensures.value) c.in-Ok.ensures in
     let ended = c.keep_rows-closing.ensures threads c.requires.read.0 c.requires.read.1 kept in
     let many : length lists ≡ c.in-Ok.rows.len = c.keep_rows-closing.auto.lists ∙ (ap (λ (z : List (Vec ThreadRow Global)). length z) c.as_mut_slice.ensures.value ∙ sym c.in-Ok.rows.ok.0) in
     let whole : c.as_slice.result.now ≡ lists = c.as_slice.ensures.value ∙ written_back lists (drop (length lists) c.in-Ok.rows.items) c.in-Ok.rows.len many in
-    λ _ _ t. few_kept threads row_limit ended.rows (kept_lists c.as_slice.result.now) (subst (λ (z : List (Vec ThreadRow Global)). AreKept threads ended.rows (kept_lists z)) (sym whole) (ended.kept at_end)) ended.few t
+    λ _ _. (ended.rows, ended.accepted, subst (λ (z : List (Vec ThreadRow Global)). AreKept threads ended.rows (kept_lists z)) (sym whole) (ended.kept at_end))
 
 pub returns-clause-runs : goal.returns-clause-runs
 returns-clause-runs g c = λ input read.
@@ -66,4 +64,4 @@ returns-then-ne-clause-refused g c = λ input read.
     (c.keep_rows-closing.ensures threads input read kept).stands
 
 pub returns-clause-refused : goal.returns-clause-refused
-returns-clause-refused g c = λ input read. stands_unrefused g.R.Read.remaining c.args.settings.now.threads input c.keep_rows-closing.new.script c.run_rows.result c.run_rows.ensures.other
+returns-clause-refused g c = λ input read. stands_unrefused g.R.Read.remaining c.args.settings.now.threads input c.keep_rows-closing.new.script c.run_rows.result c.run_rows.ensures.memory

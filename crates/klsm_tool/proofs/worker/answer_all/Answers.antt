@@ -4,7 +4,7 @@ use Rattle.klsm_board.specs.Boards.{own_steps}
 use Rattle.klsm_text.specs.declared.thread_rows.ThreadRow.{ThreadRow}
 use Rattle.klsm_tool.specs.declared.picking.ThreadPicker.{ThreadPicker}
 use Rattle.klsm_tool.specs.MemberCalls.{AreAnswers}
-use Rattle.klsm_tool.specs.MemberCalls.{StopsInsertion, IsAnswerTo}
+use Rattle.klsm_tool.specs.MemberCalls.{IsAnswerTo, Wants}
 use Rattle.klsm_tool.proofs.ShownLemmas.{inserted_within}
 use Rattle.klsm_tool.proofs.WorkLemmas.{row_answered, row_given_up, so_many}
 use Rattle.klsm_tool.proofs.worker.answer_all.Goals as goal
@@ -22,9 +22,9 @@ answer-requires-clause-room g c =
 pub returns-in-Err-clause-works : goal.returns-in-Err-clause-works
 returns-in-Err-clause-works g c =
     let refused = c.in-Err.ensures.refused in let k = ap (λ m. m.k) (c.loop-row.invariant.same.1 ∙ c.requires.of.1) in
-    row_given_up c.args.rows.now c.loop-row.row-index empty c.loop-row-test.true c.args.board.now.sizes.k c.args.member.now.number (own_steps c.loop-row.member) (own_steps c.answer.new.member) c.in-Err.stop c.loop-row.invariant.answers refused.0
-    (subst (λ t. StopsInsertion 21 c.args.board.now.sizes.k t (own_steps c.answer.new.member) c.in-Err.stop) c.loop-row.invariant.same.0
-    (subst (λ n. StopsInsertion 21 n c.loop-row.member.number (own_steps c.answer.new.member) c.in-Err.stop) k refused.1))
+    row_given_up c.args.rows.now c.loop-row.row-index empty c.loop-row-test.true c.args.board.now.sizes.k c.args.member.now.number (own_steps c.loop-row.member) (own_steps c.answer.new.member) c.in-Err.want c.loop-row.invariant.answers refused.0
+    (subst (λ t. Wants 21 c.args.board.now.sizes.k t (own_steps c.answer.new.member) c.in-Err.want) c.loop-row.invariant.same.0
+    (subst (λ n. Wants 21 n c.loop-row.member.number (own_steps c.answer.new.member) c.in-Err.want) k refused.1))
 
 pub loop-row-preserved : goal.loop-row-preserved
 loop-row-preserved g c =
