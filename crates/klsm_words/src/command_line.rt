@@ -1,7 +1,7 @@
 //! The command line: what its words ask for.
 ghost use Rattle.std.specs.Prelude.{◌≡◌, ◌≤◌, ◌↔◌, Some, IfErr, IfOk, IfSome, OnOk, IsUtf8, false, true, map};
 ghost use Rattle.std.specs.List.{All};
-ghost use Rattle.clap.specs.Words.{app_of, found_of, kind_of, rows_of, subcommand_rows_of};
+ghost use Rattle.clap.specs.Words.{app_of, found_of, kind_of, new_app, rows_of, subcommand_rows_of};
 ghost use Rattle.clap.specs.declared.builder.command.Command.TheViews.{out-Command as fields_of};
 ghost use Rattle.klsm_words.specs.CommandLine.{Explains, IsCommand, IsFaultIn, IsActionInRange, action_in as action_in_words};
 ghost use Rattle.klsm_words.specs.CommandLine.{IsFaultOf, RefillsAtMostK};
@@ -202,31 +202,45 @@ fn replay_command<'a>(alloc: Global) -> Result<Command<'a>, AllocError>
     ensures app { IfOk result (λ command. app_of command ≡ replay_app) }
     ensures local { IfOk result (λ command. (fields_of command).has_globals ≡ false) }
 {
-    let command = Command::new(alloc, "replay")
-        .about("Answers a script of insertions and deletions, row by row")
-        .override_usage("klsm replay [OPTIONS] < SCRIPT")
-        .after_help(REPLAY_HELP);
-    with_options(alloc, command)
+    let about = "Answers a script of insertions and deletions, row by row";
+    let usage = "klsm replay [OPTIONS] < SCRIPT";
+    with_options(alloc, described(alloc, "replay", about, usage, REPLAY_HELP))
 }
 
 fn live_command<'a>(alloc: Global) -> Result<Command<'a>, AllocError>
     ensures app { IfOk result (λ command. app_of command ≡ live_app) }
     ensures local { IfOk result (λ command. (fields_of command).has_globals ≡ false) }
 {
-    let command = Command::new(alloc, "live")
-        .about("Runs the rows of a script by threads, and counts what is left")
-        .override_usage("klsm live [OPTIONS] < SCRIPT")
-        .after_help(LIVE_HELP);
-    with_options(alloc, command)
+    let about = "Runs the rows of a script by threads, and counts what is left";
+    let usage = "klsm live [OPTIONS] < SCRIPT";
+    with_options(alloc, described(alloc, "live", about, usage, LIVE_HELP))
 }
 
 fn knapsack_command<'a>(alloc: Global) -> Result<Command<'a>, AllocError>
     ensures app { IfOk result (λ command. app_of command ≡ knapsack_app) }
     ensures local { IfOk result (λ command. (fields_of command).has_globals ≡ false) }
 {
-    let command = Command::new(alloc, "knapsack")
-        .about("Finds a best selection of things for a knapsack")
-        .override_usage("klsm knapsack [OPTIONS] < INSTANCE")
-        .after_help(KNAPSACK_HELP);
-    with_search_options(alloc, command)
+    let about = "Finds a best selection of things for a knapsack";
+    let usage = "klsm knapsack [OPTIONS] < INSTANCE";
+    with_search_options(
+        alloc,
+        described(alloc, "knapsack", about, usage, KNAPSACK_HELP),
+    )
+}
+
+// A command of this name without its options, and what its help says.
+fn described<'a>(
+    alloc: Global,
+    name: &'a str,
+    about: &'a str,
+    usage: &'a str,
+    help: &'a str,
+) -> Command<'a>
+    ensures app { app_of result ≡ new_app name.now }
+    ensures local { (fields_of result).has_globals ≡ false }
+{
+    Command::new(alloc, name)
+        .about(about)
+        .override_usage(usage)
+        .after_help(help)
 }
