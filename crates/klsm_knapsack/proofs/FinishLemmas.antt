@@ -25,15 +25,14 @@ use Rattle.klsm_knapsack.specs.declared.search_state.NoRoom.TheVariants.{Refuses
 use Rattle.klsm_knapsack.specs.declared.search_state.Worker.{Worker}
 use Rattle.klsm_knapsack.specs.declared.errors.Refusal.{Refusal}
 use Rattle.klsm_knapsack.specs.declared.errors.Refusal.TheVariants as refusal
-use Rattle.klsm_knapsack.specs.declared.errors.SolveError.{SolveError}
-use Rattle.klsm_knapsack.specs.declared.errors.SolveError.TheVariants.{BadThreads, BadK, BadRefill, Full, NoMemory}
+use Rattle.klsm_knapsack.specs.declared.errors.SolveError.TheVariants.{BadThreads, BadK, BadRefill, NoMemory}
 use Rattle.klsm_instance.specs.Selections.{Problem}
 use Rattle.klsm_knapsack.specs.IncumbentSeats.{IsSeatAt, found_by}
 use Rattle.klsm_knapsack.specs.Work.{HasNode, HasWorked, all_inserted, all_deleted}
 use Rattle.klsm_knapsack.specs.Ends.{End, HasEnded, IsLeastRefusal, first_refusal}
 use Rattle.klsm_knapsack.specs.Workers.{HasEndedSo, HaveWorked, AreWorkersOf, HasNotBegun, IsSearched, IsWorkerOf, work_of}
 use Rattle.klsm_board.specs.Members.{sizes_of}
-use Rattle.klsm_knapsack.specs.Refusals.{RefusesSearch, RefusesWithRefill, error_of}
+use Rattle.klsm_knapsack.specs.Refusals.{RefusesSearch, error_of}
 use Rattle.klsm_knapsack.proofs.CrewLemmas.{each_worker, member_of, so_many_workers, stands_at, worker_number}
 
 -- what a list is after its store was lent as a slice
@@ -49,7 +48,7 @@ flat_of_map f g [] = refl
 flat_of_map f g (x ∷ xs) = ap (λ ys. g (f x) ++ ys) (flat_of_map f g xs)
 
 -- the refusal of a worker is that of the search
-pub refuses : (levels threads k refill : ℕ) (why : Refusal) → (1 ≤ threads) × (threads ≤ 16) × (k ≤ 64) → IsLeastRefusal levels (sizes_of threads k) why → RefusesWithRefill levels threads k refill (error_of why)
+pub refuses : (levels threads k refill : ℕ) (why : Refusal) → (1 ≤ threads) × (threads ≤ 16) × (k ≤ 64) → IsLeastRefusal levels (sizes_of threads k) why → RefusesSearch levels threads k refill (error_of why)
 refuses levels threads k refill refusal.Full in_range least = least
 refuses levels threads k refill refusal.NoMemory in_range least = in_range
 
@@ -88,14 +87,6 @@ refused_too levels m refill why is = record {
   ended = is.ended;
   first = is.first;
 }
-
--- a search whose deletions move no more than k items is refused for the reasons of any other
-pub refused_as_any : (levels threads k refill : ℕ) (why : SolveError) → refill ≤ k → RefusesWithRefill levels threads k refill why → RefusesSearch levels threads k why
-refused_as_any levels threads k refill BadThreads fits is = is
-refused_as_any levels threads k refill BadK fits is = is
-refused_as_any levels threads k refill BadRefill fits is = omega (arith, is.3, fits)
-refused_as_any levels threads k refill Full fits is = is
-refused_as_any levels threads k refill NoMemory fits is = is
 
 module _ {LEVELS : ℕ} where
   module _ (state : SearchState LEVELS) (crew : List (Worker LEVELS)) (members : List (Member 64 LEVELS)) (are : map (λ (w : Worker LEVELS). w.member) crew ≡ members)

@@ -9,10 +9,15 @@
 //! ```text
 //! let instance = Instance::read(alloc, text)?;                  // capacity,10 and then value,weight
 //! let best = solve_in_turn(&instance);                          // depth first, in one thread
-//! let best = solve::<21>(&rt, alloc, &instance, 4, 16, 64, &Open)?;      // four workers, k = 16
-//! let options = SearchOptions::new(4, 16, 64);
+//! let options = SearchOptions::new(4, 16, 64);                  // four workers, k = 16
+//! let listeners = Listeners { gate: &Open, progress: &Silent };
+//! let best = solve::<_, _, 21>(&rt, alloc, &instance, &options, &listeners)?;
 //! let best = solve_to_the_end::<_, _, 21>(&rt, alloc, &instance, &options, &listeners)?;   // and never full
 //! ```
+//!
+//! `klsm knapsack` calls `solve_to_the_end`, which searches by `solve_in_turn` where not even the root finds room.
+//! `solve` is for a caller that wants to hear of a board that was full: it is the same search but for that, and no
+//! crate here calls it but that of the tests, which see by it where workers leave nodes that they could close.
 //!
 //! The search goes over the things in the order of its instance: `Instance::steepest_first` gives the
 //! one in which fewest nodes wait.

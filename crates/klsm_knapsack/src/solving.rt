@@ -4,7 +4,7 @@ ghost use Rattle.klsm_parts.specs.Limit.{IsLevelCount};
 ghost use Rattle.klsm_board.specs.Members.{sizes_of};
 ghost use Rattle.klsm_board.specs.Boards.{AreNewMembersOf, IsOf};
 ghost use Rattle.klsm_instance.specs.Answers.{IsBestAnswer};
-ghost use Rattle.klsm_knapsack.specs.Refusals.{RefusesSearch, RefusesWithRefill};
+ghost use Rattle.klsm_knapsack.specs.Refusals.{RefusesSearch};
 
 use crate::crew::{join_workers, make_workers, search};
 use crate::ending::conclude;
@@ -14,45 +14,42 @@ use crate::options::SearchOptions;
 use crate::search_state::{Listeners, NoRoom, SearchState};
 use klsm_board::{Board, Gate, MOST_INSERTIONS, MakeError, Member};
 use klsm_instance::{Best, Instance};
-use klsm_progress::{Progress, Silent};
+use klsm_progress::Progress;
 use std::alloc::Global;
 use std::sync::Wait;
 use std::thread::Threads;
 use std::time::Clock;
 
-/// A best selection, found by `threads` workers over a board with this k.
+/// A best selection, found by several workers over a board.
 ///
 /// Each worker passes the gate and then takes nodes from the board, until it was answered "nothing"
 /// `idle` times in a row, or met a refusal. The nodes that are then left are searched depth first.
 /// Where several selections are best, any of them may be the answer. Where workers are refused, the
 /// answer is the refusal of the least numbered one of them.
-pub fn solve<const LEVELS: usize>(
+pub fn solve<G: Gate, P: Progress, const LEVELS: usize>(
     rt: &(impl Threads + Wait + Clock + Sync),
     alloc: Global,
     instance: &Instance,
-    threads: usize,
-    k: usize,
-    idle: u32,
-    gate: &impl Gate,
+    options: &SearchOptions,
+    listeners: &Listeners<G, P>,
 ) -> Result<Best, SolveError>
     requires levels { IsLevelCount LEVELS }
     ensures best { IfOk result (λ best. IsBestAnswer instance.now best) }
-    ensures refused { IfErr result (λ why. RefusesSearch LEVELS threads k why) }
+    ensures refused { IfErr result (λ why.
+        RefusesSearch LEVELS options.now.threads options.now.k options.now.refill why) }
     ensures bad_threads { IsErrAnd result (λ why. why ≡ SolveError.BadThreads)
-        ↔ ((threads ≡ 0) ⊎ (16 < threads)) }
+        ↔ ((options.now.threads ≡ 0) ⊎ (16 < options.now.threads)) }
     ensures bad_k { IsErrAnd result (λ why. why ≡ SolveError.BadK)
-        ↔ ((1 ≤ threads) × (threads ≤ 16) × (64 < k)) }
-    ensures bad_refill { IsErrAnd result (λ why. why ≡ SolveError.BadRefill) ↔ ⊥ }
+        ↔ ((1 ≤ options.now.threads) × (options.now.threads ≤ 16) × (64 < options.now.k)) }
+    ensures bad_refill { IsErrAnd result (λ why. why ≡ SolveError.BadRefill)
+        ↔ ((1 ≤ options.now.threads) × (options.now.threads ≤ 16) × (options.now.k ≤ 64)
+        × (options.now.k < options.now.refill)) }
 {
-    let options = SearchOptions::new(threads, k, idle);
-    let listeners = Listeners {
-        gate,
-        progress: &Silent,
-    };
-    solve_on_board::<_, _, LEVELS>(rt, alloc, instance, &options, &listeners, NoRoom::Refuses)
+    let no_room = NoRoom::Refuses;
+    solve_on_board::<G, P, LEVELS>(rt, alloc, instance, options, listeners, no_room)
 }
 
-/// The same with these options and listeners, where workers do this with a node that finds no room.
+/// The same, where workers do this with a node that finds no room.
 pub(crate) fn solve_on_board<G: Gate, P: Progress, const LEVELS: usize>(
     rt: &(impl Threads + Wait + Clock + Sync),
     alloc: Global,
@@ -64,7 +61,7 @@ pub(crate) fn solve_on_board<G: Gate, P: Progress, const LEVELS: usize>(
     requires levels { IsLevelCount LEVELS }
     ensures best { IfOk result (λ best. IsBestAnswer instance.now best) }
     ensures refused { IfErr result (λ why. no_room ≡ NoRoom.Refuses
-        → RefusesWithRefill LEVELS options.now.threads options.now.k options.now.refill why) }
+        → RefusesSearch LEVELS options.now.threads options.now.k options.now.refill why) }
     ensures bad_threads { IsErrAnd result (λ why. why ≡ SolveError.BadThreads)
         ↔ ((options.now.threads ≡ 0) ⊎ (16 < options.now.threads)) }
     ensures bad_k { IsErrAnd result (λ why. why ≡ SolveError.BadK)
@@ -126,7 +123,7 @@ fn board_for<const LEVELS: usize>(
     ensures of { IfOk result (λ made. All (λ member. IsOf member made.0) made.1.items) }
     ensures count { IfOk result (λ made. length made.1.items ≡ threads) }
     ensures crew { IfOk result (λ made. AreNewMembersOf made.0 made.1.items) }
-    ensures refused { IfErr result (λ why. RefusesWithRefill LEVELS threads k refill why) }
+    ensures refused { IfErr result (λ why. RefusesSearch LEVELS threads k refill why) }
     ensures bad_threads { IsErrAnd result (λ why. why ≡ SolveError.BadThreads)
         ↔ ((threads ≡ 0) ⊎ (16 < threads)) }
     ensures bad_k { IsErrAnd result (λ why. why ≡ SolveError.BadK)

@@ -19,15 +19,15 @@ use Rattle.klsm_board.specs.Finishing.{AreListsAtEnd, lists_of}
 use Rattle.klsm_board.specs.Rule.{world_limits}
 use Rattle.klsm_board.specs.Together.{all_lists, sizes_of_all, steps_for}
 use Rattle.klsm_board.proofs.lemmas.ending.EndLemmas.{are_lists, place_within}
-use Rattle.klsm_board.proofs.lemmas.ending.MemberLemmas.{all_there, lists_in_order}
+use Rattle.klsm_board.proofs.lemmas.ending.MemberLemmas.{all_there}
 use Rattle.klsm_board.proofs.lemmas.ending.WholeLemmas.{known_at, so_many_known}
 use Rattle.klsm_text.specs.declared.report.End.{End}
 use Rattle.klsm_text.specs.declared.report.End.TheVariants as end
 use Rattle.klsm_text.specs.declared.report.Report.{Report}
 use Rattle.klsm_text.specs.Reports.{GoesOrFails}
-use Rattle.klsm_tool.specs.Crews.{lists_in, steps_in}
+use Rattle.klsm_tool.specs.Crews.{steps_in}
 use Rattle.klsm_tool.specs.Shown.{shown_in}
-use Rattle.klsm_tool.specs.Replay.{Replays, ReplaysAlone, ReplaysToTheEnd}
+use Rattle.klsm_tool.specs.Replay.{ReplaysAlone, ReplaysToTheEnd}
 use Rattle.klsm_tool.proofs.AllLemmas.{rule_of_all}
 use Rattle.klsm_tool.proofs.ClosingLemmas.{replays_nothing}
 
@@ -67,14 +67,6 @@ module _ (board : Board 64 21) (all : AllMembers 64 21) (members : List (Member 
       let inside = place_within members i member there in
       subst (λ n. get_elem? (all_lists all) n ≡ some (own_steps member)) (sym (crew.numbered i member there))
       (known_at (sizes_of_all all).threads all.acting.seat.me.0.lists i (omega (arith, inside, crew.many, ap (λ (z : Sizes). z.threads) sizes)) ∙ ap some (sym (steps i member there))))
-
-  pub spread_lists : all_lists all ≡ lists_in members
-  spread_lists = spread_lists_of ∙ sym (lists_in_order board members crew)
-
--- and what is told of one is told of the other
-pub replays_by : {threads k : ℕ} {lists lists' : List (List Entry)} {input before after : Option (List ℕ)} {report : Report} → lists ≡ lists' → Replays threads k lists input before after report
-    → Replays threads k lists' input before after report
-replays_by {threads} {k} {lists} {lists'} {input} {before} {after} {report} same = subst (λ (z : List (List Entry)). Replays threads k z input before after report) same
 
 module _ (m : Sizes) (input before after : Option (List ℕ)) (report : Report) where
   -- the lists are those of the members

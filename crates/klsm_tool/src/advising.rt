@@ -12,17 +12,6 @@ pub(crate) fn advise_on_row(progress: &impl Progress, closing: &Closing, row: &B
     }
 }
 
-/// The same of a script that is read whole, where its reading ended so.
-pub(crate) fn advise_on_outcome(
-    progress: &impl Progress,
-    refused: Option<Closing>,
-    row: &ByteRecord,
-) {
-    if let Some(closing) = refused {
-        advise_on_row(progress, &closing, row);
-    }
-}
-
 /// Tells of an instance that is refused what was expected of its row.
 pub(crate) fn advise_on_instance(progress: &impl Progress, why: ReadError) {
     let (row, advice) = match why {

@@ -9,7 +9,7 @@ use klsm_board::Gate;
 use klsm_knapsack::{
     Best, Instance, Listeners, ReadError, SearchOptions, UnsolvedError, solve_to_the_end,
 };
-use klsm_progress::{Progress, Silent};
+use klsm_progress::Progress;
 use klsm_text::{End, NO_MEMORY, Report, refusal_text, selection_text, write_last};
 use klsm_words::Search;
 use std::alloc::Global;
@@ -20,39 +20,15 @@ use std::time::Clock;
 
 /// Reads an instance, solves it with workers in threads of their own, and writes a best selection.
 ///
-/// Each worker passes the gate first, and ends after `idle` answers "nothing" in a row.
-pub fn knapsack_over<P: AllocGlobal + Wait + Clock + Threads + Sync, R: Read + Drop, W: Write>(
-    rt: &P,
-    reader: R,
-    writer: &mut W,
-    threads: usize,
-    k: usize,
-    idle: u32,
-    gate: &impl Gate,
-) -> Report
-    requires some_thread { 1 ≤ threads }
-    requires threads { threads ≤ 16 }
-    requires k { k ≤ 64 }
-    ensures { Solves threads k (R.remaining reader) (W.contents writer.old)
-        (W.contents writer.new) result }
-{
-    let search = Search { threads, k, idle };
-    knapsack_with_progress(rt, reader, writer, &search, gate, &Silent)
-}
-
-/// The same, and tells of a long search while it lasts.
-pub fn knapsack_with_progress<
+/// Each worker passes the gate first, and ends after `idle` answers "nothing" in a row. A long search is told
+/// of while it lasts.
+pub fn knapsack_over<
     P: AllocGlobal + Wait + Clock + Threads + Sync,
     R: Read + Drop,
     W: Write,
->(
-    rt: &P,
-    reader: R,
-    writer: &mut W,
-    search: &Search,
-    gate: &impl Gate,
-    progress: &impl Progress,
-) -> Report
+    G: Gate,
+    H: Progress,
+>(rt: &P, reader: R, writer: &mut W, search: &Search, listeners: &Listeners<G, H>) -> Report
     requires some_thread { 1 ≤ search.now.threads }
     requires threads { search.now.threads ≤ 16 }
     requires k { search.now.k ≤ 64 }
@@ -60,13 +36,10 @@ pub fn knapsack_with_progress<
         (W.contents writer.new) result }
 {
     match Instance::read(rt.alloc(), reader) {
-        Ok(instance) => {
-            let listeners = Listeners { gate, progress };
-            solve_read(rt, writer, &instance, search, &listeners)
-        }
+        Ok(instance) => solve_read(rt, writer, &instance, search, listeners),
         Err(why) => {
             let report = refuse(writer, why);
-            advise_on_instance(progress, why);
+            advise_on_instance(listeners.progress, why);
             report
         }
     }

@@ -1,21 +1,22 @@
 //! What the program `klsm` does, over any reader and writer.
 //!
 //! The program's `main` gives `run_program` its input and output, and returns the `Status` that
-//! comes back. A caller with words of its own, as the tests are, takes `run_words`, and one that
-//! has a script takes `replay_over`:
+//! comes back. A caller with words of its own takes `run_words`, which `run_program` calls with those of
+//! its process, and one that has a script takes `replay_over`:
 //!
 //! ```text
 //! let script: &[u8] = b"0,i,5,50\n0,i,3,30\n0,d,,\n";
 //! let mut text = Vec::new(rt.alloc());
 //! let settings = Settings { threads: 1, k: 64, refill: 0, pick: Pick::First, seed: 1 };
-//! let report = replay_over(&rt, script, &mut text, &settings);
+//! let report = replay_over(&rt, script, &mut text, &settings, &Silent);
 //! // report.end is End::Done, and the text ends with "max skip 0 bound 64"
 //! ```
 //!
-//! A board of the caller's own, and its members, go to `replay_on`; where they are in one hand, and the
-//! caller keeps its script, to `replay_script`. `live_over` runs a script's rows in threads, `live_with_progress`
-//! tells of a long run while it lasts, and `live_script` leaves the caller its script. `knapsack_over`
-//! solves an instance.
+//! `live_over` runs a script's rows in threads, and `knapsack_over` solves an instance, both with `Listeners`: a
+//! gate that each thread passes first, and a progress, which is told how far a long run has come. Whoever keeps
+//! its script, to see afterwards how far it was read, takes `live_script`, or `replay_script` with a board and its
+//! members in one hand, as `board_in_one_hand` gives them. No crate but that of the tests calls these two for
+//! itself: `replay_over` and `live_over` are made of them, and their clauses say most.
 //!
 //! Rows are read and judged by `klsm_text`, which also makes the lines and sends them. `replay` reads
 //! a row, `replay_state` lets the member of its thread answer and has `skip_counter` count the skip, and
@@ -27,8 +28,8 @@
 //! expected where something is refused.
 //!
 //! - **The text is that of the definition.** What goes out is the first `written` bytes of the
-//!   answer text of the rows that were read, and all of it unless the writer failed: `Replays`, the
-//!   clause of `replay_on`.
+//!   answer text of the rows that were read, and all of it unless the writer failed: `Replays`, clause
+//!   `replays` of `replay_script`.
 //! - **A read fault comes only where the reader has failed, and behind a refused row none is read**:
 //!   clauses `fault` and `refused` of `replay_script`, and `lives` and `refused` of `live_script`, since
 //!   a clause can name no reader that is gone.
@@ -43,8 +44,7 @@
 //!   `greatest` and `stopped`.
 //! - **A replay waits for no lock, and returns**: one thread makes the calls of all members, so none is held.
 //! - **The totals of rows that threads run are those of some schedule**, which answers each thread's
-//!   rows in their order, and the shared part has room for all of them: `Lives`, the clause of `live_over`
-//!   and `live_with_progress`.
+//!   rows in their order, and the shared part has room for all of them: `Lives`, the clause of `live_over`.
 //! - **The selection that is written is a best one**: `Solves`, the clause of `knapsack_over`.
 //! - **Words are a run or are answered with one text**, and each end has its status: clauses `runs` and
 //!   `replays` of `run_words`.
@@ -69,11 +69,13 @@ mod skip_counter;
 mod status;
 mod worker;
 
+pub use klsm_knapsack::Listeners;
 pub use klsm_progress::{Counted, Progress, Silent, TerminalLine, Terminals};
 pub use klsm_text::{End, Report, Script};
 pub use klsm_words::{Pick, Search, Settings};
-pub use knapsack::{knapsack_over, knapsack_with_progress};
-pub use live::{live_over, live_script, live_with_progress};
+pub use knapsack::knapsack_over;
+pub use live::{live_over, live_script};
+pub use making::board_in_one_hand;
 pub use program::{run_program, run_words};
-pub use replay::{replay_on, replay_over, replay_script, replay_with_progress};
+pub use replay::{replay_over, replay_script};
 pub use status::Status;

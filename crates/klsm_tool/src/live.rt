@@ -14,13 +14,14 @@ ghost use Rattle.klsm_tool.specs.declared.worker.Worker.{Worker};
 ghost use Rattle.klsm_board.specs.Boards.{AreMembersOf, AreNewMembersOf, IsOf};
 ghost use Rattle.klsm_board.specs.Finishing.{AreListsAtEnd};
 
-use crate::advising::advise_on_outcome;
+use crate::advising::advise_on_row;
 use crate::making::board_for;
 use crate::member_calls::Want;
 use crate::passing::pass;
 use crate::worker::{GaveUp, Worker};
 use klsm_board::{Gate, StandardBoard, StandardMember};
-use klsm_progress::{Progress, Silent};
+use klsm_knapsack::Listeners;
+use klsm_progress::Progress;
 use klsm_text::{
     Closing, End, Report, Script, Stop, ThreadRow, Totals, keep_rows, no_rows, write_last,
 };
@@ -36,35 +37,16 @@ use std::time::Clock;
 /// thread's in their order, and writes the totals. Each of these threads passes the gate first.
 ///
 /// A refused row is answered before any thread begins. A thread that finds no memory stops at that
-/// row, and the others go on; then the line of the least numbered such thread is written in place of
-/// the totals. There is always room, as the shared part can have more items than a script has rows.
-/// Where no thread can be made, the rows are run one thread after the other.
-pub fn live_over<P: AllocGlobal + Wait + Clock + Threads + Sync, R: Read + Drop, W: Write>(
-    rt: &P,
-    reader: R,
-    writer: &mut W,
-    settings: &Settings,
-    gate: &impl Gate,
-) -> Report
-    requires some_thread { 1 ≤ settings.now.threads }
-    requires threads { settings.now.threads ≤ 16 }
-    requires k { settings.now.k ≤ 64 }
-    requires refill { settings.now.refill ≤ settings.now.k }
-    ensures { Lives (board_sizes settings.now) (R.remaining reader)
-        (W.contents writer.old) (W.contents writer.new) result }
-{
-    live_with_progress(rt, reader, writer, settings, gate, &Silent)
-}
-
-/// The same, and tells of a long run while it lasts.
-pub fn live_with_progress<P: AllocGlobal + Wait + Clock + Threads + Sync, R: Read + Drop, W: Write>(
-    rt: &P,
-    reader: R,
-    writer: &mut W,
-    settings: &Settings,
-    gate: &impl Gate,
-    progress: &impl Progress,
-) -> Report
+/// row, and the others go on; then `no memory` is written in place of the totals. There is always room, as
+/// the shared part can have more items than a script has rows. Where no thread can be made, the rows are run
+/// one thread after the other. A long run is told of while it lasts.
+pub fn live_over<
+    P: AllocGlobal + Wait + Clock + Threads + Sync,
+    R: Read + Drop,
+    W: Write,
+    G: Gate,
+    H: Progress,
+>(rt: &P, reader: R, writer: &mut W, settings: &Settings, listeners: &Listeners<G, H>) -> Report
     requires some_thread { 1 ≤ settings.now.threads }
     requires threads { settings.now.threads ≤ 16 }
     requires k { settings.now.k ≤ 64 }
@@ -73,18 +55,23 @@ pub fn live_with_progress<P: AllocGlobal + Wait + Clock + Threads + Sync, R: Rea
         (W.contents writer.old) (W.contents writer.new) result }
 {
     let mut script = Script::new(rt.alloc(), reader);
-    live_script(rt, &mut script, writer, settings, gate, progress)
+    live_script(rt, &mut script, writer, settings, listeners)
 }
 
 /// The same over a script of the caller's, of which no row was read yet. A read fault is answered only
 /// where the reader of that has failed. Behind a row that is refused none is read.
-pub fn live_script<P: AllocGlobal + Wait + Clock + Threads + Sync, R: Read + Drop, W: Write>(
+pub fn live_script<
+    P: AllocGlobal + Wait + Clock + Threads + Sync,
+    R: Read + Drop,
+    W: Write,
+    G: Gate,
+    H: Progress,
+>(
     rt: &P,
     script: &mut Script<R>,
     writer: &mut W,
     settings: &Settings,
-    gate: &impl Gate,
-    progress: &impl Progress,
+    listeners: &Listeners<G, H>,
 ) -> Report
     requires some_thread { 1 ≤ settings.now.threads }
     requires threads { settings.now.threads ≤ 16 }
@@ -98,25 +85,19 @@ pub fn live_script<P: AllocGlobal + Wait + Clock + Threads + Sync, R: Read + Dro
         → result.end ≡ End.Refused
         → HasReadToRefusal R.remaining settings.now.threads input script.new }
 {
-    let outcome = run_script(rt, script, settings, gate, progress);
-    progress.ended();
-    let refused = refused_in(&outcome);
-    let report = write_outcome(writer, outcome);
-    advise_on_outcome(progress, refused, &script.row);
+    let outcome = run_script(rt, script, settings, listeners);
+    listeners.progress.ended();
+    let report = write_outcome(writer, &outcome);
+    if let Err(closing) = &outcome {
+        advise_on_row(listeners.progress, closing, &script.row);
+    }
     report
 }
 
-fn refused_in(outcome: &Result<Totals, Closing>) -> Option<Closing> {
-    match outcome {
-        Ok(_) => None,
-        Err(closing) => Some(*closing),
-    }
-}
-
 // Writes the line of a run that ended so.
-fn write_outcome<W: Write>(writer: &mut W, outcome: Result<Totals, Closing>) -> Report
-    ensures { GoesOrFails (W.contents writer.old) (W.contents writer.new) (outcome_text outcome) 0
-        result.written (outcome_end outcome) result.end }
+fn write_outcome<W: Write>(writer: &mut W, outcome: &Result<Totals, Closing>) -> Report
+    ensures { GoesOrFails (W.contents writer.old) (W.contents writer.new)
+        (outcome_text outcome.now) 0 result.written (outcome_end outcome.now) result.end }
 {
     match outcome {
         Ok(totals) => write_last(writer, totals.text().as_bytes(), 0, End::Done),
@@ -125,12 +106,11 @@ fn write_outcome<W: Write>(writer: &mut W, outcome: Result<Totals, Closing>) -> 
 }
 
 // Reads a whole script and runs it.
-fn run_script<P: AllocGlobal + Wait + Clock + Threads + Sync, R: Read + Drop>(
+fn run_script<P: AllocGlobal + Wait + Clock + Threads + Sync, R: Read + Drop, G: Gate, H: Progress>(
     rt: &P,
     script: &mut Script<R>,
     settings: &Settings,
-    gate: &impl Gate,
-    progress: &impl Progress,
+    listeners: &Listeners<G, H>,
 ) -> Result<Totals, Closing>
     requires some_thread { 1 ≤ settings.now.threads }
     requires threads { settings.now.threads ≤ 16 }
@@ -146,22 +126,22 @@ fn run_script<P: AllocGlobal + Wait + Clock + Threads + Sync, R: Read + Drop>(
     let Ok(mut rows) = no_rows(rt.alloc(), settings.threads) else {
         return Err(Closing::at(Stop::NoMemory, 1));
     };
-    let closing = keep_rows(script, rows.as_mut_slice(), progress);
+    let closing = keep_rows(script, rows.as_mut_slice(), listeners.progress);
     if closing.stop != Stop::AtEnd {
         return Err(closing);
     }
     // That row stands behind the last one.
-    progress.begins(Some(closing.row.saturating_sub(1)));
-    run_rows(rt, rows.as_slice(), settings, gate, progress)
+    let total = closing.row.saturating_sub(1);
+    listeners.progress.begins(Some(total));
+    run_rows(rt, rows.as_slice(), settings, listeners)
 }
 
 // Runs the rows of all threads over a new board.
-fn run_rows<P: AllocGlobal + Wait + Clock + Threads + Sync>(
+fn run_rows<P: AllocGlobal + Wait + Clock + Threads + Sync, G: Gate, H: Progress>(
     rt: &P,
     rows: &[Vec<ThreadRow>],
     settings: &Settings,
-    gate: &impl Gate,
-    progress: &impl Progress,
+    listeners: &Listeners<G, H>,
 ) -> Result<Totals, Closing>
     requires some_thread { 1 ≤ settings.now.threads }
     requires threads { settings.now.threads ≤ 16 }
@@ -183,8 +163,7 @@ fn run_rows<P: AllocGlobal + Wait + Clock + Threads + Sync>(
         board: &board,
         rows,
         settings,
-        gate,
-        progress,
+        listeners,
     };
     let Ok(crew) = run_members(rt, &live, members) else {
         return Err(Closing::at(Stop::NoMemory, 1));
@@ -196,15 +175,13 @@ fn run_rows<P: AllocGlobal + Wait + Clock + Threads + Sync>(
     finish(rt.alloc(), board, crew)
 }
 
-// What all threads of a run are given: their board, the rows of each, how they pick, their gate, and
-// who is told of them.
+// What all threads of a run are given: their board, the rows of each, how they pick, and who hears of them.
 #[derive(Drop)]
 struct LiveRun<'a, G, P> {
     board: &'a StandardBoard,
     rows: &'a [Vec<ThreadRow>],
     settings: &'a Settings,
-    gate: &'a G,
-    progress: &'a P,
+    listeners: &'a Listeners<'a, G, P>,
 }
 
 // Runs the rows of each thread by the member of its number, and gives the workers back.
@@ -281,11 +258,12 @@ fn run_at<G: Gate, P: Progress>(
         (kept_for (map (λ list. list.items) live.now.rows.now) index) place.new }
 {
     let rows = live.rows[index].as_slice();
-    let passed = pass(live.gate, index);
+    let passed = pass(live.listeners.gate, index);
     let Some(worker) = place.take() else {
         unreachable!();
     };
-    *place = Some(worker.run(rt, live.board, rows, live.settings, passed, live.progress));
+    let progress = live.listeners.progress;
+    *place = Some(worker.run(rt, live.board, rows, live.settings, passed, progress));
 }
 
 fn crew_of(alloc: Global, members: Vec<StandardMember>) -> Result<Vec<Option<Worker>>, AllocError>

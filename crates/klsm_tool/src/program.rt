@@ -1,21 +1,21 @@
 //! The program on its words.
-ghost use Rattle.std.specs.Prelude.{◌≡◌, map};
-ghost use Rattle.klsm_words.specs.CommandLine.{replay_words};
-ghost use Rattle.klsm_words.specs.Options.{AreInRange, IsSearchInRange};
-ghost use Rattle.klsm_tool.specs.Program.{RefusesBytes, Runs, RunsKnapsack, RunsLive, RunsReplay};
-ghost use Rattle.klsm_tool.specs.Program.{RunsReplayOrLacksMemory, RunsSome, Says};
+ghost use Rattle.std.specs.Prelude.{◌≡◌, Some, map};
+ghost use Rattle.klsm_words.specs.CommandLine.{IsActionInRange, replay_words};
+ghost use Rattle.klsm_tool.specs.Program.{RefusesBytes, Runs, RunsBy, RunsReplayOrLacksMemory};
+ghost use Rattle.klsm_tool.specs.Program.{RunsSome, Says};
 ghost use Rattle.klsm_tool.specs.Program.{status_of as status_of_end};
 
 use crate::advising::advise_on_end;
-use crate::knapsack::knapsack_with_progress;
-use crate::live::live_with_progress;
+use crate::knapsack::knapsack_over;
+use crate::live::live_over;
 use crate::process_words::process_words;
-use crate::replay::replay_with_progress;
+use crate::replay::replay_over;
 use crate::status::Status;
 use klsm_board::Open;
-use klsm_progress::{Hint, Progress, Silent};
+use klsm_knapsack::Listeners;
+use klsm_progress::{Hint, Progress};
 use klsm_text::{End, NO_MEMORY, write_text};
-use klsm_words::{Action, Fault, Search, Settings, USAGE, parse};
+use klsm_words::{Action, Fault, USAGE, parse};
 use std::io::{Read, Write};
 use std::rt::Env;
 use std::sync::Wait;
@@ -33,31 +33,15 @@ pub fn run_program<P: Env + AllocGlobal + Wait + Clock + Threads + Sync, R: Read
         result.code }
 {
     match process_words(rt) {
-        Ok(words) => run_with_progress(rt, words.as_slice(), reader, writer, progress),
+        Ok(words) => run_words(rt, words.as_slice(), reader, writer, progress),
         Err(_) => say(writer, NO_MEMORY, EXHAUSTED),
     }
 }
 
-/// Runs the program on its words, which are those after its own name, and answers its status:
-/// 0 where all is done, 1 where a row is refused, 2 for a fault of the command line,
-/// 3 where memory is wanted, and 4 where reading or writing failed.
+/// Runs the program on its words, which are those after its own name, tells of a long run, and answers its
+/// status: 0 where all is done, 1 where a row is refused, 2 for a fault of the command line, 3 where memory is
+/// wanted, and 4 where reading or writing failed.
 pub fn run_words<R: Read + Drop, W: Write>(
-    rt: &(impl AllocGlobal + Wait + Clock + Threads + Sync),
-    words: &[Vec<u8>],
-    reader: R,
-    writer: &mut W,
-) -> Status
-    ensures runs { Runs (map (λ word. word.items) words.now) (R.remaining reader)
-        (W.contents writer.old) (W.contents writer.new) result.code }
-    ensures replays { map (λ word. word.items) words.now ≡ replay_words
-        → RunsReplayOrLacksMemory (R.remaining reader)
-        (W.contents writer.old) (W.contents writer.new) result.code }
-{
-    run_with_progress(rt, words, reader, writer, &Silent)
-}
-
-// The same, and tells of a long run.
-fn run_with_progress<R: Read + Drop, W: Write>(
     rt: &(impl AllocGlobal + Wait + Clock + Threads + Sync),
     words: &[Vec<u8>],
     reader: R,
@@ -71,9 +55,7 @@ fn run_with_progress<R: Read + Drop, W: Write>(
         (W.contents writer.old) (W.contents writer.new) result.code }
 {
     match parse(rt.alloc(), words) {
-        Ok(Action::Replay(settings)) => run_replay(rt, reader, writer, &settings, progress),
-        Ok(Action::Live(settings)) => run_live(rt, reader, writer, &settings, progress),
-        Ok(Action::Knapsack(search)) => run_knapsack(rt, reader, writer, &search, progress),
+        Ok(action) => run_action(rt, &action, reader, writer, progress),
         Err(Fault::Said { text, status }) => {
             refuse_words(writer, text.as_bytes(), status, progress, WORDS)
         }
@@ -84,53 +66,43 @@ fn run_with_progress<R: Read + Drop, W: Write>(
     }
 }
 
-fn run_replay<R: Read + Drop, W: Write>(
-    rt: &impl AllocGlobal,
+// Does what the words ask for.
+fn run_action<R: Read + Drop, W: Write>(
+    rt: &(impl AllocGlobal + Wait + Clock + Threads + Sync),
+    action: &Action,
     reader: R,
     writer: &mut W,
-    settings: &Settings,
     progress: &impl Progress,
 ) -> Status
-    requires { AreInRange settings.now }
-    ensures { RunsReplay settings.now (R.remaining reader) (W.contents writer.old)
+    requires { IsActionInRange action.now }
+    ensures { RunsBy (Some action.now) (R.remaining reader) (W.contents writer.old)
         (W.contents writer.new) result.code }
 {
     progress.reads();
-    let end = replay_with_progress(rt, reader, writer, settings, progress).end;
-    advise_on_end(progress, end);
-    status_of(end)
+    let listeners = Listeners {
+        gate: &Open,
+        progress,
+    };
+    match action {
+        Action::Replay(settings) => {
+            let report = replay_over(rt, reader, writer, settings, progress);
+            ended(progress, report.end)
+        }
+        Action::Live(settings) => {
+            let report = live_over(rt, reader, writer, settings, &listeners);
+            ended(progress, report.end)
+        }
+        Action::Knapsack(search) => {
+            let report = knapsack_over(rt, reader, writer, search, &listeners);
+            ended(progress, report.end)
+        }
+    }
 }
 
-fn run_live<R: Read + Drop, W: Write>(
-    rt: &(impl AllocGlobal + Wait + Clock + Threads + Sync),
-    reader: R,
-    writer: &mut W,
-    settings: &Settings,
-    progress: &impl Progress,
-) -> Status
-    requires { AreInRange settings.now }
-    ensures { RunsLive settings.now (R.remaining reader) (W.contents writer.old)
-        (W.contents writer.new) result.code }
+// The status of a run that ended so, of which a user is told which stream has failed.
+fn ended(progress: &impl Progress, end: End) -> Status
+    ensures { result.code ≡ status_of_end end }
 {
-    progress.reads();
-    let end = live_with_progress(rt, reader, writer, settings, &Open, progress).end;
-    advise_on_end(progress, end);
-    status_of(end)
-}
-
-fn run_knapsack<R: Read + Drop, W: Write>(
-    rt: &(impl AllocGlobal + Wait + Clock + Threads + Sync),
-    reader: R,
-    writer: &mut W,
-    search: &Search,
-    progress: &impl Progress,
-) -> Status
-    requires { IsSearchInRange search.now }
-    ensures { RunsKnapsack search.now (R.remaining reader) (W.contents writer.old)
-        (W.contents writer.new) result.code }
-{
-    progress.reads();
-    let end = knapsack_with_progress(rt, reader, writer, search, &Open, progress).end;
     advise_on_end(progress, end);
     status_of(end)
 }

@@ -3,7 +3,6 @@ ghost use Rattle.std.specs.Prelude.{◌≡◌, ℕ, ◌+◌, ◌*◌, ◌<◌, �
 ghost use Rattle.std.specs.Prelude.{length, Option, IfErr, IfOk, MatchResult, true};
 ghost use Rattle.klsm_run.specs.declared.item.Item.{Item};
 ghost use Rattle.klsm_world.specs.declared.step.Entry.{Entry};
-ghost use Rattle.klsm_board.specs.Boards.{AreMembersOf, AreNewMembersOf};
 ghost use Rattle.klsm_board.specs.Together.{AreOf, all_lists};
 ghost use Rattle.klsm_world.specs.Account.{account};
 ghost use Rattle.klsm_text.specs.Output.{pending, put_count};
@@ -12,7 +11,7 @@ ghost use Rattle.klsm_text.specs.declared.answer.Line.{Line};
 ghost use Rattle.klsm_text.specs.declared.stop.Stop.TheVariants as stop;
 ghost use Rattle.klsm_rows.specs.Rows.{Row};
 ghost use Rattle.klsm_text.specs.Script.{row_limit};
-ghost use Rattle.klsm_tool.specs.Crews.{AreFew, HaveNoSteps, board_sizes, lists_in};
+ghost use Rattle.klsm_tool.specs.Crews.{AreFew, HaveNoSteps, board_sizes};
 ghost use Rattle.klsm_tool.specs.Answering.{live_kept, picker_count, pickers_kept};
 ghost use Rattle.klsm_tool.specs.Picking.{ArePickers};
 ghost use Rattle.klsm_text.specs.Reading.{HasReadScript, reader_failed};
@@ -23,10 +22,10 @@ ghost use Rattle.klsm_tool.specs.Progress.{StopsBefore};
 ghost use Rattle.klsm_tool.specs.Replay.{Replays, ReplaysAlone};
 
 use crate::advising::advise_on_row;
-use crate::making::board_for;
+use crate::making::board_in_one_hand;
 use crate::replay_state::ReplayState;
-use klsm_board::{AllStandardMembers, StandardBoard, StandardMember};
-use klsm_progress::{Counted, Pace, Progress, Silent};
+use klsm_board::{AllStandardMembers, StandardBoard};
+use klsm_progress::{Counted, Pace, Progress};
 use klsm_text::{
     Closing, End, NO_MEMORY, Output, Printed, ROW_LIMIT, Refusal, Report, Script, Stop, request_of,
     write_last,
@@ -34,28 +33,10 @@ use klsm_text::{
 use klsm_words::Settings;
 use std::alloc::{AllocError, Global};
 use std::io::{Read, Write};
-use std::mem;
 
-/// Answers the rows of a script over a board of its own, which is finished where all are answered. It waits
-/// for no lock.
+/// Answers the rows of a script over a board of its own, which is finished where all are answered, and tells
+/// of a long run while it lasts. It waits for no lock.
 pub fn replay_over<P: AllocGlobal, R: Read + Drop, W: Write>(
-    rt: &P,
-    reader: R,
-    writer: &mut W,
-    settings: &Settings,
-) -> Report
-    requires some_thread { 1 ≤ settings.now.threads }
-    requires threads { settings.now.threads ≤ 16 }
-    requires k { settings.now.k ≤ 64 }
-    requires refill { settings.now.refill ≤ settings.now.k }
-    ensures { ReplaysAlone (board_sizes settings.now) (R.remaining reader)
-        (W.contents writer.old) (W.contents writer.new) result }
-{
-    replay_with_progress(rt, reader, writer, settings, &Silent)
-}
-
-/// The same, and tells of a long run while it lasts.
-pub fn replay_with_progress<P: AllocGlobal, R: Read + Drop, W: Write>(
     rt: &P,
     reader: R,
     writer: &mut W,
@@ -69,12 +50,8 @@ pub fn replay_with_progress<P: AllocGlobal, R: Read + Drop, W: Write>(
     ensures { ReplaysAlone (board_sizes settings.now) (R.remaining reader)
         (W.contents writer.old) (W.contents writer.new) result }
 {
-    let Ok((board, members)) = board_for(rt.alloc(), settings) else {
+    let Ok((board, mut all)) = board_in_one_hand(rt.alloc(), settings) else {
         return write_last(writer, NO_MEMORY, 0, End::NoMemory);
-    };
-    // No member is missing.
-    let Ok(mut all) = board.gather(members) else {
-        unreachable!();
     };
     let mut script = Script::new(rt.alloc(), reader);
     let report = replay_script(
@@ -97,37 +74,12 @@ pub fn replay_with_progress<P: AllocGlobal, R: Read + Drop, W: Write>(
     }
 }
 
-/// Answers the rows of a script in their order, each by the member of its thread, and each before
-/// the next one is looked at. The lines go out many at a time, and all of them before a further row
-/// is waited for.
-pub fn replay_on<P: AllocGlobal, R: Read + Drop, W: Write>(
-    rt: &P,
-    reader: R,
-    writer: &mut W,
-    settings: &Settings,
-    board: &StandardBoard,
-    members: &mut Vec<StandardMember>,
-) -> Report
-    requires sizes { board.now.sizes ≡ board_sizes settings.now }
-    requires crew { AreNewMembersOf board.now members.old.items }
-    ensures members { AreMembersOf board.now members.new.items }
-    ensures written { result.written < 2 ^ 63 }
-    ensures replays { Replays settings.now.threads settings.now.k (lists_in members.new.items)
-        (R.remaining reader) (W.contents writer.old) (W.contents writer.new) result }
-{
-    // No member is missing.
-    let Ok(mut all) = board.gather(mem::replace(members, Vec::new(rt.alloc()))) else {
-        unreachable!();
-    };
-    let mut script = Script::new(rt.alloc(), reader);
-    let report = replay_script(rt, &mut script, writer, settings, board, &mut all, &Silent);
-    *members = all.spread(board);
-    report
-}
-
-/// The same over a script of the caller's, of which no row was read yet; and it tells of a long run
-/// while it lasts. A read fault is answered only where the reader of that has failed. Behind a row that
-/// is refused none is read.
+/// Answers the rows of a script of the caller's in their order, each by the member of its thread, and each
+/// before the next one is looked at. No row of it was read yet, and no member has made a step. The lines go
+/// out many at a time, and all of them before a further row is waited for.
+///
+/// A read fault is answered only where the reader of the script has failed. Behind a row that is refused
+/// none is read.
 pub fn replay_script<P: AllocGlobal, R: Read + Drop, W: Write>(
     rt: &P,
     script: &mut Script<R>,

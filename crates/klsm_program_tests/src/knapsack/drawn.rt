@@ -1,7 +1,8 @@
 //! Drawn instances, whose best selection is found by a plain loop over all.
+ghost use Rattle.klsm_parts.specs.Limit.{IsLevelCount};
 
 use klsm_board::Open;
-use klsm_knapsack::{Instance, Listeners, SearchOptions, solve, solve_in_turn, solve_to_the_end};
+use klsm_knapsack::{Instance, Listeners, SearchOptions, solve_in_turn, solve_to_the_end};
 use klsm_test_support::add_words;
 use klsm_tool::Silent;
 use rand_core::{Rng, SeedableRng};
@@ -66,35 +67,23 @@ fn agrees_in_turn(instance: &Instance, best: u64) -> bool {
     is_best(instance, best, found.value, found.picks)
 }
 
-// Whether one by so many threads does at this k, also where it finds no room on a board of two levels.
-fn agrees(
+// Whether one by so many threads does at this k, on a board of so many levels.
+fn agrees<const LEVELS: usize>(
     rt: &(impl Threads + Wait + Clock + Sync),
     alloc: Global,
     instance: &Instance,
     best: u64,
-    (threads, k): (usize, usize),
-) -> bool {
-    let Ok(found) = solve::<21>(rt, alloc, instance, threads, k, 4, &Open) else {
-        return false;
-    };
-    is_best(instance, best, found.value, found.picks)
-        && agrees_alone(rt, alloc, instance, best, (threads, k))
-}
-
-// Whether one does that finds no room on a board of two levels.
-fn agrees_alone(
-    rt: &(impl Threads + Wait + Clock + Sync),
-    alloc: Global,
-    instance: &Instance,
-    best: u64,
-    (threads, k): (usize, usize),
-) -> bool {
+    board: (usize, usize),
+) -> bool
+    requires { IsLevelCount LEVELS }
+{
+    let (threads, k) = board;
     let listeners = Listeners {
         gate: &Open,
         progress: &Silent,
     };
     let options = SearchOptions::new(threads, k, 4);
-    match solve_to_the_end::<_, _, 2>(rt, alloc, instance, &options, &listeners) {
+    match solve_to_the_end::<_, _, LEVELS>(rt, alloc, instance, &options, &listeners) {
         Ok(found) => is_best(instance, best, found.value, found.picks),
         Err(_) => false,
     }
@@ -113,11 +102,14 @@ const BOARDS: &[(usize, usize)] = &[
     (4, 16),
 ];
 
-// Whether all searches of an instance give a selection of the best value.
+// Whether all searches of an instance give a selection of the best value, also those that find no room on
+// a board of two levels.
 fn agree(rt: &(impl Threads + Wait + Clock + Sync), alloc: Global, instance: &Instance) -> bool {
     let best = best_value(instance);
     for board in BOARDS {
-        if !agrees(rt, alloc, instance, best, *board) {
+        if !agrees::<21>(rt, alloc, instance, best, *board)
+            || !agrees::<2>(rt, alloc, instance, best, *board)
+        {
             return false;
         }
     }

@@ -4,22 +4,34 @@
 use super::worked::{BEST, worked};
 use crate::three::Three;
 use klsm_board::Gate;
-use klsm_knapsack::{Instance, Listeners, SearchOptions, solve, solve_to_the_end};
+use klsm_knapsack::{Best, Instance, Listeners, SearchOptions, solve_to_the_end};
 use klsm_test_support::{LOOKS, Meeting};
-use klsm_tool::{Counted, Progress};
+use klsm_tool::{Counted, Progress, Silent};
 use std::alloc::Global;
 use std::sync::Wait;
 use std::sync::atomic::{AtomicBool, AtomicU64, Ordering};
 use std::thread::Threads;
 use std::time::Clock;
 
+// What workers that pass this gate find of the worked instance.
+fn found_behind<G: Gate>(
+    rt: &(impl Threads + Wait + Clock + Sync),
+    alloc: Global,
+    gate: &G,
+    options: &SearchOptions,
+) -> Option<Best> {
+    let instance = worked(alloc)?;
+    let listeners = Listeners {
+        gate,
+        progress: &Silent,
+    };
+    solve_to_the_end::<_, _, 21>(rt, alloc, &instance, options, &listeners).ok()
+}
+
 #[test]
 fn two_workers_run_side_by_side(rt: HostRuntime) {
     let meeting = Meeting::new();
-    let answer = match worked(rt.alloc()) {
-        Some(instance) => solve::<21>(&rt, rt.alloc(), &instance, 2, 1, 8, &meeting).ok(),
-        None => None,
-    };
+    let answer = found_behind(&rt, rt.alloc(), &meeting, &SearchOptions::new(2, 1, 8));
     assert!(rt; answer == Some(BEST));
     assert!(rt; meeting.took_place());
 }
@@ -27,10 +39,7 @@ fn two_workers_run_side_by_side(rt: HostRuntime) {
 #[test]
 fn three_workers_run_side_by_side(rt: HostRuntime) {
     let gate = Three::new();
-    let answer = match worked(rt.alloc()) {
-        Some(instance) => solve::<21>(&rt, rt.alloc(), &instance, 3, 1, 8, &gate).ok(),
-        None => None,
-    };
+    let answer = found_behind(&rt, rt.alloc(), &gate, &SearchOptions::new(3, 1, 8));
     assert!(rt; answer == Some(BEST));
     assert!(rt; gate.took_place());
 }
@@ -60,10 +69,7 @@ fn a_worker_that_comes_late_changes_no_answer(rt: HostRuntime) {
     let late = LastOfFour {
         passed: AtomicU64::new(0),
     };
-    let answer = match worked(rt.alloc()) {
-        Some(instance) => solve::<21>(&rt, rt.alloc(), &instance, 4, 16, 1, &late).ok(),
-        None => None,
-    };
+    let answer = found_behind(&rt, rt.alloc(), &late, &SearchOptions::new(4, 16, 1));
     assert!(rt; answer == Some(BEST));
 }
 

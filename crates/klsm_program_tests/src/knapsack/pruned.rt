@@ -2,7 +2,8 @@
 ghost use Rattle.klsm_parts.specs.Limit.{IsLevelCount};
 
 use klsm_board::Open;
-use klsm_knapsack::{Best, Instance, SolveError, solve};
+use klsm_knapsack::{Best, Instance, Listeners, SearchOptions, SolveError, solve};
+use klsm_tool::Silent;
 use std::alloc::Global;
 use std::sync::Wait;
 use std::thread::Threads;
@@ -18,7 +19,12 @@ fn solved<const LEVELS: usize>(
     requires { IsLevelCount LEVELS }
 {
     let instance = Instance::read(alloc, text).ok()?;
-    Some(solve::<LEVELS>(rt, alloc, &instance, 1, 0, 1, &Open))
+    let listeners = Listeners {
+        gate: &Open,
+        progress: &Silent,
+    };
+    let options = SearchOptions::new(1, 0, 1);
+    Some(solve::<_, _, LEVELS>(rt, alloc, &instance, &options, &listeners))
 }
 
 // Where only selections of the last level raise the incumbent, more nodes are open at once.

@@ -2,7 +2,8 @@
 ghost use Rattle.klsm_parts.specs.Limit.{IsLevelCount};
 
 use klsm_board::Open;
-use klsm_knapsack::{Best, Instance, SolveError, solve, solve_in_turn};
+use klsm_knapsack::{Best, Instance, Listeners, SearchOptions, SolveError, solve, solve_in_turn};
+use klsm_tool::Silent;
 use std::alloc::Global;
 use std::sync::Wait;
 use std::thread::Threads;
@@ -55,7 +56,12 @@ fn solved<const LEVELS: usize>(
     requires { IsLevelCount LEVELS }
 {
     let instance = worked(alloc)?;
-    Some(solve::<LEVELS>(rt, alloc, &instance, threads, k, idle, &Open))
+    let listeners = Listeners {
+        gate: &Open,
+        progress: &Silent,
+    };
+    let options = SearchOptions::new(threads, k, idle);
+    Some(solve::<_, _, LEVELS>(rt, alloc, &instance, &options, &listeners))
 }
 
 #[test]

@@ -7,7 +7,9 @@ use super::process::{Input, Output};
 use super::worked::{ANSWERS, SCRIPT};
 use super::{REPLAY, gives, run};
 use klsm_board::Open;
-use klsm_tool::{End, Pick, Report, Settings, knapsack_over, live_over, replay_over};
+use klsm_tool::{
+    End, Listeners, Pick, Report, Search, Settings, Silent, knapsack_over, live_over, replay_over,
+};
 use std::alloc::Global;
 use std::sync::Wait;
 use std::thread::Threads;
@@ -105,6 +107,13 @@ const USUAL: Settings = Settings {
     seed: 1,
 };
 
+/// The same of a search.
+const BY_ONE: Search = Search {
+    threads: 1,
+    k: 16,
+    idle: 100,
+};
+
 /// A command, which has an input of its own.
 #[derive(Clone, Copy)]
 enum Command {
@@ -119,10 +128,14 @@ fn report_of(
     command: Command,
     output: &mut Output,
 ) -> Report {
+    let listeners = Listeners {
+        gate: &Open,
+        progress: &Silent,
+    };
     match command {
-        Command::Replay => replay_over(rt, SCRIPT, output, &USUAL),
-        Command::Live => live_over(rt, SCRIPT, output, &USUAL, &Open),
-        Command::Knapsack => knapsack_over(rt, INSTANCE, output, 1, 16, 100, &Open),
+        Command::Replay => replay_over(rt, SCRIPT, output, &USUAL, &Silent),
+        Command::Live => live_over(rt, SCRIPT, output, &USUAL, &listeners),
+        Command::Knapsack => knapsack_over(rt, INSTANCE, output, &BY_ONE, &listeners),
     }
 }
 

@@ -1,8 +1,9 @@
 //! Instances of the knapsack problem: the line of each, and its status.
+ghost use Rattle.std.specs.Prelude.{◌≤◌};
 
 use super::{Told, all_go};
 use klsm_board::Open;
-use klsm_tool::{End, knapsack_over};
+use klsm_tool::{End, Listeners, Search, Silent, knapsack_over};
 use std::alloc::Global;
 use std::sync::Wait;
 use std::thread::Threads;
@@ -90,15 +91,41 @@ fn instances_are_solved_or_refused(rt: HostRuntime) {
     assert!(rt; all_go(&rt, rt.alloc(), WORKED));
 }
 
+/// What a search writes that solves its instance.
+fn line_of(
+    rt: &(impl AllocGlobal + Wait + Clock + Threads + Sync),
+    instance: &[u8],
+    search: &Search,
+) -> Option<Vec<u8>>
+    requires some_thread { 1 ≤ search.now.threads }
+    requires threads { search.now.threads ≤ 16 }
+    requires k { search.now.k ≤ 64 }
+{
+    let mut text = Vec::new(rt.alloc());
+    let listeners = Listeners {
+        gate: &Open,
+        progress: &Silent,
+    };
+    let report = knapsack_over(rt, instance, &mut text, search, &listeners);
+    if report.end == End::Done {
+        Some(text)
+    } else {
+        None
+    }
+}
+
 /// Whether four workers find a selection of this value and this weight.
 fn finds(
     rt: &(impl AllocGlobal + Wait + Clock + Threads + Sync),
     instance: &[u8],
     head: &[u8],
 ) -> bool {
-    let mut text = Vec::new(rt.alloc());
-    let report = knapsack_over(rt, instance, &mut text, 4, 16, 8, &Open);
-    report.end == End::Done && text.as_slice().starts_with(head)
+    let search = Search {
+        threads: 4,
+        k: 16,
+        idle: 8,
+    };
+    matches!(line_of(rt, instance, &search), Some(line) if line.as_slice().starts_with(head))
 }
 
 // Of things that are all as steep as each other many selections are best, and any may be answered.
@@ -117,9 +144,12 @@ fn leads_to(
     idle: u32,
     line: &[u8],
 ) -> bool {
-    let mut text = Vec::new(rt.alloc());
-    let report = knapsack_over(rt, instance, &mut text, 1, 0, idle, &Open);
-    report.end == End::Done && text.as_slice() == line
+    let search = Search {
+        threads: 1,
+        k: 0,
+        idle,
+    };
+    matches!(line_of(rt, instance, &search), Some(found) if found.as_slice() == line)
 }
 
 // Of two selections that are best, a worker that is never idle finds the one last. One that is idle

@@ -5,7 +5,7 @@ use super::worked::SCRIPT;
 use super::{Told, all_go};
 use crate::three::Three;
 use klsm_test_support::{Counting, Meeting};
-use klsm_tool::{End, Pick, Report, Settings, live_over};
+use klsm_tool::{End, Listeners, Pick, Report, Settings, Silent, live_over};
 
 /// The words of a process that lets threads run a script.
 pub(super) const LIVE: &[&[u8]] = &[b"klsm", b"live"];
@@ -65,7 +65,11 @@ fn two_threads_run_side_by_side(rt: HostRuntime) {
     let meeting = Meeting::new();
     let mut text = Vec::new(rt.alloc());
     let script: &[u8] = b"0,i,1,0\n1,i,2,0\n";
-    let report = live_over(&rt, script, &mut text, &settings, &meeting);
+    let listeners = Listeners {
+        gate: &meeting,
+        progress: &Silent,
+    };
+    let report = live_over(&rt, script, &mut text, &settings, &listeners);
     let want = Report {
         end: End::Done,
         written: text.len() as u64,
@@ -88,7 +92,11 @@ fn three_threads_run_side_by_side(rt: HostRuntime) {
     let gate = Three::new();
     let mut text = Vec::new(rt.alloc());
     let script: &[u8] = b"0,i,1,0\n1,i,2,0\n2,i,3,0\n";
-    let report = live_over(&rt, script, &mut text, &OF_THREE, &gate);
+    let listeners = Listeners {
+        gate: &gate,
+        progress: &Silent,
+    };
+    let report = live_over(&rt, script, &mut text, &OF_THREE, &listeners);
     assert!(rt; text.as_slice() == b"inserted 3 deleted 0 left 3\n".as_slice());
     assert!(rt; report.end == End::Done && gate.took_place());
 }
@@ -99,7 +107,11 @@ fn each_thread_passes_the_gate_once(rt: HostRuntime) {
     let gate = Counting::new();
     let mut text = Vec::new(rt.alloc());
     let script: &[u8] = b"0,i,1,0\n1,i,2,0\n0,i,3,0\n";
-    let report = live_over(&rt, script, &mut text, &OF_THREE, &gate);
+    let listeners = Listeners {
+        gate: &gate,
+        progress: &Silent,
+    };
+    let report = live_over(&rt, script, &mut text, &OF_THREE, &listeners);
     assert!(rt; text.as_slice() == b"inserted 3 deleted 0 left 3\n".as_slice());
     assert!(rt; report.end == End::Done && gate.passed() == [1, 1, 1]);
 }

@@ -7,7 +7,7 @@ use super::run;
 use klsm_board::Gate;
 use klsm_test_support::{Counting, Meeting};
 use klsm_tool::{
-    Counted, End, Pick, Progress, Settings, knapsack_over, live_over, live_with_progress,
+    Counted, End, Listeners, Pick, Progress, Search, Settings, Silent, knapsack_over, live_over,
 };
 use std::alloc::Global;
 use std::cell::Cell;
@@ -103,7 +103,11 @@ fn passed_over(
 ) -> ([u64; 3], End) {
     let gate = Counting::new();
     let mut text = Vec::new(rt.alloc());
-    let report = live_over(rt, input, &mut text, &OF_THREE, &gate);
+    let listeners = Listeners {
+        gate: &gate,
+        progress: &Silent,
+    };
+    let report = live_over(rt, input, &mut text, &OF_THREE, &listeners);
     (gate.passed(), report.end)
 }
 
@@ -141,7 +145,16 @@ fn passed_by_workers(
 ) -> ([u64; 3], End) {
     let gate = Counting::new();
     let mut text = Vec::new(rt.alloc());
-    let report = knapsack_over(rt, instance, &mut text, 3, 1, 8, &gate);
+    let listeners = Listeners {
+        gate: &gate,
+        progress: &Silent,
+    };
+    let search = Search {
+        threads: 3,
+        k: 1,
+        idle: 8,
+    };
+    let report = knapsack_over(rt, instance, &mut text, &search, &listeners);
     (gate.passed(), report.end)
 }
 
@@ -202,7 +215,11 @@ fn come_before_rows(rt: &(impl AllocGlobal + Wait + Clock + Threads + Sync)) -> 
     let script = repeated(rt.alloc(), b"0,d,,\n1,d,,\n", STRIDE)?;
     let hall = Hall::new();
     let mut text = Vec::new(rt.alloc());
-    let report = live_with_progress(rt, script.as_slice(), &mut text, &OF_TWO, &hall, &hall);
+    let listeners = Listeners {
+        gate: &hall,
+        progress: &hall,
+    };
+    let report = live_over(rt, script.as_slice(), &mut text, &OF_TWO, &listeners);
     let [first, second] = &hall.heard;
     let heard = (first.load(Ordering::SeqCst), second.load(Ordering::SeqCst));
     let rows = hall.rows.load(Ordering::SeqCst);

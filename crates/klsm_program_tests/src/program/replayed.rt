@@ -2,12 +2,10 @@
 //! is given.
 
 use klsm_board::StandardMember;
-use klsm_test_support::Made;
-use klsm_tool::{End, Report, Settings, replay_on, replay_over};
+use klsm_tool::{
+    End, Report, Script, Settings, Silent, board_in_one_hand, replay_over, replay_script,
+};
 use std::alloc::Global;
-
-/// The most insertions of a member.
-const MANY: u64 = 281_474_976_710_656;
 
 /// What a run wrote, and what it says of how it ended.
 #[derive(Drop)]
@@ -40,7 +38,7 @@ pub(super) fn run_over(
         return None;
     }
     let mut text = empty;
-    let report = replay_over(rt, script, &mut text, settings);
+    let report = replay_over(rt, script, &mut text, settings, &Silent);
     Some(Run { text, report })
 }
 
@@ -52,26 +50,26 @@ pub(super) fn run_on(
     settings: &Settings,
     empty: Vec<u8>,
 ) -> Option<(Run, Vec<Counts>)> {
-    let Settings {
-        threads,
-        k,
-        refill,
-        ..
-    } = *settings;
-    let Ok(mut made) = Made::with_refill(rt.alloc(), threads, k, MANY, refill) else {
+    let has_board = settings.threads >= 1 && settings.threads <= 16 && settings.k <= 64;
+    if !has_board || settings.refill > settings.k {
+        return None;
+    }
+    let Ok((board, mut all)) = board_in_one_hand(rt.alloc(), settings) else {
         return None;
     };
+    let mut script = Script::new(rt.alloc(), script);
     let mut text = empty;
-    let lent = &mut made;
-    let report = replay_on(
+    let report = replay_script(
         rt,
-        script,
+        &mut script,
         &mut text,
         settings,
-        &lent.board,
-        &mut lent.members,
+        &board,
+        &mut all,
+        &Silent,
     );
-    let counts = counts_of(rt.alloc(), made.members.as_slice())?;
+    let members = all.spread(&board);
+    let counts = counts_of(rt.alloc(), members.as_slice())?;
     Some((Run { text, report }, counts))
 }
 

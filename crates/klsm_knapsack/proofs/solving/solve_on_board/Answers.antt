@@ -9,7 +9,7 @@ use Rattle.klsm_knapsack.specs.declared.search_state.Worker.{Worker}
 use Rattle.klsm_knapsack.specs.declared.errors.SolveError.{SolveError}
 use Rattle.klsm_knapsack.specs.IncumbentSeats.{IsSeatAt}
 use Rattle.klsm_knapsack.specs.Ends.{IsLeastRefusal}
-use Rattle.klsm_knapsack.specs.Refusals.{RefusesWithRefill}
+use Rattle.klsm_knapsack.specs.Refusals.{RefusesSearch}
 use Rattle.klsm_knapsack.specs.Workers.{AreWorkersOf, HasEndedSo, HasNotBegun, HaveWorked, IsSearched}
 use Rattle.klsm_knapsack.proofs.CrewLemmas.{none_refused, so_many_workers}
 use Rattle.klsm_parts.proofs.FitLemmas.{shared_fits}
@@ -62,7 +62,7 @@ returns-in-Err-clause-refused g c = λ not_alone.
     let first = rw is at c.in-Err.ensures.refused in
     let least : IsLeastRefusal g.row.LEVELS c.in_ok-board.board.sizes c.in-Err.why = least_refusal state after c.search.ensures.crew c.in-Err.why (subst (λ (m : NoRoom). All (HasEndedSo m) after) not_alone c.search.ensures.ended) first in
     let told = refused_too g.row.LEVELS (sizes_of c.args.options.now.threads c.args.options.now.k) c.args.options.now.refill c.in-Err.why (subst (λ (m : Sizes). IsLeastRefusal g.row.LEVELS m c.in-Err.why) c.in_ok-board.ensures.sizes least) in
-    subst (λ (why : SolveError). RefusesWithRefill g.row.LEVELS c.args.options.now.threads c.args.options.now.k c.args.options.now.refill why) (sym c.error.ensures)
+    subst (λ (why : SolveError). RefusesSearch g.row.LEVELS c.args.options.now.threads c.args.options.now.k c.args.options.now.refill why) (sym c.error.ensures)
     (refuses g.row.LEVELS c.args.options.now.threads c.args.options.now.k c.args.options.now.refill c.in-Err.why c.in_ok-board.ensures.in_range told)
 
 pub finish-requires : goal.finish-requires

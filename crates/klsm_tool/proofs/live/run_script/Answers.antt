@@ -49,7 +49,7 @@ returns-clause-runs g c = λ input read.
 pub keep_rows-closing-requires : goal.keep_rows-closing-requires
 keep_rows-closing-requires g c =
     let many = length-map c.in-Ok.rows.items (λ list. list.items) in let kept = c.in-Ok.ensures.many in
-    (record { shared = c.type_bounds.sync-typeof-progress.shared }, omega (arith, c.as_mut_slice.ensures.len, c.in-Ok.rows.ok.0, many, kept, c.requires.threads))
+    (record { shared = c.type_bounds.sync-H.shared }, omega (arith, c.as_mut_slice.ensures.len, c.in-Ok.rows.ok.0, many, kept, c.requires.threads))
 
 pub run_rows-requires-clause-many : goal.run_rows-requires-clause-many
 run_rows-requires-clause-many g c = λ _ _. c.as_slice.ensures.len ∙ (c.in-Ok.rows.ok.0 ∙ (sym (length-map c.in-Ok.rows.items (λ list. list.items)) ∙ c.in-Ok.ensures.many))

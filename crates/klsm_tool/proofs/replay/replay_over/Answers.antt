@@ -1,27 +1,15 @@
-use Rattle.std.proofs.Common.{rules, sym, subst, refl, inl, inr, ◌∙◌, ◌≡◌, ◌≢◌, List}
+use Rattle.std.proofs.Common.{rules, sym, subst, inl, inr, ◌∙◌, ◌≡◌, ◌≢◌, List}
 use Rattle.klsm_board.specs.Finishing.{AreListsAtEnd}
 use Rattle.klsm_world.specs.declared.step.Entry.{Entry}
 use Rattle.klsm_text.specs.declared.report.End.TheVariants as end
 use Rattle.klsm_board.specs.declared.sizes.Sizes.{Sizes}
 use Rattle.klsm_board.specs.Together.{all_lists}
-use Rattle.klsm_board.proofs.lemmas.ending.MemberLemmas.{none_missing}
 use Rattle.klsm_tool.specs.Crews.{board_sizes}
 use Rattle.klsm_tool.proofs.AloneLemmas.{alone, alone_without, not_done, spread_lists_of}
-use Rattle.klsm_tool.proofs.CrewLemmas.{gathered_fresh}
-use Rattle.klsm_tool.proofs.replay.replay_with_progress.Goals as goal
+use Rattle.klsm_tool.proofs.replay.replay_over.Goals as goal
 
 pub returns-in_default : goal.returns-in_default
 returns-in_default g c = alone_without (board_sizes c.args.settings.now) _ _ _ c.write_last.result c.write_last.ensures.goes
-
-pub unreachable-requires : goal.unreachable-requires
-unreachable-requires g c =
-    let refused = c.in_default-gather.field-0 in
-    none_missing c.in-Ok.board c.in-Ok.members.items c.in-Ok.ensures.crew.are refused.missing ((c.in_default-gather.ensures.missing refused.missing).0 refl)
-
-pub replay_script-report-requires-clause-fresh : goal.replay_script-report-requires-clause-fresh
-replay_script-report-requires-clause-fresh g c κs within =
-    let told = c.in-Ok-gather.ensures in
-    gathered_fresh c.in-Ok-gather.all c.in-Ok.board c.in-Ok.members.items c.in-Ok.board.sizes told.of.1 told.same.0 told.same.1 c.in-Ok.ensures.crew
 
 pub returns-then-ne : goal.returns-then-ne
 returns-then-ne g c =

@@ -1,5 +1,5 @@
 use Rattle.std.proofs.Common.{inl, inr}
-use Rattle.klsm_tool.proofs.knapsack.knapsack_with_progress.Goals as goal
+use Rattle.klsm_tool.proofs.knapsack.knapsack_over.Goals as goal
 
 pub returns-in-Ok : goal.returns-in-Ok
 returns-in-Ok g c = inr (c.in-Ok.instance, c.in-Ok.ensures, c.solve_read.ensures)

@@ -7,7 +7,7 @@ use Rattle.klsm_tool.specs.Program.{RefusesBytes, Runs, RunsBy, RunsReplay, Says
 use Rattle.klsm_words.specs.declared.command_line.Action.{Action}
 use Rattle.klsm_words.specs.declared.command_line.Action.TheVariants.{Replay, Live, Knapsack}
 use Rattle.klsm_words.specs.declared.settings.Settings.{Settings}
-use Rattle.klsm_tool.proofs.program.run_with_progress.Goals as goal
+use Rattle.klsm_tool.proofs.program.run_words.Goals as goal
 
 pub returns-in-Err-Said-clause-replays : goal.returns-in-Err-Said-clause-replays
 returns-in-Err-Said-clause-replays g c are = absurd (replay_has_no_status _ c.in-Err-Said.status are (rw c.in-Err-Said.field-0-is at c.in-Err-Said.ensures.fault))
@@ -55,26 +55,23 @@ usual_fits (Replay settings) is over =
 usual_fits (Live settings) is over = none_is_not_usual (Some (Live settings)) refl is
 usual_fits (Knapsack search) is over = over tt
 
-pub returns-in-Ok-Replay-clause-replays : goal.returns-in-Ok-Replay-clause-replays
-returns-in-Ok-Replay-clause-replays g c are =
-    let asked = rw c.in-Ok-Replay.field-0-is at c.in-Ok-Replay.ensures.action in
-    let usual = ap (λ (o : Option Action). unwrap_or (replay_of o) usual_settings) (sym asked ∙ replay_is_usual _ are) in
-    inl (by_usual _ _ _ _ c.run_replay.result.code usual c.run_replay.ensures)
+-- an action that is the usual replay runs one
+runs_usual : (action : Action) (input before after : Option (List ℕ)) (n : ℕ) → Some action ≡ Some (Replay usual_settings) → RunsBy (Some action) input before after n → RunsReplay usual_settings input before after n
+runs_usual (Replay settings) input before after n is (inl runs) =
+    by_usual settings input before after n (ap (λ (o : Option Action). unwrap_or (replay_of o) usual_settings) is) runs.1
+runs_usual (Replay settings) input before after n is (inr unfit) =
+    let usual = ap (λ (o : Option Action). unwrap_or (replay_of o) usual_settings) is in
+    absurd (let over = subst (λ (s : Settings). s.k < s.refill) usual unfit.0 in omega (arith, over))
+runs_usual (Live settings) input before after n is runs = absurd (none_is_not_usual (Some (Live settings)) refl is)
+runs_usual (Knapsack search) input before after n is runs = absurd (none_is_not_usual (Some (Knapsack search)) refl is)
+
+pub returns-in-Ok-clause-replays : goal.returns-in-Ok-clause-replays
+returns-in-Ok-clause-replays g c are = inl (runs_usual c.in-Ok.action _ _ _ c.run_action.result.code (sym c.in-Ok.ensures.action ∙ replay_is_usual _ are) c.run_action.ensures)
 
 pub returns-in-Err-BadRefill-clause-replays : goal.returns-in-Err-BadRefill-clause-replays
 returns-in-Err-BadRefill-clause-replays g c are =
     let fault = rw c.in-Err-BadRefill.field-0-is at c.in-Err-BadRefill.ensures.fault in
     absurd (usual_fits fault.1.0 (sym fault.1.1 ∙ replay_is_usual _ are) fault.1.2)
-
-pub returns-in-Ok-Live-clause-replays : goal.returns-in-Ok-Live-clause-replays
-returns-in-Ok-Live-clause-replays g c are =
-    let asked = rw c.in-Ok-Live.field-0-is at c.in-Ok-Live.ensures.action in
-    absurd (none_is_not_usual (Some (Live c.in-Ok-Live.settings)) refl (sym asked ∙ replay_is_usual _ are))
-
-pub returns-in-Ok-Knapsack-clause-replays : goal.returns-in-Ok-Knapsack-clause-replays
-returns-in-Ok-Knapsack-clause-replays g c are =
-    let asked = rw c.in-Ok-Knapsack.field-0-is at c.in-Ok-Knapsack.ensures.action in
-    absurd (none_is_not_usual (Some (Knapsack c.in-Ok-Knapsack.search)) refl (sym asked ∙ replay_is_usual _ are))
 
 pub returns-in-Err-UnknownPick-clause-runs : goal.returns-in-Err-UnknownPick-clause-runs
 returns-in-Err-UnknownPick-clause-runs g c =
@@ -101,16 +98,8 @@ answers_text words text status input before after n has says = inr (inl (text, s
 refuses : (words : List (List ℕ)) (input before after : Option (List ℕ)) (n : ℕ) → (All IsUtf8 words → ⊥) → RefusesBytes before after n → Runs words input before after n
 refuses words input before after n none says = inr (inr (inl (none, says)))
 
-pub returns-in-Ok-Replay-clause-runs : goal.returns-in-Ok-Replay-clause-runs
-returns-in-Ok-Replay-clause-runs g c = runs_command _ (Replay c.in-Ok-Replay.settings) _ _ _ c.run_replay.result.code c.in-Ok-Replay.ensures.asked (rw c.in-Ok-Replay.field-0-is at c.in-Ok-Replay.ensures.action)
-    (inl ((rw c.in-Ok-Replay.field-0-is at c.in-Ok-Replay.ensures.range).3, c.run_replay.ensures))
-
-pub returns-in-Ok-Live-clause-runs : goal.returns-in-Ok-Live-clause-runs
-returns-in-Ok-Live-clause-runs g c = runs_command _ (Live c.in-Ok-Live.settings) _ _ _ c.run_live.result.code c.in-Ok-Live.ensures.asked (rw c.in-Ok-Live.field-0-is at c.in-Ok-Live.ensures.action)
-    (inl ((rw c.in-Ok-Live.field-0-is at c.in-Ok-Live.ensures.range).3, c.run_live.ensures))
-
-pub returns-in-Ok-Knapsack-clause-runs : goal.returns-in-Ok-Knapsack-clause-runs
-returns-in-Ok-Knapsack-clause-runs g c = runs_command _ (Knapsack c.in-Ok-Knapsack.search) _ _ _ c.run_knapsack.result.code c.in-Ok-Knapsack.ensures.asked (rw c.in-Ok-Knapsack.field-0-is at c.in-Ok-Knapsack.ensures.action) c.run_knapsack.ensures
+pub returns-in-Ok-clause-runs : goal.returns-in-Ok-clause-runs
+returns-in-Ok-clause-runs g c = runs_command _ c.in-Ok.action _ _ _ c.run_action.result.code c.in-Ok.ensures.asked c.in-Ok.ensures.action c.run_action.ensures
 
 pub returns-in-Err-Said-clause-runs : goal.returns-in-Err-Said-clause-runs
 returns-in-Err-Said-clause-runs g c = answers_text _ c.as_bytes.result.now c.in-Err-Said.status _ _ _ c.refuse_words.result.code (rw c.in-Err-Said.field-0-is at c.in-Err-Said.ensures.fault) c.refuse_words.ensures
