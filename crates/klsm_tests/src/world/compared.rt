@@ -58,9 +58,9 @@ fn has_ranks(world: &World, items: &[Item]) -> bool {
     true
 }
 
-// Whether both answer and show the same at each of 1,500 random steps.
+// Whether both answer and show the same at each of 2,000 random steps.
 fn step_same(alloc: Global, mix: &mut Pcg32, both: &mut Both) -> Option<bool> {
-    for _ in 0..1500 {
+    for _ in 0..2000 {
         let step = proposed(alloc, mix, &both.plain)?;
         if !answer_same(both, step)? || !show_same(alloc, both)? {
             return Some(false);
