@@ -1,7 +1,6 @@
-use Rattle.std.proofs.Common.{rules, ◌≡◌, ◌<◌, ◌+◌, ◌%◌, ◌^◌, ◌∷◌, ◌++◌, [], List, length, map, append_assoc, sym, ap, subst, ◌∙◌, arith}
+use Rattle.std.proofs.Common.{rules, ◌≡◌, ◌<◌, ◌+◌, ◌%◌, ◌^◌, ◌∷◌, ◌++◌, [], length, map, append_assoc, sym, ap, subst, ◌∙◌, arith}
 use Rattle.std.specs.Arc.{arc_value}
 use Rattle.std.proofs.lemmas.List.{append-nil}
-use Rattle.klsm_board.specs.declared.board.Member.{Member}
 use Rattle.klsm_parts.specs.Choices.{choice_by}
 use Rattle.klsm_owned.specs.Owned.{PickBy, choice_of, member_of, members_of}
 use Rattle.klsm_owned.proofs.ListLemmas.{each_push, front_taken, length_mapped, map_push, none_in}

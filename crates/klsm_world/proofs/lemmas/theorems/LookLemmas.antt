@@ -9,7 +9,7 @@ use Rattle.klsm_world.specs.declared.step.Entry.{Entry}
 use Rattle.klsm_world.specs.declared.step.Entry.TheVariants.{Acquired, Committed, Released, Missed, Looked}
 use Rattle.klsm_world.specs.Worlds.{Limits, World, home_of, holder_of, steps_of}
 use Rattle.klsm_world.specs.LawfulWorlds.{IsLawful}
-use Rattle.klsm_world.specs.Schedules.{MayStep, noted, next, Leads}
+use Rattle.klsm_world.specs.Schedules.{MayStep, noted, next}
 use Rattle.klsm_world.specs.Laws.{ListsTellFronts, LooksTellFronts, WasFront}
 use Rattle.klsm_world.proofs.lemmas.hands.NotedLemmas.{steps_noted, steps_else}
 use Rattle.klsm_world.proofs.lemmas.hands.AgreeLemmas.{no_steps}
