@@ -11,7 +11,7 @@ mod numbered;
 mod rationed;
 
 pub use crew::{Crew, refused};
-pub use made::Made;
+pub use made::{InOneHand, Made};
 pub use meeting::{Counting, LOOKS, Meeting};
 pub use numbered::add_words;
 pub use rationed::Rationed;

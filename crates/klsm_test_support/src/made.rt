@@ -1,8 +1,8 @@
-//! A board and its members side by side, for calls that take both.
+//! A board and its members side by side, for calls that take both, or all members in one hand.
 ghost use Rattle.std.specs.Prelude.{◌≡◌, length, All, IfOk};
 ghost use Rattle.klsm_board.specs.Boards.{AreNewMembersOf, IsOf};
 
-use klsm_board::{Board, MakeError, StandardBoard, StandardMember};
+use klsm_board::{AllStandardMembers, Board, MakeError, StandardBoard, StandardMember};
 use std::alloc::Global;
 
 /// A board and all its members.
@@ -38,5 +38,39 @@ impl Made {
     {
         let (board, members) = Board::with_refill(alloc, threads, k, quota, refill)?;
         Ok(Made { board, members })
+    }
+}
+
+/// A board with all its members in one hand.
+pub struct InOneHand {
+    pub board: StandardBoard,
+    pub all: AllStandardMembers,
+}
+
+// Written out too.
+impl Drop for InOneHand {
+    fn drop(self) {
+        let InOneHand {
+            board: _board,
+            all: _all,
+        } = self;
+    }
+}
+
+impl InOneHand {
+    ghost use Rattle.klsm_board.specs.Together.{AreOf};
+
+    /// How many items each member has inserted and deleted. `None` for want of memory.
+    pub fn counts(self, alloc: Global) -> Option<Vec<(u64, u64)>>
+        requires { AreOf self.all self.board }
+    {
+        let InOneHand { board, all } = self;
+        let members = all.spread(&board);
+        let mut counts = Vec::with_capacity(alloc, members.len()).ok()?;
+        for member in &members {
+            let of_member = (member.inserted_count(), member.deleted_count());
+            counts.push(of_member).ok()?;
+        }
+        Some(counts)
     }
 }

@@ -1,11 +1,10 @@
 //! Scripts that are run with settings of the test's own, over a board of their own or over one that
 //! is given.
 
-use klsm_board::StandardMember;
+use klsm_test_support::InOneHand;
 use klsm_tool::{
     End, Report, Script, Settings, Silent, board_in_one_hand, replay_over, replay_script,
 };
-use std::alloc::Global;
 
 /// What a run wrote, and what it says of how it ended.
 #[derive(Drop)]
@@ -54,35 +53,22 @@ pub(super) fn run_on(
     if !has_board || settings.refill > settings.k {
         return None;
     }
-    let Ok((board, mut all)) = board_in_one_hand(rt.alloc(), settings) else {
+    let Ok((board, all)) = board_in_one_hand(rt.alloc(), settings) else {
         return None;
     };
+    let mut hand = InOneHand { board, all };
     let mut script = Script::new(rt.alloc(), script);
     let mut text = empty;
+    let lent = &mut hand;
     let report = replay_script(
         rt,
         &mut script,
         &mut text,
         settings,
-        &board,
-        &mut all,
+        &lent.board,
+        &mut lent.all,
         &Silent,
     );
-    let members = all.spread(&board);
-    let counts = counts_of(rt.alloc(), members.as_slice())?;
+    let counts = hand.counts(rt.alloc())?;
     Some((Run { text, report }, counts))
-}
-
-fn counts_of(alloc: Global, members: &[StandardMember]) -> Option<Vec<Counts>> {
-    let mut counts = Vec::new(alloc);
-    add_counts(&mut counts, members)?;
-    Some(counts)
-}
-
-fn add_counts(counts: &mut Vec<Counts>, members: &[StandardMember]) -> Option<()> {
-    for member in members {
-        let of_member = (member.inserted_count(), member.deleted_count());
-        counts.push(of_member).ok()?;
-    }
-    Some(())
 }
