@@ -69,11 +69,11 @@
 //! How the locks are acquired, what commits and why a stale look does no harm is said in
 //! docs/ARCHITECTURE.md, "How a locked call becomes steps of a schedule".
 //!
-//! The files, from the atomic steps up: `rule` and `plays` (what always holds, and what a step tells),
-//! `steps` (acquire, release, the two commits, the look at the front), `slot` (what is done to the parts),
-//! `lending`, `acquiring` (one try, or as many as it needs), `inserting`, `spying`, `early` (deletions by the
-//! front), `taking`, `deleting`, and the public calls in `making`, `member`, `held`, `together` and `finishing`. `tally` has the
-//! counts of members that are in one hand. `gate` is for programs that run members in threads.
+//! The files, from the atomic steps up: `rule` and `plays` (what always holds, and what a step tells), `steps`
+//! (acquire, release, the two commits, the look at the front), `slot` (what is done to the parts), `lending`,
+//! `acquiring` (one try, or as many as it needs), `inserting`, `spying`, `early` (deletions by the front),
+//! `taking`, `deleting`, and the public calls in `making`, `member`, `held`, `together` and `finishing`. `tally`
+//! has the counts of members that are in one hand. `gate` is for programs that run members in threads.
 #![tactic(auto)]
 
 mod acquiring;

@@ -47,7 +47,7 @@ pub struct InOneHand {
     pub all: AllStandardMembers,
 }
 
-// Written out too.
+// Written out for the same reason.
 impl Drop for InOneHand {
     fn drop(self) {
         let InOneHand {
