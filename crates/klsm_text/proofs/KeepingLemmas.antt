@@ -6,6 +6,7 @@ use Rattle.std.proofs.lemmas.Bool.Decides.{nat_tests}
 use Rattle.std.proofs.lemmas.List.{get_or-set_same, get_or-set_other, map-append}
 use mathlib.Core.Logic.{dite}
 use native.Mathlib.Decide.{ℕ_discrete}
+use Rattle.klsm_text.specs.declared.request.Operation.{Operation}
 use Rattle.klsm_text.specs.declared.request.Refusal.{Refusal}
 use Rattle.klsm_text.specs.declared.request.Refusal.TheVariants as refusal
 use Rattle.klsm_text.specs.declared.request.Request.{Request}
@@ -16,8 +17,8 @@ use Rattle.klsm_text.specs.declared.script.Script.{Script}
 use Rattle.klsm_rows.specs.Rows.{Row}
 use Rattle.klsm_text.specs.Script.{request_of, request_after, row_limit}
 use Rattle.klsm_text.specs.Reading.{HasReadScript, ReadStops, reader_failed}
-use Rattle.klsm_text.specs.Keeping.{AreKept, KeepsNoMore, KeepsOn, KeepsOne, asked_in, kept_for}
-use Rattle.klsm_text.specs.ThreadRows.{AreAccepted, Asked, HasReadToRefusal, StandsAtRefusal, StopsReading, asked_of, asks}
+use Rattle.klsm_text.specs.Keeping.{AreKept, KeepsNoMore, KeepsOn, KeepsOne, kept_for, operation_in}
+use Rattle.klsm_text.specs.ThreadRows.{AreAccepted, HasReadToRefusal, StandsAtRefusal, StopsReading, asked_of, asks}
 use Rattle.klsm_text.proofs.ScriptLemmas.{first_read, judged}
 
 -- a choice between two numbers that are one, or that differ
@@ -38,39 +39,39 @@ pub no_rows_more : (lists : List (List ThreadRow)) → ((u : ℕ) → slice_inde
 no_rows_more lists none t = none_there lists t none
 
 pub none_kept : (threads : ℕ) (lists : List (List ThreadRow)) → length lists ≡ threads → ((t : ℕ) → slice_index_or lists t [] ≡ []) → AreKept threads [] lists
-none_kept threads lists many none = record { many = many; each = λ t below. ap (map asked_in) (none t) }
+none_kept threads lists many none = record { many = many; each = λ t below. ap (map operation_in) (none t) }
 
 -- a row is put behind those of its thread
-pub keeps_one : (number : ℕ) (request : Request) (row : ThreadRow) (lists : List (List ThreadRow)) (rows : List ThreadRow) → asked_in row ≡ record { number = number; operation = request.operation } → request.thread < length lists
-    → rows ≡ slice_index_or lists request.thread [] ++ row ∷ [] → KeepsOne number request lists (slice_set lists request.thread rows)
-keeps_one number request row lists rows is below rows_are = record {
+pub keeps_one : (request : Request) (row : ThreadRow) (lists : List (List ThreadRow)) (rows : List ThreadRow) → operation_in row ≡ request.operation → request.thread < length lists
+    → rows ≡ slice_index_or lists request.thread [] ++ row ∷ [] → KeepsOne request lists (slice_set lists request.thread rows)
+keeps_one request row lists rows is below rows_are = record {
   many = length-set lists request.thread rows;
   each = λ t within. dite (ℕ_discrete request.thread t)
-      (λ here. subst (λ u. kept_for (slice_set lists request.thread rows) u ≡ kept_for lists u ++ asks u number (Ok request)) here
-      (ap (map asked_in) (get_or-set_same lists request.thread rows [] below ∙ rows_are)
-      ∙ (map-append asked_in (slice_index_or lists request.thread []) (row ∷ [])
-      ∙ ap (λ z. kept_for lists request.thread ++ z) (ap (λ z. z ∷ []) is ∙ sym (choice_hit request.thread request.thread (record { number = number; operation = request.operation } ∷ []) [] refl)))))
-      (λ other. ap (map asked_in) (get_or-set_other lists request.thread t rows [] (λ same. other (sym same)))
-      ∙ (sym (append-nil (kept_for lists t)) ∙ ap (λ z. kept_for lists t ++ z) (sym (choice_miss request.thread t (record { number = number; operation = request.operation } ∷ []) [] other))));
+      (λ here. subst (λ u. kept_for (slice_set lists request.thread rows) u ≡ kept_for lists u ++ asks u (Ok request)) here
+      (ap (map operation_in) (get_or-set_same lists request.thread rows [] below ∙ rows_are)
+      ∙ (map-append operation_in (slice_index_or lists request.thread []) (row ∷ [])
+      ∙ ap (λ z. kept_for lists request.thread ++ z) (ap (λ z. z ∷ []) is ∙ sym (choice_hit request.thread request.thread (request.operation ∷ []) [] refl)))))
+      (λ other. ap (map operation_in) (get_or-set_other lists request.thread t rows [] (λ same. other (sym same)))
+      ∙ (sym (append-nil (kept_for lists t)) ∙ ap (λ z. kept_for lists t ++ z) (sym (choice_miss request.thread t (request.operation ∷ []) [] other))));
 }
 
 -- a row that is read and accepted
-kept_next : (threads number : ℕ) (rows : List Row) (row : Row) (request : Request) (lists lists' : List (List ThreadRow)) → number ≡ length rows + 1 → request_of threads row ≡ Ok request → AreKept threads rows lists → KeepsOne number request lists lists'
+kept_next : (threads : ℕ) (rows : List Row) (row : Row) (request : Request) (lists lists' : List (List ThreadRow)) → request_of threads row ≡ Ok request → AreKept threads rows lists → KeepsOne request lists lists'
     → AreKept threads (row ∷ rows) lists'
-kept_next threads number rows row request lists lists' number_is asks_for kept one = record {
+kept_next threads rows row request lists lists' asks_for kept one = record {
   many = one.many ∙ kept.many;
   each = λ t below. one.each t (omega (arith, below, kept.many))
-      ∙ (ap (λ z. z ++ asks t number (Ok request)) (kept.each t below)
-      ∙ ap (λ z. asked_of threads t rows ++ z) (ap (λ n. asks t n (Ok request)) number_is ∙ ap (asks t (length rows + 1)) (sym asks_for)));
+      ∙ (ap (λ z. z ++ asks t (Ok request)) (kept.each t below)
+      ∙ ap (λ z. asked_of threads t rows ++ z) (ap (asks t) (sym asks_for)));
 }
 
-pub row_kept : {R : Type 0} (rem : R → Option (List ℕ)) (threads many number : ℕ) (input : Option (List ℕ)) (rows : List Row) (a b : Script R) (row : Row) (request : Request) (lists lists' : List (List ThreadRow)) (result : Result (Unit {0}) Stop)
-    → length lists ≡ many → HasReadScript rem input rows a → AreAccepted threads rows → length rows < row_limit → number ≡ length rows + 1 → AreKept threads rows lists → HasReadScript rem input (row ∷ rows) b → request_of many row ≡ Ok request
-    → IfOk result (λ _. KeepsOne number request lists lists') → IfErr result (λ why. why ≡ stop.NoMemory) → KeepsOn rem threads input rows lists' b result
-row_kept rem threads many number input rows a b row request lists lists' (Ok done) so_many was accepted below number_is kept read asks_for one memory =
+pub row_kept : {R : Type 0} (rem : R → Option (List ℕ)) (threads many : ℕ) (input : Option (List ℕ)) (rows : List Row) (a b : Script R) (row : Row) (request : Request) (lists lists' : List (List ThreadRow)) (result : Result (Unit {0}) Stop)
+    → length lists ≡ many → HasReadScript rem input rows a → AreAccepted threads rows → length rows < row_limit → AreKept threads rows lists → HasReadScript rem input (row ∷ rows) b → request_of many row ≡ Ok request
+    → IfOk result (λ _. KeepsOne request lists lists') → IfErr result (λ why. why ≡ stop.NoMemory) → KeepsOn rem threads input rows lists' b result
+row_kept rem threads many input rows a b row request lists lists' (Ok done) so_many was accepted below kept read asks_for one memory =
     let asks : request_of threads row ≡ Ok request = ap (λ n. request_of n row) (sym kept.many ∙ so_many) ∙ asks_for in
-    (row, read, ((request, judged threads rows row below ∙ asks), accepted), kept_next threads number rows row request lists lists' number_is asks kept one)
-row_kept rem threads many number input rows a b row request lists lists' (Err why) so_many was accepted below number_is kept read asks_for one memory = (
+    (row, read, ((request, judged threads rows row below ∙ asks), accepted), kept_next threads rows row request lists lists' asks kept one)
+row_kept rem threads many input rows a b row request lists lists' (Err why) so_many was accepted below kept read asks_for one memory = (
   subst (StopsReading threads input rows) (sym memory) (first_read rem input rows a was),
   λ end. absurd (let bad : stop.NoMemory ≡ stop.AtEnd = sym memory ∙ end in cc),
   λ fault. absurd (let bad : stop.NoMemory ≡ stop.ReadFault = sym memory ∙ fault in cc),
@@ -127,16 +128,16 @@ beyond_read rem threads input rows b row accepted all read = refusal_read rem th
 pub asked_few : (threads t : ℕ) (rows : List Row) → length (asked_of threads t rows) ≤ length rows
 asked_few threads t [] = omega arith
 asked_few threads t (row ∷ rows) =
-    let more = length-append (asked_of threads t rows) (asks t (length rows + 1) (request_of threads row)) in
-    omega (arith, more, asked_few threads t rows, one (length rows + 1) (request_of threads row))
+    let more = length-append (asked_of threads t rows) (asks t (request_of threads row)) in
+    omega (arith, more, asked_few threads t rows, one (request_of threads row))
   where
-    by_test : (b : Bool) (asked : Asked) → length (cond b (asked ∷ []) []) ≤ 1
+    by_test : (b : Bool) (asked : Operation) → length (cond b (asked ∷ []) []) ≤ 1
     by_test true asked = omega arith
     by_test false asked = omega arith
 
-    one : (number : ℕ) (asked : Result Request Refusal) → length (asks t number asked) ≤ 1
-    one number (Ok request) = by_test (eqb request.thread t) (record { number = number; operation = request.operation })
-    one number (Err why) = omega arith
+    one : (asked : Result Request Refusal) → length (asks t asked) ≤ 1
+    one (Ok request) = by_test (eqb request.thread t) request.operation
+    one (Err why) = omega arith
 
 -- reading has ended
 pub ended : {R : Type 0} (rem : R → Option (List ℕ)) (threads number : ℕ) (input : Option (List ℕ)) (rows : List Row) (lists : List (List ThreadRow)) (b : Script R) (why : Stop) → AreAccepted threads rows → StopsReading threads input rows why → (why ≡ stop.AtEnd → AreKept threads rows lists) → (why ≡ stop.ReadFault → reader_failed b ≡ true) → StandsAtRefusal rem threads input b why → length rows ≤ row_limit → number ≡ length rows + 1
@@ -157,7 +158,7 @@ few_kept threads n rows lists kept few t = by_test (nat_lt t threads) refl
     by_test : (b : Bool) → nat_lt t threads ≡ b → length (kept_for lists t) ≤ n
     by_test true test =
         let below : t < threads = grind (arith, nat_tests) in
-        let same = ap (λ (z : List Asked). length z) (kept.each t below) in omega (arith, same, asked_few threads t rows, few)
+        let same = ap (λ (z : List Operation). length z) (kept.each t below) in omega (arith, same, asked_few threads t rows, few)
     by_test false test =
         let past : threads ≤ t = grind (arith, nat_tests) in
-        let none = ap (λ (z : List ThreadRow). length (map asked_in z)) (none_beyond lists t (omega (arith, past, kept.many))) in omega (arith, none)
+        let none = ap (λ (z : List ThreadRow). length (map operation_in z)) (none_beyond lists t (omega (arith, past, kept.many))) in omega (arith, none)

@@ -11,18 +11,15 @@ use Rattle.klsm_text.specs.declared.script.Script.{Script}
 use Rattle.klsm_rows.specs.Rows.{Row}
 use Rattle.klsm_text.specs.Script.{row_limit}
 use Rattle.klsm_text.specs.Reading.{HasReadScript, reader_failed}
-use Rattle.klsm_text.specs.ThreadRows.{AreAccepted, Asked, StandsAtRefusal, StopsReading, asked_of, asks}
+use Rattle.klsm_text.specs.ThreadRows.{AreAccepted, StandsAtRefusal, StopsReading, asked_of, asks}
 
 -- what a kept row asks for
 abbrev pub operation_in : ThreadRow → Operation
 operation_in row = if row.is_deletion then Delete else Insert row.key row.load
 
-abbrev pub asked_in : ThreadRow → Asked
-asked_in row = record { number = row.number; operation = operation_in row }
-
 -- what a thread is asked for by the rows that are kept for it
-abbrev pub kept_for : List (List ThreadRow) → ℕ → List Asked
-kept_for lists t = map asked_in (slice_index_or lists t [])
+abbrev pub kept_for : List (List ThreadRow) → ℕ → List Operation
+kept_for lists t = map operation_in (slice_index_or lists t [])
 
 -- each thread's rows are kept for it
 pub record AreKept (threads : ℕ) (rows : List Row) (lists : List (List ThreadRow)) : Type 0 where
@@ -30,10 +27,9 @@ pub record AreKept (threads : ℕ) (rows : List Row) (lists : List (List ThreadR
   pub each : (t : ℕ) → t < threads → kept_for lists t ≡ asked_of threads t rows
 
 -- one row more is kept
-pub record KeepsOne (number : ℕ) (request : Request) (lists lists' : List (List ThreadRow)) : Type 0 where
+pub record KeepsOne (request : Request) (lists lists' : List (List ThreadRow)) : Type 0 where
   pub many : length lists' ≡ length lists
-  pub each : (t : ℕ) → t < length lists
-      → kept_for lists' t ≡ kept_for lists t ++ asks t number (Ok request)
+  pub each : (t : ℕ) → t < length lists → kept_for lists' t ≡ kept_for lists t ++ asks t (Ok request)
 
 -- the next row is kept, or there is a reason why not
 abbrev pub KeepsOn : {R : Type 0} → (R → Option (List ℕ)) → ℕ → Option (List ℕ) → List Row

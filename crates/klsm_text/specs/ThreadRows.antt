@@ -1,6 +1,6 @@
 -- The rows of a script that is read whole, and what each of its threads is asked for. Rows are
 -- listed the latest first, and what a thread is asked for the first one first.
-use Rattle.std.specs.Prelude.{ℕ, ◌≡◌, ◌+◌, ◌==◌, if◌then◌else◌, List, [], ◌∷◌, ◌++◌, length}
+use Rattle.std.specs.Prelude.{ℕ, ◌≡◌, ◌+◌, ◌==◌, if◌then◌else◌, List, [], ◌∷◌, ◌++◌}
 use Rattle.std.specs.Prelude.{Option, Result, Ok, Err}
 use Rattle.klsm_text.specs.declared.request.Operation.{Operation}
 use Rattle.klsm_text.specs.declared.request.Operation.TheVariants.{Insert, Delete}
@@ -13,23 +13,16 @@ use Rattle.klsm_rows.specs.Rows.{Row, AreFirstRows, AreAllRows}
 use Rattle.klsm_text.specs.Reading.{HasReadScript}
 use Rattle.klsm_text.specs.Script.{request_after, request_of}
 
--- what a thread is asked for, by the row of this number
-pub record Asked : Type 0 where
-  pub number : ℕ
-  pub operation : Operation
-
--- by one row, where it is this thread's
-abbrev pub asks : ℕ → ℕ → Result Request Refusal → List Asked
-asks t number (Ok request) =
-    if request.thread == t then record { number = number; operation = request.operation } ∷ []
-    else []
-asks t number (Err why) = []
+-- what a thread is asked for by one row, where it is this thread's
+abbrev pub asks : ℕ → Result Request Refusal → List Operation
+asks t (Ok request) = if request.thread == t then request.operation ∷ [] else []
+asks t (Err why) = []
 
 -- by all rows
-abbrev pub asked_of : ℕ → ℕ → List Row → List Asked
+abbrev pub asked_of : ℕ → ℕ → List Row → List Operation
 asked_of threads t [] = []
 asked_of threads t (row ∷ earlier) =
-    asked_of threads t earlier ++ asks t (length earlier + 1) (request_of threads row)
+    asked_of threads t earlier ++ asks t (request_of threads row)
 
 -- no row is refused
 abbrev pub AreAccepted : ℕ → List Row → Type 0
@@ -71,9 +64,9 @@ insertions_at (Insert key load) = 1
 insertions_at Delete = 0
 
 -- how many of these rows insert
-abbrev pub insertions_in : List Asked → ℕ
+abbrev pub insertions_in : List Operation → ℕ
 insertions_in [] = 0
-insertions_in (asked ∷ more) = insertions_at asked.operation + insertions_in more
+insertions_in (asked ∷ more) = insertions_at asked + insertions_in more
 
 abbrev pub insertions_of : Result Request Refusal → ℕ
 insertions_of (Ok request) = insertions_at request.operation

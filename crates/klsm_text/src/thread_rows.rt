@@ -20,8 +20,6 @@ pub const ROW_LIMIT: u64 = 1_000_000;
 /// A row of one thread. It has 24 bytes.
 #[derive(Clone, Copy)]
 pub struct ThreadRow {
-    /// The row's number in the script.
-    pub number: u32,
     is_deletion: bool,
     key: u64,
     load: u64,
@@ -31,19 +29,16 @@ impl ThreadRow {
     ghost use Rattle.std.specs.Prelude.{◌≡◌};
     ghost use Rattle.klsm_text.specs.Keeping.{operation_in};
 
-    fn new(number: u32, operation: Operation) -> Self
-        ensures number { result.number ≡ number }
-        ensures operation { operation_in result ≡ operation }
+    fn new(operation: Operation) -> Self
+        ensures { operation_in result ≡ operation }
     {
         match operation {
             Operation::Insert { key, load } => ThreadRow {
-                number,
                 is_deletion: false,
                 key,
                 load,
             },
             Operation::Delete => ThreadRow {
-                number,
                 is_deletion: true,
                 key: 0,
                 load: 0,
@@ -96,7 +91,7 @@ pub fn keep_rows<R: Read + Drop>(
     progress.begins(None);
     let mut pace = Pace::new(Counted::RowsRead);
     for number in 0..ROW_LIMIT {
-        if let Err(stop) = keep_row(script, lists, number as u32 + 1) {
+        if let Err(stop) = keep_row(script, lists) {
             return Closing::at(stop, number + 1);
         }
         pace.count(progress);
@@ -108,34 +103,32 @@ pub fn keep_rows<R: Read + Drop>(
     Closing::at(stop, ROW_LIMIT + 1)
 }
 
-// Reads the row of this number, and keeps it for its thread.
+// Reads the next row, and keeps it for its thread.
 fn keep_row<R: Read + Drop>(
     script: &mut Script<R>,
     lists: &mut [Vec<ThreadRow>],
-    number: u32,
 ) -> Result<(), Stop>
     requires { length lists.old ≤ 16 }
     ensures { (threads : ℕ) (input : Option (List ℕ)) (rows : List Row)
         → HasReadScript R.remaining input rows script.old → AreAccepted threads rows
-        → length rows < row_limit → number ≡ length rows + 1
-        → AreKept threads rows (map (λ list. list.items) lists.old)
+        → length rows < row_limit → AreKept threads rows (map (λ list. list.items) lists.old)
         → KeepsOn R.remaining threads input rows (map (λ list. list.items) lists.new)
         script.new result }
 {
     script.next_row()?;
     match request_of(&script.row, lists.len()) {
-        Ok(request) => keep(lists, number, request),
+        Ok(request) => keep(lists, request),
         Err(why) => Err(Stop::Refused(why)),
     }
 }
 
-fn keep(lists: &mut [Vec<ThreadRow>], number: u32, request: Request) -> Result<(), Stop>
+fn keep(lists: &mut [Vec<ThreadRow>], request: Request) -> Result<(), Stop>
     requires { request.thread < length lists.old }
-    ensures kept { IfOk result (λ _. KeepsOne number request (map (λ list. list.items) lists.old)
+    ensures kept { IfOk result (λ _. KeepsOne request (map (λ list. list.items) lists.old)
         (map (λ list. list.items) lists.new)) }
     ensures memory { IfErr result (λ why. why ≡ Stop.NoMemory) }
 {
-    let row = ThreadRow::new(number, request.operation);
+    let row = ThreadRow::new(request.operation);
     match lists[request.thread as usize].push(row) {
         Ok(()) => Ok(()),
         Err(_) => Err(Stop::NoMemory),

@@ -15,15 +15,16 @@ use Rattle.klsm_board.proofs.lemmas.ending.EndLemmas.{each_of}
 use Rattle.klsm_text.specs.declared.stop.Stop.TheVariants as stop
 use Rattle.klsm_text.specs.declared.stop.Closing.{Closing}
 use Rattle.klsm_text.specs.declared.totals.Totals.{Totals}
+use Rattle.klsm_tool.specs.declared.member_calls.Want.{Want}
 use Rattle.klsm_tool.specs.declared.member_calls.Want.TheVariants as want
-use Rattle.klsm_tool.specs.declared.worker.GaveUp.{GaveUp}
 use Rattle.klsm_tool.specs.declared.worker.Worker.{Worker}
 use Rattle.klsm_tool.specs.Crews.{lists_in, steps_in}
 use Rattle.klsm_tool.specs.Live.{HasNoTotals, RunsAll, RunsScript}
 use Rattle.klsm_rows.specs.Rows.{AreAllRows, Row}
 use Rattle.klsm_tool.specs.Shown.{shown_in}
+use Rattle.klsm_text.specs.declared.request.Operation.{Operation}
 use Rattle.klsm_text.specs.Script.{row_limit}
-use Rattle.klsm_text.specs.ThreadRows.{AreAccepted, Asked, asked_of}
+use Rattle.klsm_text.specs.ThreadRows.{AreAccepted, asked_of}
 use Rattle.klsm_tool.specs.MemberCalls.{AreAnswers, Wants}
 use Rattle.klsm_tool.specs.Working.{AreAccounted, HasRunRows, HasRunAt, IsReady, IsReadyAt, Works, gave_up_at, members_in, ready, steps_at}
 use Rattle.klsm_tool.proofs.RoomLemmas.{all_few, never_full, works_few}
@@ -64,7 +65,7 @@ one_more board n worker crew is_of number rest = record { of = of; numbered = nu
     numbered zero member there = subst (λ (z : Member 64 21). z.number ≡ n + 0) (some-injective worker.member member there) (omega (arith, number))
     numbered (suc i) member there = let behind = rest.numbered i member there in omega (arith, behind)
 
-are_back : (board : Board 64 21) (asked : ℕ → List Asked) (crew : List (Option Worker)) (n : ℕ) → ((t : ℕ) (d : Option Worker) → t < length crew → HasRunAt board (n + t) (asked (n + t)) (slice_index_or crew t d)) → AreBack board n crew
+are_back : (board : Board 64 21) (asked : ℕ → List Operation) (crew : List (Option Worker)) (n : ℕ) → ((t : ℕ) (d : Option Worker) → t < length crew → HasRunAt board (n + t) (asked (n + t)) (slice_index_or crew t d)) → AreBack board n crew
 are_back board asked [] n ran = record { of = λ i member there. absurd (some-ne-none member (sym there)); numbered = λ i member there. absurd (some-ne-none member (sym there)); lists = refl }
 are_back board asked (None ∷ crew) n ran = absurd (ran 0 None (omega arith))
 are_back board asked (Some worker ∷ crew) n ran =
@@ -73,7 +74,7 @@ are_back board asked (Some worker ∷ crew) n ran =
     one_more board n worker crew here.of here.number rest
 
 -- they are the members of the board, and their lists stand at their places
-pub all_back : (board : Board 64 21) (asked : ℕ → List Asked) (crew : List (Option Worker)) → length crew ≡ board.sizes.threads → ((t : ℕ) (d : Option Worker) → t < length crew → HasRunAt board t (asked t) (slice_index_or crew t d))
+pub all_back : (board : Board 64 21) (asked : ℕ → List Operation) (crew : List (Option Worker)) → length crew ≡ board.sizes.threads → ((t : ℕ) (d : Option Worker) → t < length crew → HasRunAt board t (asked t) (slice_index_or crew t d))
     → AreMembersOf board (members_in crew) × (lists_in (members_in crew) ≡ map steps_at crew)
 all_back board asked crew many ran =
     let from_zero = λ (t : ℕ). let e : t ≡ 0 + t = omega arith in e in
@@ -88,7 +89,7 @@ steps_there [] t d below = absurd (omega (arith, below))
 steps_there (place ∷ crew) zero d below = refl
 steps_there (place ∷ crew) (suc t) d below = steps_there crew t d (omega (arith, below))
 
-works_at : (board : Board 64 21) (t : ℕ) (asked : List Asked) (place : Option Worker) → HasRunAt board t asked place → Works board.sizes.k t asked (steps_at place) (gave_up_at place)
+works_at : (board : Board 64 21) (t : ℕ) (asked : List Operation) (place : Option Worker) → HasRunAt board t asked place → Works board.sizes.k t asked (steps_at place) (gave_up_at place)
 works_at board t asked None ran = absurd ran
 works_at board t asked (Some worker) ran = ran.works
 
@@ -142,8 +143,8 @@ module _ (m : Sizes) (rows : List Row) (accepted : AreAccepted m.threads rows) (
   finished failed input all (Err closing) none ok err = subst (HasNoTotals failed m input closing.row) (sym err) tt
 
   -- where one did, and their lists are those of one schedule, it was not for want of room
-  pub room_was_there : (gave_up : GaveUp) (t : ℕ) → t < m.threads → m.k ≤ 64 → gave_up_at (slice_index_or crew t None) ≡ Some gave_up → gave_up.want ≡ want.Room → AreListsAtEnd board.sizes (lists_in (members_in crew)) → ⊥
-  room_was_there gave_up t below small is room at_end =
+  pub room_was_there : (lacked : Want) (t : ℕ) → t < m.threads → m.k ≤ 64 → gave_up_at (slice_index_or crew t None) ≡ Some lacked → lacked ≡ want.Room → AreListsAtEnd board.sizes (lists_in (members_in crew)) → ⊥
+  room_was_there lacked t below small is room at_end =
       never_full m (lists_in (members_in crew)) t (subst (λ (z : Sizes). AreListsAtEnd z (lists_in (members_in crew))) sizes at_end) few small
       (subst (Wants 21 m.k t (steps_in (lists_in (members_in crew)) t)) room (subst (Works m.k t (asked_of m.threads t rows) (steps_in (lists_in (members_in crew)) t)) is (works t below)).wants)
     where

@@ -12,9 +12,10 @@ use Rattle.klsm_board.specs.Rule.{world_limits}
 use Rattle.klsm_board.proofs.lemmas.ending.FoundLemmas.{found_few, insertions}
 use Rattle.klsm_board.proofs.lemmas.ending.FullLemmas.{gave_up_at}
 use Rattle.klsm_rows.specs.Rows.{Row}
+use Rattle.klsm_text.specs.declared.request.Operation.{Operation}
 use Rattle.klsm_text.specs.Script.{row_limit}
-use Rattle.klsm_text.specs.ThreadRows.{AreAccepted, Asked, asked_of, insertion_rows, insertions_in}
-use Rattle.klsm_tool.specs.declared.worker.GaveUp.{GaveUp}
+use Rattle.klsm_text.specs.ThreadRows.{AreAccepted, asked_of, insertion_rows, insertions_in}
+use Rattle.klsm_tool.specs.declared.member_calls.Want.{Want}
 use Rattle.klsm_tool.specs.Crews.{steps_in}
 use Rattle.klsm_tool.specs.Shown.{shown_in}
 use Rattle.klsm_tool.specs.MemberCalls.{EndsFull}
@@ -23,10 +24,10 @@ use Rattle.klsm_tool.proofs.AllLemmas.{has_room}
 use Rattle.klsm_tool.proofs.TotalLemmas.{accepted_few, answers_insert, inserted_shown, insertions_join, insertions_within, rows_insert}
 
 -- a worker inserts no more items than it is asked for
-pub works_few : (k t : ℕ) (asked : List Asked) (es : List Entry) (gave_up : Option GaveUp) → Works k t asked es gave_up → length (inserted es) ≤ insertions_in asked
+pub works_few : (k t : ℕ) (asked : List Operation) (es : List Entry) (gave_up : Option Want) → Works k t asked es gave_up → length (inserted es) ≤ insertions_in asked
 works_few k t asked es None works =
     let all = inserted_shown es ∙ answers_insert asked (shown_in es) works in omega (arith, all)
-works_few k t asked es (Some gave_up) works =
+works_few k t asked es (Some want) works =
     let earlier = inserted_shown es ∙ answers_insert works.earlier (shown_in es) works.answers in
     let all = ap insertions_in works.all ∙ insertions_join works.earlier (works.here ∷ works.later) in
     omega (arith, earlier, all)

@@ -29,7 +29,7 @@ use Rattle.klsm_text.specs.Script.{asked, asked_below, request_after, request_of
 use Rattle.klsm_tool.specs.Crews.{steps_in}
 use Rattle.klsm_tool.specs.Shown.{shown, shown_in}
 use Rattle.klsm_tool.specs.MemberCalls.{IsAnswerTo}
-use Rattle.klsm_text.specs.ThreadRows.{AreAccepted, Asked, asked_of, asks, insertion_rows, insertions_at, insertions_in, insertions_of}
+use Rattle.klsm_text.specs.ThreadRows.{AreAccepted, asked_of, asks, insertion_rows, insertions_at, insertions_in, insertions_of}
 use Rattle.klsm_tool.specs.MemberCalls.{AreAnswers}
 
 -- ---- one thread
@@ -60,11 +60,11 @@ inserted_shown es = by_events (flat_map event_at es)
         ∙ (ap (λ n. length (inserted_by e) + n) (by_events all) ∙ (sym (more e (flat_map shown all)) ∙ ap insertion_answers (sym (flat_map-cons shown e all)))))
 
 -- and those of the rows that are answered
-pub answers_insert : (rows : List Asked) (answers : List Answer) → AreAnswers rows answers → insertion_answers answers ≡ insertions_in rows
+pub answers_insert : (rows : List Operation) (answers : List Answer) → AreAnswers rows answers → insertion_answers answers ≡ insertions_in rows
 answers_insert [] [] all = refl
 answers_insert [] (a ∷ answers) all = absurd all
 answers_insert (x ∷ rows) [] all = absurd all
-answers_insert (x ∷ rows) (a ∷ answers) all = one x.operation a all.0 ∙ ap (λ n. insertions_at x.operation + n) (answers_insert rows answers all.1)
+answers_insert (x ∷ rows) (a ∷ answers) all = one x a all.0 ∙ ap (λ n. insertions_at x + n) (answers_insert rows answers all.1)
   where
     one : (operation : Operation) (answer : Answer) → IsAnswerTo operation answer → insertion_answers (answer ∷ answers) ≡ insertions_at operation + insertion_answers answers
     one (Insert key load) (Inserted y) is = omega arith
@@ -140,27 +140,26 @@ accepted_asks threads earlier row request is = by_test (eqb (length earlier) row
     by_test true asks_for = absurd (let bad : Err refusal.Rows ≡ Ok request = asks_for in cc)
     by_test false asks_for = asks_for
 
-pub insertions_join : (rows more : List Asked) → insertions_in (rows ++ more) ≡ insertions_in rows + insertions_in more
+pub insertions_join : (rows more : List Operation) → insertions_in (rows ++ more) ≡ insertions_in rows + insertions_in more
 insertions_join [] more = omega arith
 insertions_join (x ∷ rows) more = omega (arith, insertions_join rows more)
 
 -- a row is one of its thread alone
-row_insertions : (threads number : ℕ) (request : Request) → request.thread < threads → total threads (λ t. insertions_in (asks t number (Ok request))) ≡ insertions_at request.operation
-row_insertions threads number request below =
-    let at : Asked = record { number = number; operation = request.operation } in
-    total_one threads request.thread (insertions_at request.operation) (λ t. insertions_in (asks t number (Ok request))) below
-    (ap insertions_in (choice_hit request.thread request.thread (at ∷ []) [] refl) ∙ omega arith)
-    (λ t other. ap insertions_in (choice_miss request.thread t (at ∷ []) [] (λ same. other (sym same))))
+row_insertions : (threads : ℕ) (request : Request) → request.thread < threads → total threads (λ t. insertions_in (asks t (Ok request))) ≡ insertions_at request.operation
+row_insertions threads request below =
+    total_one threads request.thread (insertions_at request.operation) (λ t. insertions_in (asks t (Ok request))) below
+    (ap insertions_in (choice_hit request.thread request.thread (request.operation ∷ []) [] refl) ∙ omega arith)
+    (λ t other. ap insertions_in (choice_miss request.thread t (request.operation ∷ []) [] (λ same. other (sym same))))
 
 -- all threads' rows insert what the script's do
 script_insertions : (threads : ℕ) (rows : List Row) → AreAccepted threads rows → total threads (λ t. insertions_in (asked_of threads t rows)) ≡ insertion_rows threads rows
 script_insertions threads [] accepted = total_zero threads
 script_insertions threads (row ∷ rows) accepted =
     let request = accepted.0.0 in let asks_for = accepted_asks threads rows row request accepted.0.1 in
-    let here = total_alike threads (λ t. insertions_in (asks t (length rows + 1) (request_of threads row))) (λ t. insertions_in (asks t (length rows + 1) (Ok request))) (λ t below. ap (λ r. insertions_in (asks t (length rows + 1) r)) asks_for)
-    ∙ row_insertions threads (length rows + 1) request (row_below threads row request asks_for) in
-    total_alike threads (λ t. insertions_in (asked_of threads t (row ∷ rows))) (λ t. insertions_in (asked_of threads t rows) + insertions_in (asks t (length rows + 1) (request_of threads row))) (λ t below. insertions_join (asked_of threads t rows) (asks t (length rows + 1) (request_of threads row)))
-    ∙ (total_sum threads (λ t. insertions_in (asked_of threads t rows)) (λ t. insertions_in (asks t (length rows + 1) (request_of threads row)))
+    let here = total_alike threads (λ t. insertions_in (asks t (request_of threads row))) (λ t. insertions_in (asks t (Ok request))) (λ t below. ap (λ r. insertions_in (asks t r)) asks_for)
+    ∙ row_insertions threads request (row_below threads row request asks_for) in
+    total_alike threads (λ t. insertions_in (asked_of threads t (row ∷ rows))) (λ t. insertions_in (asked_of threads t rows) + insertions_in (asks t (request_of threads row))) (λ t below. insertions_join (asked_of threads t rows) (asks t (request_of threads row)))
+    ∙ (total_sum threads (λ t. insertions_in (asked_of threads t rows)) (λ t. insertions_in (asks t (request_of threads row)))
     ∙ (ap₂ {A = ℕ} {B = ℕ} (λ x y. x + y) (script_insertions threads rows accepted.1) here ∙ (ap (λ n. insertion_rows threads rows + n) (sym (ap insertions_of asks_for)) ∙ omega arith)))
 
 -- the insertions of lists that answer all rows

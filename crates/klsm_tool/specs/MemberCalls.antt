@@ -7,7 +7,6 @@ use Rattle.klsm_text.specs.declared.answer.Answer.{Answer}
 use Rattle.klsm_text.specs.declared.answer.Answer.TheVariants.{Inserted, Deleted, Nothing}
 use Rattle.klsm_text.specs.declared.request.Operation.{Operation}
 use Rattle.klsm_text.specs.declared.request.Operation.TheVariants.{Insert, Delete}
-use Rattle.klsm_text.specs.ThreadRows.{Asked}
 use Rattle.klsm_tool.specs.declared.member_calls.Want.{Want}
 use Rattle.klsm_tool.specs.declared.member_calls.Want.TheVariants as want
 
@@ -29,12 +28,12 @@ IsAnswerTo (Insert key load) answer = IsInsertion key load answer
 IsAnswerTo Delete answer = IsDeletion answer
 
 -- the answers are those to what a thread is asked for, one by one
-abbrev pub AreAnswers : List Asked → List Answer → Type 0
+abbrev pub AreAnswers : List Operation → List Answer → Type 0
 AreAnswers [] [] = Unit {0}
 AreAnswers [] (answer ∷ answers) = ⊥
 AreAnswers (asked ∷ more) [] = ⊥
 AreAnswers (asked ∷ more) (answer ∷ answers) =
-    IsAnswerTo asked.operation answer × AreAnswers more answers
+    IsAnswerTo asked answer × AreAnswers more answers
 
 -- a list of own steps ends with an insertion for which the shared part had no room
 abbrev pub EndsFull : ℕ → ℕ → ℕ → List Entry → Type 0

@@ -9,27 +9,24 @@ use Rattle.klsm_board.specs.declared.sizes.Sizes.{Sizes}
 use Rattle.klsm_board.specs.Finishing.{AreListsAtEnd}
 use Rattle.klsm_text.specs.declared.totals.Totals.{Totals}
 use Rattle.klsm_tool.specs.declared.member_calls.Want.{Want}
-use Rattle.klsm_tool.specs.declared.worker.GaveUp.{GaveUp}
 use Rattle.klsm_tool.specs.declared.worker.Worker.{Worker}
 use Rattle.klsm_tool.specs.Shown.{shown_in}
 use Rattle.klsm_tool.specs.MemberCalls.{AreAnswers, Wants}
-use Rattle.klsm_text.specs.ThreadRows.{Asked}
+use Rattle.klsm_text.specs.declared.request.Operation.{Operation}
 
--- a thread's list answers what it was asked for up to a row of this number, at which it gave up
-pub record GaveUpAt (k t : ℕ) (asked : List Asked) (es : List Entry) (number : ℕ) (want : Want)
-    : Type 0 where
-  pub earlier : List Asked
-  pub here : Asked
-  pub later : List Asked
+-- a thread's list answers what it was asked for up to a row at which it gave up
+pub record GaveUpAt (k t : ℕ) (asked : List Operation) (es : List Entry) (want : Want) : Type 0 where
+  pub earlier : List Operation
+  pub here : Operation
+  pub later : List Operation
   pub all : asked ≡ earlier ++ here ∷ later
   pub answers : AreAnswers earlier (shown_in es)
-  pub number_is : here.number ≡ number
   pub wants : Wants 21 k t es want
 
 -- a list answers all that the thread was asked for, or up to where the thread gave up
-abbrev pub Works : ℕ → ℕ → List Asked → List Entry → Option GaveUp → Type 0
+abbrev pub Works : ℕ → ℕ → List Operation → List Entry → Option Want → Type 0
 Works k t asked es None = AreAnswers asked (shown_in es)
-Works k t asked es (Some gave_up) = GaveUpAt k t asked es gave_up.row gave_up.want
+Works k t asked es (Some want) = GaveUpAt k t asked es want
 
 -- the worker that a member is before it begins
 abbrev pub ready : Member 64 21 → Option Worker
@@ -42,7 +39,7 @@ pub record IsReady (board : Board 64 21) (t : ℕ) (member : Member 64 21) : Typ
   pub shows_none : shown_in (own_steps member) ≡ []
 
 -- it is, has passed the gate, and has run what it was asked for
-pub record HasRunRows (board : Board 64 21) (t : ℕ) (asked : List Asked) (worker : Worker)
+pub record HasRunRows (board : Board 64 21) (t : ℕ) (asked : List Operation) (worker : Worker)
     : Type 0 where
   pub of : IsOf worker.member board
   pub number : worker.member.number ≡ t
@@ -54,7 +51,7 @@ abbrev pub IsReadyAt : Board 64 21 → ℕ → Option Worker → Type 0
 IsReadyAt board t None = ⊥
 IsReadyAt board t (Some worker) = IsReady board t worker.member
 
-abbrev pub HasRunAt : Board 64 21 → ℕ → List Asked → Option Worker → Type 0
+abbrev pub HasRunAt : Board 64 21 → ℕ → List Operation → Option Worker → Type 0
 HasRunAt board t asked None = ⊥
 HasRunAt board t asked (Some worker) = HasRunRows board t asked worker
 
@@ -69,8 +66,8 @@ members_in [] = []
 members_in (None ∷ crew) = members_in crew
 members_in (Some worker ∷ crew) = worker.member ∷ members_in crew
 
--- where it gave up, if it did
-abbrev pub gave_up_at : Option Worker → Option GaveUp
+-- what it lacked when it gave up, if it did
+abbrev pub gave_up_at : Option Worker → Option Want
 gave_up_at None = None
 gave_up_at (Some worker) = worker.gave_up
 

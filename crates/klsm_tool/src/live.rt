@@ -18,7 +18,7 @@ use crate::advising::advise_on_row;
 use crate::making::board_for;
 use crate::member_calls::Want;
 use crate::passing::pass;
-use crate::worker::{GaveUp, Worker};
+use crate::worker::Worker;
 use klsm_board::{Gate, StandardBoard, StandardMember};
 use klsm_knapsack::Listeners;
 use klsm_progress::Progress;
@@ -168,9 +168,9 @@ fn run_rows<P: AllocGlobal + Wait + Clock + Threads + Sync, G: Gate, H: Progress
     let Ok(crew) = run_members(rt, &live, members) else {
         return Err(Closing::at(Stop::NoMemory, 1));
     };
-    if let Some(GaveUp { want, row }) = first_to_give_up(crew.as_slice()) {
+    if let Some(want) = first_to_give_up(crew.as_slice()) {
         let cause = cause_in_one_hand(rt.alloc(), &board, crew, want);
-        return Err(Closing::at(cause, row as u64));
+        return Err(Closing::at(cause, 1));
     }
     finish(rt.alloc(), board, crew)
 }
@@ -280,8 +280,8 @@ fn crew_of(alloc: Global, members: Vec<StandardMember>) -> Result<Vec<Option<Wor
     Ok(crew)
 }
 
-// Where the first worker gave up that did.
-fn first_to_give_up(crew: &[Option<Worker>]) -> Option<GaveUp>
+// What the first worker that gave up lacked.
+fn first_to_give_up(crew: &[Option<Worker>]) -> Option<Want>
     ensures none { result ≡ None → (t : ℕ) (d : Option Worker) → t < length crew.now
         → gave_up_at (slice_index_or crew.now t d) ≡ None }
     ensures some { IfSome result (λ gave_up. (t : ℕ) × (t < length crew.now)
@@ -297,7 +297,7 @@ fn first_to_give_up(crew: &[Option<Worker>]) -> Option<GaveUp>
     None
 }
 
-fn gave_up_of(place: &Option<Worker>) -> Option<GaveUp>
+fn gave_up_of(place: &Option<Worker>) -> Option<Want>
     ensures { result ≡ gave_up_at place.now }
 {
     match place {

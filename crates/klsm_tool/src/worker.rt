@@ -4,7 +4,7 @@ ghost use Rattle.klsm_world.specs.OwnSteps.{inserted};
 ghost use Rattle.klsm_board.specs.Boards.{IsOf, IsSame, own_steps};
 ghost use Rattle.klsm_tool.specs.Shown.{shown_in};
 ghost use Rattle.klsm_tool.specs.MemberCalls.{IsAnswerTo, Wants};
-ghost use Rattle.klsm_text.specs.Keeping.{asked_in};
+ghost use Rattle.klsm_text.specs.Keeping.{operation_in};
 ghost use Rattle.klsm_tool.specs.Picking.{picker_of};
 ghost use Rattle.klsm_tool.specs.Working.{HasRunRows, IsReady, Works};
 
@@ -18,19 +18,12 @@ use klsm_words::Settings;
 use std::sync::Wait;
 use std::time::Clock;
 
-/// A member, that it has passed the gate, once it has, and at which row it gave up, if it did.
+/// A member, that it has passed the gate, once it has, and what it lacked when it gave up, if it did.
 #[derive(Drop)]
 pub(crate) struct Worker {
     pub member: StandardMember,
     pub passed: Option<Passed>,
-    pub gave_up: Option<GaveUp>,
-}
-
-/// What a worker lacked that ran no further row, and the number of the row at which it stopped.
-#[derive(Clone, Copy)]
-pub(crate) struct GaveUp {
-    pub want: Want,
-    pub row: u32,
+    pub gave_up: Option<Want>,
 }
 
 impl Worker {
@@ -48,7 +41,7 @@ impl Worker {
         requires ready { IsReady board.now self.member.number self.member }
         requires few { length rows.now < board.now.sizes.quota }
         requires passed { passed.worker ≡ self.member.number }
-        ensures { HasRunRows board.now self.member.number (map asked_in rows.now) result }
+        ensures { HasRunRows board.now self.member.number (map operation_in rows.now) result }
     {
         let Worker { mut member, .. } = self;
         let mut picker = ThreadPicker::of(settings, member.number() as u64);
@@ -69,7 +62,8 @@ impl Worker {
     }
 }
 
-// The settings are only looked at by the premise that they chose the picker.
+// Runs no further row where one is refused, and answers what was lacked. The settings are only looked at by
+// the premise that they chose the picker.
 fn answer_all(
     rt: &(impl Wait + Clock),
     board: &StandardBoard,
@@ -78,22 +72,19 @@ fn answer_all(
     picker: &mut ThreadPicker,
     rows: &[ThreadRow],
     progress: &impl Progress,
-) -> Option<GaveUp>
+) -> Option<Want>
     requires of { IsOf member.old board.now }
     requires shows_none { shown_in (own_steps member.old) ≡ [] }
     requires few { length rows.now < board.now.sizes.quota }
     requires picks { picker.old ≡ picker_of settings.now member.old.number }
     ensures same { IsSame member.old member.new }
-    ensures works { Works board.now.sizes.k member.old.number (map asked_in rows.now)
+    ensures works { Works board.now.sizes.k member.old.number (map operation_in rows.now)
         (own_steps member.new) result }
 {
     let mut pace = Pace::new(Counted::RowsRun);
     for row in rows {
         if let Err(want) = answer(rt, board, member, picker, row.operation()) {
-            return Some(GaveUp {
-                want,
-                row: row.number,
-            });
+            return Some(want);
         }
         pace.count(progress);
     }

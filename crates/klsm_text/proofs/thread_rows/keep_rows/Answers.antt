@@ -13,7 +13,7 @@ pub returns-in-Err : goal.returns-in-Err
 returns-in-Err g c = λ threads input read kept.
     let k = c.loop-number.invariant threads input read kept in
     let below : length k.0 < row_limit = omega (arith, k.1, c.loop-number-test.true) in
-    let stops = c.in-Err.ensures threads input k.0 k.2 k.3 below (omega (arith, k.1)) k.4 in
+    let stops = c.in-Err.ensures threads input k.0 k.2 k.3 below k.4 in
     let is = sym c.at.ensures.stop in
     ended g.R.Read.remaining threads _ input k.0 _ _ _ k.3 (subst (StopsReading threads input k.0) is stops.0) (λ end. stops.1 (is ∙ end)) (λ fault. stops.2 (is ∙ fault))
     (subst (StandsAtRefusal g.R.Read.remaining threads input c.keep_row.new.script) is stops.3) (omega (arith, below)) (c.at.ensures.row ∙ omega (arith, k.1))
@@ -22,7 +22,7 @@ pub loop-number-preserved : goal.loop-number-preserved
 loop-number-preserved g c = λ threads input read kept.
     let k = c.loop-number.invariant threads input read kept in
     let below : length k.0 < row_limit = omega (arith, k.1, c.loop-number-test.true) in
-    let next = c.in_default.ensures threads input k.0 k.2 k.3 below (omega (arith, k.1)) k.4 in
+    let next = c.in_default.ensures threads input k.0 k.2 k.3 below k.4 in
     (next.0 ∷ k.0, omega (arith, k.1), next.1, next.2, next.3)
 
 pub returns : goal.returns

@@ -3,7 +3,7 @@ use Rattle.std.specs.Prelude.{IfSome}
 use Rattle.std.specs.Option.{is_some}
 use mathlib.Core.Logic.{dite}
 use native.Mathlib.Decide.{ℕ_discrete}
-use Rattle.klsm_tool.specs.declared.worker.GaveUp.{GaveUp}
+use Rattle.klsm_tool.specs.declared.member_calls.Want.{Want}
 use Rattle.klsm_tool.specs.declared.worker.Worker.{Worker}
 use Rattle.klsm_tool.specs.Working.{gave_up_at}
 use Rattle.klsm_tool.proofs.live.first_to_give_up.Goals as goal
@@ -14,14 +14,14 @@ any_default [] t d e below = absurd (omega (arith, below))
 any_default (place ∷ crew) zero d e below = refl
 any_default (place ∷ crew) (suc t) d e below = any_default crew t d e (omega (arith, below))
 
-there_at : (crew : List (Option Worker)) (t : ℕ) (place : Option Worker) (gave_up : Option GaveUp) → t < length crew → place ≡ get_or crew t place → gave_up ≡ gave_up_at place → (d : Option Worker) → gave_up_at (get_or crew t d) ≡ gave_up
+there_at : (crew : List (Option Worker)) (t : ℕ) (place : Option Worker) (gave_up : Option Want) → t < length crew → place ≡ get_or crew t place → gave_up ≡ gave_up_at place → (d : Option Worker) → gave_up_at (get_or crew t d) ≡ gave_up
 there_at crew t place gave_up below is gave d = ap gave_up_at (any_default crew t d place below ∙ sym is) ∙ sym gave
 
-none_of : (o : Option GaveUp) → false ≡ is_some o → o ≡ None
+none_of : (o : Option Want) → false ≡ is_some o → o ≡ None
 none_of None none = refl
 none_of (Some gave_up) none = absurd (let bad : false ≡ true = none in cc)
 
-first_some : (crew : List (Option Worker)) (t : ℕ) (o : Option GaveUp) → t < length crew → ((d : Option Worker) → gave_up_at (get_or crew t d) ≡ o) → ((u : ℕ) (d : Option Worker) → u < t → gave_up_at (get_or crew u d) ≡ None)
+first_some : (crew : List (Option Worker)) (t : ℕ) (o : Option Want) → t < length crew → ((d : Option Worker) → gave_up_at (get_or crew t d) ≡ o) → ((u : ℕ) (d : Option Worker) → u < t → gave_up_at (get_or crew u d) ≡ None)
     → IfSome o (λ gave_up. (t : ℕ) × (t < length crew) × ((d : Option Worker) → gave_up_at (get_or crew t d) ≡ Some gave_up) × ((u : ℕ) (d : Option Worker) → u < t → gave_up_at (get_or crew u d) ≡ None))
 first_some crew t None below here lesser = tt
 first_some crew t (Some gave_up) below here lesser = (t, below, here, lesser)

@@ -1,18 +1,18 @@
 use Rattle.std.proofs.Common.{◌≡◌, ◌<◌, ◌∙◌, ℕ, List, [], map, length, slice_index_or, ap, arith, sym, subst, Vec, Global}
 use Rattle.std.proofs.lemmas.List.{get_or-map, length-map}
 use Rattle.klsm_text.specs.declared.thread_rows.ThreadRow.{ThreadRow}
-use Rattle.klsm_text.specs.Keeping.{asked_in, kept_for}
+use Rattle.klsm_text.specs.Keeping.{kept_for, operation_in}
 use Rattle.klsm_tool.specs.Working.{HasRunRows, IsReadyAt}
 use Rattle.klsm_tool.proofs.live.run_at.Goals as goal
 
 -- the rows of this place are those that are kept for it
-rows_at : (lists : List (Vec ThreadRow Global)) (list : Vec ThreadRow Global) (t : ℕ) (rows : List ThreadRow) → t < length lists → rows ≡ (slice_index_or lists t list).items → map asked_in rows ≡ kept_for (map (λ l. l.items) lists) t
-rows_at lists list t rows below same = ap (map asked_in) (same ∙ sym (get_or-map (λ (l : Vec ThreadRow Global). l.items) lists t list [] below))
+rows_at : (lists : List (Vec ThreadRow Global)) (list : Vec ThreadRow Global) (t : ℕ) (rows : List ThreadRow) → t < length lists → rows ≡ (slice_index_or lists t list).items → map operation_in rows ≡ kept_for (map (λ l. l.items) lists) t
+rows_at lists list t rows below same = ap (map operation_in) (same ∙ sym (get_or-map (λ (l : Vec ThreadRow Global). l.items) lists t list [] below))
 
 pub run-requires-clause-few : goal.run-requires-clause-few
 run-requires-clause-few g c =
     let same = rows_at c.args.live.now.rows.now c.index-live-index.result c.args.index c.as_slice-rows.result.now c.requires.below c.as_slice-rows.ensures.value in
-    λ _ _. omega (arith, c.requires.few, length-map c.as_slice-rows.result.now asked_in, ap length same)
+    λ _ _. omega (arith, c.requires.few, length-map c.as_slice-rows.result.now operation_in, ap length same)
 
 pub returns : goal.returns
 returns g c =

@@ -52,10 +52,10 @@ cause_in_one_hand-cause-requires-clause-room g c = λ room at_end.
     let many : length crew ≡ c.args.settings.now.threads = told.many ∙ c.in-Ok.ensures.count in
     let first = c.in-Some.ensures.some in let whole : c.as_slice.result.now ≡ crew = c.as_slice.ensures.value in
     let within : first.0 < length crew = subst (λ (z : List (Option Worker)). first.0 < length z) whole first.1 in
-    let here : gave_up_at (slice_index_or crew first.0 None) ≡ Some c.in-Some.field-0 = subst (λ (z : List (Option Worker)). gave_up_at (slice_index_or z first.0 None) ≡ Some c.in-Some.field-0) whole (first.2 None) in
+    let here : gave_up_at (slice_index_or crew first.0 None) ≡ Some c.in-Some.want = subst (λ (z : List (Option Worker)). gave_up_at (slice_index_or z first.0 None) ≡ Some c.in-Some.want) whole (first.2 None) in
     room_was_there (board_sizes c.args.settings.now) script.0 script.1 c.in-Ok.board c.in-Ok.ensures.sizes crew many
     (λ t d below. subst (λ asked. HasRunAt c.in-Ok.board t asked (slice_index_or crew t d)) (script.2.each t (omega (arith, below, many))) (told.ran t d below))
-    c.in-Some.field-0 first.0 (omega (arith, within, many)) c.requires.k here room at_end
+    c.in-Some.want first.0 (omega (arith, within, many)) c.requires.k here room at_end
 
 pub finish-requires : goal.finish-requires
 finish-requires g c =

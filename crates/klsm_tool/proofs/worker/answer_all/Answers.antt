@@ -10,7 +10,7 @@ use Rattle.klsm_tool.proofs.WorkLemmas.{row_answered, row_given_up, so_many}
 use Rattle.klsm_tool.proofs.worker.answer_all.Goals as goal
 
 abbrev empty : ThreadRow
-empty = record { number = 0; is_deletion = false; key = 0; load = 0 }
+empty = record { is_deletion = false; key = 0; load = 0 }
 
 pub answer-requires-clause-room : goal.answer-requires-clause-room
 answer-requires-clause-room g c =
