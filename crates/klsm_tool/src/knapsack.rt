@@ -1,5 +1,5 @@
 //! `klsm knapsack`: a best selection of the things of an instance.
-ghost use Rattle.std.specs.Prelude.{◌≡◌, ◌≤◌, Option, ℕ, List, IfOk};
+ghost use Rattle.std.specs.Prelude.{◌≡◌, ◌≤◌, Option, ℕ, List, IfErr, IfOk};
 ghost use Rattle.klsm_instance.specs.Answers.{IsBestAnswer};
 ghost use Rattle.klsm_instance.specs.Format.{IsProblemIn, RefusesInput};
 ghost use Rattle.klsm_tool.specs.Knapsack.{Solves, SolvesProblem, RefusesIn, WritesBest};
@@ -76,6 +76,7 @@ fn solve_reordered<P: AllocGlobal + Wait + Clock + Threads + Sync, G: Gate, H: P
     requires threads { search.now.threads ≤ 16 }
     requires k { search.now.k ≤ 64 }
     ensures best { IfOk result (λ best. IsBestAnswer instance.now best) }
+    ensures memory { IfErr result (λ why. why ≡ UnsolvedError.NoMemory) }
 {
     let Ok(steepest) = instance.steepest_first(rt.alloc()) else {
         return Err(UnsolvedError::NoMemory);
@@ -93,6 +94,8 @@ fn solve_heard<P: AllocGlobal + Wait + Clock + Threads + Sync, G: Gate, H: Progr
     listeners: &Listeners<G, H>,
 ) -> Result<Best, UnsolvedError>
     ensures best { IfOk result (λ best. IsBestAnswer instance.now best) }
+    ensures memory { 1 ≤ search.now.threads → search.now.threads ≤ 16 → search.now.k ≤ 64
+        → IfErr result (λ why. why ≡ UnsolvedError.NoMemory) }
 {
     listeners.progress.begins(None);
     let options = SearchOptions::new(search.threads, search.k, search.idle);
