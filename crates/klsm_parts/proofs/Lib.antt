@@ -24,5 +24,6 @@ pub mod RefillLemmas
 pub mod RefilledLemmas
 pub mod RisingLemmas
 pub mod SpyLemmas
+pub mod StealLemmas
 pub mod TakeLemmas
 pub mod UnitedLemmas

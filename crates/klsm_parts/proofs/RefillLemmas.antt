@@ -51,7 +51,7 @@ are_moved n places shared run left is moved rest = record {
 }
 
 -- the first ones, told in two parts
-take_parts : (n m : ℕ) (xs : List Item) → take (n + m) xs ≡ take n xs ++ take m (drop n xs)
+pub take_parts : (n m : ℕ) (xs : List Item) → take (n + m) xs ≡ take n xs ++ take m (drop n xs)
 take_parts n m xs = sym (take-append-drop n (take (n + m) xs)) ∙ (ap (λ ys. ys ++ drop n (take (n + m) xs)) (shorter n (n + m) xs (omega arith)) ∙ ap (λ ys. take n xs ++ ys) (drop-take n m xs))
   where
     shorter : (i k : ℕ) (ys : List Item) → i ≤ k → take i (take k ys) ≡ take i ys
@@ -86,7 +86,7 @@ all_drop P (suc n) [] all = tt
 all_drop P (suc n) (x ∷ xs) all = all_drop P n xs all.1
 
 -- of an ascending list no item is both moved and left
-split_apart : (n : ℕ) (s : List Item) → IsAscending s → AreApart (take n s) (drop n s)
+pub split_apart : (n : ℕ) (s : List Item) → IsAscending s → AreApart (take n s) (drop n s)
 split_apart zero s up = tt
 split_apart (suc n) [] up = tt
 split_apart (suc n) (x ∷ s) up = (

@@ -27,12 +27,13 @@
 //! let least = take_least(&mut own);                     // its key is below the front
 //! let count = spy(&mut own, &mut victim);               // it is empty: items move from another's
 //! let count = refill(&mut own, &mut shared, most);      // it has room: the least shared items move
+//! let count = steal(&mut own, &mut victim, most);       // it has room: the least of another's items move
 //! ```
 //!
 //! - **Lawful at all times.** The invariants of `Local` and `Shared` hold of every value: a lawful
 //!   LSM of at most k items, and one within its limit with exact pivots. `Local::len`,
 //!   `Shared::len` and `Shared::pivot` tell it to their callers.
-//! - **Each call is its event.** The clauses `event` of `put`, `flush`, `take`, `take_least`, `spy` and `refill`
+//! - **Each call is its event.** The clauses `event` of `put`, `flush`, `take`, `take_least`, `spy`, `refill` and `steal`
 //!   say that the event may happen, and what it leaves of the contents; the other clauses say which
 //!   blocks move, and which item goes.
 //! - **A deletion skips at most k items** of the two parts: clause `skips` of `take`.
@@ -47,6 +48,8 @@
 //!   items to its own part, into half the room that it has, so that its next insertions do not carry them
 //!   back; what it deletes next then lies below the front, but for equal keys, and needs no shared
 //!   lock. Own parts have at most k items as before, so no bound changes.
+//! - **A steal keeps own parts alike.** A member that has another's part in hand beside its own moves the least items
+//!   of that part to its own, into the room that it has, and at most half of them. Neither part has then more than k.
 //! - **A `Queue` holds what was inserted and not yet deleted**, each item once: clauses `items` of
 //!   `Queue::insert` and `Queue::delete_min`, and `ascending` of `Queue::len`. It asks nothing of
 //!   its callers.
@@ -77,6 +80,7 @@ mod ranks;
 mod refilling;
 mod shared;
 mod spying;
+mod stealing;
 mod taking;
 
 pub use choice::{Choice, Pick};
@@ -89,4 +93,5 @@ pub use queue::Queue;
 pub use refilling::refill;
 pub use shared::Shared;
 pub use spying::spy;
+pub use stealing::steal;
 pub use taking::take;

@@ -7,5 +7,6 @@ mod pickers;
 mod plain;
 mod refused;
 mod spied;
+mod stolen;
 mod taken;
 mod worked;
