@@ -7,7 +7,7 @@ use Rattle.klsm_run.specs.declared.item.Item.{Item}
 use Rattle.klsm_run.specs.Content.{skipped, without}
 use Rattle.klsm_parts.specs.Events.{plus}
 use Rattle.klsm_world.specs.declared.step.Event.{Event}
-use Rattle.klsm_world.specs.declared.step.Event.TheVariants.{Put, Flush, Take, Early, Nothing, Spy, Refill}
+use Rattle.klsm_world.specs.declared.step.Event.TheVariants.{Put, Flush, Take, Early, Nothing, Spy, Refill, Steal}
 use Rattle.klsm_world.specs.declared.step.Step.{Step}
 use Rattle.klsm_world.specs.declared.step.Step.TheVariants.{Acquire, Commit, Release, Miss, Look}
 use Rattle.klsm_world.specs.Worlds.{Limits}
@@ -20,6 +20,7 @@ queue_after c (Take x) = without x c
 queue_after c (Early x front) = without x c
 queue_after c Nothing = c
 queue_after c (Spy victim moved) = c
+queue_after c (Steal victim moved) = c
 queue_after c (Refill moved) = c
 
 -- an item inserted is new; a deletion skips at most T·k items; nothing is answered only where at
@@ -31,6 +32,7 @@ MayMove limits c (Take x) = Contains c x × (skipped c x ≤ limits.threads * li
 MayMove limits c (Early x front) = Contains c x × (skipped c x ≤ limits.threads * limits.k)
 MayMove limits c Nothing = length c ≤ (limits.threads - 1) * limits.k
 MayMove limits c (Spy victim moved) = Unit {0}
+MayMove limits c (Steal victim moved) = Unit {0}
 MayMove limits c (Refill moved) = Unit {0}
 
 -- what is left of the empty multiset after events

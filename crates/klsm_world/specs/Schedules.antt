@@ -3,7 +3,7 @@ use Rattle.std.specs.Prelude.{ℕ, ◌≡◌, ◌≢◌, ◌+◌, ◌<◌, ◌�
 use Rattle.klsm_run.specs.declared.item.Item.{Item}
 use Rattle.klsm_parts.specs.Events.{front_of}
 use Rattle.klsm_world.specs.declared.step.Event.{Event}
-use Rattle.klsm_world.specs.declared.step.Event.TheVariants.{Put, Flush, Take, Early, Nothing, Spy, Refill}
+use Rattle.klsm_world.specs.declared.step.Event.TheVariants.{Put, Flush, Take, Early, Nothing, Spy, Refill, Steal}
 use Rattle.klsm_world.specs.declared.step.Step.{Step}
 use Rattle.klsm_world.specs.declared.step.Step.TheVariants.{Acquire, Commit, Release, Miss, Look}
 use Rattle.klsm_world.specs.declared.step.Entry.{Entry}
@@ -26,6 +26,7 @@ NamesFront word (Take x) = Unit {0}
 NamesFront word (Early x front) = front ≡ word
 NamesFront word Nothing = Unit {0}
 NamesFront word (Spy victim moved) = Unit {0}
+NamesFront word (Steal victim moved) = Unit {0}
 NamesFront word (Refill moved) = Unit {0}
 
 -- an event may take effect on parts that thread t holds
@@ -73,6 +74,7 @@ front_after word t hand (Take x) =
 front_after word t hand (Early x front) = word
 front_after word t hand Nothing = word
 front_after word t hand (Spy victim moved) = word
+front_after word t hand (Steal victim moved) = word
 front_after word t hand (Refill moved) =
     front_of (content_in (after_event t hand (Refill moved)) shared_part)
 

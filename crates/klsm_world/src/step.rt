@@ -40,6 +40,13 @@ pub enum Event {
         /// The items that move, ascending without repeats.
         moved: Items,
     },
+    /// Items move from another thread's part to the own one, which has room for them.
+    Steal {
+        /// The thread whose part they leave.
+        victim: u32,
+        /// The items that move, ascending without repeats.
+        moved: Items,
+    },
 }
 
 /// A step of one thread. Part 0 is the shared one, and part t + 1 is thread t's own.

@@ -3,8 +3,9 @@ use Rattle.std.proofs.Common.{◌≡◌, ℕ, ◌+◌, ◌<◌, ◌≤◌, List,
 use Rattle.std.proofs.lemmas.Bool.{cases_eq}
 use Rattle.klsm_run.specs.declared.item.Item.{Item}
 use Rattle.klsm_parts.specs.Events.{own_after_put, own_after_flush, shared_after_flush, own_after_take, shared_after_take, own_after_early, own_after_spy, victim_after_spy, own_after_refill, shared_after_refill}
+use Rattle.klsm_parts.specs.Stealing.{own_after_steal, victim_after_steal}
 use Rattle.klsm_world.specs.declared.step.Event.{Event}
-use Rattle.klsm_world.specs.declared.step.Event.TheVariants.{Put, Flush, Take, Early, Nothing, Spy, Refill}
+use Rattle.klsm_world.specs.declared.step.Event.TheVariants.{Put, Flush, Take, Early, Nothing, Spy, Refill, Steal}
 use Rattle.klsm_world.specs.declared.step.Step.{Step}
 use Rattle.klsm_world.specs.declared.step.Step.TheVariants.{Acquire, Commit, Release, Miss, Look}
 use Rattle.klsm_world.specs.OwnSteps.{Hand, Holds, found_in, content_in, changed, after_event, own_part, shared_part, inserted}
@@ -59,6 +60,17 @@ few_after_event k t n hand (Refill moved) may few =
     let had : length own ≡ length may.own = ap (λ o. length (unwrap_or o [])) may.holds_own in
     shared_few k (changed hand (own_part t) (own_after_refill own moved)) (shared_after_refill (content_in hand shared_part) moved)
     (changed_few k hand (own_part t) (own_after_refill own moved) few (λ u same. omega (arith, length_plus own moved, had, may.fits.room)))
+few_after_event k t n hand (Steal victim moved) may few =
+    let own = content_in hand (own_part t) in
+    let had_own : length own ≡ length may.held.own = ap (λ o. length (unwrap_or o [])) may.held.holds_own in
+    let from = may.held.other in
+    let theirs = content_in hand (own_part victim) in
+    let had : theirs ≡ from = ap (λ o. unwrap_or o []) may.held.holds_other in
+    let left : length (victim_after_steal theirs moved) ≡ length (victim_after_steal from moved) = ap (λ z. length (victim_after_steal z moved)) had in
+    let both = length_minus moved from may.held.fits.within in
+    let at_most = few victim from may.held.holds_other in
+    changed_few k (changed hand (own_part t) (own_after_steal own moved)) (own_part victim) (victim_after_steal theirs moved)
+    (changed_few k hand (own_part t) (own_after_steal own moved) few (λ u same. omega (arith, length_plus own moved, had_own, may.held.fits.room))) (λ u same. omega (arith, both, at_most, left))
 few_after_event k t n hand (Spy victim moved) may few =
     let from = may.held.other in
     let theirs = content_in hand (own_part victim) in

@@ -1,8 +1,9 @@
 -- Each legal step keeps the front word the front of the shared part.
 use Rattle.std.proofs.Common.{◌≡◌, ◌≢◌, ℕ, ◌+◌, refl, sym, ap, ◌∙◌, arith}
 use Rattle.klsm_parts.specs.Events.{front_of, own_after_put, own_after_early, own_after_spy, victim_after_spy}
+use Rattle.klsm_parts.specs.Stealing.{own_after_steal, victim_after_steal}
 use Rattle.klsm_world.specs.declared.step.Event.{Event}
-use Rattle.klsm_world.specs.declared.step.Event.TheVariants.{Put, Flush, Take, Early, Nothing, Spy, Refill}
+use Rattle.klsm_world.specs.declared.step.Event.TheVariants.{Put, Flush, Take, Early, Nothing, Spy, Refill, Steal}
 use Rattle.klsm_world.specs.declared.step.Step.{Step}
 use Rattle.klsm_world.specs.declared.step.Step.TheVariants.{Acquire, Commit, Release, Miss, Look}
 use Rattle.klsm_world.specs.OwnSteps.{content_in, changed, own_part, shared_part}
@@ -43,6 +44,11 @@ module _ (limits : Limits) (w : World) (agreed : AreAgreed limits w) (is : IsFro
       stays (next w (Commit t (Spy victim moved))) refl (content_unchanged limits w t (Spy victim moved) shared_part agreed may.thread
       (found_elsewhere (changed hand (own_part t) (own_after_spy moved)) (own_part victim) shared_part (victim_after_spy (content_in hand (own_part victim)) moved) (not_own victim)
       ∙ found_elsewhere hand (own_part t) shared_part (own_after_spy moved) (not_own t)))
+  front_committed t (Steal victim moved) may =
+      let hand = hand_in w t in
+      stays (next w (Commit t (Steal victim moved))) refl (content_unchanged limits w t (Steal victim moved) shared_part agreed may.thread
+      (found_elsewhere (changed hand (own_part t) (own_after_steal (content_in hand (own_part t)) moved)) (own_part victim) shared_part (victim_after_steal (content_in hand (own_part victim)) moved) (not_own victim)
+      ∙ found_elsewhere hand (own_part t) shared_part (own_after_steal (content_in hand (own_part t)) moved) (not_own t)))
 
   -- a legal step leads to a world of which this is true
   pub front_kept : (step : Step) → MayStep limits w step → IsFront (next w step)

@@ -2,15 +2,16 @@
 use Rattle.std.proofs.Common.{◌≡◌, ◌≢◌, ℕ, ◌+◌, ◌<◌, List, [], ◌∷◌, length, refl, sym, ap, ◌∙◌, arith, unwrap_or}
 use Rattle.klsm_run.specs.declared.item.Item.{Item}
 use Rattle.klsm_parts.specs.Events.{times, own_after_put, own_after_flush, shared_after_flush, own_after_take, shared_after_take, own_after_early, own_after_spy, victim_after_spy, own_after_refill, shared_after_refill}
+use Rattle.klsm_parts.specs.Stealing.{own_after_steal, victim_after_steal}
 use Rattle.klsm_world.specs.declared.step.Event.{Event}
-use Rattle.klsm_world.specs.declared.step.Event.TheVariants.{Put, Flush, Take, Early, Nothing, Spy, Refill}
+use Rattle.klsm_world.specs.declared.step.Event.TheVariants.{Put, Flush, Take, Early, Nothing, Spy, Refill, Steal}
 use Rattle.klsm_world.specs.declared.step.Step.TheVariants.{Commit}
 use Rattle.klsm_world.specs.OwnSteps.{Hand, Holds, found_in, content_in, changed, after_event, own_part, shared_part}
 use Rattle.klsm_world.specs.LegalSteps.{MayCommit}
 use Rattle.klsm_world.specs.Worlds.{Limits, World, hand_in, content_of, live}
 use Rattle.klsm_world.specs.LawfulWorlds.{AreAgreed}
 use Rattle.klsm_world.specs.Schedules.{next}
-use Rattle.klsm_world.proofs.lemmas.counts.EventCountLemmas.{put_counts, flush_counts, take_counts, early_counts, spy_counts, refill_counts}
+use Rattle.klsm_world.proofs.lemmas.counts.EventCountLemmas.{put_counts, flush_counts, take_counts, early_counts, spy_counts, refill_counts, steal_counts}
 use Rattle.klsm_world.proofs.lemmas.hands.HandLemmas.{found_changed, found_elsewhere}
 use Rattle.klsm_world.proofs.lemmas.counts.LiveCountLemmas.{live_same, live_changed, live_changed_two}
 use Rattle.klsm_world.proofs.lemmas.hands.PartContentLemmas.{content_held, held_away, content_unchanged, content_committed}
@@ -182,6 +183,29 @@ module _ (limits : Limits) (w : World) (agreed : AreAgreed limits w) (t : ℕ) (
         live_after_two (Refill moved) (own_part t) shared_part own shared left_own left_shared apart has_own has_shared
             (first_of_two hand (own_part t) shared_part own left_own left_shared apart has_own) (second_of_two hand (own_part t) shared_part shared left_own left_shared apart has_shared)
             (neither_of_two hand (own_part t) shared_part left_own left_shared),
+      )
+
+  -- so does a Steal
+  pub live_after_steal : (n victim : ℕ) (moved : List Item) → MayCommit limits.k t (hand_in w t) n (Steal victim moved) → times x (live (next w (Commit t (Steal victim moved)))) ≡ times x (live w)
+  live_after_steal n victim moved may =
+      let hand = hand_in w t in
+      let own = may.held.own in
+      let from = may.held.other in
+      let has_own = may.held.holds_own in
+      let has_from = may.held.holds_other in
+      let left_own : List Item = own_after_steal (content_in hand (own_part t)) moved in
+      let left : List Item = victim_after_steal (content_in hand (own_part victim)) moved in
+      let own_is : times x left_own ≡ times x (own_after_steal own moved) = ap (λ o. times x (own_after_steal (unwrap_or o []) moved)) has_own in
+      let left_is : times x left ≡ times x (victim_after_steal from moved) = ap (λ o. times x (victim_after_steal (unwrap_or o []) moved)) has_from in
+      let apart : own_part t ≢ own_part victim = λ same. let equal : t + 1 ≡ victim + 1 = same in may.another (omega (arith, equal)) in
+      omega (
+        arith,
+        own_is,
+        left_is,
+        steal_counts limits.k own from x moved may.held.fits,
+        live_after_two (Steal victim moved) (own_part t) (own_part victim) own from left_own left apart has_own has_from
+            (first_of_two hand (own_part t) (own_part victim) own left_own left apart has_own) (second_of_two hand (own_part t) (own_part victim) from left_own left apart has_from)
+            (neither_of_two hand (own_part t) (own_part victim) left_own left),
       )
 
   -- so does an answer of nothing

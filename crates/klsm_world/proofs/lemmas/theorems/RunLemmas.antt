@@ -17,7 +17,7 @@ use Rattle.klsm_parts.specs.Events.{times, IsInReach}
 use Rattle.klsm_parts.specs.Least.{least}
 use Rattle.klsm_parts.proofs.EventLemmas.{is_in}
 use Rattle.klsm_world.specs.declared.step.Event.{Event}
-use Rattle.klsm_world.specs.declared.step.Event.TheVariants.{Put, Flush, Take, Early, Nothing, Spy, Refill}
+use Rattle.klsm_world.specs.declared.step.Event.TheVariants.{Put, Flush, Take, Early, Nothing, Spy, Refill, Steal}
 use Rattle.klsm_world.specs.declared.step.Step.{Step}
 use Rattle.klsm_world.specs.declared.step.Step.TheVariants.{Acquire, Commit, Release, Miss, Look}
 use Rattle.klsm_world.specs.declared.step.Entry.{Entry}
@@ -104,6 +104,7 @@ live_may_move limits w t (Early x front) lawful may = (
 live_may_move limits w t Nothing lawful may =
     subst (λ n. n ≤ (limits.threads - 1) * limits.k) (sym (length_sorted (live w))) (live_nothing_leaves_few limits w t lawful may)
 live_may_move limits w t (Spy victim moved) lawful may = tt
+live_may_move limits w t (Steal victim moved) lawful may = tt
 live_may_move limits w t (Refill moved) lawful may = tt
 
 -- what an entry inserts or deletes, done to the queue of live items, gives those of the next world
@@ -142,6 +143,7 @@ module _ (limits : Limits) (v w : World) (t : ℕ) (lawful : IsLawful limits v) 
   committed (Early x front) lists = deletes (Committed (Early x front)) x lists refl refl
   committed Nothing lists = quiet (Committed Nothing) lists refl refl
   committed (Spy victim moved) lists = quiet (Committed (Spy victim moved)) lists refl refl
+  committed (Steal victim moved) lists = quiet (Committed (Steal victim moved)) lists refl refl
   committed (Refill moved) lists = quiet (Committed (Refill moved)) lists refl refl
 
 -- the events of a schedule with one step more
@@ -223,4 +225,5 @@ queue_counts_insertions limits (event ∷ before) run x =
     one_event c (Early y front) may = omega (arith, times_without x y c (times_contained y c may.0))
     one_event c Nothing may = omega arith
     one_event c (Spy victim moved) may = omega arith
+    one_event c (Steal victim moved) may = omega arith
     one_event c (Refill moved) may = omega arith
