@@ -2,7 +2,7 @@
 use Rattle.std.specs.Prelude.{ℕ, ◌≡◌, ◌≢◌, ◌+◌, ◌<◌, ◌≤◌, ◌⊎◌, List, [], ◌∷◌, None}
 use Rattle.std.specs.List.{Contains}
 use Rattle.klsm_world.specs.declared.step.Event.{Event}
-use Rattle.klsm_world.specs.declared.step.Event.TheVariants.{Put, Flush, Take, Early, Nothing, Spy, Refill}
+use Rattle.klsm_world.specs.declared.step.Event.TheVariants.{Put, Flush, Take, Early, Nothing, Spy, Refill, Steal}
 use Rattle.klsm_world.specs.declared.step.Step.{Step}
 use Rattle.klsm_world.specs.declared.step.Step.TheVariants.{Acquire, Commit, Release, Miss, Look}
 use Rattle.klsm_model.specs.declared.errors.StepError.{StepError}
@@ -12,7 +12,7 @@ use Rattle.klsm_world.specs.Worlds.{Limits, World, word_of, hand_in}
 use Rattle.klsm_world.specs.LawfulWorlds.{IsLawful}
 use Rattle.klsm_world.specs.Schedules.{MayStep}
 
--- the victim of a spy is not there, or is the thread itself
+-- the victim of a spy or a steal is not there, or is the thread itself
 abbrev pub NamesNoVictim : Limits → ℕ → Event → Type 0
 NamesNoVictim limits t (Put x) = ⊥
 NamesNoVictim limits t (Flush x moved) = ⊥
@@ -20,6 +20,7 @@ NamesNoVictim limits t (Take x) = ⊥
 NamesNoVictim limits t (Early x front) = ⊥
 NamesNoVictim limits t Nothing = ⊥
 NamesNoVictim limits t (Spy victim moved) = (limits.threads ≤ victim) ⊎ (victim ≡ t)
+NamesNoVictim limits t (Steal victim moved) = (limits.threads ≤ victim) ⊎ (victim ≡ t)
 NamesNoVictim limits t (Refill moved) = ⊥
 
 -- a step names a thread, a part or a victim that is not there, or the thread itself as the victim
@@ -38,6 +39,7 @@ parts_for t (Take x) = own_part t ∷ shared_part ∷ []
 parts_for t (Early x front) = own_part t ∷ []
 parts_for t Nothing = own_part t ∷ shared_part ∷ []
 parts_for t (Spy victim moved) = own_part t ∷ own_part victim ∷ []
+parts_for t (Steal victim moved) = own_part t ∷ own_part victim ∷ []
 parts_for t (Refill moved) = own_part t ∷ shared_part ∷ []
 
 -- thread t does not hold one of these parts

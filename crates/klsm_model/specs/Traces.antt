@@ -5,7 +5,7 @@ use Rattle.klsm_run.specs.declared.item.Item.{Item}
 use Rattle.klsm_run.specs.Content.{sorted, skipped}
 use Rattle.klsm_parts.specs.Events.{minus}
 use Rattle.klsm_world.specs.declared.step.Event.{Event}
-use Rattle.klsm_world.specs.declared.step.Event.TheVariants.{Put, Flush, Take, Early, Nothing, Spy, Refill}
+use Rattle.klsm_world.specs.declared.step.Event.TheVariants.{Put, Flush, Take, Early, Nothing, Spy, Refill, Steal}
 use Rattle.klsm_world.specs.declared.step.Step.{Step}
 use Rattle.klsm_model.specs.declared.errors.StepError.TheVariants as step_error
 use Rattle.klsm_model.specs.declared.errors.WorldError.{WorldError}
@@ -27,6 +27,7 @@ most_skipped (Early x front ∷ before) = max (skipped (queue_of before) x) (mos
 most_skipped (Nothing ∷ before) = most_skipped before
 most_skipped (Spy victim moved ∷ before) = most_skipped before
 most_skipped (Refill moved ∷ before) = most_skipped before
+most_skipped (Steal victim moved ∷ before) = most_skipped before
 
 -- steps, the latest first, are a schedule whose events are a run of the relaxed queue, and this is
 -- the greatest skip, over the insertions less the deletions before each deletion

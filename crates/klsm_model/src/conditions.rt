@@ -2,6 +2,7 @@
 ghost use Rattle.std.specs.Prelude.{◌≡◌, ◌+◌, ◌≤◌, ◌<◌, ◌↔◌, ◌∷◌, [], IsTrue, length};
 ghost use Rattle.klsm_run.specs.Content.{sorted, IsAscending};
 ghost use Rattle.klsm_parts.specs.Events.{times, IsWithin, IsInReach, SkipsNoneOf, MayFlush, MayTake, MayTakeEarly, MaySpy, MayRefill};
+ghost use Rattle.klsm_parts.specs.Stealing.{MaySteal};
 
 use klsm_run::Item;
 
@@ -128,4 +129,12 @@ pub(crate) fn may_refill(k: usize, own: &[Item], shared: &[Item], moved: &[Item]
         return false;
     }
     own.len() + moved.len() <= k
+}
+
+/// Whether items may move from a victim's part to another, which is to hold at most `k`.
+pub(crate) fn may_steal(k: usize, own: &[Item], victim: &[Item], moved: &[Item]) -> bool
+    ensures { IsTrue result ↔ MaySteal k own.now victim.now moved.now }
+{
+    // A refill asks the same of the shared part.
+    may_refill(k, own, victim, moved)
 }

@@ -21,6 +21,7 @@ pub(crate) enum KeptStep {
     Nothing,
     Spy(u32),
     Refill,
+    Steal(u32),
     Released(u32),
     Missed(u32, u32),
     Looked(u64),

@@ -11,7 +11,7 @@ ghost use Rattle.klsm_world.specs.Schedules.{MayStep, NamesFront};
 ghost use Rattle.klsm_world.specs.Worlds.{content_of, hand_in, steps_of, word_of};
 
 use super::World;
-use crate::conditions::{may_flush, may_refill, may_spy, may_take, may_take_early};
+use crate::conditions::{may_flush, may_refill, may_spy, may_steal, may_take, may_take_early};
 use crate::errors::StepError;
 use klsm_run::Item;
 use klsm_world::{Event, Step};
@@ -62,12 +62,14 @@ impl<A: Allocator + Copy> World<A> {
         }
     }
 
-    // Whether the victim of a spy is not there, or is the thread itself.
+    // Whether the victim of a spy or a steal is not there, or is the thread itself.
     fn names_no_victim(&self, thread: u32, event: &Event) -> bool
         ensures { IsTrue result ↔ NamesNoVictim self.now.limits thread event.now }
     {
         match event {
-            Event::Spy { victim, moved: _ } => *victim >= self.threads || *victim == thread,
+            Event::Spy { victim, moved: _ } | Event::Steal { victim, moved: _ } => {
+                *victim >= self.threads || *victim == thread
+            }
             _ => false,
         }
     }
@@ -175,7 +177,9 @@ impl<A: Allocator + Copy> World<A> {
             | Event::Take(_)
             | Event::Nothing
             | Event::Refill { moved: _ } => own && self.holds(thread, SHARED),
-            Event::Spy { victim, moved: _ } => own && self.holds(thread, own_part(*victim)),
+            Event::Spy { victim, moved: _ } | Event::Steal { victim, moved: _ } => {
+                own && self.holds(thread, own_part(*victim))
+            }
         }
     }
 
@@ -212,6 +216,14 @@ impl<A: Allocator + Copy> World<A> {
             }
             Event::Refill { moved } => {
                 may_refill(self.k, own, self.items_of(SHARED), moved.as_slice())
+            }
+            Event::Steal { victim, moved } => {
+                may_steal(
+                    self.k,
+                    own,
+                    self.items_of(own_part(*victim)),
+                    moved.as_slice(),
+                )
             }
         }
     }

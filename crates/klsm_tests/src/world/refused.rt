@@ -12,6 +12,8 @@ const TWO: Name = (2, 1, 1);
 
 const NINE: Name = (9, 1, 2);
 
+const THREE: Name = (3, 1, 3);
+
 // A schedule with each kind of step and each event.
 const ALL_KINDS: &[Row] = &[
     Row::Acquire(1, 2),
@@ -31,6 +33,13 @@ const ALL_KINDS: &[Row] = &[
     Row::Nothing(0),
     Row::Acquire(0, 2),
     Row::Spy(0, 1, Moved::One(NINE)),
+    Row::Release(0, 2),
+    Row::Acquire(1, 2),
+    Row::Put(1, THREE),
+    Row::Release(1, 2),
+    Row::Acquire(0, 2),
+    Row::Steal(0, 1, Moved::One(THREE)),
+    Row::Take(0, THREE),
     Row::Take(0, NINE),
 ];
 
@@ -122,13 +131,13 @@ fn is_live_refused(alloc: Global, heap: &Rationed<Global>) -> Option<bool> {
     Some(refusal == Some(WorldError::NoMemory) && world.live(heap).is_ok())
 }
 
-// Runs steps with so many growths granted. A run that goes through deletes three items and skips
+// Runs steps with so many growths granted. A run that goes through deletes four items and skips
 // none.
 fn run_within(heap: &Rationed<Global>, steps: &[Step], growths: u64) -> Attempt {
     heap.allow(growths);
     match run(heap, 2, 2, steps) {
         Ok(trace) => {
-            let is_right = trace.deleted.len() == 3 && trace.most == 0;
+            let is_right = trace.deleted.len() == 4 && trace.most == 0;
             attempt_of(heap.has_refused() || !is_right, Ok(()), true)
         }
         Err(WorldError::NoMemory) => attempt_of(heap.has_refused(), Err(StepError::NoMemory), true),

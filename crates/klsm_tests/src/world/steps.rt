@@ -41,6 +41,7 @@ pub(super) enum Row {
     Nothing(u32),
     Spy(u32, u32, Moved),
     Refill(u32, Moved),
+    Steal(u32, u32, Moved),
 }
 
 /// The step of a row.
@@ -57,6 +58,7 @@ pub(super) fn step_of(alloc: Global, row: Row) -> Option<Step> {
         Row::Nothing(thread) => commit(thread, Event::Nothing),
         Row::Spy(thread, victim, moved) => spy(thread, victim, moved_items(alloc, moved)?),
         Row::Refill(thread, moved) => refill(thread, moved_items(alloc, moved)?),
+        Row::Steal(thread, victim, moved) => steal(thread, victim, moved_items(alloc, moved)?),
     })
 }
 
@@ -83,6 +85,11 @@ pub(super) fn spy(thread: u32, victim: u32, moved: Items) -> Step {
 /// A refill.
 pub(super) fn refill(thread: u32, moved: Items) -> Step {
     commit(thread, Event::Refill { moved })
+}
+
+/// A steal from the victim.
+pub(super) fn steal(thread: u32, victim: u32, moved: Items) -> Step {
+    commit(thread, Event::Steal { victim, moved })
 }
 
 fn moved_items(alloc: Global, moved: Moved) -> Option<Items> {

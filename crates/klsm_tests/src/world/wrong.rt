@@ -112,8 +112,37 @@ const STEPS: &[(Row, Option<StepError>)] = &[
     ),
     (Row::Spy(0, 1, Moved::One(SEVEN)), Some(StepError::NotHeld)),
     (Row::Spy(1, 0, Moved::One(SEVEN)), Some(StepError::NotHeld)),
+    (
+        Row::Steal(3, 0, Moved::One(SEVEN)),
+        Some(StepError::NoSuchPart),
+    ),
+    (
+        Row::Steal(0, 3, Moved::One(SEVEN)),
+        Some(StepError::NoSuchPart),
+    ),
+    (
+        Row::Steal(0, 0, Moved::One(SEVEN)),
+        Some(StepError::NoSuchPart),
+    ),
+    (
+        Row::Steal(0, 1, Moved::One(SEVEN)),
+        Some(StepError::NotHeld),
+    ),
+    (
+        Row::Steal(1, 0, Moved::One(SEVEN)),
+        Some(StepError::NotHeld),
+    ),
     (Row::Release(1, 2), None),
     (Row::Acquire(0, 2), None),
+    (Row::Steal(0, 1, Moved::None), Some(StepError::WrongEvent)),
+    (
+        Row::Steal(0, 1, Moved::One(TWO)),
+        Some(StepError::WrongEvent),
+    ),
+    (
+        Row::Steal(0, 1, Moved::Two(SEVEN, SEVEN)),
+        Some(StepError::WrongEvent),
+    ),
     (Row::Spy(0, 1, Moved::None), Some(StepError::WrongEvent)),
     (Row::Spy(0, 1, Moved::One(TWO)), Some(StepError::WrongEvent)),
     (
@@ -123,6 +152,10 @@ const STEPS: &[(Row, Option<StepError>)] = &[
     (Row::Spy(0, 1, Moved::One(SEVEN)), None),
     (
         Row::Spy(0, 1, Moved::One(SEVEN)),
+        Some(StepError::WrongEvent),
+    ),
+    (
+        Row::Steal(0, 1, Moved::One(SEVEN)),
         Some(StepError::WrongEvent),
     ),
 ];

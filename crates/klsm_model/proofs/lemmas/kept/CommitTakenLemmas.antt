@@ -6,7 +6,7 @@ use Rattle.klsm_run.specs.declared.item.Item.{Item}
 use Rattle.klsm_parts.specs.Events.{times, plus, minus}
 use Rattle.klsm_world.specs.declared.step.Step.TheVariants.{Commit}
 use Rattle.klsm_world.specs.declared.step.Event.{Event}
-use Rattle.klsm_world.specs.declared.step.Event.TheVariants.{Put, Flush, Take, Early, Spy, Refill}
+use Rattle.klsm_world.specs.declared.step.Event.TheVariants.{Put, Flush, Take, Early, Spy, Refill, Steal}
 use Rattle.klsm_world.specs.declared.step.Entry.{Entry}
 use Rattle.klsm_world.specs.declared.step.Entry.TheVariants.{Committed}
 use Rattle.klsm_model.specs.Kept.{IsKept, world_of}
@@ -123,3 +123,21 @@ module _ (before : WorldView) (limits : Limits) (words : List ℕ) (contents : L
         (own_after_is ∙ ap (λ c. plus c moved) (read_part contents (t + 1) own at read own_is (own_within (Refill moved) may) found copied))
         ∙ ap (set (set contents (t + 1) (plus (get_or contents (t + 1) []) moved)) 0)
         (left_is ∙ ap (λ c. minus c moved) (read_part contents 0 0 shared_at shared_read refl shared_within shared_found shared_copied))))
+
+    -- a Steal
+    pub steal_taken : (victim : ℕ) (moved listed : List Item) (own from : ℕ) (at read own_after from_at from_read left : List Item) → MayStep before.limits before.world (Commit t (Steal victim moved))
+        → lists'' ≡ lists_with lists t (Committed (Steal victim listed)) → listed ≡ moved → own ≡ t + 1 → from ≡ victim + 1
+        → at ≡ get_or contents own at → read ≡ at → own_after ≡ plus read moved
+        → from_at ≡ get_or contents from from_at → from_read ≡ from_at → left ≡ minus from_read moved
+        → Took (Steal victim moved) (set (set contents own own_after) from left)
+    steal_taken victim moved listed own from at read own_after from_at from_read left may noted listed_is own_is from_is found copied own_after_is from_found from_copied left_is =
+        let legal : MayStep limits (world_of words contents lists) (Commit t (Steal victim moved)) = may_shown before limits words contents lists (Commit t (Steal victim moved)) is may in
+        let named = kept.lawful.agreed.named t (own_part victim) legal.commit.held.other legal.thread legal.commit.held.holds_other in
+        let within : victim + 1 < length contents = omega (arith, named.0, kept.contents_are) in
+        took (Steal victim moved) (set (set contents own own_after) from left) may (noted ∙ ap (λ xs. lists_with lists t (Committed (Steal victim xs))) listed_is)
+        (ap (λ i. set (set contents i own_after) from left) own_is
+        ∙ (ap (λ c. set (set contents (t + 1) c) from left)
+        (own_after_is ∙ ap (λ c. plus c moved) (read_part contents (t + 1) own at read own_is (own_within (Steal victim moved) may) found copied))
+        ∙ (ap (λ i. set (set contents (t + 1) (plus (get_or contents (t + 1) []) moved)) i left) from_is
+        ∙ ap (set (set contents (t + 1) (plus (get_or contents (t + 1) []) moved)) (victim + 1))
+        (left_is ∙ ap (λ c. minus c moved) (read_part contents (victim + 1) from from_at from_read from_is within from_found from_copied)))))

@@ -225,6 +225,11 @@ impl Plain {
                     && self.has_all(own(*victim), moved.as_slice())
             }
             Event::Refill { moved } => self.may_refill(part, moved.as_slice()),
+            Event::Steal { victim, moved } => {
+                !moved.as_slice().is_empty()
+                    && self.has_all(own(*victim), moved.as_slice())
+                    && self.count(part).saturating_add(moved.as_slice().len()) <= self.k
+            }
         }
     }
 
@@ -309,7 +314,9 @@ impl Plain {
                 self.delete(*item)?;
             }
             Event::Nothing => {}
-            Event::Spy { victim: _, moved } => self.move_all(own(thread), moved.as_slice()),
+            Event::Spy { victim: _, moved } | Event::Steal { victim: _, moved } => {
+                self.move_all(own(thread), moved.as_slice());
+            }
             Event::Refill { moved } => {
                 self.refilled = self.refilled.saturating_add(1);
                 self.move_all(own(thread), moved.as_slice());
@@ -346,11 +353,12 @@ fn own(thread: u32) -> u32 {
 }
 
 // The part that an event needs beside the thread's own one, or that one. That of a spy on the
-// thread itself is not there.
+// thread itself, or of a steal from it, is not there.
 fn other_part(thread: u32, event: &Event) -> u32 {
     match event {
         Event::Spy { victim, moved: _ } if *victim == thread => u32::MAX,
-        Event::Spy { victim, moved: _ } => own(*victim),
+        Event::Steal { victim, moved: _ } if *victim == thread => u32::MAX,
+        Event::Spy { victim, moved: _ } | Event::Steal { victim, moved: _ } => own(*victim),
         Event::Put(_) | Event::Early { .. } => own(thread),
         _ => 0,
     }

@@ -1,6 +1,6 @@
 //! Random steps, legal ones and others.
 
-use super::super::steps::{Moved, Row, commit, early, flush, refill, spy, step_of};
+use super::super::steps::{Moved, Row, commit, early, flush, refill, spy, steal, step_of};
 use super::plain::Plain;
 use klsm_run::Item;
 use klsm_world::{Event, Items, Step};
@@ -65,13 +65,14 @@ fn proposed_event(alloc: Global, mix: &mut Pcg32, plain: &Plain, thread: u32) ->
         stamp: plain.next_stamp(thread),
         load: 0,
     };
-    match below(mix, 16) {
+    match below(mix, 17) {
         0..=2 => Some(commit(thread, Event::Put(item))),
         3..=5 => proposed_flush(alloc, mix, plain, thread, item),
         6 => Some(commit(thread, Event::Nothing)),
         7 => proposed_spy(alloc, mix, plain, thread),
         8 | 9 => Some(proposed_early(mix, plain, thread, item)),
         10 | 11 => proposed_refill(alloc, mix, plain, thread),
+        12 => proposed_steal(alloc, mix, plain, thread),
         _ => {
             let item = proposed_take(mix, plain, thread, item);
             Some(commit(thread, Event::Take(item)))
@@ -112,6 +113,19 @@ fn proposed_refill(alloc: Global, mix: &mut Pcg32, plain: &Plain, thread: u32) -
         moved.truncate(room);
     }
     Some(refill(thread, Items::new(moved)))
+}
+
+// A steal that moves some of another's items, mostly no more than there is room for.
+fn proposed_steal(alloc: Global, mix: &mut Pcg32, plain: &Plain, thread: u32) -> Option<Step> {
+    let victim = any_of(mix, plain.threads);
+    let room = plain
+        .k
+        .saturating_sub(plain.count(thread.saturating_add(1)));
+    let mut moved = some_of(alloc, mix, plain, victim.saturating_add(1))?;
+    if below(mix, 4) > 0 {
+        moved.truncate(room);
+    }
+    Some(steal(thread, victim, Items::new(moved)))
 }
 
 // Some items of a part, ascending: each or none of them more often than not.
@@ -165,7 +179,7 @@ fn proposed_early(mix: &mut Pcg32, plain: &Plain, thread: u32, item: Item) -> St
 fn spoilt(alloc: Global, mix: &mut Pcg32, threads: u32) -> Option<Step> {
     let wrong = (3, 0, 99);
     let moved = Moved::One(wrong);
-    let row = match below(mix, 10) {
+    let row = match below(mix, 12) {
         0 => Row::Acquire(threads, 0),
         1 => Row::Release(0, threads.saturating_add(1)),
         2 => Row::Put(0, wrong),
@@ -174,7 +188,9 @@ fn spoilt(alloc: Global, mix: &mut Pcg32, threads: u32) -> Option<Step> {
         5 => Row::Spy(0, 0, moved),
         6 => Row::Spy(0, threads, moved),
         7 => Row::Refill(0, moved),
-        8 => Row::Look(threads),
+        8 => Row::Steal(0, 0, moved),
+        9 => Row::Steal(0, threads, moved),
+        10 => Row::Look(threads),
         _ => Row::Nothing(threads),
     };
     step_of(alloc, row)

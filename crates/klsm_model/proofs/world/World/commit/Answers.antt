@@ -1,5 +1,5 @@
 use Rattle.std.proofs.Common.{◌∙◌, sym, subst, ap}
-use Rattle.klsm_world.specs.declared.step.Event.TheVariants.{Flush, Spy, Refill}
+use Rattle.klsm_world.specs.declared.step.Event.TheVariants.{Flush, Spy, Refill, Steal}
 use Rattle.klsm_world.specs.declared.step.Step.TheVariants.{Commit}
 use Rattle.klsm_world.specs.Schedules.{MayStep}
 use Rattle.klsm_model.specs.WorldView.{IsStepped}
@@ -46,3 +46,9 @@ refill-requires g c = subst (λ event. MayStep c.args.self.now.limits c.args.sel
 
 pub returns-in-Refill : goal.returns-in-Refill
 returns-in-Refill g c = subst (λ event. IsStepped c.args.self.now (Commit c.args.thread event) c.refill.result c.refill.new.self) (sym (c.in-Refill.is ∙ ap Refill (sym c.as_slice-in-Refill.ensures))) c.refill.ensures
+
+pub steal-requires : goal.steal-requires
+steal-requires g c = subst (λ event. MayStep c.args.self.now.limits c.args.self.now.world (Commit c.args.thread event)) (c.in-Steal.is ∙ ap (Steal c.in-Steal.victim) (sym c.as_slice-in-Steal.ensures)) c.requires
+
+pub returns-in-Steal : goal.returns-in-Steal
+returns-in-Steal g c = subst (λ event. IsStepped c.args.self.now (Commit c.args.thread event) c.steal.result c.steal.new.self) (sym (c.in-Steal.is ∙ ap (Steal c.in-Steal.victim) (sym c.as_slice-in-Steal.ensures))) c.steal.ensures

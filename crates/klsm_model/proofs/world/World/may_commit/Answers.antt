@@ -1,7 +1,8 @@
 use Rattle.std.proofs.Common.{◌≡◌, ◌==◌, ◌↔◌, [], IsTrue, List, length, true, false, inr, refl, sym, ap, subst, ◌∙◌, arith}
 use Rattle.std.proofs.lemmas.Bool.{ltb-true}
 use Rattle.klsm_parts.specs.Events.{MayPut, MayFlush, MayTake, MayTakeEarly, MayFindNothing, MaySpy, MayRefill}
-use Rattle.klsm_world.specs.declared.step.Event.TheVariants.{Put, Flush, Take, Early, Nothing, Spy, Refill}
+use Rattle.klsm_parts.specs.Stealing.{MaySteal}
+use Rattle.klsm_world.specs.declared.step.Event.TheVariants.{Put, Flush, Take, Early, Nothing, Spy, Refill, Steal}
 use Rattle.klsm_model.specs.Kept.{HoldsAll}
 use Rattle.klsm_world.specs.LawfulWorlds.{IsLawful}
 use Rattle.klsm_world.specs.LegalSteps.{MayCommit}
@@ -166,4 +167,23 @@ returns-in-Refill g c =
     subst (λ event. IsTrue c.may_refill.result ↔ MayCommit r.limits.k c.args.thread (hand_in r.world c.args.thread) n event) (sym c.in-Refill.is) (
       λ goes. both.0 (subst (λ z. MayRefill z own shared moved) k (subst (MayRefill c.self.inside.k own shared) c.as_slice-in-Refill.ensures (c.may_refill.ensures.0 goes))),
       λ may. c.may_refill.ensures.1 (subst (MayRefill c.self.inside.k own shared) (sym c.as_slice-in-Refill.ensures) (subst (λ z. MayRefill z own shared moved) (sym k) (both.1 may))),
+    )
+
+pub returns-in-Steal : goal.returns-in-Steal
+returns-in-Steal g c =
+    let r : WorldView = c.args.self.now in
+    let own = c.items_of-own.result.now in
+    let n = length (inserted (steps_of r.world c.args.thread)) in
+    let victim = c.in-Steal.victim in let moved = c.in-Steal.moved in let from = c.items_of-in-Steal.result.now in
+    let lawful : IsLawful r.limits r.world = subst (λ (z : WorldView). IsLawful z.limits z.world) c.self.view_is c.self.invariant.lawful in
+    let held : HoldsAll r.world c.args.thread (parts_for c.args.thread (Steal victim moved)) = subst (λ event. HoldsAll r.world c.args.thread (parts_for c.args.thread event)) c.in-Steal.is c.requires.held in
+    let k : c.self.inside.k ≡ r.limits.k = ap (λ (z : WorldView). z.limits.k) c.self.view_is in
+    let both = holds_both r.limits r.world c.args.thread lawful.agreed c.requires.thread (own_part victim) (λ own from. MaySteal r.limits.k own from moved) own from
+    (subst (λ p. own ≡ content_of r.world p) c.own_part.ensures c.items_of-own.ensures.content) (subst (λ p. from ≡ content_of r.world p) c.own_part-in-Steal.ensures c.items_of-in-Steal.ensures.content) held.0 held.1.0 in
+    subst (λ event. IsTrue c.may_steal.result ↔ MayCommit r.limits.k c.args.thread (hand_in r.world c.args.thread) n event) (sym c.in-Steal.is) (
+      λ goes. record {
+        held = both.0 (subst (λ z. MaySteal z own from moved) k (subst (MaySteal c.self.inside.k own from) c.as_slice-in-Steal.ensures (c.may_steal.ensures.0 goes)));
+        another = λ same. subst (λ event. NamesNoVictim r.limits c.args.thread event → ⊥) c.in-Steal.is c.requires.victim (inr same);
+      },
+      λ may. c.may_steal.ensures.1 (subst (MaySteal c.self.inside.k own from) (sym c.as_slice-in-Steal.ensures) (subst (λ z. MaySteal z own from moved) (sym k) (both.1 may.held))),
     )
