@@ -88,6 +88,7 @@ few_answered m lists es' x passes = by_event passes.event passes.answers passes.
         subst (λ z. IsFew m.threads m.k (skipped (account lists).left z)) (ap (first_or y) is) (let goal : s ≤ n' = omega (arith, few', most) in goal, few.1)
     by_event event.Nothing is few = absurd (let bad : [] ≡ x ∷ [] = is in cc)
     by_event (event.Spy victim moved) is few = absurd few
+    by_event (event.Steal victim moved) is few = absurd few
     by_event (event.Refill moved) is few = absurd few
 
 -- and none where nothing is

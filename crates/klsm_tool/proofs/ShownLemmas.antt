@@ -39,6 +39,7 @@ inserted_within es = by_events (committed_in es)
     one (event.Early x front) = omega arith
     one event.Nothing = omega arith
     one (event.Spy victim moved) = omega arith
+    one (event.Steal victim moved) = omega arith
     one (event.Refill moved) = omega arith
 
     by_events : (all : List Event) → length (flat_map inserted_by all) ≤ length (flat_map shown all)
