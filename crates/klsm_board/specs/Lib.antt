@@ -5,6 +5,7 @@ pub mod Inserting  -- what an insertion adds to its member's list
 pub mod Pausing  -- what comes between two tries of a call that may wait
 pub mod Choosing  -- how a deletion chooses
 pub mod Deleting  -- what a deletion adds
+pub mod Stealing  -- what a steal adds
 pub mod Effects  -- where a deletion takes effect, and in which world
 pub mod Boards  -- boards, their members, and what a member holds
 pub mod Finishing  -- how a board ends

@@ -5,7 +5,7 @@ use Rattle.atomic_table.specs.Seated.{TableId}
 use Rattle.klsm_run.specs.declared.item.Item.{Item}
 use Rattle.klsm_parts.specs.Events.{front_of}
 use Rattle.klsm_world.specs.declared.step.Event.{Event}
-use Rattle.klsm_world.specs.declared.step.Event.TheVariants.{Put, Flush, Take, Early, Nothing, Spy, Refill}
+use Rattle.klsm_world.specs.declared.step.Event.TheVariants.{Put, Flush, Take, Early, Nothing, Spy, Refill, Steal}
 use Rattle.klsm_world.specs.declared.step.Entry.{Entry}
 use Rattle.klsm_world.specs.OwnSteps.{Hand, own_part, shared_part, content_in, hand_of, after_event, inserted, inserted_by}
 use Rattle.klsm_world.specs.LegalSteps.{MayCommit}
@@ -14,12 +14,15 @@ use Rattle.klsm_board.specs.declared.rule.View.{View}
 use Rattle.klsm_board.specs.Rule.{IsSized}
 use Rattle.klsm_board.specs.Steps.{mine, IsMine, AreReached}
 
--- hands with the own part, with the shared part too, and with a victim's as well
+-- hands with the own part, with the shared part too, with a victim's beside the own one, and with all three
 abbrev pub own_in_hand : ℕ → List Item → Hand
 own_in_hand t own = (own_part t, own) ∷ []
 
 abbrev pub both_in_hand : ℕ → List Item → List Item → Hand
 both_in_hand t own shared = (shared_part, shared) ∷ own_in_hand t own
+
+abbrev pub victim_in_hand : ℕ → ℕ → List Item → List Item → Hand
+victim_in_hand t victim from own = (own_part victim, from) ∷ own_in_hand t own
 
 abbrev pub three_in_hand : ℕ → ℕ → List Item → List Item → List Item → Hand
 three_in_hand t victim from own shared = (own_part victim, from) ∷ both_in_hand t own shared
@@ -83,6 +86,7 @@ LeavesShared t hand (Take x) =
 LeavesShared t hand (Early x front) = ⊥
 LeavesShared t hand Nothing = ⊤
 LeavesShared t hand (Spy victim moved) = ⊤
+LeavesShared t hand (Steal victim moved) = ⊤
 LeavesShared t hand (Refill moved) = ⊥
 
 -- an event that a store of the front commits, and the front that it leaves: a Flush, a Refill, and a
@@ -97,6 +101,7 @@ SetsFront t hand (Take x) front =
 SetsFront t hand (Early x least) front = ⊥
 SetsFront t hand Nothing front = ⊥
 SetsFront t hand (Spy victim moved) front = ⊥
+SetsFront t hand (Steal victim moved) front = ⊥
 SetsFront t hand (Refill moved) front =
     front ≡ front_of (content_in (after_event t hand (Refill moved)) shared_part)
 

@@ -72,8 +72,9 @@
 //! The files, from the atomic steps up: `rule` and `plays` (what always holds, and what a step tells), `steps`
 //! (acquire, release, the two commits, the look at the front), `slot` (what is done to the parts), `lending`,
 //! `acquiring` (one try, or as many as it needs), `inserting`, `spying`, `early` (deletions by the front),
-//! `taking`, `deleting`, and the public calls in `making`, `member`, `held`, `together` and `finishing`. `tally`
-//! has the counts of members that are in one hand. `gate` is for programs that run members in threads.
+//! `taking`, `deleting`, `stealing` (balances), and the public calls in `making`, `member`, `held`, `together` and
+//! `finishing`. `tally` has the counts of members that are in one hand. `gate` is for programs that run members in
+//! threads.
 #![tactic(auto)]
 
 mod acquiring;
@@ -96,6 +97,7 @@ mod rule;
 mod sizes;
 mod slot;
 mod spying;
+mod stealing;
 mod steps;
 mod taking;
 mod tally;

@@ -1,5 +1,5 @@
 //! What the members of a board do.
-ghost use Rattle.std.specs.Prelude.{◌≡◌, ◌<◌, ◌≤◌, ◌+◌, ◌++◌, ◌↔◌, ℕ, List, [], ◌∷◌, length, IfOk, IfErr, IsErrAnd, None};
+ghost use Rattle.std.specs.Prelude.{◌≡◌, ◌≢◌, ◌<◌, ◌≤◌, ◌+◌, ◌++◌, ◌↔◌, ℕ, List, [], ◌∷◌, length, IfOk, IfErr, IsErrAnd, None};
 ghost use Rattle.std.specs.Option.{option_to_list};
 ghost use Rattle.klsm_run.specs.declared.item.Item.{Item};
 ghost use Rattle.klsm_world.specs.declared.step.Entry.TheVariants.{Looked};
@@ -9,14 +9,16 @@ ghost use Rattle.klsm_board.specs.Steps.{HasFront};
 ghost use Rattle.klsm_board.specs.Members.{most_deletions};
 ghost use Rattle.klsm_board.specs.Boards.{Adds, IsOf, IsSame, known_of_others, own_steps};
 ghost use Rattle.klsm_board.specs.Effects.{MeetsHolder, TakesEffect};
-ghost use Rattle.klsm_board.specs.Inserting.{Inserts, InsertsWaiting, RefusesInsert, RefusesInsertWaiting, stamp_of, stamped};
+ghost use Rattle.klsm_board.specs.Inserting.{Inserts, InsertsWaiting, MissesOwn, RefusesInsert, RefusesInsertWaiting, stamp_of, stamped};
 ghost use Rattle.klsm_board.specs.Deleting.{AnswersDeletion, AnswersWaiting, MissesDeletion};
+ghost use Rattle.klsm_board.specs.Stealing.{Balances};
 
 use crate::board::{Board, Member};
 use crate::deleting::delete_now;
 use crate::errors::{Busy, InsertError, TryInsertError};
 use crate::inserting::insert_now;
 use crate::pausing::Pause;
+use crate::stealing::balance_now;
 use crate::steps::see_front;
 use klsm_parts::Picker;
 use klsm_run::{Item, Stamp};
@@ -235,5 +237,43 @@ impl<const CAP: usize, const LEVELS: usize> Member<CAP, LEVELS> {
             }
         }
         unreachable!()
+    }
+
+    /// Moves the least items of a victim's part to the own one, where the key of the least of them is below the
+    /// front, and that item is smaller than the least own one: at most `most`, as half of what the victim has,
+    /// rounded up, and as many as the own part has room for. True where some moved. It waits for nobody.
+    ///
+    /// It acquires the own lock, looks at the front, and tries the victim's lock once. A member that calls it now
+    /// and then, each time for the next other member, takes a share of the small items of all. No bound changes:
+    /// own parts have at most k items as before. But the own order of a member speaks of the own part and the
+    /// shared one, and an item that it inserted lies in neither once another has stolen it.
+    pub fn try_balance(
+        &mut self,
+        board: &Board<CAP, LEVELS>,
+        victim: u32,
+        most: usize,
+    ) -> Result<bool, Busy>
+        requires board { IsOf self.old board.now }
+        requires victim { (victim < self.old.sizes.threads) × (victim ≢ self.old.number) }
+        ensures same { IsSame self.old self.new }
+        ensures others { known_of_others self.new ≡ known_of_others self.old }
+        ensures ok { IfOk result (Balances self.old.sizes self.old.number most victim
+            (own_steps self.old) (own_steps self.new)) }
+        ensures adds { Adds self.old self.new [] [] }
+        ensures busy { IfErr result (MissesOwn self.old.number (own_steps self.old)
+            (own_steps self.new)) }
+        ensures holder { IfErr result (MeetsHolder self.old.sizes self.old.number
+            (known_of_others self.old) (own_steps self.new)) }
+    {
+        let thread = self.number as usize;
+        let threads = self.sizes.threads;
+        balance_now(
+            &board.table.shared,
+            &mut self.seat,
+            thread,
+            threads,
+            victim,
+            most,
+        )
     }
 }

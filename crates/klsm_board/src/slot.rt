@@ -9,12 +9,15 @@ ghost use Rattle.klsm_parts.specs.Parts.{items_in};
 ghost use Rattle.klsm_parts.specs.Least.{IsLeast};
 ghost use Rattle.klsm_parts.specs.Events.{MayPut, MayFlush, MayTake, MayFindNothing, MaySpy, MayRefill, own_after_put, own_after_flush, shared_after_flush, own_after_take, shared_after_take, own_after_early, own_after_spy, victim_after_spy, own_after_refill, shared_after_refill, front_of};
 ghost use Rattle.klsm_parts.specs.Refilling.{refill_of};
+ghost use Rattle.klsm_parts.specs.Stealing.{MaySteal, own_after_steal, victim_after_steal, steal_of};
 ghost use Rattle.klsm_world.specs.OwnSteps.{own_part, shared_part};
 ghost use Rattle.klsm_board.specs.Choosing.{Chooses};
 
 use crate::boxed::Boxed;
 use crate::rule::Holding;
-use klsm_parts::{Local, LsmError, Picker, Shared, flush, put, refill, spy, take, take_least};
+use klsm_parts::{
+    Local, LsmError, Picker, Shared, flush, put, refill, spy, steal, take, take_least,
+};
 use klsm_run::Item;
 use std::alloc::AllocError;
 
@@ -180,6 +183,28 @@ pub trait PartSlot: Holding + Drop {
             ((refill_of most k (Self.content self.old) (Self.content shared.old) ≡ [])
             × (Self.content self.new ≡ Self.content self.old)
             × (Self.content shared.new ≡ Self.content shared.old)) };
+
+    /// Moves the least items of a victim's part to an own one: at most `most`, as half of what the victim has, and as many
+    /// as the own part has room for. True where some moved.
+    fn steal(&mut self, victim: &mut Self, most: usize) -> bool
+        requires sized { is_sized }
+        requires parts { (k : ℕ) × (t : ℕ) × (v : ℕ) × Self.suits k (own_part t) self.old
+            × Self.suits k (own_part v) victim.old }
+        requires apart { ShareNone (Self.content self.old) (Self.content victim.old) }
+        ensures kind { (k t : ℕ) → Self.suits k (own_part t) self.old
+            → Self.suits k (own_part t) self.new }
+        ensures victim_kind { (k t : ℕ) → Self.suits k (own_part t) victim.old
+            → Self.suits k (own_part t) victim.new }
+        ensures done { (k t : ℕ) → Self.suits k (own_part t) self.old → MatchBool result
+            (MaySteal k (Self.content self.old) (Self.content victim.old)
+            (steal_of most k (Self.content self.old) (Self.content victim.old))
+            × (Self.content self.new ≡ own_after_steal (Self.content self.old)
+            (steal_of most k (Self.content self.old) (Self.content victim.old)))
+            × (Self.content victim.new ≡ victim_after_steal (Self.content victim.old)
+            (steal_of most k (Self.content self.old) (Self.content victim.old))))
+            ((steal_of most k (Self.content self.old) (Self.content victim.old) ≡ [])
+            × (Self.content self.new ≡ Self.content self.old)
+            × (Self.content victim.new ≡ Self.content victim.old)) };
 }
 
 /// A part on the heap, so that a call that acquires it moves a tag and a pointer.
@@ -314,6 +339,16 @@ impl<const CAP: usize, const LEVELS: usize> PartSlot for BoardSlot<CAP, LEVELS> 
         match (self, shared) {
             (Slot::Own(own), Slot::Common(shared)) => {
                 refill(own.get_mut(), shared.get_mut(), most) != 0
+            }
+            _ => unreachable!(),
+        }
+    }
+
+    #[inline]
+    fn steal(&mut self, victim: &mut Self, most: usize) -> bool {
+        match (self, victim) {
+            (Slot::Own(own), Slot::Own(victim)) => {
+                steal(own.get_mut(), victim.get_mut(), most) != 0
             }
             _ => unreachable!(),
         }

@@ -309,6 +309,18 @@ impl Moving for Refilling {
     ghost event = { λ _ moved. Refill moved };
 }
 
+/// A stealing from the member with this number.
+#[derive(Drop)]
+pub(crate) struct Stealing {
+    pub victim: u32,
+}
+
+impl Moving for Stealing {
+    ghost use Rattle.klsm_world.specs.declared.step.Event.TheVariants.{Steal};
+
+    ghost event = { λ about moved. Steal about.victim moved };
+}
+
 /// A spying on the member with this number.
 impl Moving for u32 {
     ghost use Rattle.klsm_world.specs.declared.step.Event.TheVariants.{Spy};

@@ -116,6 +116,20 @@ impl<const LEVELS: usize> Crew<LEVELS> {
         Some(member.delete_min(rt, &self.board, &mut First))
     }
 
+    /// How a member's balance with a victim ends, where that is another member of the board.
+    pub fn try_balance(
+        &mut self,
+        member: usize,
+        victim: u32,
+        most: usize,
+    ) -> Option<Result<bool, Busy>> {
+        let member = self.members.get_mut(member)?;
+        if victim as usize >= self.board.threads() || victim == member.number() {
+            return None;
+        }
+        Some(member.try_balance(&self.board, victim, most))
+    }
+
     /// How many insertions and deletions a member has made.
     pub fn counts(&self, member: usize) -> Option<(u64, u64)> {
         let member = self.members.get(member)?;

@@ -1,5 +1,6 @@
 //! A board and its members, in one thread and in several.
 
+mod balanced;
 mod dropped;
 mod finished;
 mod front;

@@ -7,6 +7,7 @@ pub mod EventLemmas  -- which events the entries have
 pub mod AddLemmas  -- what the calls insert and delete
 pub mod AddedLemmas  -- the events of each call
 pub mod RefillLemmas  -- what a refill adds
+pub mod StealLemmas  -- when a steal moves items
 pub mod DeletedLemmas  -- those of a deletion
 pub mod LoneLemmas  -- with one thread a deletion skips nothing
 pub mod EffectLemmas  -- where a deletion takes effect

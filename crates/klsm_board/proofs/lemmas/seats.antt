@@ -5,3 +5,4 @@ pub mod RestLemmas  -- a member between two of its calls
 pub mod TurnLemmas  -- the slots carried, in turn
 pub mod LendLemmas  -- two parts at once
 pub mod SpyLemmas  -- three parts
+pub mod StealLemmas  -- a victim's part and the own one

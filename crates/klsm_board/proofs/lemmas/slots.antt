@@ -4,3 +4,4 @@ pub mod FlushLemmas  -- a flush, by its answer
 pub mod SpyLemmas  -- a spy, by its answer
 pub mod TakeLemmas  -- a take, by its answer
 pub mod RefillLemmas  -- a refill, by its answer
+pub mod StealLemmas  -- a steal, by its answer

@@ -107,6 +107,19 @@ impl Both {
         }
     }
 
+    // Whether a balance with some other member ends alike, and without others a deletion.
+    fn balance(&mut self, member: usize) -> Option<bool> {
+        let threads = self.crew.board.threads();
+        if threads < 2 {
+            return self.delete(member);
+        }
+        let steps = below(&mut self.mix, threads.saturating_sub(1)).saturating_add(1);
+        let victim = number_of(member.saturating_add(steps) % threads)?;
+        let most = below(&mut self.mix, 6);
+        let want = self.plain.balance(number_of(member)?, victim, most)?;
+        Some(self.crew.try_balance(member, victim, most)? == want)
+    }
+
     // The number of the last member that holds no part.
     fn last_free(&self) -> Option<u32> {
         Some(number_of(self.crew.members.len())?.saturating_sub(1))
@@ -155,23 +168,25 @@ impl Both {
         }
     }
 
-    // Whether a call of some kind ends alike. Of 16 numbers those from 2 up to a bound are insertions.
+    // Whether a call of some kind ends alike. Of 17 numbers those from 2 up to a bound are insertions, and the last one
+    // is a balance.
     fn step(&mut self, bound: u32) -> Option<bool> {
         let free = self.crew.members.len();
         if free == 0 {
             return Some(self.put_back());
         }
         let member = below(&mut self.mix, free);
-        match self.mix.next_u32() % 16 {
+        match self.mix.next_u32() % 17 {
             0 | 1 => self.hold_or_put_back(),
+            16 => self.balance(member),
             kind if kind < bound => self.insert(member),
             _ => self.delete(member),
         }
     }
 
-    // Whether each of 600 calls does: for a while more insertions, and for as long more deletions.
+    // Whether each of 1,200 calls does: for a while more insertions, and for as long more deletions.
     fn steps(&mut self, turn: usize) -> Option<bool> {
-        for round in 0..600 {
+        for round in 0..1200 {
             let bound = if round / turn.max(1) % 2 == 0 { 11 } else { 4 };
             if !self.step(bound)? {
                 return Some(false);
@@ -191,14 +206,16 @@ impl Both {
 }
 
 // Whether all goes alike. Where there are others and own parts, some deletions have to go by the
-// front while the shared part is held, and some have to spy. With a refill some have to move items.
+// front while the shared part is held, some have to spy, and some balances have to steal. With a refill some have to
+// move items.
 fn goes_alike(alloc: Global, kind: Kind, picks: Picks) -> Option<bool> {
     let mut both = both_of(alloc, kind, picks)?;
     let steps = both.steps(kind.turn)?;
     let others = kind.threads > 1 && kind.k > 0;
     let ways = (both.plain.early > 4) == others && (both.plain.spied > 4) == others;
     let moves = (both.plain.refilled > 0) == (kind.refill > 0);
-    Some(steps && ways && moves && both.ends_alike(alloc)?)
+    let steals = (both.plain.stolen > 0) == others;
+    Some(steps && ways && moves && steals && both.ends_alike(alloc)?)
 }
 
 // Whether they do for one to four members and each way to pick.

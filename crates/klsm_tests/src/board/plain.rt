@@ -32,6 +32,8 @@ pub(super) struct Plain {
     pub spied: u64,
     /// How often they moved from the shared part.
     pub refilled: u64,
+    /// How often they moved from another member's part at a balance.
+    pub stolen: u64,
 }
 
 impl Plain {
@@ -57,6 +59,7 @@ impl Plain {
             early: 0,
             spied: 0,
             refilled: 0,
+            stolen: 0,
         })
     }
 
@@ -210,6 +213,47 @@ impl Plain {
         self.owns.get_mut(member as usize)?.blocks.push(moved).ok()?;
         self.spied = self.spied.saturating_add(1);
         Some(true)
+    }
+
+    /// How a member's balance with a victim ends that may move so many items.
+    pub(super) fn balance(
+        &mut self,
+        member: u32,
+        victim: u32,
+        most: usize,
+    ) -> Option<Result<bool, Busy>> {
+        if let Some(busy) = self.busy(own_lock(member)) {
+            return Some(Err(busy));
+        }
+        let from = self.own_items(victim)?;
+        if self.busy(own_lock(victim)).is_some() || !self.gains(member, from.first().copied())? {
+            return Some(Ok(false));
+        }
+        let half = from.len().saturating_sub(from.len() / 2);
+        let room = self.k.saturating_sub(self.own_items(member)?.len());
+        let count = most.min(half).min(room);
+        for item in &from[..count] {
+            self.steal(member, victim, *item)?;
+        }
+        self.stolen = self.stolen.saturating_add(u64::from(count > 0));
+        Some(Ok(count > 0))
+    }
+
+    // Whether there is such an item of a victim, its key is below the front, and it is smaller than the least of the
+    // member's own part.
+    fn gains(&self, member: u32, theirs: Option<Item>) -> Option<bool> {
+        let is_smaller = match (theirs, self.least_own(member)?) {
+            (Some(item), Some(own)) => item < own,
+            _ => true,
+        };
+        Some(is_smaller && self.is_below_front(theirs))
+    }
+
+    // Moves an item from a victim's part to a member's.
+    fn steal(&mut self, member: u32, victim: u32, item: Item) -> Option<()> {
+        remove(&mut self.owns.get_mut(victim as usize)?.blocks, item).ok()?;
+        let own = self.owns.get_mut(member as usize)?;
+        add(&mut own.blocks, [item].to_vec(self.alloc).ok()?).ok()
     }
 
     /// Whether a member cannot hold a part, and why.

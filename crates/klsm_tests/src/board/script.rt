@@ -32,6 +32,10 @@ pub(super) enum Step {
     Deletes(u32, Option<Name>),
     /// A member that deletes misses a lock.
     Misses(u32, Busy),
+    /// A member balances with a victim, and at most so many items may move: whether some did.
+    Balances(u32, u32, usize, bool),
+    /// A member that balances misses a lock.
+    CannotBalance(u32, u32, Busy),
     /// The last member that holds nothing, which is this one, holds a part of so many items and
     /// with this least one.
     Holds(u32, usize, usize, Option<Name>),
@@ -119,6 +123,16 @@ fn deletes<const LEVELS: usize>(
     delete(rt, crew, waits, member) == Some(want)
 }
 
+// Whether a member's balance with a victim ends so.
+fn balances<const LEVELS: usize>(
+    crew: &mut Crew<LEVELS>,
+    (member, victim): (u32, u32),
+    most: usize,
+    want: Result<bool, Busy>,
+) -> bool {
+    crew.try_balance(member as usize, victim, most) == Some(want)
+}
+
 // Whether a try of the last member to hold a part ends so.
 fn holds<const LEVELS: usize>(
     crew: &mut Crew<LEVELS>,
@@ -155,6 +169,10 @@ fn goes<const LEVELS: usize>(
         Step::IsRefused(member, key, why) => inserts(rt, crew, waits, (member, key), Err(why)),
         Step::Deletes(member, name) => deletes(rt, crew, waits, member, Ok(named(name))),
         Step::Misses(member, busy) => deletes(rt, crew, waits, member, Err(busy)),
+        Step::Balances(member, victim, most, moves) => {
+            balances(crew, (member, victim), most, Ok(moves))
+        }
+        Step::CannotBalance(member, victim, busy) => balances(crew, (member, victim), 1, Err(busy)),
         Step::Holds(member, lock, len, least) => {
             holds(crew, lock, Ok(())) && crew.holds(member, lock, len, named(least))
         }

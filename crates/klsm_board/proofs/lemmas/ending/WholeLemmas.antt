@@ -18,7 +18,7 @@ use Rattle.klsm_run.proofs.SortedLemmas.{length_sorted}
 use Rattle.klsm_parts.specs.Events.{minus}
 use Rattle.klsm_parts.specs.Parts.{PartState}
 use Rattle.klsm_world.specs.declared.step.Event.{Event}
-use Rattle.klsm_world.specs.declared.step.Event.TheVariants.{Put, Flush, Take, Early, Nothing, Spy, Refill}
+use Rattle.klsm_world.specs.declared.step.Event.TheVariants.{Put, Flush, Take, Early, Nothing, Spy, Refill, Steal}
 use Rattle.klsm_world.specs.declared.step.Entry.{Entry}
 use Rattle.klsm_world.specs.OwnSteps.{found_in, hand_of, inserted, deleted}
 use Rattle.klsm_world.specs.Worlds.{live, steps_of}
@@ -108,6 +108,7 @@ in_order m (Take x) items few = let same : skipped (sorted items) x ≡ skipped 
 in_order m (Early x front) items few = let same : skipped (sorted items) x ≡ skipped items x = count_sorted (λ y. is_smaller y x) items in (subst (λ n. n ≤ (m.threads - 1) * m.k) (sym same) few.0, λ one. same ∙ few.1 one)
 in_order m Nothing items few = let n : ℕ = (m.threads - 1) * m.k in let same : length (sorted items) ≡ length items = length_sorted items in let few' : length items ≤ n = few in omega (arith, same, few')
 in_order m (Spy victim moved) items few = few
+in_order m (Steal victim moved) items few = few
 in_order m (Refill moved) items few = few
 
 -- a thread's list in place of another one of its own

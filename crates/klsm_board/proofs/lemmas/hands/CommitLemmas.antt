@@ -7,7 +7,8 @@ use Rattle.klsm_run.proofs.ContentLemmas.{sorted_swap}
 use Rattle.klsm_run.proofs.SortedLemmas.{sorted_ascending}
 use Rattle.klsm_run.proofs.WithoutLemmas.{sorted_cancel}
 use Rattle.klsm_parts.specs.Events.{MayPut, MayFlush, MayTake, MayTakeEarly, MaySpy, MayRefill, own_after_put, own_after_flush, shared_after_flush, own_after_take, shared_after_take, own_after_early, own_after_spy, victim_after_spy, own_after_refill, shared_after_refill, front_of}
-use Rattle.klsm_world.specs.declared.step.Event.TheVariants.{Put, Flush, Take, Early, Spy, Refill}
+use Rattle.klsm_parts.specs.Stealing.{MaySteal, own_after_steal, victim_after_steal}
+use Rattle.klsm_world.specs.declared.step.Event.TheVariants.{Put, Flush, Take, Early, Spy, Refill, Steal}
 use Rattle.klsm_world.specs.OwnSteps.{Hand, Holds, found_in, hand_of, inserted, content_in, after_event, shared_part}
 use Rattle.klsm_world.specs.LegalSteps.{BearsStamp, MayCommit}
 use Rattle.klsm_world.proofs.lemmas.counts.EventCountLemmas.{length_plus}
@@ -16,8 +17,8 @@ use Rattle.std.proofs.lemmas.Option.{same_Some}
 use Rattle.klsm_board.specs.declared.sizes.Sizes.{Sizes}
 use Rattle.klsm_board.specs.declared.rule.View.{View}
 use Rattle.klsm_board.specs.Steps.{mine, AreReached}
-use Rattle.klsm_board.specs.Seats.{Carries, Has, CarriedOut, LeavesShared, SetsFront, own_in_hand, both_in_hand, three_in_hand}
-use Rattle.klsm_board.proofs.lemmas.hands.EventLemmas.{own_in_one, own_in_both, shared_in_both, own_in_three, victim_in_three, put_leaves, flush_leaves, take_leaves, early_leaves, spy_leaves, refill_leaves}
+use Rattle.klsm_board.specs.Seats.{Carries, Has, CarriedOut, LeavesShared, SetsFront, own_in_hand, both_in_hand, three_in_hand, victim_in_hand}
+use Rattle.klsm_board.proofs.lemmas.hands.EventLemmas.{own_in_one, own_in_both, shared_in_both, own_in_three, victim_in_three, put_leaves, flush_leaves, take_leaves, early_leaves, spy_leaves, refill_leaves, own_beside_victim, victim_beside_own, steal_leaves}
 
 -- the content of the part that was acquired last
 abbrev first_content : Hand → List Item
@@ -223,3 +224,32 @@ module _ {S : Type 0} (content : S → List Item) (suits : ℕ → ℕ → S →
   spy_told v found own shared moved named me me' other has same out =
       ap third_content
       (sym (spy_leaves t v (hand_of t (mine me'.0)) found own shared other (still (three_in_hand t v found own shared) me me' has same) named) ∙ out.done)
+
+  pub steal_done : (v : ℕ) (found own moved : List Item) (me me' : Me S View) → v ≢ t → Has content suits m t (victim_in_hand t v found own) me → me'.0 ≡ me.0 → MaySteal m.k own found moved
+      → Carries content suits m t (victim_in_hand t v (victim_after_steal found moved) (own_after_steal own moved)) me'
+      → CarriedOut content suits m t (Steal v moved) (victim_in_hand t v (victim_after_steal found moved) (own_after_steal own moved)) me'
+  steal_done v found own moved me me' other has same may carries = record {
+    carries = carries;
+    may = record {
+      held = record {
+        own = own;
+        other = found;
+        holds_own = holds_still (victim_in_hand t v found own) me me' (t + 1) own has same (own_beside_victim t v found own other);
+        holds_other = holds_still (victim_in_hand t v found own) me me' (v + 1) found has same (victim_beside_own t v found own);
+        fits = may;
+      };
+      another = other;
+    };
+    done = steal_leaves t v (hand_of t (mine me'.0)) found own other (still (victim_in_hand t v found own) me me' has same) moved;
+  }
+
+  -- the items that a Steal names are the ones that the own part gained
+  pub steal_told : (v : ℕ) (found own moved named : List Item) (me me' : Me S View) → v ≢ t → Has content suits m t (victim_in_hand t v found own) me → me'.0 ≡ me.0 → IsAscending moved
+      → CarriedOut content suits m t (Steal v named) (victim_in_hand t v (victim_after_steal found moved) (own_after_steal own moved)) me'
+      → named ≡ moved
+  steal_told v found own moved named me me' other has same up out =
+      let left : victim_in_hand t v (victim_after_steal found named) (own_after_steal own named) ≡ victim_in_hand t v (victim_after_steal found moved) (own_after_steal own moved) =
+      sym (steal_leaves t v (hand_of t (mine me'.0)) found own other (still (victim_in_hand t v found own) me me' has same) named) ∙ out.done in
+      let joined = ap second_content left in
+      let same_items = sorted_cancel own named moved (sorted_swap own named ∙ (joined ∙ sorted_swap moved own)) in
+      sym (sorted_ascending named out.may.held.fits.ascending) ∙ (same_items ∙ sorted_ascending moved up)

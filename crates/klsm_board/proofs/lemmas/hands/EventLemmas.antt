@@ -2,10 +2,11 @@
 use Rattle.std.proofs.Common.{◌≡◌, ◌≢◌, ℕ, ◌+◌, List, [], ◌∷◌, refl, sym, ap, ◌∙◌, arith, Some, None}
 use Rattle.klsm_run.specs.declared.item.Item.{Item}
 use Rattle.klsm_parts.specs.Events.{own_after_put, own_after_flush, shared_after_flush, own_after_take, shared_after_take, own_after_early, own_after_spy, victim_after_spy, own_after_refill, shared_after_refill}
-use Rattle.klsm_world.specs.declared.step.Event.TheVariants.{Put, Flush, Take, Early, Spy, Refill}
+use Rattle.klsm_parts.specs.Stealing.{own_after_steal, victim_after_steal}
+use Rattle.klsm_world.specs.declared.step.Event.TheVariants.{Put, Flush, Take, Early, Spy, Refill, Steal}
 use Rattle.klsm_world.specs.OwnSteps.{Hand, found_in, content_in, changed, after_event}
 use Rattle.klsm_world.proofs.lemmas.hands.HandLemmas.{choice_hit, choice_miss, found_first, found_behind}
-use Rattle.klsm_board.specs.Seats.{own_in_hand, both_in_hand, three_in_hand}
+use Rattle.klsm_board.specs.Seats.{own_in_hand, both_in_hand, three_in_hand, victim_in_hand}
 use Rattle.std.specs.Prelude.{unwrap_or}
 
 -- own parts are not the shared one
@@ -100,3 +101,25 @@ spy_leaves t v h found own shared other is moved =
     (change_behind (t + 1) (v + 1) found (own_after_spy moved) (both_in_hand t own shared) (differ v t other)
     ∙ ap (λ (z : Hand). (v + 1, found) ∷ z) (change_behind (t + 1) 0 shared (own_after_spy moved) (own_in_hand t own) (not_own t) ∙ ap (λ (z : Hand). (0, shared) ∷ z) (change_first (t + 1) own (own_after_spy moved) [])))
     ∙ change_first (v + 1) found (victim_after_spy found moved) moves)
+
+-- a victim's part beside the own one
+pub victim_not_in_one : (t v : ℕ) (own : List Item) → v ≢ t → found_in (own_in_hand t own) (v + 1) ≡ None
+victim_not_in_one t v own other = found_behind [] (t + 1) (v + 1) own (differ v t other)
+
+pub own_beside_victim : (t v : ℕ) (found own : List Item) → v ≢ t → found_in (victim_in_hand t v found own) (t + 1) ≡ Some own
+own_beside_victim t v found own other = found_behind (own_in_hand t own) (v + 1) (t + 1) found (λ e. differ v t other (sym e)) ∙ own_in_one t own
+
+pub victim_beside_own : (t v : ℕ) (found own : List Item) → found_in (victim_in_hand t v found own) (v + 1) ≡ Some found
+victim_beside_own t v found own = found_first (own_in_hand t own) (v + 1) found
+
+-- a Steal
+pub steal_leaves : (t v : ℕ) (h : Hand) (found own : List Item) → v ≢ t → h ≡ victim_in_hand t v found own → (moved : List Item)
+    → after_event t h (Steal v moved) ≡ victim_in_hand t v (victim_after_steal found moved) (own_after_steal own moved)
+steal_leaves t v h found own other is moved =
+    let victim_is : content_in h (v + 1) ≡ found = ap (λ z. unwrap_or z []) (ap (λ z. found_in z (v + 1)) is ∙ victim_beside_own t v found own) in
+    let own_was : content_in h (t + 1) ≡ own = ap (λ z. unwrap_or z []) (ap (λ z. found_in z (t + 1)) is ∙ own_beside_victim t v found own other) in
+    (λ i. changed (changed (is i) (t + 1) (own_after_steal (own_was i) moved)) (v + 1) (victim_after_steal (victim_is i) moved))
+    ∙ (ap (λ z. changed z (v + 1) (victim_after_steal found moved))
+    (change_behind (t + 1) (v + 1) found (own_after_steal own moved) (own_in_hand t own) (differ v t other)
+    ∙ ap (λ (z : Hand). (v + 1, found) ∷ z) (change_first (t + 1) own (own_after_steal own moved) []))
+    ∙ change_first (v + 1) found (victim_after_steal found moved) (own_in_hand t (own_after_steal own moved)))

@@ -11,7 +11,7 @@ use Rattle.klsm_run.specs.declared.item.Item.{Item}
 use Rattle.klsm_parts.specs.Least.{IsLeast}
 use Rattle.klsm_parts.specs.Events.{front_of}
 use Rattle.klsm_world.specs.declared.step.Event.{Event}
-use Rattle.klsm_world.specs.declared.step.Event.TheVariants.{Put, Flush, Take, Early, Nothing, Spy, Refill}
+use Rattle.klsm_world.specs.declared.step.Event.TheVariants.{Put, Flush, Take, Early, Nothing, Spy, Refill, Steal}
 use Rattle.klsm_world.specs.declared.step.Entry.{Entry}
 use Rattle.klsm_world.specs.declared.step.Entry.TheVariants.{Committed, Looked}
 use Rattle.klsm_world.specs.declared.step.Step.{Step as WorldStep}
@@ -40,6 +40,7 @@ no_front word t hand (Take x) leaves = tt
 no_front word t hand (Early x front) leaves = absurd leaves
 no_front word t hand Nothing leaves = tt
 no_front word t hand (Spy victim moved) leaves = tt
+no_front word t hand (Steal victim moved) leaves = tt
 no_front word t hand (Refill moved) leaves = absurd leaves
 
 -- and leaves the front as it was
@@ -54,6 +55,7 @@ front_left limits w t (Take x) lawful may leaves =
 front_left limits w t (Early x front) lawful may leaves = absurd leaves
 front_left limits w t Nothing lawful may leaves = refl
 front_left limits w t (Spy victim moved) lawful may leaves = refl
+front_left limits w t (Steal victim moved) lawful may leaves = refl
 front_left limits w t (Refill moved) lawful may leaves = absurd leaves
 
 -- an event that sets the front names none, and sets it to what it leaves
@@ -64,6 +66,7 @@ front_named word t hand (Take x) front sets = tt
 front_named word t hand (Early x least) front sets = absurd sets
 front_named word t hand Nothing front sets = absurd sets
 front_named word t hand (Spy victim moved) front sets = absurd sets
+front_named word t hand (Steal victim moved) front sets = absurd sets
 front_named word t hand (Refill moved) front sets = tt
 
 front_is_set : (word t : ℕ) (hand : Hand) (event : Event) (front : ℕ) → SetsFront t hand event front → front ≡ front_after word t hand event
@@ -73,6 +76,7 @@ front_is_set word t hand (Take x) front sets = sets.1
 front_is_set word t hand (Early x least) front sets = absurd sets
 front_is_set word t hand Nothing front sets = absurd sets
 front_is_set word t hand (Spy victim moved) front sets = absurd sets
+front_is_set word t hand (Steal victim moved) front sets = absurd sets
 front_is_set word t hand (Refill moved) front sets = sets
 
 module _ {S : Type 0} (content : S → List Item) (suits : ℕ → ℕ → S → Type 0) (m : Sizes) where

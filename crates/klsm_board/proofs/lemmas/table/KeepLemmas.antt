@@ -12,7 +12,7 @@ use Rattle.std.proofs.lemmas.List.{length-append}
 use Rattle.atomic_table.specs.Table.{State, Me, Act, Valid, stepped, carried_after}
 use Rattle.klsm_run.specs.declared.item.Item.{Item}
 use Rattle.klsm_world.specs.declared.step.Event.{Event}
-use Rattle.klsm_world.specs.declared.step.Event.TheVariants.{Put, Flush, Take, Early, Nothing, Spy, Refill}
+use Rattle.klsm_world.specs.declared.step.Event.TheVariants.{Put, Flush, Take, Early, Nothing, Spy, Refill, Steal}
 use Rattle.klsm_world.specs.declared.step.Entry.{Entry}
 use Rattle.klsm_world.specs.declared.step.Entry.TheVariants.{Committed}
 use Rattle.klsm_world.specs.declared.step.Step.{Step as WorldStep}
@@ -55,6 +55,7 @@ room_for quota es (Take x) room few = let a : length (inserted (es ++ Committed 
 room_for quota es (Early x front) room few = let a : length (inserted (es ++ Committed (Early x front) ∷ [])) ≡ length (inserted es) + 0 = insertions_more es (Committed (Early x front)) in omega (arith, a, few)
 room_for quota es Nothing room few = let a : length (inserted (es ++ Committed Nothing ∷ [])) ≡ length (inserted es) + 0 = insertions_more es (Committed Nothing) in omega (arith, a, few)
 room_for quota es (Spy victim moved) room few = let a : length (inserted (es ++ Committed (Spy victim moved) ∷ [])) ≡ length (inserted es) + 0 = insertions_more es (Committed (Spy victim moved)) in omega (arith, a, few)
+room_for quota es (Steal victim moved) room few = let a : length (inserted (es ++ Committed (Steal victim moved) ∷ [])) ≡ length (inserted es) + 0 = insertions_more es (Committed (Steal victim moved)) in omega (arith, a, few)
 room_for quota es (Refill moved) room few = let a : length (inserted (es ++ Committed (Refill moved) ∷ [])) ≡ length (inserted es) + 0 = insertions_more es (Committed (Refill moved)) in omega (arith, a, few)
 
 module _ {S : Type 0} (content : S → List Item) (suits : ℕ → ℕ → S → Type 0) (m : Sizes) where
