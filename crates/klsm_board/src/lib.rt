@@ -15,6 +15,10 @@
 //! the front, and need no other lock than their own. All bounds are the same, as an own part has at most
 //! k items in any case.
 //!
+//! A member may balance (`Member::try_balance`): it moves the least items of another member's part to its own,
+//! where they are below the front and smaller than its own. No deletion does so by itself; a program that wants
+//! small items to be found sooner makes this call now and then. All bounds are the same here too.
+//!
 //! ```text
 //! let (board, mut members) = StandardBoard::new(alloc, 4, 16, 1 << 40)?;
 //! // each member in a thread of its own, all with the one board and the number of open nodes
@@ -31,7 +35,7 @@
 //! An answer `None` is no sign of the end, since another member may be about to insert. So the threads end
 //! when no node is open.
 //!
-//! `try_insert` and `try_delete_min` wait for nobody: where a lock is held they release what they
+//! `try_insert`, `try_delete_min` and `try_balance` wait for nobody: where a lock is held they release what they
 //! acquired, and say who held it. `try_hold` acquires one part in order to look at it.
 //!
 //! **What a member promises** is said by its list of own steps, which is for the proof alone: which
@@ -49,7 +53,10 @@
 //!   (T-1)·k live: `TakesOut`, `TakesSpied`, `TakesEarly` and `FindsNothing` in `Member::try_delete_min`
 //!   and `Member::delete_min`.
 //! - **A member's own order is kept.** No deletion skips an item that its member inserted and that lies
-//!   in its own part or in the shared one: `keeps` of the same records.
+//!   in its own part or in the shared one: `keeps` of the same records. A spy, a balance or a refill of another
+//!   member may have moved an item elsewhere.
+//! - **What a balance moves is exact**, and so is where it moves none: clause `ok` of `Member::try_balance`, by
+//!   `Balances`.
 //! - **All members in one hand** (`Board::gather`, `AllMembers`) are of one world: `AllMembers::threads`, clause
 //!   `rule`. What is left is then what the calls made it, and no deletion skips more than T·k of that, nor more
 //!   than (T-1)·k where it went by the front, nor any where T is 1: clauses `left` and `few` of

@@ -1,8 +1,8 @@
 -- The least items of another member's part on their way to an own one.
-use Rattle.std.proofs.Common.{inl, inr, ◌≡◌, ◌≢◌, ℕ, ◌+◌, ◌-◌, ◌/◌, min, ◌<◌, ◌≤◌, cond, List, [], ◌∷◌, ◌++◌, length, take, drop, Option, Some, refl, sym, ap, ◌∙◌, subst, arith}
+use Rattle.std.proofs.Common.{inl, inr, ◌≡◌, ℕ, ◌+◌, ◌-◌, ◌/◌, min, ◌<◌, ◌≤◌, List, [], ◌∷◌, ◌++◌, length, take, drop, Some, refl, sym, ap, ◌∙◌, subst, arith}
 use Rattle.std.specs.List.{Contains, slice_get}
-use Rattle.std.proofs.lemmas.List.{append_assoc, drop-drop, length-append, length-drop, length-take, take-append-drop}
-use Rattle.std.proofs.lemmas.List.Elements.{Contains-append_left, Contains-append_right, Contains-append_cases}
+use Rattle.std.proofs.lemmas.List.{append_assoc, take-append-drop}
+use Rattle.std.proofs.lemmas.List.Elements.{Contains-append_right, Contains-append_cases}
 use Rattle.std.proofs.lemmas.Option.{none-some, same_Some}
 use Rattle.klsm_run.specs.declared.item.Item.{Item}
 use Rattle.klsm_run.specs.Content.{sorted, without, IsAscending, ShareNone}
@@ -10,7 +10,6 @@ use Rattle.klsm_run.proofs.ContainsLemmas.{contains_sorted, contains_unsorted}
 use Rattle.klsm_run.proofs.ContentLemmas.{sorted_itself, sorted_swap, sorted_same_behind, sharing_none_if_apart}
 use Rattle.klsm_run.proofs.IndexLemmas.{contains_at}
 use Rattle.klsm_run.proofs.LeastLemmas.{without_first}
-use Rattle.klsm_run.proofs.SortedLemmas.{length_sorted}
 use Rattle.klsm_parts.specs.Events.{plus}
 use Rattle.klsm_parts.specs.Stealing.{MaySteal, own_after_steal, victim_after_steal, steal_count}
 use Rattle.klsm_parts.proofs.RefillLemmas.{take_parts, split_apart, may_refill, are_moved, refill_leaves}

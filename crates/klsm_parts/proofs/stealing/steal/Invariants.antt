@@ -1,4 +1,4 @@
-use Rattle.std.proofs.Common.{◌≡◌, ◌-◌, ◌≤◌, length, take, drop}
+use Rattle.std.proofs.Common.{◌≡◌, ◌-◌, ◌≤◌, take, drop}
 use Rattle.klsm_parts.specs.Parts.{items_in}
 use Rattle.klsm_parts.specs.Events.{plus}
 use Rattle.klsm_parts.proofs.stealing.steal.Given as goal
