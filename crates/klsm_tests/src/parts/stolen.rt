@@ -22,7 +22,7 @@ fn moves(
     left: &[&[u64]],
 ) -> Option<bool> {
     let mut victim = own_part(alloc, keys, 0)?;
-    let mut own: Local<64> = Local::new(room.k);
+    let mut own: Local<64> = Local::new(room.k.min(64));
     let answer = steal(&mut own, &mut victim, room.most);
     let moves = has_blocks(own.lsm(), moved) && has_blocks(victim.lsm(), left);
     Some(answer == count && moves)
