@@ -1,6 +1,6 @@
 //! The run whose output does not depend on time.
 
-use crate::contenders::{Contender, Heap};
+use crate::contenders::{Contender, GREATEST_K, Heap};
 use crate::on_board::{OnBoard, board_of_one};
 use crate::pair::Pair;
 use crate::workloads::{WORKLOADS, Workload, fill};
@@ -25,7 +25,7 @@ pub(crate) fn print<R: Print + AllocGlobal + Wait + Clock>(rt: &R) -> io::Result
 }
 
 fn print_queues<R: Print + AllocGlobal>(rt: &R, workload: Workload) -> io::Result<()> {
-    for k in [8, 64, 128] {
+    for k in [8, 64, GREATEST_K] {
         let agreement = queue_agrees(rt.alloc(), workload, &mut Pair::new(rt.alloc(), k));
         print_row(rt, workload, k, "the queue", agreement)?;
     }

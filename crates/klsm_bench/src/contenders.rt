@@ -6,6 +6,9 @@ use std::alloc::Global;
 use std::cmp::Reverse;
 use std::collections::BinaryHeap;
 
+/// The greatest k that is measured, which the queue's own part has places for.
+pub(crate) const GREATEST_K: usize = 128;
+
 /// A priority queue, as one thread uses it.
 pub(crate) trait Contender {
     /// Puts an item in. `None` where there is no memory or no room.
@@ -50,7 +53,7 @@ impl Contender for Heap {
     }
 }
 
-impl Contender for Queue<128, 21> {
+impl Contender for Queue<GREATEST_K, 21> {
     fn insert(&mut self, key: u64, load: u64) -> Option<()> {
         Queue::insert(self, key, load).ok()?;
         Some(())

@@ -1,7 +1,8 @@
 //! What the locks of a board cost a member that meets no other.
 ghost use Rattle.std.specs.Prelude.{◌<◌, ◌≤◌};
+ghost use Rattle.klsm_bench.specs.declared.contenders.TheConstants.{GREATEST_K};
 
-use crate::contenders::Contender;
+use crate::contenders::{Contender, GREATEST_K};
 use crate::on_board::{OnBoard, board_of_one};
 use crate::rounds::{Calls, ROUNDS, per_operation, time_of};
 use crate::workloads::Workload;
@@ -18,7 +19,7 @@ const FILLINGS: usize = 1_000;
 /// Prints what insertions into an own part that has room for them cost, and the deletions of its items, in a queue for one
 /// thread and on a board of one member.
 pub(crate) fn print<R: Print + Clock + AllocGlobal + Wait>(rt: &R, k: usize) -> io::Result<()>
-    requires { k ≤ 128 }
+    requires { k ≤ GREATEST_K }
 {
     match time_own(rt, k)? {
         Some(own) => print_own(rt, k, own),
@@ -49,7 +50,7 @@ fn print_own<R: Print>(rt: &R, k: usize, own: Own) -> io::Result<()> {
 
 // Measures both. `None` where there is no memory for the board.
 fn time_own<R: Clock + AllocGlobal + Wait>(rt: &R, k: usize) -> io::Result<Option<Own>>
-    requires { k ≤ 128 }
+    requires { k ≤ GREATEST_K }
 {
     let Some((board, member)) = board_of_one(rt.alloc(), k) else {
         return Ok(None);
@@ -68,9 +69,9 @@ fn time_beside_queue<B: Contender, R: Clock + AllocGlobal>(
     on_board: &mut B,
     k: usize,
 ) -> io::Result<Own>
-    requires { k ≤ 128 }
+    requires { k ≤ GREATEST_K }
 {
-    let mut queue: Queue<128, 21> = Queue::new(rt.alloc(), k);
+    let mut queue: Queue<GREATEST_K, 21> = Queue::new(rt.alloc(), k);
     time_rounds(rt, &mut queue, on_board, k)
 }
 

@@ -1,6 +1,8 @@
 //! The run that measures.
 ghost use Rattle.std.specs.Prelude.{◌≤◌, ◌<◌};
+ghost use Rattle.klsm_bench.specs.declared.contenders.TheConstants.{GREATEST_K};
 
+use crate::contenders::GREATEST_K;
 use crate::own;
 use crate::pair::Pair;
 use crate::rounds::{Calls, ROUNDS, Rounds};
@@ -29,7 +31,7 @@ pub(crate) fn print<R: Print + Clock + AllocGlobal + Wait>(rt: &R) -> io::Result
     for items in [1_000, 100_000, 1_000_000] {
         print_insertions(rt, items, 64)?;
     }
-    for k in [8, 64, 128] {
+    for k in [8, 64, GREATEST_K] {
         print_own(rt, k)?;
     }
     println!(rt; "calls k queue board")?;
@@ -38,7 +40,7 @@ pub(crate) fn print<R: Print + Clock + AllocGlobal + Wait>(rt: &R) -> io::Result
 
 fn print_workloads<R: Print + Clock + AllocGlobal>(rt: &R, items: usize) -> io::Result<()> {
     for workload in WORKLOADS {
-        for k in [8, 64, 128] {
+        for k in [8, 64, GREATEST_K] {
             print_workload(rt, *workload, items, k)?;
         }
     }
@@ -55,7 +57,7 @@ struct Bench {
 impl Bench {
     // Empty ones of this k. The keys are the same in each run.
     fn new(alloc: Global, k: usize) -> Self
-        requires { k ≤ 128 }
+        requires { k ≤ GREATEST_K }
     {
         Bench {
             pair: Pair::new(alloc, k),
@@ -65,7 +67,7 @@ impl Bench {
 
     // Empty ones of this k. The keys go on.
     fn empty(&mut self, alloc: Global, k: usize)
-        requires { k ≤ 128 }
+        requires { k ≤ GREATEST_K }
     {
         self.pair = Pair::new(alloc, k);
     }
@@ -125,7 +127,7 @@ fn print_workload<R: Print + Clock + AllocGlobal>(
     items: usize,
     k: usize,
 ) -> io::Result<()>
-    requires { k ≤ 128 }
+    requires { k ≤ GREATEST_K }
 {
     let rounds = time_workload(rt, &mut Bench::new(rt.alloc(), k), workload, items)?;
     print_timed(rt, workload.name(), items, k, 2 * PAIRS, rounds)
@@ -155,7 +157,7 @@ fn print_insertions<R: Print + Clock + AllocGlobal>(
     items: usize,
     k: usize,
 ) -> io::Result<()>
-    requires { k ≤ 128 }
+    requires { k ≤ GREATEST_K }
 {
     let rounds = time_insertions(rt, &mut Bench::new(rt.alloc(), k), items, k)?;
     print_timed(rt, "insertions", items, k, items, rounds)
@@ -168,7 +170,7 @@ fn time_insertions<R: Clock + AllocGlobal>(
     items: usize,
     k: usize,
 ) -> io::Result<Option<Rounds>>
-    requires { k ≤ 128 }
+    requires { k ≤ GREATEST_K }
 {
     let mut rounds = Rounds::new();
     for round in 0..ROUNDS {
@@ -182,7 +184,7 @@ fn time_insertions<R: Clock + AllocGlobal>(
 
 // Prints what insertions into an own part cost that has room for them, and the deletions of its items.
 fn print_own<R: Print + Clock + AllocGlobal>(rt: &R, k: usize) -> io::Result<()>
-    requires { k ≤ 128 }
+    requires { k ≤ GREATEST_K }
 {
     let own = time_own(rt, &mut Bench::new(rt.alloc(), k), k)?;
     own.inserted

@@ -1,6 +1,6 @@
 //! What an LSM over fixed runs offers beside. No call takes memory, and no store moves but in
 //! `split_for_spy`.
-ghost use Rattle.std.specs.Prelude.{◌≡◌, ◌+◌, ◌-◌, ◌<◌, ◌≤◌, ◌↔◌, ◌∷◌, ◌++◌, [], length, take, drop, slice_index_or, slice_set, IsOk, IfErr, OnOk, OnErr};
+ghost use Rattle.std.specs.Prelude.{◌≡◌, ◌+◌, ◌-◌, ◌<◌, ◌≤◌, ◌↔◌, ◌∷◌, ◌++◌, [], length, take, drop, slice_index_or, slice_set, IsOk, IfErr, OnOk, OnErr, Some};
 ghost use Rattle.std.specs.Option.{option_to_list};
 ghost use Rattle.std.specs.List.{AllByRecursion, Contains};
 ghost use Rattle.arrayvec.specs.ArrayVec.{array_vec_len};
@@ -174,12 +174,22 @@ pub(crate) fn set_slot<const CAP: usize>(slot: &mut Option<FixedRun<CAP>>, items
     ensures { block_in (λ run. run) slot.new ≡ items.now }
 {
     if slot.is_none() {
-        *slot = Some(FixedRun::empty());
+        make_store(slot);
     }
     let Some(run) = slot else {
         unreachable!();
     };
     run.set(items);
+}
+
+// Puts a run with no item into a slot. It is kept apart, since a whole store then lies on the stack.
+#[cold]
+#[inline(never)]
+fn make_store<const CAP: usize>(slot: &mut Option<FixedRun<CAP>>)
+    requires capacity { IsCapacity CAP }
+    ensures { slot.new ≡ Some [] }
+{
+    *slot = Some(FixedRun::empty());
 }
 
 // Keeps the least items in a slot.

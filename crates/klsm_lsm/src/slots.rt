@@ -1,5 +1,5 @@
 //! The slots in which an LSM stores its blocks.
-ghost use Rattle.std.specs.Prelude.{ℕ, ◌≡◌, ◌+◌, ◌-◌, ◌<◌, ◌≤◌, ◌∷◌, ◌++◌, ◌^◌, [], min, length, take, drop, remove, slice_set, slice_index_or, Some};
+ghost use Rattle.std.specs.Prelude.{ℕ, ◌≡◌, ◌+◌, ◌-◌, ◌<◌, ◌≤◌, ◌∷◌, ◌++◌, ◌^◌, [], min, length, take, drop, remove, slice_set, slice_index_or, Some, None};
 ghost use Rattle.std.specs.Ordering.{ord_min};
 ghost use Rattle.arrayvec.specs.ArrayVec.{array_vec_len};
 ghost use Rattle.klsm_run.specs.Block.{HasLevel};
@@ -182,13 +182,23 @@ fn move_to<R: Run>(slots: &mut [Option<R>], from: usize, to: usize)
     take_run(&mut front[to], &mut back[0]);
 }
 
+// Moves what is in a slot to another one. It is kept apart, since a whole store may then lie on the stack.
+#[cold]
+#[inline(never)]
+fn move_store<R: Run>(slot: &mut Option<R>, other: &mut Option<R>)
+    ensures moved { slot.new ≡ other.old }
+    ensures none { other.new ≡ None }
+{
+    *slot = other.take();
+}
+
 // Takes the run of another slot. Where both have stores, these stay.
 fn take_run<R: Run>(slot: &mut Option<R>, other: &mut Option<R>)
     ensures taken { block_in R.items slot.new ≡ block_in R.items other.old }
     ensures emptied { block_in R.items other.new ≡ [] }
 {
     if slot.is_none() || other.is_none() {
-        *slot = other.take();
+        move_store(slot, other);
         return;
     }
     let Some(run) = slot else {

@@ -1,6 +1,8 @@
 -- Where a struct has a place in memory, each of its fields has one; and the parts have one, as their arrays are bounded.
 use Rattle.std.proofs.Common.{ℕ, ◌+◌, ◌*◌, ◌<◌, max, arith}
 use prog.Memory.{up}
+use Rattle.klsm_run.specs.declared.limits.TheConstants.{OWN_LEVELS}
+use Rattle.klsm_parts.specs.declared.rank_bytes.TheConstants.{STORE}
 use Rattle.klsm_run.specs.Capacity.{IsCapacity}
 use Rattle.klsm_lsm.specs.Limit.{IsLevelCount}
 
@@ -20,21 +22,21 @@ lsm levels slot = up 8 (up 8 (up 8 (0 + array_vec levels slot) + 8) + 8)
 abbrev run : ℕ → ℕ
 run n = up 8 (up 8 (0 + array_vec n 32) + 16)
 
--- of an own part, of which a run has s bytes
-abbrev local : ℕ → ℕ
-local s = up 8 (up 8 (up 8 (0 + lsm 8 (option s)) + 8) + 16)
+-- of an own part, of which a run has s bytes, and the places for items on their way p
+abbrev local : ℕ → ℕ → ℕ
+local s p = up 8 (up 8 (up 8 (up 8 (0 + lsm OWN_LEVELS (option s)) + 8) + 16) + p)
 
 -- the last field but one, as the shared part of a queue
 pub field_fits : (a b c s n limit : ℕ) → up a (up 8 (up b c + s) + n) < limit → s < limit
 field_fits a b c s n limit whole = omega (arith, whole)
 
 -- the LSM of an own part
-pub first_fits : (a b s n m limit : ℕ) → up a (up 8 (up b (0 + s) + n) + m) < limit → s < limit
-first_fits a b s n m limit whole = omega (arith, whole)
+pub first_fits : (a b s n m p limit : ℕ) → up a (up 8 (up 8 (up b (0 + s) + n) + m) + p) < limit → s < limit
+first_fits a b s n m p limit whole = omega (arith, whole)
 
--- a run in one of the eight slots of an own part
-pub run_fits : (s limit : ℕ) → local s < limit → s < limit
-run_fits s limit whole = omega (arith, whole)
+-- a run in one of the slots of an own part
+pub run_fits : (s p limit : ℕ) → local s p < limit → s < limit
+run_fits s p limit whole = omega (arith, whole)
 
 -- the own part of a queue
 pub own_fits : (a b s t n limit : ℕ) → up a (up 8 (up b (0 + s) + t) + n) < limit → s < limit
@@ -49,42 +51,49 @@ pub pivots_fit : (a b l m p q limit : ℕ) → up a (up b (up 8 (up 8 q + p) + l
 pivots_fit a b l m p q limit whole = omega (arith, whole)
 
 -- what is known of the candidates of a shared part that a run is put into
-pub merging_fits : (a b m p q limit : ℕ) → up a (up b (up 8 (up 8 q + p) + 456) + m) < limit → up 8 (up 8 (432 + p) + 8) < limit
+pub merging_fits : (a b m p q limit : ℕ) → up a (up b (up 8 (up 8 q + p) + 3144) + m) < limit → up 8 (up 8 (3120 + p) + 8) < limit
 merging_fits a b m p q limit whole = omega (arith, whole)
 
 -- what is as small has a place
-small_fits : (s : ℕ) → s < 131072 → s < 9223372036854775808
+small_fits : (s : ℕ) → s < 1048576 → s < 9223372036854775808
 small_fits s small = omega (arith, small)
 
 -- a run of any capacity
-run_is_small : (n : ℕ) → IsCapacity n → run n < 8192
+run_is_small : (n : ℕ) → IsCapacity n → run n < 65536
 run_is_small n capacity = omega (arith, capacity.at_most)
 
 pub fixed_run_fits : (n : ℕ) → IsCapacity n → run n < 9223372036854775808
 fixed_run_fits n capacity = small_fits _ (few (run n) (run_is_small n capacity)) where
-  few : (s : ℕ) → s < 8192 → s < 131072
+  few : (s : ℕ) → s < 65536 → s < 1048576
   few s small = omega (arith, small)
 
+-- a run of one item
+pub one_fits : IsCapacity 1
+one_fits = record { some_room = omega arith; at_most = omega arith }
+
 -- the LSM of an own part of any capacity
-lsm_is_small : (s : ℕ) → s < 8192 → lsm 8 (option s) < 131072
+lsm_is_small : (s : ℕ) → s < 65536 → lsm OWN_LEVELS (option s) < 1048576
 lsm_is_small s small = whole _ (slots _ (slot s small)) where
-  slot : (s : ℕ) → s < 8192 → option s < 8216
+  slot : (s : ℕ) → s < 65536 → option s < 65560
   slot s small = omega (arith, small)
 
-  slots : (s : ℕ) → s < 8216 → array_vec 8 s < 66000
+  slots : (s : ℕ) → s < 65560 → array_vec OWN_LEVELS s < 800000
   slots s small = omega (arith, small)
 
-  whole : (s : ℕ) → s < 66000 → up 8 (up 8 (up 8 (0 + s) + 8) + 8) < 131072
+  whole : (s : ℕ) → s < 800000 → up 8 (up 8 (up 8 (0 + s) + 8) + 8) < 1048576
   whole s small = omega (arith, small)
 
-pub own_lsm_fits : (n : ℕ) → IsCapacity n → lsm 8 (option (run n)) < 9223372036854775808
+pub own_lsm_fits : (n : ℕ) → IsCapacity n → lsm OWN_LEVELS (option (run n)) < 9223372036854775808
 own_lsm_fits n capacity = small_fits _ (lsm_is_small _ (run_is_small n capacity))
 
 -- the own part
-pub local_fits : (n : ℕ) → IsCapacity n → local (run n) < 9223372036854775808
-local_fits n capacity = part_fits _ (lsm_is_small _ (run_is_small n capacity)) where
-  part_fits : (s : ℕ) → s < 131072 → up 8 (up 8 (up 8 (0 + s) + 8) + 16) < 9223372036854775808
-  part_fits s small = omega (arith, small)
+pub local_fits : (n : ℕ) → IsCapacity n → local (run n) (n * 32) < 9223372036854775808
+local_fits n capacity = part_fits _ _ (lsm_is_small _ (run_is_small n capacity)) (places n capacity) where
+  places : (n : ℕ) → IsCapacity n → n * 32 < 65536
+  places n capacity = omega (arith, capacity.at_most)
+
+  part_fits : (s p : ℕ) → s < 1048576 → p < 65536 → up 8 (up 8 (up 8 (up 8 (0 + s) + 8) + 16) + p) < 9223372036854775808
+  part_fits s p small few = omega (arith, small, few)
 
 -- the LSM of a shared part of any number of levels
 pub shared_lsm_fits : (n : ℕ) → IsLevelCount n → lsm n 56 < 9223372036854775808
@@ -92,7 +101,7 @@ shared_lsm_fits n levels = omega (arith, levels.at_most)
 
 -- of the bytes of a ranking
 abbrev bytes : ℕ
-bytes = up 8 (up 1 (up 8 (up 8 (0 + 8) + 8) + 192))
+bytes = up 8 (up 1 (up 8 (up 8 (0 + 8) + 8) + STORE))
 
 -- what is known of the least items: the first, and two lists of bytes for the ranking
 abbrev least_items : ℕ
@@ -101,11 +110,11 @@ least_items = up 8 (up 8 (0 + option 32) + up 8 (up 8 (0 + bytes) + bytes))
 -- the shared part
 pub shared_fits : (n : ℕ) → IsLevelCount n → up 8 (up 1 (up 8 (up 8 (up 8 (0 + lsm n 56) + 8) + array_vec n 8) + least_items) + 0) < 9223372036854775808
 shared_fits n levels = whole _ _ (blocks n levels) (pivots n levels) where
-  blocks : (n : ℕ) → IsLevelCount n → lsm n 56 < 131072
+  blocks : (n : ℕ) → IsLevelCount n → lsm n 56 < 1048576
   blocks n levels = omega (arith, levels.at_most)
 
-  pivots : (n : ℕ) → IsLevelCount n → array_vec n 8 < 131072
+  pivots : (n : ℕ) → IsLevelCount n → array_vec n 8 < 1048576
   pivots n levels = omega (arith, levels.at_most)
 
-  whole : (s p : ℕ) → s < 131072 → p < 131072 → up 8 (up 1 (up 8 (up 8 (up 8 (0 + s) + 8) + p) + least_items) + 0) < 9223372036854775808
+  whole : (s p : ℕ) → s < 1048576 → p < 1048576 → up 8 (up 1 (up 8 (up 8 (up 8 (0 + s) + 8) + p) + least_items) + 0) < 9223372036854775808
   whole s p few small = omega (arith, few, small)

@@ -6,6 +6,7 @@ use Rattle.std.proofs.lemmas.Bool.{cases_lt}
 use Rattle.std.proofs.lemmas.List.{append_assoc, length-append, length-drop, drop_all, get_or-take, take-append-drop, take_min, take_more, take_more_set}
 use Rattle.std.proofs.lemmas.List.Sums.{sum_by-cons}
 use Rattle.klsm_run.specs.declared.item.Item.{Item}
+use Rattle.klsm_run.specs.declared.limits.TheConstants.{MOST_K}
 use Rattle.klsm_run.specs.Content.{sorted}
 use Rattle.klsm_run.proofs.AllLemmas.{all_weaker}
 use Rattle.klsm_run.proofs.ContentLemmas.{sorted_same_behind, sorted_sorted}
@@ -271,10 +272,10 @@ pub record CanTake (n : ℕ) (bs : Blocks) (counts ps order : List ℕ) : Type 0
   pub total : sum ps ≡ length order
   pub pivots_are : ArePivots (sum ps) bs ps
   pub fewer : sum counts ≤ sum ps
-  pub few : sum ps ≤ 129
+  pub few : sum ps ≤ MOST_K + 1
   pub ranking : AreInBlocks bs (drop (sum counts) (sorted (content bs))) (drop n order)
 
-pub can_take : (k n : ℕ) (bs : Blocks) (counts ps order : List ℕ) → k ≤ 128 → n ≤ length order → ArePivots n bs counts → ArePivots (k + 1) bs ps → IsRanking bs order → length order ≡ min (k + 1) (length (content bs)) → CanTake n bs counts ps order
+pub can_take : (k n : ℕ) (bs : Blocks) (counts ps order : List ℕ) → k ≤ MOST_K → n ≤ length order → ArePivots n bs counts → ArePivots (k + 1) bs ps → IsRanking bs order → length order ≡ min (k + 1) (length (content bs)) → CanTake n bs counts ps order
 can_take k n bs counts ps order range few counts_are pivots_are ranking whole =
     let total : sum ps ≡ length order = sum_of_pivots (k + 1) bs ps pivots_are ∙ sym whole in
     let counted : sum counts ≡ n = omega (arith, sum_of_pivots n bs counts counts_are, few, whole) in

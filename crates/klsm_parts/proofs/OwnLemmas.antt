@@ -5,6 +5,7 @@ use Rattle.std.proofs.lemmas.List.{length-append}
 use Rattle.std.proofs.lemmas.List.Elements.{Contains-append_right}
 use Rattle.std.proofs.lemmas.Option.{none-some}
 use Rattle.klsm_run.specs.declared.item.Item.{Item}
+use Rattle.klsm_run.specs.declared.limits.TheConstants.{MOST_K, OWN_LEVELS}
 use Rattle.klsm_run.specs.Content.{placed, sorted}
 use Rattle.klsm_run.proofs.ContentLemmas.{sorted_swap, sorted_itself, sorted_same_behind}
 use Rattle.klsm_run.proofs.SortedLemmas.{length_sorted}
@@ -20,7 +21,7 @@ use Rattle.klsm_parts.specs.LeastPlaces.{IsLeastPlace}
 use Rattle.klsm_parts.specs.Parts.{HasLeastFirst, IsOwn}
 
 -- one run holds all items of an own part, and so has its LSM room for them
-pub has_room : (capacity count : ℕ) → count < capacity → capacity ≤ 128 → count < limit_of 8 capacity
+pub has_room : (capacity count : ℕ) → count < capacity → capacity ≤ MOST_K → count < limit_of OWN_LEVELS capacity
 has_room capacity count less few = omega arith
 
 -- no block was found

@@ -25,17 +25,15 @@ pub counted : (most k : ℕ) (own shared : List Item) (limit held size first n :
     → first ≡ min most ((limit - held) - (limit - held) / 2) → n ≡ min first size → n ≡ refill_count most k own shared
 counted most k own shared limit held size first n limited holds sized halved is = omega (arith, limited, holds, sized, halved, is)
 
--- so many items are there, and have room in the own part and places to lie in meanwhile
-pub record HaveRoom (cap k n : ℕ) (own shared : List Item) (d : Item) : Type 0 where
+-- so many items are there, and have room in the own part
+pub record HaveRoom (k n : ℕ) (own shared : List Item) : Type 0 where
   pub within : n ≤ length shared
   pub room : length own + n ≤ k
-  pub lent : length (take n (replicate cap d)) ≡ n
 
-pub have_room : (cap most k n : ℕ) (own shared : List Item) (d : Item) → n ≡ refill_count most k own shared → length own ≤ k → k ≤ cap → HaveRoom cap k n own shared d
-have_room cap most k n own shared d is few fits = record {
+pub have_room : (most k n : ℕ) (own shared : List Item) → n ≡ refill_count most k own shared → length own ≤ k → HaveRoom k n own shared
+have_room most k n own shared is few = record {
   within = omega (arith, is);
   room = omega (arith, is, few);
-  lent = omega (arith, length-take n (replicate cap d), length-replicate cap d, is, few, fits);
 }
 
 -- the n least items of an ascending content are moved to a run

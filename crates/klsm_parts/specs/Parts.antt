@@ -2,6 +2,7 @@
 use Rattle.std.specs.Prelude.{ℕ, ◌≡◌, ◌+◌, ◌<◌, ◌≤◌, List, [], length, min, slice_get, slice_index_or, Option, Some}
 use Rattle.klsm_run.specs.declared.item.Item.{Item}
 use Rattle.klsm_run.specs.Capacity.{IsCapacity}
+use Rattle.klsm_run.specs.declared.limits.TheConstants.{MOST_K}
 use Rattle.klsm_run.specs.Content.{sorted}
 use Rattle.klsm_lsm.specs.Lsm.{content, IsLsm}
 use Rattle.klsm_lsm.specs.Limit.{IsLevelCount}
@@ -46,5 +47,5 @@ pub record IsShared (levels : ℕ) (part : PartState) (pivots ranking owners : L
   pub ranking_exact : AreRanked part.blocks ranking owners
   pub ranking_whole : length ranking ≡ min (part.k + 1) (length (content part.blocks))
   pub least_found : least ≡ least_in part
-  pub k_in_range : part.k ≤ 128
+  pub k_in_range : part.k ≤ MOST_K
   pub levels_in_range : IsLevelCount levels

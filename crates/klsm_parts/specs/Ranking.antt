@@ -2,6 +2,7 @@
 use Rattle.std.specs.Prelude.{ℕ, ◌≡◌, ◌+◌, ◌-◌, ◌%◌, ◌≤◌, ◌<◌, List, [], ◌∷◌, ◌++◌, length, max, min, nat_lt, if◌then◌else◌, Some, slice_get, slice_set, slice_index_or}
 use Rattle.std.specs.List.{Contains}
 use Rattle.klsm_run.specs.declared.item.Item.{Item}
+use Rattle.klsm_run.specs.declared.limits.TheConstants.{MOST_K}
 use Rattle.klsm_run.specs.Content.{sorted, IsAscending, ShareNone}
 use Rattle.klsm_lsm.specs.Limit.{IsLevelCount}
 use Rattle.klsm_lsm.specs.Lsm.{content, IsLsm}
@@ -71,7 +72,7 @@ pub record CanRankNext (level_count : ℕ) (blocks : List (List Item)) (run : Li
   pub within : first + count ≤ length blocks
   pub merging : IsMerging blocks run first count order owners pivots of_run
   pub more : length order < length run + length (content blocks)
-  pub room : length order < 129
+  pub room : length order < MOST_K + 1
 
 -- and before all of a run's items are
 pub record CanMerge (level_count : ℕ) (blocks : List (List Item)) (run : List Item) (old_order : List ℕ) (k : ℕ) : Type 0 where
@@ -79,6 +80,6 @@ pub record CanMerge (level_count : ℕ) (blocks : List (List Item)) (run : List 
   pub lawful : IsLsm blocks
   pub ranking : IsRanking blocks old_order
   pub whole : length old_order ≡ min (k + 1) (length (content blocks))
-  pub k_in_range : k ≤ 128
+  pub k_in_range : k ≤ MOST_K
   pub some : 0 < length run
   pub apart : ShareNone (content blocks) run

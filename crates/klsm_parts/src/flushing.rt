@@ -58,7 +58,9 @@ pub fn flush<const CAP: usize, const LEVELS: usize, A: Allocator + Copy>(
 }
 
 // Puts what moves into the shared part: a copy of the own part's largest block, or the item where
-// there is none.
+// there is none. It is kept apart from the insertions that need none of it, since what is known of the candidates
+// lies on the stack meanwhile.
+#[inline(never)]
 fn absorb_moved<const CAP: usize, const LEVELS: usize, A: Allocator + Copy>(
     own: &Local<CAP>,
     shared: &mut Shared<LEVELS, A>,
@@ -76,7 +78,7 @@ fn absorb_moved<const CAP: usize, const LEVELS: usize, A: Allocator + Copy>(
     ensures unchanged { OnErr result (shared.new ≡ shared.old) }
 {
     if own.len() == 0 {
-        shared.absorb_copy(&FixedRun::<CAP>::single(item))
+        shared.absorb_copy(&FixedRun::<1>::single(item))
     } else {
         shared.absorb_copy(own.lsm().block(0))
     }

@@ -1,6 +1,7 @@
 //! How items of a shared part leave it, one or the least ones at once: which these are, and what becomes
 //! of the pivots and the ranking.
 ghost use Rattle.std.specs.Prelude.{◌≡◌, ◌+◌, ◌-◌, ◌<◌, ◌≤◌, length, min, take, drop, sum, slice_get, slice_index_or};
+ghost use Rattle.klsm_run.specs.declared.limits.TheConstants.{MOST_K};
 ghost use Rattle.klsm_run.specs.Content.{sorted};
 ghost use Rattle.klsm_lsm.specs.Lsm.{content, IsLsm};
 ghost use Rattle.klsm_lsm.specs.Limit.{IsLevelCount};
@@ -56,7 +57,7 @@ pub(crate) fn cut_blocks<R: Run, const LEVELS: usize>(
     requires counts { ArePivots (sum counts.now) lsm.old counts.now }
     requires pivots { ArePivots (sum pivots.old.items) lsm.old pivots.old.items }
     requires fewer { sum counts.now ≤ sum pivots.old.items }
-    requires few { sum pivots.old.items ≤ 129 }
+    requires few { sum pivots.old.items ≤ MOST_K + 1 }
     requires ranking { AreInBlocks lsm.old (drop (sum counts.now) (sorted (content lsm.old)))
         ranking.old.blocks.items }
     ensures left { sorted (content lsm.new) ≡ drop (sum counts.now) (sorted (content lsm.old)) }
@@ -91,7 +92,7 @@ pub(crate) fn cut_block<R: Run, const LEVELS: usize>(
     requires within { AreWithin lsm.old pivots.old.items }
     requires marked { from + count ≤ slice_index_or pivots.old.items block 0 }
     requires one { 0 < from → count ≡ 1 }
-    requires few { sum pivots.old.items ≤ 129 }
+    requires few { sum pivots.old.items ≤ MOST_K + 1 }
     ensures cut { IsBlockCut lsm.old pivots.old.items ranking.old.blocks.items block from count
         lsm.new pivots.new.items ranking.new.blocks.items }
     ensures owners { ranking.new.owners.items ≡ ranking.old.owners.items }
@@ -115,7 +116,7 @@ pub(crate) fn rank_candidates<R: Run, const LEVELS: usize>(
     k: usize,
 )
     requires levels { IsLevelCount LEVELS }
-    requires k { k ≤ 128 }
+    requires k { k ≤ MOST_K }
     requires lawful { IsLsm lsm.now }
     requires pivots { ArePivots (length least.old.ranking.blocks.items) lsm.now pivots.old.items }
     requires ranked { AreRanked lsm.now
@@ -146,7 +147,7 @@ fn rank_up_to<R: Run, const LEVELS: usize>(
     requires ranked { AreRanked lsm.now ranking.old.blocks.items ranking.old.owners.items }
     requires fewer { length ranking.old.blocks.items ≤ most }
     requires there { most ≤ length (content lsm.now) }
-    requires room { most ≤ 129 }
+    requires room { most ≤ MOST_K + 1 }
     ensures pivots { ArePivots most lsm.now pivots.new.items }
     ensures ranked { AreRanked lsm.now ranking.new.blocks.items ranking.new.owners.items }
     ensures all { length ranking.new.blocks.items ≡ most }

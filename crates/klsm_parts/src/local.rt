@@ -1,9 +1,9 @@
 //! The part of one member.
-ghost use Rattle.std.specs.Prelude.{ℕ, ◌≡◌, ◌<◌, ◌≤◌, ◌↔◌, ◌∷◌, [], length, slice_get, slice_index_or, Some, IsTrue, ◌+◌, ◌++◌, IsOk, OnOk, vec_len, vec_capacity};
+ghost use Rattle.std.specs.Prelude.{ℕ, ◌≡◌, ◌<◌, ◌≤◌, ◌↔◌, ◌∷◌, [], length, take, drop, slice_get, slice_index_or, Some, IsTrue, ◌+◌, ◌++◌, IsOk, OnOk, vec_len, vec_capacity};
 ghost use Rattle.std.specs.List.{Contains};
 ghost use Rattle.std.specs.Option.{option_to_list};
 ghost use Rattle.klsm_run.specs.Capacity.{IsCapacity};
-ghost use Rattle.klsm_run.specs.Content.{sorted, without, IsAscending, ShareNone};
+ghost use Rattle.klsm_run.specs.Content.{sorted, without, ShareNone};
 ghost use Rattle.klsm_lsm.specs.Lsm.{content, IsLsm};
 ghost use Rattle.klsm_lsm.specs.Adding.{add};
 ghost use Rattle.klsm_lsm.specs.Spying.{spied, left_by_spy};
@@ -14,10 +14,12 @@ ghost use Rattle.klsm_parts.specs.Events.{MayPut, MayTake, MayTakeEarly, plus, o
 ghost use Rattle.klsm_parts.specs.Flushing.{kept};
 ghost use Rattle.klsm_parts.specs.Taking.{IsCutFrom};
 
+use crate::Shared;
 use crate::appending::append_blocks;
 use crate::ranks::{Place, first_of, least_place};
+use crate::refilling::move_least;
 use klsm_lsm::Lsm;
-use klsm_run::{FixedRun, Item};
+use klsm_run::{FixedRun, Item, OWN_LEVELS};
 use std::alloc::{AllocError, Allocator};
 use std::fmt;
 use std::marker::Model;
@@ -25,10 +27,12 @@ use std::marker::Model;
 /// The part of one member: an LSM of at most k items, which never takes memory.
 #[derive(Drop)]
 pub struct Local<const CAP: usize> {
-    lsm: Lsm<FixedRun<CAP>, 8>,
+    lsm: Lsm<FixedRun<CAP>, OWN_LEVELS>,
     k: usize,
     // The block of the least item, where a look has found it and nothing has changed since.
     found: Option<usize>,
+    // Where items lie on their way from the shared part. What is in it is of no meaning.
+    places: [Item; CAP],
 }
 
 impl<const CAP: usize> Model for Local<CAP> {
@@ -50,6 +54,7 @@ impl<const CAP: usize> Local<CAP> {
             lsm: Lsm::new(),
             k,
             found: None,
+            places: [Item::default(); CAP],
         }
     }
 
@@ -59,6 +64,8 @@ impl<const CAP: usize> Local<CAP> {
         ensures k { result ≡ self.now.k }
         ensures within { self.now.k ≤ CAP }
     {
+        // For the proof: without a look at the items rattle does not find their type.
+        let _known = self.lsm.len();
         self.k
     }
 
@@ -89,7 +96,7 @@ impl<const CAP: usize> Local<CAP> {
 
     /// The items, as an LSM.
     #[inline]
-    pub fn lsm(&self) -> &Lsm<FixedRun<CAP>, 8>
+    pub fn lsm(&self) -> &Lsm<FixedRun<CAP>, OWN_LEVELS>
         ensures { result.now ≡ self.now.blocks }
     {
         &self.lsm
@@ -160,18 +167,28 @@ impl<const CAP: usize> Local<CAP> {
         self.lsm.remove(block, index)
     }
 
-    // Puts items in, for which there is room.
-    pub(crate) fn absorb(&mut self, items: &[Item])
+    // Takes the least shared items over, so many, for which there is room.
+    pub(crate) fn take_over<const LEVELS: usize, A: Allocator + Copy>(
+        &mut self,
+        shared: &mut Shared<LEVELS, A>,
+        count: usize,
+    )
         requires capacity { IsCapacity CAP }
-        requires some { 0 < length items.now }
-        requires ascending { IsAscending items.now }
-        requires apart { ShareNone (content self.old.blocks) items.now }
-        requires room { length (content self.old.blocks) + length items.now ≤ self.old.k }
+        requires some { 0 < count }
+        requires lawful { IsLsm shared.old.blocks }
+        requires apart { ShareNone (content self.old.blocks) (content shared.old.blocks) }
+        requires there { count ≤ length (items_in shared.old) }
+        requires room { length (content self.old.blocks) + count ≤ self.old.k }
         ensures k { self.new.k ≡ self.old.k }
-        ensures items { items_in self.new ≡ plus (items_in self.old) items.now }
+        ensures shared_k { shared.new.k ≡ shared.old.k }
+        ensures items { items_in self.new
+            ≡ plus (items_in self.old) (take count (items_in shared.old)) }
+        ensures left { items_in shared.new ≡ drop count (items_in shared.old) }
     {
         self.found = None;
-        let Ok(()) = self.lsm.absorb_items(items) else {
+        let moved = &mut self.places[..count];
+        move_least(shared, moved);
+        let Ok(()) = self.lsm.absorb_items(moved) else {
             unreachable!();
         };
     }

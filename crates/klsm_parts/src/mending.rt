@@ -1,6 +1,7 @@
 //! How pivots are mended where items go, and where blocks become one.
 ghost use Rattle.std.specs.Prelude.{◌≡◌, ◌+◌, ◌-◌, ◌<◌, ◌≤◌, ◌^◌, sum, slice_index_or, IsTrue};
 ghost use Rattle.arrayvec.specs.ArrayVec.{array_vec_len};
+ghost use Rattle.klsm_run.specs.declared.limits.TheConstants.{MOST_K};
 ghost use Rattle.klsm_parts.specs.Mending.{united_pivots, fewer_marked, cut_pivots};
 
 use arrayvec::ArrayVec;
@@ -18,7 +19,7 @@ pub(crate) fn cut_pivot<const LEVELS: usize>(
     requires block { block < array_vec_len pivots.old }
     requires marked { count ≤ slice_index_or pivots.old.items block 0 }
     requires next { IsTrue joins → block + 1 < array_vec_len pivots.old }
-    requires few { sum pivots.old.items ≤ 129 }
+    requires few { sum pivots.old.items ≤ MOST_K + 1 }
     ensures { pivots.new.items ≡ cut_pivots pivots.old.items block count is_all joins }
 {
     if joins {

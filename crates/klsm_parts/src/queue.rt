@@ -22,7 +22,7 @@ const OWNER: u32 = 0;
 /// A priority queue for one thread: an own part and a shared one, of which a deletion looks at both. Deletions are exact: each
 /// gives the least item. `k` says how many items lie in the own part before some move to the shared one.
 ///
-/// `CAP` is at least k, and at most 128. `LEVELS` says how many items the shared part can hold:
+/// `CAP` is at least k, and at most `MOST_K`. `LEVELS` says how many items the shared part can hold:
 /// `2^(LEVELS-1)`, so 1,048,576 with 21.
 #[derive(Drop)]
 pub struct Queue<const CAP: usize, const LEVELS: usize, A: Allocator + Copy = Global> {

@@ -1,18 +1,22 @@
 //! The bytes of a ranking, of which the first leaves without a move.
 ghost use Rattle.std.specs.Prelude.{◌≡◌, ◌+◌, ◌-◌, ◌<◌, ◌≤◌, ◌++◌, ◌∷◌, [], length, map, remove, take, drop};
 ghost use Rattle.std.specs.List.{copy_within};
+ghost use Rattle.klsm_run.specs.declared.limits.TheConstants.{MOST_K};
 ghost use Rattle.klsm_parts.specs.Ranking.{place_after_cut};
 
+use klsm_run::MOST_K;
 use std::marker::Model;
 
-/// At most 129 bytes, in order. The first leaves without a move, so that few cache lines change with it.
+// More places than bytes, so that these seldom move to the front.
+pub(crate) const STORE: usize = MOST_K + MOST_K / 2;
+
+/// At most `MOST_K + 1` bytes, in order. The first leaves without a move, so that few cache lines change with it.
 #[derive(Drop)]
 pub(crate) struct RankBytes {
     // The bytes lie from `start` up to `end`.
     start: usize,
     end: usize,
-    // More places than bytes, so that these seldom move to the front.
-    places: [u8; 192],
+    places: [u8; STORE],
 }
 
 impl Model for RankBytes {
@@ -33,7 +37,7 @@ impl RankBytes {
         RankBytes {
             start: 0,
             end: 0,
-            places: [0; 192],
+            places: [0; STORE],
         }
     }
 
@@ -49,7 +53,7 @@ impl RankBytes {
     #[inline]
     pub(crate) fn as_slice(&self) -> &[u8]
         ensures value { result.now ≡ self.now.items }
-        ensures few { length result.now ≤ 192 }
+        ensures few { length result.now ≤ STORE }
     {
         &self.places[self.start..self.end]
     }
@@ -57,7 +61,7 @@ impl RankBytes {
     /// One byte more, the last. Where there is no room behind the bytes, they move to the front first.
     #[inline]
     pub(crate) fn push(&mut self, byte: u8)
-        requires { length self.old.items < 129 }
+        requires { length self.old.items < MOST_K + 1 }
         ensures { self.new.items ≡ self.old.items ++ byte ∷ [] }
     {
         let count = self.end - self.start;

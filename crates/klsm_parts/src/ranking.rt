@@ -1,5 +1,6 @@
 //! The candidates of the shared part in their order: the block of each, and a byte of its owner.
 ghost use Rattle.std.specs.Prelude.{◌≡◌, ◌+◌, ◌%◌, ◌<◌, ◌≤◌, ◌↔◌, ◌++◌, ◌∷◌, ℕ, [], length, map, drop, remove, slice_get, slice_index_or, count_by, nat_eq, Some, IfSome, IsTrue};
+ghost use Rattle.klsm_run.specs.declared.limits.TheConstants.{MOST_K};
 ghost use Rattle.klsm_run.specs.Content.{sorted};
 ghost use Rattle.klsm_lsm.specs.Lsm.{content, IsLsm};
 ghost use Rattle.klsm_parts.specs.Taking.{own_first};
@@ -130,8 +131,8 @@ impl Ranking {
     /// One candidate more, the next after those that are known.
     #[inline]
     pub(crate) fn push(&mut self, next: Ranked)
-        requires room { length self.old.blocks.items < 129 }
-        requires owners_room { length self.old.owners.items < 129 }
+        requires room { length self.old.blocks.items < MOST_K + 1 }
+        requires owners_room { length self.old.owners.items < MOST_K + 1 }
         requires block { next.block < 256 }
         ensures blocks { self.new.blocks.items ≡ self.old.blocks.items ++ next.block ∷ [] }
         ensures owners { self.new.owners.items ≡ self.old.owners.items ++ (next.owner % 256) ∷ [] }
@@ -184,10 +185,10 @@ fn low_byte(owner: u32) -> u8
     (owner % 256) as u8
 }
 
-// How many of the bytes are this one. They are so few that a byte counts them, which the processor does sixteen at a time.
+// How many of the bytes are this one. They are so few that two bytes count them, which the processor does eight at a time.
 #[inline]
-fn count_equal(bytes: &[u8], byte: u8) -> u8
-    requires { length bytes.now < 256 }
+fn count_equal(bytes: &[u8], byte: u8) -> u16
+    requires { length bytes.now < 65536 }
     ensures { result ≡ count_by (λ b. nat_eq b byte) bytes.now }
 {
     let mut count = 0;

@@ -42,10 +42,7 @@ pub fn refill<const CAP: usize, const LEVELS: usize, A: Allocator + Copy>(
     if count == 0 {
         return 0;
     }
-    let mut places = [Item::default(); CAP];
-    let moved = &mut places[..count];
-    move_least(shared, moved);
-    own.absorb(moved);
+    own.take_over(shared, count);
     count
 }
 
@@ -66,7 +63,7 @@ fn count_to_move<const CAP: usize, const LEVELS: usize, A: Allocator + Copy>(
 
 // Moves the least shared items to places, in their order: as many at a time as are candidates, so that
 // one turn does where the two parts have one k.
-fn move_least<const LEVELS: usize, A: Allocator + Copy>(
+pub(crate) fn move_least<const LEVELS: usize, A: Allocator + Copy>(
     shared: &mut Shared<LEVELS, A>,
     places: &mut [Item],
 )

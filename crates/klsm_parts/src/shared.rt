@@ -1,6 +1,7 @@
 //! The part that all members share.
 ghost use Rattle.std.specs.Prelude.{◌≡◌, ◌≢◌, ◌+◌, ◌<◌, ◌≤◌, ◌↔◌, [], length, min, slice_get, slice_index_or, Some, IsTrue, IsOk, IfOk, IfErr, OnOk, OnErr, IsErrAnd, ◌++◌, take, drop, vec_len, vec_capacity};
 ghost use Rattle.klsm_run.specs.Capacity.{IsCapacity, heap_room};
+ghost use Rattle.klsm_run.specs.declared.limits.TheConstants.{MOST_K};
 ghost use Rattle.klsm_run.specs.Content.{sorted, ShareNone};
 ghost use Rattle.klsm_lsm.specs.Lsm.{content, IsLsm};
 ghost use Rattle.klsm_lsm.specs.Limit.{IsLevelCount, limit_of};
@@ -51,7 +52,7 @@ impl<const LEVELS: usize, A: Allocator + Copy> Shared<LEVELS, A> {
     /// take memory from.
     pub fn new(alloc: A, k: usize) -> Self
         requires levels { IsLevelCount LEVELS }
-        requires k { k ≤ 128 }
+        requires k { k ≤ MOST_K }
         ensures { result ≡ record { k = k; blocks = [] } }
     {
         Shared {
@@ -70,7 +71,7 @@ impl<const LEVELS: usize, A: Allocator + Copy> Shared<LEVELS, A> {
     #[inline]
     pub fn k(&self) -> usize
         ensures k { result ≡ self.now.k }
-        ensures within { self.now.k ≤ 128 }
+        ensures within { self.now.k ≤ MOST_K }
     {
         self.k
     }
@@ -267,7 +268,7 @@ fn candidate_pivots<R: Run, const LEVELS: usize>(
     k: usize,
 ) -> ArrayVec<usize, LEVELS>
     requires levels { IsLevelCount LEVELS }
-    requires k { k ≤ 128 }
+    requires k { k ≤ MOST_K }
     ensures lawful { IsLsm lsm.now }
     ensures pivots { ArePivots (k + 1) lsm.now result.items }
 {

@@ -1,15 +1,16 @@
 -- How many items a run can hold, and how many its store has places for.
 use Rattle.std.specs.Prelude.{ℕ, ◌≡◌, ◌⊎◌, ◌≤◌, ◌^◌, min}
 use Rattle.klsm_run.specs.Block.{HasLevel}
+use Rattle.klsm_run.specs.declared.limits.TheConstants.{MOST_K, MOST_SHARED}
 
--- a fixed store is of 1 to 128 items
+-- a fixed store is of 1 to `MOST_K` items
 pub record IsCapacity (capacity : ℕ) : Type 0 where
   pub some_room : 1 ≤ capacity
-  pub at_most : capacity ≤ 128
+  pub at_most : capacity ≤ MOST_K
 
--- a run on the heap is of at most 1,048,576 items
+-- how many items a run on the heap can hold
 abbrev pub heap_room : ℕ
-heap_room = 2 ^ 20
+heap_room = MOST_SHARED
 
 -- the capacity of a run of so many items, where a run can have at most `room`: room for a whole block of its level
 pub record IsRunCapacity (room count capacity : ℕ) : Type 0 where

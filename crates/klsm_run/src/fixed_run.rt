@@ -13,7 +13,7 @@ use arrayvec::ArrayVec;
 use std::fmt;
 use std::marker::Model;
 
-/// A run of at most `CAP` items, which lie in the value itself. `CAP` is 1 to 128.
+/// A run of at most `CAP` items, which lie in the value itself. `CAP` is 1 to `MOST_K`.
 #[derive(Drop)]
 pub struct FixedRun<const CAP: usize> {
     // The store is always full. It is written whole where it is made, and nowhere else.

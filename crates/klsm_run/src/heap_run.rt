@@ -7,15 +7,12 @@ ghost use Rattle.klsm_run.specs.Stores.{spanned, HeapState, IsHeapRun};
 
 use crate::run::level_of;
 use crate::span::Span;
-use crate::{Item, Run, RunError};
+use crate::{Item, MOST_SHARED, Run, RunError};
 use std::alloc::{Allocator, Global};
 use std::marker::Model;
 use std::{fmt, mem};
 
-// How many items a run on the heap can hold.
-const HEAP_ROOM: usize = 1 << 20;
-
-/// A run of at most 1,048,576 items, which lie in one block of memory.
+/// A run of at most `MOST_SHARED` items, which lie in one block of memory.
 #[derive(Drop)]
 pub struct HeapRun<A: Allocator + Copy = Global> {
     // The store has what was written once, and is filled further only where a union needs it.
@@ -130,7 +127,7 @@ impl<A: Allocator + Copy> fmt::Debug for HeapRun<A> {
 }
 
 impl<A: Allocator + Copy> Run for HeapRun<A> {
-    const ROOM: usize = HEAP_ROOM;
+    const ROOM: usize = MOST_SHARED;
 
     ghost ROOM = { heap_room };
 

@@ -34,6 +34,7 @@
 mod fixed_run;
 mod heap_run;
 mod item;
+mod limits;
 mod run;
 mod span;
 mod uniting;
@@ -41,4 +42,7 @@ mod uniting;
 pub use fixed_run::FixedRun;
 pub use heap_run::HeapRun;
 pub use item::{Item, Stamp};
+pub use limits::{
+    MOST_K, MOST_LEVELS, MOST_SHARED, MOST_THREADS, OWN_LEVELS, PROGRAM_K, PROGRAM_THREADS,
+};
 pub use run::{Run, RunError, level_of};

@@ -35,7 +35,7 @@ pub trait Run: Drop {
     /// Whether the store is fixed, so that no call takes memory.
     ghost is_fixed: { Bool };
 
-    /// The number of items. Every run is ascending and within its room, which is 1,048,576 at most.
+    /// The number of items. Every run is ascending and within its room, which is `MOST_SHARED` at most.
     fn len(&self) -> usize
         ensures len { result ≡ length (items self.now) }
         ensures room { length (items self.now) ≤ ROOM }

@@ -5,7 +5,7 @@ use Rattle.klsm_lsm.specs.Lsm.{content}
 use Rattle.klsm_lsm.specs.Adding.{add}
 use Rattle.klsm_parts.specs.Flushing.{moved}
 use Rattle.klsm_parts.proofs.FlushLemmas.{moved_none, moved_some, some_block, one_apart, block_apart}
-use Rattle.klsm_parts.proofs.FitLemmas.{first_fits, run_fits}
+use Rattle.klsm_parts.proofs.FitLemmas.{first_fits, fixed_run_fits, one_fits, run_fits}
 use Rattle.klsm_parts.proofs.flushing.absorb_moved.Goals as goal
 
 pub absorb_copy-requires : goal.absorb_copy-requires
@@ -49,10 +49,7 @@ pub len-requires : goal.len-requires
 len-requires g c = search
 
 pub single-requires : goal.single-requires
-single-requires g c = (search run_fits, c.requires.capacity)
-
-pub absorb_copy-requires-room-R-Run : goal.absorb_copy-requires-room-R-Run
-absorb_copy-requires-room-R-Run g c κs = search run_fits
+single-requires g c = (fixed_run_fits 1 one_fits, one_fits)
 
 pub lsm-requires : goal.lsm-requires
 lsm-requires g c = (search, (search first_fits, search run_fits))

@@ -1,4 +1,5 @@
 use Rattle.std.proofs.Common.{◌≡◌, ◌+◌, ◌<◌, ◌≤◌, length, refl, sym, ◌∙◌, subst, arith}
+use Rattle.klsm_run.specs.declared.limits.TheConstants.{MOST_K}
 use Rattle.klsm_lsm.specs.Lsm.{content}
 use Rattle.klsm_lsm.specs.Adding.{add}
 use Rattle.klsm_lsm.specs.Places.{united}
@@ -32,7 +33,7 @@ rank_next-requires g c =
     let within = subst (λ (cascade : Cascade). cascade.first + cascade.count ≤ length c.args.lsm.now) (sym c.loop.invariant.same) c.cascade.ensures.within in
     let more : length c.loop.merging.ranking.blocks.items < length run + length (content c.args.lsm.now) =
     omega (arith, c.loop.invariant.len, c.loop-test.true, c.min-most.ensures, c.saturating_add.ensures, c.len.ensures.len, c.len-2.ensures.len) in
-    let room : length c.loop.merging.ranking.blocks.items < 129 = omega (arith, c.loop.invariant.len, c.loop-test.true, c.min-most.ensures, c.requires.k_in_range) in (
+    let room : length c.loop.merging.ranking.blocks.items < MOST_K + 1 = omega (arith, c.loop.invariant.len, c.loop-test.true, c.min-most.ensures, c.requires.k_in_range) in (
       search,
       (
         search,

@@ -1,6 +1,7 @@
 use Rattle.std.proofs.Common.{◌≡◌, ◌≤◌, ◌-◌, ◌*◌, ◌%◌, ◌^◌, arith}
 use Rattle.std.proofs.lemmas.Grind.{common_steps}
 use Rattle.std.proofs.Math.Pow.{pow_mono}
+use Rattle.klsm_run.specs.declared.limits.TheConstants.{MOST_LEVELS}
 use Rattle.klsm_lsm.proofs.lsm.Lsm.limit.Goals as goal
 
 pub overflow_sub-min : goal.overflow_sub-min
@@ -11,7 +12,7 @@ overflow_shl-min g c = omega (arith, c.self.invariant.stored.within.levels_in_ra
 
 pub returns : goal.returns
 returns g c =
-    let last : g.row.LEVELS - 1 ≤ 20 = omega (arith, c.self.invariant.stored.within.levels_in_range.at_most) in
-    let few : 2 ^ (g.row.LEVELS - 1) ≤ 2 ^ 20 = pow_mono last in
+    let last : g.row.LEVELS - 1 ≤ MOST_LEVELS - 1 = omega (arith, c.self.invariant.stored.within.levels_in_range.at_most) in
+    let few : 2 ^ (g.row.LEVELS - 1) ≤ 2 ^ (MOST_LEVELS - 1) = pow_mono last in
     let is : 1 * 2 ^ (g.row.LEVELS - 1) % 18446744073709551616 ≡ 2 ^ (g.row.LEVELS - 1) = omega (arith, few) in
     rw (c.min.ensures, is, c.ROOM.ensures) (grind (arith, common_steps))

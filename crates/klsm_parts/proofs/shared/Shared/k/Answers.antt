@@ -1,4 +1,5 @@
 use Rattle.std.proofs.Common.{◌≤◌, subst}
+use Rattle.klsm_run.specs.declared.limits.TheConstants.{MOST_K}
 use Rattle.klsm_parts.specs.Parts.{PartState}
 use Rattle.klsm_parts.proofs.shared.Shared.k.Goals as goal
 
@@ -6,4 +7,4 @@ pub returns-clause-k : goal.returns-clause-k
 returns-clause-k g c = search
 
 pub returns-clause-within : goal.returns-clause-within
-returns-clause-within g c = subst (λ (p : PartState). p.k ≤ 128) c.self.view_is c.self.invariant.k_in_range
+returns-clause-within g c = subst (λ (p : PartState). p.k ≤ MOST_K) c.self.view_is c.self.invariant.k_in_range
