@@ -16,6 +16,10 @@ DEFINITION = re.compile(r"^ *(?:abbrev pub|pub record|pub data) ([^\s:]+)|^pub (
 NUMBERS = "no one two three four five six seven eight nine ten eleven twelve thirteen fourteen fifteen sixteen \
 seventeen eighteen nineteen twenty".split()
 
+TESTS = {"klsm_tests", "klsm_program_tests", "klsm_test_support"}
+LITERAL = re.compile(r"\b(1024|1_024|67108864|67_108_864|64 21)\b|(Board|Members?)(<| )\d|(≤|<=) (16|21|64|128|129)\b"
+                     r"|(?<!<)< (16|21|129)\b|(?<![*^<>] )\b(16|21|64|128|129) (≤|<(?!<))")
+
 
 def pages():
     """Each page, with what it says outside its blocks of code."""
@@ -71,6 +75,19 @@ def libraries():
     return None if said and said[1] == NUMBERS[count] else f"there are {NUMBERS[count]}"
 
 
+def limits():
+    """Limits have names, which klsm_run and klsm_model define. Tests and texts may have their numbers."""
+    literal = []
+    for file in sorted([*ROOT.glob("crates/*/src/**/*.rt"), *ROOT.glob("crates/*/specs/**/*.antt"), *ROOT.glob("crates/*/proofs/**/*.antt")]):
+        crate = file.relative_to(ROOT / "crates").parts[0]
+        if crate in TESTS or file.name == "limits.rt":
+            continue
+        for number, line in enumerate(file.read_text().splitlines(), 1):
+            if LITERAL.search(re.sub(r'(?://|--).*|"[^"]*"', "", line)):
+                literal.append(f"{file.relative_to(ROOT)}:{number}")
+    return f"have a limit's number: {literal}" if literal else None
+
+
 def figures():
     run = subprocess.run([sys.executable, ROOT / "bench/pages", "--check"], capture_output=True, text=True)
     return None if run.returncode == 0 else run.stdout + run.stderr
@@ -82,4 +99,5 @@ def checks():
     yield "pages: a definition's name stands once", names
     yield "pages: the clause that refuses an edit", edits
     yield "pages: how many libraries there are", libraries
+    yield "pages: limits by their names", limits
     yield "pages: the tables of figures", figures

@@ -1,7 +1,8 @@
 -- Boards and their members.
-use Rattle.std.specs.Prelude.{◌≡◌, ℕ, ◌<◌, ◌≤◌, [], ◌∷◌, length, slice_get, Option}
+use Rattle.std.specs.Prelude.{◌≡◌, ℕ, ◌*◌, ◌<◌, ◌≤◌, [], ◌∷◌, length, slice_get, Option}
 use Rattle.atomic_table.specs.Table.{Me}
 use Rattle.klsm_run.specs.declared.item.Item.{Item}
+use Rattle.klsm_run.specs.declared.limits.TheConstants.{MOST_THREADS}
 use Rattle.klsm_parts.specs.Parts.{PartState}
 use Rattle.klsm_world.specs.OwnSteps.{content_in, hand_of, inserted, deleted}
 use Rattle.klsm_board.specs.declared.sizes.Sizes.{Sizes}
@@ -15,9 +16,9 @@ use Rattle.klsm_board.specs.Slots.{slot_content, IsSlotOf}
 abbrev pub most_insertions : ℕ
 most_insertions = 281474976710656
 
--- and the most deletions of a member, which are the insertions of sixteen: 2^52
+-- and the most deletions of a member, which are the insertions of all
 abbrev pub most_deletions : ℕ
-most_deletions = 4503599627370496
+most_deletions = MOST_THREADS * most_insertions
 
 -- the sizes of a board whose members may make the most insertions, and whose deletions move no items
 abbrev pub sizes_of : ℕ → ℕ → Sizes
@@ -26,7 +27,7 @@ sizes_of threads k = record { threads = threads; k = k; quota = most_insertions;
 -- what a board can be made for
 pub record AreSizes (capacity : ℕ) (m : Sizes) : Type 0 where
   pub some_thread : 1 ≤ m.threads
-  pub threads : m.threads ≤ 16
+  pub threads : m.threads ≤ MOST_THREADS
   pub k : m.k ≤ capacity
   pub quota : m.quota ≤ most_insertions
   pub refill : m.refill ≤ m.k

@@ -7,6 +7,7 @@ use lib.ListN.{get_elem?}
 use Rattle.atomic_table.specs.Table.{State}
 use Rattle.atomic_table.specs.Seated.{TableId}
 use Rattle.klsm_run.specs.declared.item.Item.{Item}
+use Rattle.klsm_run.specs.declared.limits.TheConstants.{MOST_THREADS}
 use Rattle.klsm_world.specs.declared.step.Entry.{Entry}
 use Rattle.klsm_world.specs.declared.step.Step.{Step as WorldStep}
 use Rattle.klsm_world.specs.OwnSteps.{inserted}
@@ -105,4 +106,4 @@ pub record IsReached (m : Sizes) (t : ℕ) (es : List Entry) : Type 0 where
 
 -- a lock, in its place, and a slot for each part, and the front word
 abbrev pub IsSized : TableId → Sizes → Type 0
-IsSized z m = (z.words ≡ place (m.threads + 2)) × (z.slots ≡ m.threads + 1) × (m.threads ≤ 16)
+IsSized z m = (z.words ≡ place (m.threads + 2)) × (z.slots ≡ m.threads + 1) × (m.threads ≤ MOST_THREADS)

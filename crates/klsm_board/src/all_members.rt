@@ -5,6 +5,7 @@ ghost use Rattle.klsm_board.specs.Knowing.{IsWhole};
 
 use crate::board::Member;
 use crate::tally::Tally;
+use klsm_run::{MOST_LEVELS, PROGRAM_K};
 
 /// All members of a board in one hand, for one thread that makes the calls of all.
 ///
@@ -27,7 +28,7 @@ pub struct AllMembers<const CAP: usize, const LEVELS: usize> {
 }
 
 /// All members of a `StandardBoard`.
-pub type AllStandardMembers = AllMembers<64, 21>;
+pub type AllStandardMembers = AllMembers<PROGRAM_K, MOST_LEVELS>;
 
 /// Which member is missing, and the members.
 #[derive(Drop)]

@@ -10,7 +10,7 @@ use crate::rule::{Law, MemberSeat, View};
 use crate::sizes::Sizes;
 use crate::slot::BoardSlot;
 use atomic_table::Table;
-use klsm_run::Item;
+use klsm_run::{Item, MOST_K, MOST_LEVELS, PROGRAM_K};
 use std::alloc::Global;
 
 /// A relaxed priority queue of several members, each of which may be used by a thread of its own.
@@ -46,12 +46,17 @@ pub struct Member<const CAP: usize, const LEVELS: usize> {
     pub ghost levels: { IsLevelCount LEVELS },
 }
 
-/// The board of the program and of the library for C: own parts of at most 64 items, and 21 levels, by which the
-/// shared part has room for 1,048,576.
-pub type StandardBoard = Board<64, 21>;
+/// The board of the program: own parts of at most `PROGRAM_K` items, and a shared one of at most `MOST_SHARED`.
+pub type StandardBoard = Board<PROGRAM_K, MOST_LEVELS>;
 
 /// One of its members.
-pub type StandardMember = Member<64, 21>;
+pub type StandardMember = Member<PROGRAM_K, MOST_LEVELS>;
+
+/// The board of the library for C: own parts of at most `MOST_K` items, and the same shared part.
+pub type WideBoard = Board<MOST_K, MOST_LEVELS>;
+
+/// One of its members.
+pub type WideMember = Member<MOST_K, MOST_LEVELS>;
 
 /// A member that holds one part. No other member can acquire that part. A `Held` that is dropped leaves
 /// the lock held for good.

@@ -15,8 +15,8 @@ pub struct Busy {
 /// Why a board is not made. The causes are tried in this order.
 #[derive(Clone, Copy, Debug, PartialEq, Eq, Error)]
 pub enum MakeError {
-    /// Not 1 to 16 members.
-    #[error("the number of members is not 1 to 16")]
+    /// Not 1 to `MOST_THREADS` members.
+    #[error("the number of members is not 1 to 64")]
     BadThreads,
     /// More items in an own part than a run can hold.
     #[error("an own part cannot hold k items")]

@@ -3,6 +3,7 @@ ghost use Rattle.std.specs.Prelude.{All, ◌≡◌, ◌<◌, ◌≤◌, ◌+◌,
 ghost use Rattle.std.specs.Mem.Slots.{slots_items, slots_filled, slots_len, IsFull};
 ghost use Rattle.klsm_run.specs.declared.item.Item.{Item};
 ghost use Rattle.std.specs.List.{flat_map};
+ghost use Rattle.klsm_run.specs.declared.limits.TheConstants.{MOST_THREADS};
 ghost use mathlib.Core.Option.{some};
 ghost use lib.ListN.{get_elem?};
 ghost use Rattle.klsm_run.specs.Content.{sorted};
@@ -176,7 +177,7 @@ fn totals_of<const CAP: usize, const LEVELS: usize>(
     members: &[Member<CAP, LEVELS>],
     threads: usize,
 ) -> Result<Totals, u32>
-    requires threads { threads ≤ 16 }
+    requires threads { threads ≤ MOST_THREADS }
     ensures ok { IfOk result (λ totals. AreAll members.now threads
         × (totals.inserted ≡ length (flat_map inserted (lists_of threads members.now)))
         × (totals.deleted ≡ length (flat_map deleted (lists_of threads members.now)))) }

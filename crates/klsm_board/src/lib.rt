@@ -1,4 +1,4 @@
-//! The running board: a k-LSM with locks, for up to sixteen members, each of which may be used by a
+//! The running board: a k-LSM with locks, for up to 64 members, each of which may be used by a
 //! thread of its own.
 //!
 //! Each member has an own part, of at most k items, and all share one part more. An insertion acquires
@@ -86,6 +86,7 @@
 
 mod acquiring;
 mod all_members;
+mod balancing;
 mod board;
 mod boxed;
 mod deleting;
@@ -111,7 +112,8 @@ mod tally;
 mod together;
 
 pub use all_members::{AllMembers, AllStandardMembers, GatherRefused};
-pub use board::{Board, Held, HoldRefused, Member, StandardBoard, StandardMember};
+pub use balancing::{Balancing, MOST_BALANCED};
+pub use board::{Board, Held, HoldRefused, Member, StandardBoard, StandardMember, WideBoard, WideMember};
 pub use errors::{Busy, FinishError, HoldError, InsertError, MakeError, TryInsertError};
 pub use finishing::{Account, FinishRefused};
 pub use gate::{Gate, Open};

@@ -1,5 +1,6 @@
 //! How a board is made.
 ghost use Rattle.std.specs.Prelude.{All, ◌≡◌, ◌<◌, ◌≤◌, ◌+◌, ◌∷◌, ◌↔◌, ◌⊎◌, ℕ, [], length, replicate, IfOk, IsErrAnd};
+ghost use Rattle.klsm_run.specs.declared.limits.TheConstants.{MOST_THREADS};
 ghost use Rattle.klsm_run.specs.Capacity.{IsCapacity};
 ghost use Rattle.klsm_parts.specs.Limit.{IsLevelCount};
 ghost use Rattle.klsm_board.specs.Rule.{view, fresh};
@@ -14,10 +15,8 @@ use crate::sizes::Sizes;
 use crate::slot::{BoardSlot, Slot};
 use atomic_table::{Seat, Split, Table};
 use klsm_parts::{Local, Shared};
+use klsm_run::MOST_THREADS;
 use std::alloc::{AllocError, Global};
-
-/// The most members of a board.
-const MOST_THREADS: usize = 16;
 
 /// The most insertions that a board can be made for, of each member: 2^48.
 pub const MOST_INSERTIONS: u64 = 281_474_976_710_656;
@@ -44,11 +43,11 @@ impl<const CAP: usize, const LEVELS: usize> Board<CAP, LEVELS> {
 
         // Each refusal comes exactly where its cause holds and none before it; else memory lacks.
         ensures bad_threads { IsErrAnd result (λ why. why ≡ MakeError.BadThreads)
-            ↔ ((threads ≡ 0) ⊎ (16 < threads)) }
+            ↔ ((threads ≡ 0) ⊎ (MOST_THREADS < threads)) }
         ensures bad_k { IsErrAnd result (λ why. why ≡ MakeError.BadK)
-            ↔ ((1 ≤ threads) × (threads ≤ 16) × (CAP < k)) }
+            ↔ ((1 ≤ threads) × (threads ≤ MOST_THREADS) × (CAP < k)) }
         ensures bad_quota { IsErrAnd result (λ why. why ≡ MakeError.BadQuota)
-            ↔ ((1 ≤ threads) × (threads ≤ 16) × (k ≤ CAP) × (most_insertions < quota)) }
+            ↔ ((1 ≤ threads) × (threads ≤ MOST_THREADS) × (k ≤ CAP) × (most_insertions < quota)) }
         ensures bad_refill { IsErrAnd result (λ why. why ≡ MakeError.BadRefill) ↔ ⊥ }
     {
         Board::with_refill(alloc, threads, k, quota, 0)
@@ -73,13 +72,13 @@ impl<const CAP: usize, const LEVELS: usize> Board<CAP, LEVELS> {
 
         // Each refusal comes exactly where its cause holds and none before it; else memory lacks.
         ensures bad_threads { IsErrAnd result (λ why. why ≡ MakeError.BadThreads)
-            ↔ ((threads ≡ 0) ⊎ (16 < threads)) }
+            ↔ ((threads ≡ 0) ⊎ (MOST_THREADS < threads)) }
         ensures bad_k { IsErrAnd result (λ why. why ≡ MakeError.BadK)
-            ↔ ((1 ≤ threads) × (threads ≤ 16) × (CAP < k)) }
+            ↔ ((1 ≤ threads) × (threads ≤ MOST_THREADS) × (CAP < k)) }
         ensures bad_quota { IsErrAnd result (λ why. why ≡ MakeError.BadQuota)
-            ↔ ((1 ≤ threads) × (threads ≤ 16) × (k ≤ CAP) × (most_insertions < quota)) }
+            ↔ ((1 ≤ threads) × (threads ≤ MOST_THREADS) × (k ≤ CAP) × (most_insertions < quota)) }
         ensures bad_refill { IsErrAnd result (λ why. why ≡ MakeError.BadRefill)
-            ↔ ((1 ≤ threads) × (threads ≤ 16) × (k ≤ CAP) × (quota ≤ most_insertions)
+            ↔ ((1 ≤ threads) × (threads ≤ MOST_THREADS) × (k ≤ CAP) × (quota ≤ most_insertions)
             × (k < refill)) }
     {
         let sizes = sizes_for(CAP, threads, k, quota, refill)?;
@@ -105,13 +104,13 @@ fn sizes_for(
         sizes ≡ record { threads = threads; k = k; quota = quota; refill = refill }) }
     ensures in_range { IfOk result (λ sizes. AreSizes capacity sizes) }
     ensures bad_threads { IsErrAnd result (λ why. why ≡ MakeError.BadThreads)
-        ↔ ((threads ≡ 0) ⊎ (16 < threads)) }
+        ↔ ((threads ≡ 0) ⊎ (MOST_THREADS < threads)) }
     ensures bad_k { IsErrAnd result (λ why. why ≡ MakeError.BadK)
-        ↔ ((1 ≤ threads) × (threads ≤ 16) × (capacity < k)) }
+        ↔ ((1 ≤ threads) × (threads ≤ MOST_THREADS) × (capacity < k)) }
     ensures bad_quota { IsErrAnd result (λ why. why ≡ MakeError.BadQuota)
-        ↔ ((1 ≤ threads) × (threads ≤ 16) × (k ≤ capacity) × (most_insertions < quota)) }
+        ↔ ((1 ≤ threads) × (threads ≤ MOST_THREADS) × (k ≤ capacity) × (most_insertions < quota)) }
     ensures bad_refill { IsErrAnd result (λ why. why ≡ MakeError.BadRefill)
-        ↔ ((1 ≤ threads) × (threads ≤ 16) × (k ≤ capacity) × (quota ≤ most_insertions)
+        ↔ ((1 ≤ threads) × (threads ≤ MOST_THREADS) × (k ≤ capacity) × (quota ≤ most_insertions)
         × (k < refill)) }
 {
     if threads == 0 || threads > MOST_THREADS {

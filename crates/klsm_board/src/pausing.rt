@@ -3,6 +3,7 @@
 //! Tries without a pause take the line of the lock word from the holder, who then needs longer. Pauses are by
 //! time, since a `spin_loop` takes 5 nanoseconds on one processor and 60 on another.
 ghost use Rattle.std.specs.Prelude.{◌≡◌, ◌≤◌};
+ghost use Rattle.klsm_run.specs.declared.limits.TheConstants.{MOST_THREADS};
 ghost use Rattle.klsm_board.specs.Rule.{IsSized};
 ghost use Rattle.klsm_board.specs.Pausing.{nanos_after, rest_after};
 
@@ -98,7 +99,7 @@ fn has_passed(clock: &impl Clock, begin: &io::Result<Instant>, nanos: u64) -> bo
 
 // What comes after so many tries in vain and one more, which met this lock.
 fn rest_of_wait(misses: u32, busy: Busy) -> Rest
-    requires part { busy.lock ≤ 16 }
+    requires part { busy.lock ≤ MOST_THREADS }
     ensures rest { result ≡ rest_after misses busy.lock busy.by }
 {
     if misses < MISSES_AWAKE {

@@ -1,6 +1,7 @@
 //! What a member that finds both parts empty takes from another's.
 ghost use Rattle.std.specs.Prelude.{◌≡◌, ◌≢◌, ◌<◌, ◌≤◌, ◌+◌, ◌-◌, ◌++◌, ℕ, List, [], ◌∷◌, MatchBool};
 ghost use Rattle.klsm_run.specs.declared.item.Item.{Item};
+ghost use Rattle.klsm_run.specs.declared.limits.TheConstants.{MOST_THREADS};
 ghost use Rattle.klsm_parts.specs.Events.{MaySpy, own_after_spy, victim_after_spy};
 ghost use Rattle.klsm_world.specs.declared.step.Event.TheVariants.{Spy};
 ghost use Rattle.klsm_world.specs.declared.step.Entry.{Entry};
@@ -48,8 +49,8 @@ pub(crate) fn search_victims<S: PartSlot>(
 }
 
 // The member that is so many places behind another, in the round of all.
-fn victim_at(thread: usize, threads: usize, step: usize) -> u32
-    requires { (thread < threads) × (0 < step) × (step < threads) × (threads ≤ 16) }
+pub(crate) fn victim_at(thread: usize, threads: usize, step: usize) -> u32
+    requires { (thread < threads) × (0 < step) × (step < threads) × (threads ≤ MOST_THREADS) }
     ensures value { result ≡ victim_of threads thread step }
     ensures another { (result < threads) × (result ≢ thread) }
 {

@@ -1,6 +1,7 @@
 //! What all members of a board do in one hand.
 ghost use Rattle.std.specs.Prelude.{All, ◌≡◌, ◌≢◌, ◌<◌, ◌≤◌, ◌∷◌, ◌++◌, ◌↔◌, ◌+◌, max, ℕ, List, [], length, IfOk, IfErr, IsErrAnd, OnErr};
 ghost use Rattle.std.specs.Option.{option_to_list};
+ghost use Rattle.klsm_run.specs.declared.limits.TheConstants.{MOST_THREADS};
 ghost use Rattle.klsm_run.specs.Capacity.{heap_room};
 ghost use Rattle.klsm_parts.specs.Events.{plus};
 ghost use Rattle.klsm_parts.specs.Limit.{limit_of};
@@ -299,7 +300,7 @@ fn tally_of<const CAP: usize, const LEVELS: usize>(
     members: &[Member<CAP, LEVELS>],
     threads: usize,
 ) -> Result<Tally, u32>
-    requires threads { threads ≤ 16 }
+    requires threads { threads ≤ MOST_THREADS }
     ensures ok { IfOk result (λ tally. AreCounted members.now threads tally.inserted
         tally.deleted) }
     ensures missing { IfErr result (λ number. IsLeastAbsent members.now threads number) }

@@ -5,6 +5,7 @@ use Rattle.std.proofs.lemmas.List.{length-map}
 use mathlib.Core.Option.{some, some-injective, some-ne-none}
 use lib.ListN.{get_elem?}
 use Rattle.atomic_table.specs.Seated.{TableId}
+use Rattle.klsm_run.specs.declared.limits.TheConstants.{MOST_K, MOST_LEVELS}
 use Rattle.klsm_board.specs.declared.board.Member.{Member}
 use Rattle.klsm_board.specs.declared.sizes.Sizes.{Sizes}
 use Rattle.klsm_board.proofs.lemmas.ending.MemberLemmas.{stands_mapped}
@@ -21,14 +22,14 @@ use Rattle.klsm_c.proofs.ListLemmas.{map_behind}
 abbrev Face : Type 0
 Face = ℕ × (TableId × Sizes)
 
-abbrev face : Member 64 21 → Face
+abbrev face : Member MOST_K MOST_LEVELS → Face
 face m = (m.number, (m.seat.table_id, m.sizes))
 
 abbrev faces : List OwnedMember → List Face
 faces xs = map face (members_of xs)
 
 -- members that cannot be told from all those of a board are all those of one
-whole_by_faces : (ms ns : List (Member 64 21)) → map face ns ≡ map face ms → AreAllOfTheirBoard ms → AreAllOfTheirBoard ns
+whole_by_faces : (ms ns : List (Member MOST_K MOST_LEVELS)) → map face ns ≡ map face ms → AreAllOfTheirBoard ms → AreAllOfTheirBoard ns
 whole_by_faces ms ns same whole i a there board of =
     let x = twin i a there in
     let are = whole i x.0 x.1 board (ap (λ f. f.1.0) x.2 ∙ of.0, ap (λ f. f.1.1) x.2 ∙ of.1) in
@@ -38,7 +39,7 @@ whole_by_faces ms ns same whole i a there board of =
       numbered = λ j b other. let y = twin j b other in ap (λ f. f.0) (sym y.2) ∙ are.numbered j y.0 y.1;
     }
   where
-    twin : (i : ℕ) (a : Member 64 21) → get_elem? ns i ≡ some a → (x : Member 64 21) × (get_elem? ms i ≡ some x) × (face x ≡ face a)
+    twin : (i : ℕ) (a : Member MOST_K MOST_LEVELS) → get_elem? ns i ≡ some a → (x : Member MOST_K MOST_LEVELS) × (get_elem? ms i ≡ some x) × (face x ≡ face a)
     twin i a there = unmapped face ms i (face a) (ap (λ fs. get_elem? fs i) (sym same) ∙ stands_mapped face ns i a there)
 
 same_face : (x y : OwnedMember) → IsSameOwned x y → face (member_of y) ≡ face (member_of x)

@@ -1,5 +1,6 @@
 -- What the closing of a queue tells.
 use Rattle.std.specs.Prelude.{◌≡◌, ℕ, List, length, map}
+use Rattle.klsm_run.specs.declared.limits.TheConstants.{MOST_K, MOST_LEVELS}
 use mathlib.Core.Option.{some}
 use lib.ListN.{get_elem?}
 use Rattle.klsm_world.specs.declared.step.Entry.{Entry}
@@ -20,18 +21,18 @@ abbrev pub all_steps : List OwnedMember → List (List Entry)
 all_steps owned = map own_steps (members_of owned)
 
 -- one of the members is of this board
-pub record HasOneOf (board : Board 64 21) (members : List (Member 64 21)) : Type 0 where
+pub record HasOneOf (board : Board MOST_K MOST_LEVELS) (members : List (Member MOST_K MOST_LEVELS)) : Type 0 where
   pub at : ℕ
-  pub member : Member 64 21
+  pub member : Member MOST_K MOST_LEVELS
   pub there : get_elem? members at ≡ some member
   pub of : IsOf member board
 
 -- The members' lists are those of a world to which a schedule of legal steps leads. Each item that was
 -- inserted was deleted, once, or is left, once. The account has the counts, and the least of the items
 -- that are left are copied.
-pub record IsAccount (members : List (Member 64 21)) (answer : Account) (old new : List PlainItem) : Type 0 where
+pub record IsAccount (members : List (Member MOST_K MOST_LEVELS)) (answer : Account) (old new : List PlainItem) : Type 0 where
   pub sizes : Sizes
-  pub sizes_are : (i : ℕ) (member : Member 64 21) → get_elem? members i ≡ some member → member.sizes ≡ sizes
+  pub sizes_are : (i : ℕ) (member : Member MOST_K MOST_LEVELS) → get_elem? members i ≡ some member → member.sizes ≡ sizes
   pub at_end : AreListsAtEnd sizes (map own_steps members)
   pub each_once : AreEachOnce (map own_steps members)
   pub inserted_is : answer.inserted ≡ (account (map own_steps members)).inserted

@@ -33,11 +33,11 @@ not_open = pos 6
 abbrev pub already_open : ℤ
 already_open = pos 7
 
--- the number of threads is not 1 to 16
+-- the number of threads is not 1 to `MOST_THREADS`
 abbrev pub bad_count : ℤ
 bad_count = pos 8
 
--- k is above 64
+-- k is above `MOST_K`
 abbrev pub bad_k : ℤ
 bad_k = pos 9
 

@@ -2,6 +2,7 @@
 ghost use Rattle.std.specs.Prelude.{◌≡◌, ◌≢◌, ◌↔◌, ◌⊎◌, ◌≤◌, ◌+◌, ◌++◌, ◌∷◌, [], false, length, map, IfOk, IfErr, IsErrAnd, IfSome, MatchOption, None, OnOk, OnErr, vec_capacity};
 ghost use Rattle.std.specs.Arc.{arc_value};
 ghost use Rattle.std.specs.List.{flat_map};
+ghost use Rattle.klsm_run.specs.declared.limits.TheConstants.{MOST_K, MOST_LEVELS, MOST_THREADS};
 ghost use mathlib.Core.Option.{some};
 ghost use lib.ListN.{get_elem?};
 ghost use Rattle.klsm_world.specs.OwnSteps.{deleted, inserted};
@@ -19,7 +20,7 @@ use crate::item::{PlainItem, copy_items};
 use crate::opening::some_is_open;
 use crate::queue::Queue;
 use crate::slot::Slot;
-use klsm_board::{Member, StandardBoard, StandardMember};
+use klsm_board::{Member, WideBoard, WideMember};
 use klsm_run::Item;
 use std::alloc::Global;
 use std::sync::Arc;
@@ -98,7 +99,7 @@ fn close_slots(
     left: &mut [PlainItem],
 ) -> Result<Account, CloseError>
     requires whole { AreAllOfTheirBoard (members_of (owned_in slots.old)) }
-    requires few { length slots.old ≤ 16 }
+    requires few { length slots.old ≤ MOST_THREADS }
     ensures not_open { IsErrAnd result (λ why. why ≡ CloseError.NotOpen)
         ↔ (some_open slots.old ≡ false) }
     ensures ok { IfOk result (λ account. IsAccount (members_of (owned_in slots.old))
@@ -130,7 +131,7 @@ fn close_slots(
 
 // How many items are left: those inserted by the members in these slots less those deleted by them.
 fn count_left(slots: &mut [Slot]) -> u64
-    requires few { length slots.old ≤ 16 }
+    requires few { length slots.old ≤ MOST_THREADS }
     ensures same { held_in slots.new ≡ held_in slots.old }
     ensures count { length (flat_map inserted (all_steps (owned_in slots.old)))
         ≤ length (flat_map deleted (all_steps (owned_in slots.old))) + result }
@@ -159,8 +160,8 @@ fn counts_of(slot: &mut Slot) -> (u64, u64)
 fn take_members(
     alloc: Global,
     slots: &mut [Slot],
-    members: &mut Vec<StandardMember>,
-) -> Option<Arc<StandardBoard, Global>>
+    members: &mut Vec<WideMember>,
+) -> Option<Arc<WideBoard, Global>>
     requires empty { members.old.items ≡ [] }
     requires room { length slots.old ≤ vec_capacity members.old }
     ensures closed { AreClosed slots.new }
@@ -181,14 +182,14 @@ fn take_members(
 fn take_member(
     alloc: Global,
     slot: &mut Slot,
-    members: &mut Vec<StandardMember>,
-) -> Option<Arc<StandardBoard, Global>>
+    members: &mut Vec<WideMember>,
+) -> Option<Arc<WideBoard, Global>>
     requires room { length members.old.items + 1 ≤ vec_capacity members.old }
     ensures closed { slot.new.handle.held ≡ [] }
     ensures members { members.new.items ≡ members.old.items ++ members_of slot.old.handle.held }
     ensures capacity { vec_capacity members.new ≡ vec_capacity members.old }
     ensures board { MatchOption result (slot.old.handle.held ≡ [])
-        (λ board. (member : Member 64 21) × (members_of slot.old.handle.held ≡ member ∷ [])
+        (λ board. (member : Member MOST_K MOST_LEVELS) × (members_of slot.old.handle.held ≡ member ∷ [])
         × IsOf member (arc_value board)) }
 {
     let owned = slot.take(alloc)?;
@@ -199,8 +200,8 @@ fn take_member(
 
 // Ends the board, whose members these are, and copies what is left. `None` where it has another owner.
 fn finish(
-    board: Arc<StandardBoard, Global>,
-    members: Vec<StandardMember>,
+    board: Arc<WideBoard, Global>,
+    members: Vec<WideMember>,
     items: Vec<Item>,
     left: &mut [PlainItem],
 ) -> Option<Account>

@@ -4,18 +4,18 @@ ghost use Rattle.std.specs.Prelude.{◌≡◌};
 /// Which interface this is. It changes whenever a struct, a code or an argument does.
 #[unsafe(no_mangle)]
 pub extern "C" fn klsm_abi() -> u32
-    ensures { result ≡ 1 }
+    ensures { result ≡ 2 }
 {
-    1
+    2
 }
 
 /// The version of the library: 10,000 times the first of its three numbers, and 100 times the second, and
 /// the third.
 #[unsafe(no_mangle)]
 pub extern "C" fn klsm_version() -> u32
-    ensures { result ≡ 10000 }
+    ensures { result ≡ 20000 }
 {
-    10_000
+    20_000
 }
 
 pub(crate) const OK: i32 = 0;

@@ -1,8 +1,8 @@
 //! The board for C, as a static library. `include/klsm.h` declares these functions, and says what C owes.
 //!
-//! A queue is memory of the caller's: sixteen slots of two cache lines each. A slot that is open has one
+//! A queue is memory of the caller's: 64 slots of two cache lines each. A slot that is open has one
 //! member of a board, behind a pointer; a slot of zeros is closed. `klsm_open` makes a board and puts its
-//! members into the first slots; so does `klsm_open_with_refill`. From then on each thread uses one slot
+//! members into the first slots; so does `klsm_open_with_balance`. From then on each thread uses one slot
 //! (`klsm_try_insert`, `klsm_try_delete_min`), and once they are done, `klsm_close_into` ends the board with the
 //! account of all members and what is left. `klsm_drop` lets a queue go without an account.
 //!
@@ -37,7 +37,7 @@ pub use closing::{Account, klsm_close_into, klsm_drop};
 pub use codes::{klsm_abi, klsm_version};
 pub use handle::Handle;
 pub use item::PlainItem;
-pub use opening::{klsm_open, klsm_open_with_refill};
+pub use opening::{klsm_open, klsm_open_with_balance};
 pub use queue::Queue;
 pub use raw_box::RawBox;
 pub use slot::Slot;

@@ -1,5 +1,6 @@
 //! How C opens a queue.
 ghost use Rattle.std.specs.Prelude.{◌≡◌, ◌≢◌, ◌<◌, ◌≤◌, ◌⊎◌, ◌↔◌, ◌++◌, true, false, length, map, drop, IfSome, None};
+ghost use Rattle.klsm_run.specs.declared.limits.TheConstants.{MOST_K, MOST_THREADS};
 ghost use Rattle.klsm_c.specs.Slots.{alone, held_in, some_open};
 ghost use Rattle.klsm_c.specs.Codes as codes;
 ghost use Rattle.klsm_c.specs.Opening.{AreOpened, pick_by};
@@ -11,8 +12,8 @@ use klsm_board::MakeError;
 use klsm_owned::{OwnedMember, Pick, open_board};
 use std::alloc::Global;
 
-/// Opens a queue with a member in each of its first slots, whose deletions move no items. Where it is
-/// refused, nothing changes.
+/// Opens a queue with a member in each of its first slots, whose deletions move no items, and
+/// who do not balance. Where it is refused, nothing changes.
 #[unsafe(no_mangle)]
 pub extern "C" fn klsm_open(
     alloc: Global,
@@ -22,27 +23,27 @@ pub extern "C" fn klsm_open(
     pick: u32,
     seed: u64,
 ) -> i32
-    ensures ok { result ≡ codes.ok → AreOpened threads k pick seed 0 queue.new.slots }
+    ensures ok { result ≡ codes.ok → AreOpened threads k pick seed 0 0 queue.new.slots }
     ensures refused { result ≢ codes.ok → queue.new ≡ queue.old }
     ensures open { (result ≡ codes.already_open) ↔ (some_open queue.old.slots ≡ true) }
     ensures bad_pick { (result ≡ codes.bad_pick)
         ↔ ((some_open queue.old.slots ≡ false) × (2 < pick)) }
     ensures bad_count { (result ≡ codes.bad_count)
         ↔ ((some_open queue.old.slots ≡ false) × (pick ≤ 2)
-        × ((threads ≡ 0) ⊎ (16 < threads))) }
+        × ((threads ≡ 0) ⊎ (MOST_THREADS < threads))) }
     ensures bad_k { (result ≡ codes.bad_k)
         ↔ ((some_open queue.old.slots ≡ false) × (pick ≤ 2)
-        × (1 ≤ threads) × (threads ≤ 16) × (64 < k)) }
+        × (1 ≤ threads) × (threads ≤ MOST_THREADS) × (MOST_K < k)) }
     ensures codes { (result ≡ codes.ok) ⊎ (result ≡ codes.no_memory) ⊎ (result ≡ codes.already_open)
         ⊎ (result ≡ codes.bad_count) ⊎ (result ≡ codes.bad_k) ⊎ (result ≡ codes.bad_pick) }
 {
-    klsm_open_with_refill(alloc, queue, threads, k, pick, seed, 0)
+    klsm_open_with_balance(alloc, queue, threads, k, pick, seed, 0, 0)
 }
 
 /// The same, and a deletion that took a shared item moves at most `refill` of the least shared items to
-/// its member's own part.
+/// its member's own part, and before each `balance`-th of its deletions a member balances with another one.
 #[unsafe(no_mangle)]
-pub extern "C" fn klsm_open_with_refill(
+pub extern "C" fn klsm_open_with_balance(
     alloc: Global,
     queue: &mut Queue,
     threads: usize,
@@ -50,21 +51,22 @@ pub extern "C" fn klsm_open_with_refill(
     pick: u32,
     seed: u64,
     refill: usize,
+    balance: u32,
 ) -> i32
-    ensures ok { result ≡ codes.ok → AreOpened threads k pick seed refill queue.new.slots }
+    ensures ok { result ≡ codes.ok → AreOpened threads k pick seed refill balance queue.new.slots }
     ensures refused { result ≢ codes.ok → queue.new ≡ queue.old }
     ensures open { (result ≡ codes.already_open) ↔ (some_open queue.old.slots ≡ true) }
     ensures bad_pick { (result ≡ codes.bad_pick)
         ↔ ((some_open queue.old.slots ≡ false) × (2 < pick)) }
     ensures bad_count { (result ≡ codes.bad_count)
         ↔ ((some_open queue.old.slots ≡ false) × (pick ≤ 2)
-        × ((threads ≡ 0) ⊎ (16 < threads))) }
+        × ((threads ≡ 0) ⊎ (MOST_THREADS < threads))) }
     ensures bad_k { (result ≡ codes.bad_k)
         ↔ ((some_open queue.old.slots ≡ false) × (pick ≤ 2)
-        × (1 ≤ threads) × (threads ≤ 16) × (64 < k)) }
+        × (1 ≤ threads) × (threads ≤ MOST_THREADS) × (MOST_K < k)) }
     ensures bad_refill { (result ≡ codes.bad_refill)
         ↔ ((some_open queue.old.slots ≡ false) × (pick ≤ 2)
-        × (1 ≤ threads) × (threads ≤ 16) × (k ≤ 64) × (k < refill)) }
+        × (1 ≤ threads) × (threads ≤ MOST_THREADS) × (k ≤ MOST_K) × (k < refill)) }
     ensures codes { (result ≡ codes.ok) ⊎ (result ≡ codes.no_memory) ⊎ (result ≡ codes.already_open)
         ⊎ (result ≡ codes.bad_count) ⊎ (result ≡ codes.bad_k) ⊎ (result ≡ codes.bad_pick) ⊎ (result ≡ codes.bad_refill) }
 {
@@ -74,7 +76,7 @@ pub extern "C" fn klsm_open_with_refill(
     let Some(pick) = pick_from(pick) else {
         return BAD_PICK;
     };
-    match open_board(alloc, threads, k, pick, seed, refill) {
+    match open_board(alloc, threads, k, pick, seed, refill, balance) {
         Ok(members) => {
             fill_front(&mut queue.slots, members);
             OK

@@ -1,5 +1,6 @@
 //! The calls of one member of a queue, for a caller that has the whole queue.
 ghost use Rattle.std.specs.Prelude.{◌≡◌, ◌<◌};
+ghost use Rattle.klsm_run.specs.declared.limits.TheConstants.{MOST_THREADS};
 ghost use Rattle.klsm_c.specs.Calls.{CallsSlot, DeletesBySlot, InsertsBySlot, LooksAt, deleted_in, inserted_in};
 
 use crate::calls::{klsm_deleted, klsm_front, klsm_inserted, klsm_try_delete_min, klsm_try_insert};
@@ -10,7 +11,7 @@ impl Queue {
     /// Inserts by the member of this number, as C does by a pointer to its slot. The members stay those of
     /// one board.
     pub fn try_insert(&mut self, number: usize, key: u64, load: u64) -> i32
-        requires { number < 16 }
+        requires { number < MOST_THREADS }
         ensures { CallsSlot number self.old.slots self.new.slots
             (λ before after. InsertsBySlot before after key load result) }
     {
@@ -20,7 +21,7 @@ impl Queue {
     /// Deletes a small item by the member of this number, as C does by a pointer to its slot. The members
     /// stay those of one board.
     pub fn try_delete_min(&mut self, number: usize, item: &mut PlainItem) -> i32
-        requires { number < 16 }
+        requires { number < MOST_THREADS }
         ensures { CallsSlot number self.old.slots self.new.slots
             (λ before after. DeletesBySlot before after item.old item.new result) }
     {
@@ -29,7 +30,7 @@ impl Queue {
 
     /// The front, as C asks for it by a pointer to this slot. The members stay those of one board.
     pub fn front(&mut self, number: usize) -> u64
-        requires { number < 16 }
+        requires { number < MOST_THREADS }
         ensures { CallsSlot number self.old.slots self.new.slots
             (λ before after. LooksAt before after result) }
     {
@@ -38,7 +39,7 @@ impl Queue {
 
     /// How many insertions the member of this number has made, and 0 where it is not open.
     pub fn inserted(&mut self, number: usize) -> u64
-        requires { number < 16 }
+        requires { number < MOST_THREADS }
         ensures { CallsSlot number self.old.slots self.new.slots
             (λ before after. (result ≡ inserted_in before) × (after ≡ before)) }
     {
@@ -47,7 +48,7 @@ impl Queue {
 
     /// How many items it has deleted, and 0 where it is not open.
     pub fn deleted(&mut self, number: usize) -> u64
-        requires { number < 16 }
+        requires { number < MOST_THREADS }
         ensures { CallsSlot number self.old.slots self.new.slots
             (λ before after. (result ≡ deleted_in before) × (after ≡ before)) }
     {

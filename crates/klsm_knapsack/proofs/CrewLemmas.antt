@@ -8,6 +8,7 @@ use Rattle.std.proofs.lemmas.List.Elements.{Contains-append_left}
 use mathlib.Core.Option.{some, some-injective, some-ne-none}
 use lib.ListN.{get_elem?}
 use Rattle.klsm_run.specs.declared.item.Item.{Item}
+use Rattle.klsm_run.specs.declared.limits.TheConstants.{PROGRAM_K}
 use Rattle.klsm_world.specs.declared.step.Entry.{Entry}
 use Rattle.klsm_world.specs.OwnSteps.{inserted, deleted}
 use Rattle.klsm_board.specs.declared.board.Member.{Member}
@@ -46,7 +47,7 @@ each_alone P x here zero d lt = here
 each_alone P x here (suc k) d lt = absurd (omega (arith, lt))
 
 module _ {LEVELS : ℕ} where
-  abbrev pub member_of : Worker LEVELS → Member 64 LEVELS
+  abbrev pub member_of : Worker LEVELS → Member PROGRAM_K LEVELS
   member_of w = w.member
 
   -- a worker that has not begun has done all that it began
@@ -132,7 +133,7 @@ module _ {LEVELS : ℕ} where
   -- one worker more is sent home
   pub member_appended : (before : List (Worker LEVELS)) (w : Worker LEVELS) → map (λ (v : Worker LEVELS). v.member) before ++ w.member ∷ [] ≡ map (λ (v : Worker LEVELS). v.member) (before ++ w ∷ [])
   member_appended [] w = refl
-  member_appended (v ∷ before) w = ap (λ (ms : List (Member 64 LEVELS)). v.member ∷ ms) (member_appended before w)
+  member_appended (v ∷ before) w = ap (λ (ms : List (Member PROGRAM_K LEVELS)). v.member ∷ ms) (member_appended before w)
 
   -- and what its seat found is known too
   pub found_too : (before : List (Worker LEVELS)) (w : Worker LEVELS) (m n : ℕ) → m ≤ n → found_by w.seat ≤ n → All (λ (v : Worker LEVELS). found_by v.seat ≤ m) before → All (λ (v : Worker LEVELS). found_by v.seat ≤ n) (before ++ w ∷ [])
@@ -195,11 +196,11 @@ module _ {LEVELS : ℕ} where
       members = record {
         of = λ i member there.
             let at = stands_unmapped member_of crew i member there in
-            subst (λ (z : Member 64 LEVELS). IsOf z state.board) at.2 (each_of (IsWorkerOf state) crew of i at.0 at.1).member;
+            subst (λ (z : Member PROGRAM_K LEVELS). IsOf z state.board) at.2 (each_of (IsWorkerOf state) crew of i at.0 at.1).member;
         many = length-map crew member_of ∙ many;
         numbered = λ i member there.
             let at = stands_unmapped member_of crew i member there in
-            ap (λ (z : Member 64 LEVELS). z.number) (sym at.2) ∙ numbered i at.0 at.1;
+            ap (λ (z : Member PROGRAM_K LEVELS). z.number) (sym at.2) ∙ numbered i at.0 at.1;
       };
       seats = λ k d lt. (of k d lt).seat;
       some_worker = some_worker;

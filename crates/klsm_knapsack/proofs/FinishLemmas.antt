@@ -7,6 +7,7 @@ use Rattle.std.proofs.lemmas.List.Elements.{recursion_from_All, All-map}
 use mathlib.Core.Option.{some}
 use lib.ListN.{get_elem?}
 use Rattle.klsm_run.specs.declared.item.Item.{Item}
+use Rattle.klsm_run.specs.declared.limits.TheConstants.{MOST_THREADS, PROGRAM_K}
 use Rattle.klsm_parts.specs.Events.{times}
 use Rattle.klsm_world.specs.declared.step.Entry.{Entry}
 use Rattle.klsm_world.specs.OwnSteps.{inserted, deleted}
@@ -48,21 +49,21 @@ flat_of_map f g [] = refl
 flat_of_map f g (x ∷ xs) = ap (λ ys. g (f x) ++ ys) (flat_of_map f g xs)
 
 -- the refusal of a worker is that of the search
-pub refuses : (levels threads k refill : ℕ) (why : Refusal) → (1 ≤ threads) × (threads ≤ 16) × (k ≤ 64) → IsLeastRefusal levels (sizes_of threads k) why → RefusesSearch levels threads k refill (error_of why)
+pub refuses : (levels threads k refill : ℕ) (why : Refusal) → (1 ≤ threads) × (threads ≤ MOST_THREADS) × (k ≤ PROGRAM_K) → IsLeastRefusal levels (sizes_of threads k) why → RefusesSearch levels threads k refill (error_of why)
 refuses levels threads k refill refusal.Full in_range least = least
 refuses levels threads k refill refusal.NoMemory in_range least = in_range
 
 -- a search of sizes in range is not refused for them
-pub good_threads : {A : Type 0} (threads k : ℕ) → (A → ⊥) → (1 ≤ threads) × (threads ≤ 16) × (k ≤ 64) → A ↔ ((threads ≡ 0) ⊎ (16 < threads))
+pub good_threads : {A : Type 0} (threads k : ℕ) → (A → ⊥) → (1 ≤ threads) × (threads ≤ MOST_THREADS) × (k ≤ PROGRAM_K) → A ↔ ((threads ≡ 0) ⊎ (MOST_THREADS < threads))
 good_threads {A} threads k none in_range = (λ a. absurd (none a), outside) where
-  outside : (threads ≡ 0) ⊎ (16 < threads) → A
+  outside : (threads ≡ 0) ⊎ (MOST_THREADS < threads) → A
   outside (inl few) = absurd (omega (arith, few, in_range.0))
   outside (inr many) = absurd (omega (arith, many, in_range.1))
 
-pub good_refill : {A : Type 0} (threads k refill : ℕ) → (A → ⊥) → refill ≤ k → A ↔ ((1 ≤ threads) × (threads ≤ 16) × (k ≤ 64) × (k < refill))
+pub good_refill : {A : Type 0} (threads k refill : ℕ) → (A → ⊥) → refill ≤ k → A ↔ ((1 ≤ threads) × (threads ≤ MOST_THREADS) × (k ≤ PROGRAM_K) × (k < refill))
 good_refill threads k refill none fits = (λ a. absurd (none a), λ big. absurd (omega (arith, big.3, fits)))
 
-pub good_k : {A : Type 0} (threads k : ℕ) → (A → ⊥) → (1 ≤ threads) × (threads ≤ 16) × (k ≤ 64) → A ↔ ((1 ≤ threads) × (threads ≤ 16) × (64 < k))
+pub good_k : {A : Type 0} (threads k : ℕ) → (A → ⊥) → (1 ≤ threads) × (threads ≤ MOST_THREADS) × (k ≤ PROGRAM_K) → A ↔ ((1 ≤ threads) × (threads ≤ MOST_THREADS) × (PROGRAM_K < k))
 good_k threads k none in_range = (λ a. absurd (none a), λ big. absurd (omega (arith, big.2, in_range.2)))
 
 pub memory_is_not_threads : NoMemory ≡ BadThreads → ⊥
@@ -89,7 +90,7 @@ refused_too levels m refill why is = record {
 }
 
 module _ {LEVELS : ℕ} where
-  module _ (state : SearchState LEVELS) (crew : List (Worker LEVELS)) (members : List (Member 64 LEVELS)) (are : map (λ (w : Worker LEVELS). w.member) crew ≡ members)
+  module _ (state : SearchState LEVELS) (crew : List (Worker LEVELS)) (members : List (Member PROGRAM_K LEVELS)) (are : map (λ (w : Worker LEVELS). w.member) crew ≡ members)
       (new : AreNewMembersOf state.board members) (some_thread : 0 < state.board.sizes.threads)
       (seats : All (λ (w : Worker LEVELS). IsSeatAt state.incumbent w.seat × (found_by w.seat ≡ 0) × (w.refused ≡ None)) crew) where
     stands : (i : ℕ) (w : Worker LEVELS) → get_elem? crew i ≡ some w → get_elem? members i ≡ some w.member
@@ -98,7 +99,7 @@ module _ {LEVELS : ℕ} where
     -- the workers that were made are a crew
     pub workers_made : AreWorkersOf state crew
     workers_made = record {
-      members = subst (λ (ms : List (Member 64 LEVELS)). AreMembersOf state.board ms) (sym are) new.are;
+      members = subst (λ (ms : List (Member PROGRAM_K LEVELS)). AreMembersOf state.board ms) (sym are) new.are;
       seats = λ i d lt. (seats i d lt).0;
       some_worker = (let long : length crew ≡ length members = sym (length-map crew member_of) ∙ ap length are in omega (arith, long, new.are.many, some_thread));
     }
@@ -112,7 +113,7 @@ module _ {LEVELS : ℕ} where
 
   module _ (state : SearchState LEVELS) (crew : List (Worker LEVELS)) (is : AreWorkersOf state crew) where
     -- the members are those of the board
-    pub members_of : All (λ (m : Member 64 LEVELS). IsOf m state.board) (map (λ (w : Worker LEVELS). w.member) crew)
+    pub members_of : All (λ (m : Member PROGRAM_K LEVELS). IsOf m state.board) (map (λ (w : Worker LEVELS). w.member) crew)
     members_of = all_of_board state.board (map member_of crew) is.members
 
     abbrev end_of : Worker LEVELS → End
@@ -150,7 +151,7 @@ module _ {LEVELS : ℕ} where
     }
 
     -- by the account of the board, all nodes but those left are done with
-    pub searched : (p : Problem) (found number : ℕ) (members : List (Member 64 LEVELS)) (left : List Item) → members ≡ map (λ (w : Worker LEVELS). w.member) crew → HaveWorked p crew
+    pub searched : (p : Problem) (found number : ℕ) (members : List (Member PROGRAM_K LEVELS)) (left : List Item) → members ≡ map (λ (w : Worker LEVELS). w.member) crew → HaveWorked p crew
         → All (λ (w : Worker LEVELS). found_by w.seat ≤ found) crew → found ≤ number
         → AreEachOnce (lists_of state.board.sizes.threads members)
         → left ≡ (account (lists_of state.board.sizes.threads members)).left → IsSearched p number left

@@ -1,5 +1,6 @@
 -- Why a search ends without an answer.
 use Rattle.std.specs.Prelude.{ℕ, ◌≡◌, ◌<◌, ◌≤◌, ◌⊎◌}
+use Rattle.klsm_run.specs.declared.limits.TheConstants.{MOST_THREADS, PROGRAM_K}
 use Rattle.klsm_board.specs.Members.{sizes_of}
 use Rattle.klsm_knapsack.specs.declared.errors.Refusal.{Refusal}
 use Rattle.klsm_knapsack.specs.declared.errors.Refusal.TheVariants as refusal
@@ -14,9 +15,9 @@ error_of refusal.NoMemory = NoMemory
 -- A search whose deletions move so many nodes is refused for this reason. Memory may also be wanted by what
 -- the caller makes for all.
 abbrev pub RefusesSearch : ℕ → ℕ → ℕ → ℕ → SolveError → Type 0
-RefusesSearch levels threads k refill BadThreads = (threads ≡ 0) ⊎ (16 < threads)
-RefusesSearch levels threads k refill BadK = (1 ≤ threads) × (threads ≤ 16) × (64 < k)
+RefusesSearch levels threads k refill BadThreads = (threads ≡ 0) ⊎ (MOST_THREADS < threads)
+RefusesSearch levels threads k refill BadK = (1 ≤ threads) × (threads ≤ MOST_THREADS) × (PROGRAM_K < k)
 RefusesSearch levels threads k refill BadRefill =
-    (1 ≤ threads) × (threads ≤ 16) × (k ≤ 64) × (k < refill)
+    (1 ≤ threads) × (threads ≤ MOST_THREADS) × (k ≤ PROGRAM_K) × (k < refill)
 RefusesSearch levels threads k refill Full = IsLeastRefusal levels (sizes_of threads k) refusal.Full
-RefusesSearch levels threads k refill NoMemory = (1 ≤ threads) × (threads ≤ 16) × (k ≤ 64)
+RefusesSearch levels threads k refill NoMemory = (1 ≤ threads) × (threads ≤ MOST_THREADS) × (k ≤ PROGRAM_K)

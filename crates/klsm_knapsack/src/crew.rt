@@ -16,6 +16,7 @@ use klsm_board::{Gate, Member};
 use klsm_instance::Instance;
 use klsm_parts::random_of;
 use klsm_progress::{Counted, Pace, Progress};
+use klsm_run::PROGRAM_K;
 use std::alloc::{AllocError, Global};
 use std::sync::Wait;
 use std::thread;
@@ -27,7 +28,7 @@ pub(crate) fn make_workers<const LEVELS: usize>(
     alloc: Global,
     incumbent: &Incumbent,
     first: &mut IncumbentSeat,
-    members: Vec<Member<64, LEVELS>>,
+    members: Vec<Member<PROGRAM_K, LEVELS>>,
 ) -> Result<Vec<Worker<LEVELS>>, AllocError>
     requires { IsSeatAt incumbent.now first.old }
     ensures first { IsSeatAt incumbent.now first.new }
@@ -119,7 +120,7 @@ pub(crate) fn join_workers<const LEVELS: usize>(
     incumbent: &Incumbent,
     first: &mut IncumbentSeat,
     crew: Vec<Worker<LEVELS>>,
-    back: &mut Vec<Member<64, LEVELS>>,
+    back: &mut Vec<Member<PROGRAM_K, LEVELS>>,
 ) -> Result<(), Refusal>
     requires first { IsSeatAt incumbent.now first.old }
     requires seats { All (λ w. IsSeatAt incumbent.now w.seat) crew.items }

@@ -5,10 +5,10 @@ use thiserror::Error;
 /// Why a search ends without an answer. The causes are tried in this order.
 #[derive(Clone, Copy, Debug, PartialEq, Eq, Error)]
 pub enum SolveError {
-    /// Not 1 to 16 workers.
-    #[error("the number of workers is not 1 to 16")]
+    /// Not 1 to `MOST_THREADS` workers.
+    #[error("the number of workers is not 1 to 64")]
     BadThreads,
-    /// More than 64 items in a member's own part.
+    /// More than `PROGRAM_K` items in a member's own part.
     #[error("an own part cannot hold k items")]
     BadK,
     /// More items to move than k.
@@ -25,10 +25,10 @@ pub enum SolveError {
 /// Why a search that no want of room can end has no answer. The causes are tried in this order.
 #[derive(Clone, Copy, Debug, PartialEq, Eq, Error)]
 pub enum UnsolvedError {
-    /// Not 1 to 16 workers.
-    #[error("the number of workers is not 1 to 16")]
+    /// Not 1 to `MOST_THREADS` workers.
+    #[error("the number of workers is not 1 to 64")]
     BadThreads,
-    /// More than 64 items in a member's own part.
+    /// More than `PROGRAM_K` items in a member's own part.
     #[error("an own part cannot hold k items")]
     BadK,
     /// More items to move than k.

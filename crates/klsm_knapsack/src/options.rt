@@ -9,7 +9,7 @@ const REFILL: usize = 16;
 /// options that are in range.
 #[derive(Clone, Copy, PartialEq, Eq, Debug)]
 pub struct SearchOptions {
-    /// How many workers there are, 1 to 16.
+    /// How many workers there are, 1 to 64.
     pub threads: usize,
     /// How many nodes a worker keeps for itself at most, 0 to 64.
     pub k: usize,

@@ -4,6 +4,7 @@ use crate::incumbent::{Incumbent, IncumbentSeat};
 use klsm_board::{Board, Member};
 use klsm_parts::Random;
 use klsm_progress::Pace;
+use klsm_run::PROGRAM_K;
 use rand_pcg::Pcg32;
 
 /// What a worker does with a node of which a child finds no room on the board.
@@ -19,7 +20,7 @@ pub(crate) enum NoRoom {
 /// board has no room.
 #[derive(Drop)]
 pub(crate) struct SearchState<const LEVELS: usize> {
-    pub board: Board<64, LEVELS>,
+    pub board: Board<PROGRAM_K, LEVELS>,
     pub incumbent: Incumbent,
     pub no_room: NoRoom,
 }
@@ -36,7 +37,7 @@ pub struct Listeners<'a, G, P> {
 /// has told of, whether it goes on without the board's room, and why it ended early, if it did.
 #[derive(Drop)]
 pub(crate) struct Worker<const LEVELS: usize> {
-    pub member: Member<64, LEVELS>,
+    pub member: Member<PROGRAM_K, LEVELS>,
     pub seat: IncumbentSeat,
     pub picker: Random<Pcg32>,
     pub pace: Pace,

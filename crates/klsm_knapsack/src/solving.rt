@@ -1,5 +1,6 @@
 //! The whole search.
 ghost use Rattle.std.specs.Prelude.{All, ◌≡◌, ◌≤◌, ◌<◌, ◌⊎◌, ◌↔◌, IfOk, IfErr, IsErrAnd, length};
+ghost use Rattle.klsm_run.specs.declared.limits.TheConstants.{MOST_THREADS, PROGRAM_K};
 ghost use Rattle.klsm_parts.specs.Limit.{IsLevelCount};
 ghost use Rattle.klsm_board.specs.Members.{sizes_of};
 ghost use Rattle.klsm_board.specs.Boards.{AreNewMembersOf, IsOf};
@@ -15,6 +16,7 @@ use crate::search_state::{Listeners, NoRoom, SearchState};
 use klsm_board::{Board, Gate, MOST_INSERTIONS, MakeError, Member};
 use klsm_instance::{Best, Instance};
 use klsm_progress::Progress;
+use klsm_run::PROGRAM_K;
 use std::alloc::Global;
 use std::sync::Wait;
 use std::thread::Threads;
@@ -38,11 +40,11 @@ pub fn solve<G: Gate, P: Progress, const LEVELS: usize>(
     ensures refused { IfErr result (λ why.
         RefusesSearch LEVELS options.now.threads options.now.k options.now.refill why) }
     ensures bad_threads { IsErrAnd result (λ why. why ≡ SolveError.BadThreads)
-        ↔ ((options.now.threads ≡ 0) ⊎ (16 < options.now.threads)) }
+        ↔ ((options.now.threads ≡ 0) ⊎ (MOST_THREADS < options.now.threads)) }
     ensures bad_k { IsErrAnd result (λ why. why ≡ SolveError.BadK)
-        ↔ ((1 ≤ options.now.threads) × (options.now.threads ≤ 16) × (64 < options.now.k)) }
+        ↔ ((1 ≤ options.now.threads) × (options.now.threads ≤ MOST_THREADS) × (PROGRAM_K < options.now.k)) }
     ensures bad_refill { IsErrAnd result (λ why. why ≡ SolveError.BadRefill)
-        ↔ ((1 ≤ options.now.threads) × (options.now.threads ≤ 16) × (options.now.k ≤ 64)
+        ↔ ((1 ≤ options.now.threads) × (options.now.threads ≤ MOST_THREADS) × (options.now.k ≤ PROGRAM_K)
         × (options.now.k < options.now.refill)) }
 {
     let no_room = NoRoom::Refuses;
@@ -63,11 +65,11 @@ pub(crate) fn solve_on_board<G: Gate, P: Progress, const LEVELS: usize>(
     ensures refused { IfErr result (λ why. no_room ≡ NoRoom.Refuses
         → RefusesSearch LEVELS options.now.threads options.now.k options.now.refill why) }
     ensures bad_threads { IsErrAnd result (λ why. why ≡ SolveError.BadThreads)
-        ↔ ((options.now.threads ≡ 0) ⊎ (16 < options.now.threads)) }
+        ↔ ((options.now.threads ≡ 0) ⊎ (MOST_THREADS < options.now.threads)) }
     ensures bad_k { IsErrAnd result (λ why. why ≡ SolveError.BadK)
-        ↔ ((1 ≤ options.now.threads) × (options.now.threads ≤ 16) × (64 < options.now.k)) }
+        ↔ ((1 ≤ options.now.threads) × (options.now.threads ≤ MOST_THREADS) × (PROGRAM_K < options.now.k)) }
     ensures bad_refill { IsErrAnd result (λ why. why ≡ SolveError.BadRefill)
-        ↔ ((1 ≤ options.now.threads) × (options.now.threads ≤ 16) × (options.now.k ≤ 64)
+        ↔ ((1 ≤ options.now.threads) × (options.now.threads ≤ MOST_THREADS) × (options.now.k ≤ PROGRAM_K)
         × (options.now.k < options.now.refill)) }
 {
     let SearchOptions {
@@ -114,22 +116,22 @@ fn board_for<const LEVELS: usize>(
     threads: usize,
     k: usize,
     refill: usize,
-) -> Result<(Board<64, LEVELS>, Vec<Member<64, LEVELS>>), SolveError>
+) -> Result<(Board<PROGRAM_K, LEVELS>, Vec<Member<PROGRAM_K, LEVELS>>), SolveError>
     requires levels { IsLevelCount LEVELS }
     ensures sizes { IfOk result (λ made. made.0.sizes
         ≡ record (sizes_of threads k) { refill = refill }) }
-    ensures in_range { IfOk result (λ _. (1 ≤ threads) × (threads ≤ 16) × (k ≤ 64)) }
+    ensures in_range { IfOk result (λ _. (1 ≤ threads) × (threads ≤ MOST_THREADS) × (k ≤ PROGRAM_K)) }
     ensures refill { IfOk result (λ _. refill ≤ k) }
     ensures of { IfOk result (λ made. All (λ member. IsOf member made.0) made.1.items) }
     ensures count { IfOk result (λ made. length made.1.items ≡ threads) }
     ensures crew { IfOk result (λ made. AreNewMembersOf made.0 made.1.items) }
     ensures refused { IfErr result (λ why. RefusesSearch LEVELS threads k refill why) }
     ensures bad_threads { IsErrAnd result (λ why. why ≡ SolveError.BadThreads)
-        ↔ ((threads ≡ 0) ⊎ (16 < threads)) }
+        ↔ ((threads ≡ 0) ⊎ (MOST_THREADS < threads)) }
     ensures bad_k { IsErrAnd result (λ why. why ≡ SolveError.BadK)
-        ↔ ((1 ≤ threads) × (threads ≤ 16) × (64 < k)) }
+        ↔ ((1 ≤ threads) × (threads ≤ MOST_THREADS) × (PROGRAM_K < k)) }
     ensures bad_refill { IsErrAnd result (λ why. why ≡ SolveError.BadRefill)
-        ↔ ((1 ≤ threads) × (threads ≤ 16) × (k ≤ 64) × (k < refill)) }
+        ↔ ((1 ≤ threads) × (threads ≤ MOST_THREADS) × (k ≤ PROGRAM_K) × (k < refill)) }
 {
     match Board::with_refill(alloc, threads, k, MOST_INSERTIONS, refill) {
         Ok(made) => Ok(made),

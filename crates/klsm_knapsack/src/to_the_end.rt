@@ -1,5 +1,6 @@
 //! The search that no want of room ends.
 ghost use Rattle.std.specs.Prelude.{◌≡◌, ◌≤◌, ◌<◌, ◌⊎◌, ◌↔◌, IfOk, IsErrAnd};
+ghost use Rattle.klsm_run.specs.declared.limits.TheConstants.{MOST_THREADS, PROGRAM_K};
 ghost use Rattle.klsm_parts.specs.Limit.{IsLevelCount};
 ghost use Rattle.klsm_instance.specs.Answers.{IsBestAnswer};
 
@@ -30,11 +31,11 @@ pub fn solve_to_the_end<G: Gate, P: Progress, const LEVELS: usize>(
     requires levels { IsLevelCount LEVELS }
     ensures best { IfOk result (λ best. IsBestAnswer instance.now best) }
     ensures bad_threads { IsErrAnd result (λ why. why ≡ UnsolvedError.BadThreads)
-        ↔ ((options.now.threads ≡ 0) ⊎ (16 < options.now.threads)) }
+        ↔ ((options.now.threads ≡ 0) ⊎ (MOST_THREADS < options.now.threads)) }
     ensures bad_k { IsErrAnd result (λ why. why ≡ UnsolvedError.BadK)
-        ↔ ((1 ≤ options.now.threads) × (options.now.threads ≤ 16) × (64 < options.now.k)) }
+        ↔ ((1 ≤ options.now.threads) × (options.now.threads ≤ MOST_THREADS) × (PROGRAM_K < options.now.k)) }
     ensures bad_refill { IsErrAnd result (λ why. why ≡ UnsolvedError.BadRefill)
-        ↔ ((1 ≤ options.now.threads) × (options.now.threads ≤ 16) × (options.now.k ≤ 64)
+        ↔ ((1 ≤ options.now.threads) × (options.now.threads ≤ MOST_THREADS) × (options.now.k ≤ PROGRAM_K)
         × (options.now.k < options.now.refill)) }
 {
     let no_room = NoRoom::SearchesAlone;

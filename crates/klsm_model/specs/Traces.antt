@@ -2,6 +2,7 @@
 use Rattle.std.specs.Prelude.{ℕ, ◌≡◌, ◌≢◌, ◌*◌, ◌<◌, ◌≤◌, ◌⊎◌, List, [], ◌∷◌, max, take, reverse, slice_get, Some}
 use Rattle.std.specs.List.{flat_map}
 use Rattle.klsm_run.specs.declared.item.Item.{Item}
+use Rattle.klsm_model.specs.declared.world.TheConstants.{WORLD_K, WORLD_THREADS}
 use Rattle.klsm_run.specs.Content.{sorted, skipped}
 use Rattle.klsm_parts.specs.Events.{minus}
 use Rattle.klsm_world.specs.declared.step.Event.{Event}
@@ -51,8 +52,8 @@ pub record IsTrace (limits : Limits) (steps : List Step) (inserted deleted : Lis
 
 -- a run is refused for this reason
 abbrev pub RefusesRun : Limits → List Step → WorldError → Type 0
-RefusesRun limits steps BadThreads = (limits.threads ≡ 0) ⊎ (16 < limits.threads)
-RefusesRun limits steps BadK = (1 ≤ limits.threads) × (limits.threads ≤ 16) × (128 < limits.k)
+RefusesRun limits steps BadThreads = (limits.threads ≡ 0) ⊎ (WORLD_THREADS < limits.threads)
+RefusesRun limits steps BadK = (1 ≤ limits.threads) × (limits.threads ≤ WORLD_THREADS) × (WORLD_K < limits.k)
 RefusesRun limits steps (At index why) =
     AreLimits limits × (why ≢ step_error.NoMemory)
     × ((w : World) × (step : Step) × Leads limits (reverse (take index steps)) w

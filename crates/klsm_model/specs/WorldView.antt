@@ -1,5 +1,6 @@
 -- A world as contracts see it, and what a step of it answers.
 use Rattle.std.specs.Prelude.{◌≡◌, ◌≤◌, Result, OnOk, OnErr, IfErr}
+use Rattle.klsm_model.specs.declared.world.TheConstants.{WORLD_K, WORLD_THREADS}
 use Rattle.klsm_world.specs.declared.step.Step.{Step}
 use Rattle.klsm_model.specs.declared.errors.StepError.{StepError}
 use Rattle.klsm_world.specs.Worlds.{Limits, World}
@@ -14,8 +15,8 @@ pub record WorldView : Type 0 where
 -- 1 to 16 threads, and at most 128 items in an own part
 pub record AreLimits (limits : Limits) : Type 0 where
   pub some_threads : 1 ≤ limits.threads
-  pub at_most : limits.threads ≤ 16
-  pub k_in_range : limits.k ≤ 128
+  pub at_most : limits.threads ≤ WORLD_THREADS
+  pub k_in_range : limits.k ≤ WORLD_K
 
 -- what a step answers, and where the world then stands
 pub record IsStepped (before : WorldView) (step : Step) (result : Result Unit StepError)

@@ -1,5 +1,6 @@
 //! Whether events may happen, on contents of parts.
 ghost use Rattle.std.specs.Prelude.{◌≡◌, ◌+◌, ◌≤◌, ◌<◌, ◌↔◌, ◌∷◌, [], IsTrue, length};
+ghost use Rattle.klsm_model.specs.declared.world.TheConstants.{WORLD_K};
 ghost use Rattle.klsm_run.specs.Content.{sorted, IsAscending};
 ghost use Rattle.klsm_parts.specs.Events.{times, IsWithin, IsInReach, SkipsNoneOf, MayFlush, MayTake, MayTakeEarly, MaySpy, MayRefill};
 ghost use Rattle.klsm_parts.specs.Stealing.{MaySteal};
@@ -40,7 +41,7 @@ pub(crate) fn are_within(moved: &[Item], items: &[Item]) -> bool
 
 /// Whether these items may move at a flush of an item from a part with these.
 pub(crate) fn may_flush(k: usize, own: &[Item], item: Item, moved: &[Item]) -> bool
-    requires { k ≤ 128 }
+    requires { k ≤ WORLD_K }
     ensures { IsTrue result ↔ MayFlush k own.now item moved.now }
 {
     if !is_ascending(moved) {
@@ -70,7 +71,7 @@ pub(crate) fn skips_none_of(owner: u32, items: &[Item], item: Item) -> bool
 pub(crate) fn may_take(k: usize, owner: u32, own: &[Item], shared: &[Item], item: Item) -> bool
     requires own_sorted { sorted own.now ≡ own.now }
     requires shared_sorted { sorted shared.now ≡ shared.now }
-    requires k_in_range { k ≤ 128 }
+    requires k_in_range { k ≤ WORLD_K }
     ensures { IsTrue result ↔ MayTake k owner own.now shared.now item }
 {
     // No own item is smaller than one in reach.
@@ -93,7 +94,7 @@ pub(crate) fn may_take_early(own: &[Item], item: Item, front: u64) -> bool
 fn is_in_reach(k: usize, own: &[Item], shared: &[Item], item: Item) -> bool
     requires own_sorted { sorted own.now ≡ own.now }
     requires shared_sorted { sorted shared.now ≡ shared.now }
-    requires k_in_range { k ≤ 128 }
+    requires k_in_range { k ≤ WORLD_K }
     ensures { IsTrue result ↔ IsInReach k own.now shared.now item }
 {
     let candidates = &shared[..shared.len().min(k + 1)];

@@ -22,10 +22,10 @@ use std::fmt;
 use std::marker::Model;
 
 /// The most threads that a world has.
-const MOST_THREADS: u32 = 16;
+const WORLD_THREADS: u32 = 16;
 
 /// The most items that an own part may be allowed.
-const MOST_K: usize = 128;
+const WORLD_K: usize = 128;
 
 /// A world of threads and parts, and each thread's list of own steps, with the contents that it
 /// found.
@@ -63,16 +63,16 @@ impl<A: Allocator + Copy> World<A> {
           world = first_world (limits_of threads k);
         }) }
         ensures bad_threads { IsErrAnd result (λ why. why ≡ WorldError.BadThreads)
-            ↔ ((threads ≡ 0) ⊎ (16 < threads)) }
+            ↔ ((threads ≡ 0) ⊎ (WORLD_THREADS < threads)) }
         ensures bad_k { IsErrAnd result (λ why. why ≡ WorldError.BadK)
-            ↔ ((1 ≤ threads) × (threads ≤ 16) × (128 < k)) }
+            ↔ ((1 ≤ threads) × (threads ≤ WORLD_THREADS) × (WORLD_K < k)) }
         ensures no_step { IfErr result (λ why.
             (at : ℕ) (error : StepError) → why ≢ WorldError.At at error) }
     {
-        if threads == 0 || threads > MOST_THREADS {
+        if threads == 0 || threads > WORLD_THREADS {
             return Err(WorldError::BadThreads);
         }
-        if k > MOST_K {
+        if k > WORLD_K {
             return Err(WorldError::BadK);
         }
         let parts = threads as usize + 1;

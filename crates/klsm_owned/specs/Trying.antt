@@ -1,13 +1,17 @@
 -- What the calls of a member that wait for nobody tell, in its own words.
-use Rattle.std.specs.Prelude.{◌≡◌, ◌↔◌, ℕ, [], ◌∷◌, ◌++◌, length, Result, Option, IfOk, IfErr, IsErrAnd}
+use Rattle.std.specs.Prelude.{◌≡◌, ◌↔◌, ℕ, List, [], ◌∷◌, ◌++◌, length, Result, Option, IfOk, IfErr, IsErrAnd}
 use Rattle.std.specs.Option.{option_to_list}
 use Rattle.klsm_run.specs.declared.item.Item.{Item}
 use Rattle.klsm_run.specs.declared.item.Stamp.{Stamp}
+use Rattle.klsm_run.specs.declared.limits.TheConstants.{MOST_LEVELS}
 use Rattle.klsm_world.specs.OwnSteps.{inserted}
 use Rattle.klsm_board.specs.declared.errors.Busy.{Busy}
 use Rattle.klsm_board.specs.declared.errors.TryInsertError.{TryInsertError}
 use Rattle.klsm_board.specs.declared.errors.TryInsertError.TheVariants.{Spent}
+use Rattle.klsm_world.specs.declared.step.Entry.{Entry}
 use Rattle.klsm_world.specs.declared.step.Entry.TheVariants.{Looked}
+use Rattle.klsm_board.specs.declared.balancing.Balancing.{Balancing}
+use Rattle.klsm_board.specs.Balancing.{HasBalanced, after_deletion, after_turn, victim_now}
 use Rattle.klsm_board.specs.Boards.{Adds, known_of_others, own_steps}
 use Rattle.klsm_board.specs.Rule.{own, view}
 use Rattle.klsm_board.specs.Steps.{HasFront}
@@ -15,36 +19,57 @@ use Rattle.klsm_board.specs.Inserting.{Inserts, RefusesInsert, stamp_of, stamped
 use Rattle.klsm_board.specs.Deleting.{AnswersDeletion, MissesDeletion}
 use Rattle.klsm_owned.specs.declared.owned.OwnedMember.{OwnedMember}
 use Rattle.klsm_parts.specs.Choices.{may_choose}
-use Rattle.klsm_owned.specs.Owned.{choice_of, member_of}
+use Rattle.klsm_owned.specs.Owned.{balancing_of, choice_of, member_of}
 
 -- An insertion: its item is the member's next, and a refusal has its cause. The picker stays.
 pub record TriesInsert (before after : OwnedMember) (key load : ℕ) (result : Result Stamp TryInsertError) : Type 0 where
   pub stamp : IfOk result (λ stamp.
       stamp ≡ stamp_of (member_of before).number (length (inserted (own_steps (member_of before)))))
-  pub ok : IfOk result (λ stamp. Inserts 21 (member_of before).sizes.k (member_of before).number
+  pub ok : IfOk result (λ stamp. Inserts MOST_LEVELS (member_of before).sizes.k (member_of before).number
       (own_steps (member_of before)) (own_steps (member_of after)) (stamped key stamp load))
   pub adds : IfOk result (λ stamp.
       Adds (member_of before) (member_of after) (stamped key stamp load ∷ []) [])
   pub refused : IfErr result (λ why. Adds (member_of before) (member_of after) [] []
-      × RefusesInsert (length (inserted (own_steps (member_of before))) ≡ (member_of before).sizes.quota) 21
+      × RefusesInsert (length (inserted (own_steps (member_of before))) ≡ (member_of before).sizes.quota) MOST_LEVELS
       (member_of before).sizes.k (member_of before).number
       (own_steps (member_of before)) (own_steps (member_of after)) why)
   pub spent : IsErrAnd result (λ why. why ≡ Spent)
       ↔ (length (inserted (own_steps (member_of before))) ≡ (member_of before).sizes.quota)
   pub choice : choice_of after ≡ choice_of before
+  pub balancing : balancing_of after ≡ balancing_of before
 
--- A deletion: what it took skips at most T·k items, and where there was nothing at most (T-1)·k live.
--- The picker is asked, and picks, as it may.
+-- what comes before a deletion: a balance with the member whose turn it is, where it is time
+abbrev pub HasBalancedFirst : OwnedMember → List Entry → Type 0
+HasBalancedFirst before es = HasBalanced (member_of before).sizes (member_of before).number
+    (victim_now (balancing_of before) (member_of before).number (member_of before).sizes.threads)
+    (own_steps (member_of before)) es
+
+-- and then it is the next one's turn
+abbrev pub next_turn : OwnedMember → Balancing
+next_turn before = after_turn (balancing_of before) (member_of before).sizes.threads
+
+-- a balance where it is time
+pub record BalancesFirst (before after : OwnedMember) : Type 0 where
+  pub first : HasBalancedFirst before (own_steps (member_of after))
+  pub adds : Adds (member_of before) (member_of after) [] []
+  pub choice : choice_of after ≡ choice_of before
+  pub balancing : balancing_of after ≡ next_turn before
+
+-- A deletion, and before it a balance where it is time: what it took skips at most T·k items, and where there was
+-- nothing at most (T-1)·k live. The picker is asked, and picks, as it may. Deletions that were answered count.
 pub record TriesDelete (before after : OwnedMember) (result : Result (Option Item) Busy) : Type 0 where
+  pub balanced : List Entry
+  pub first : HasBalancedFirst before balanced
   pub ok : IfOk result (λ answer. AnswersDeletion may_choose (choice_of before) (choice_of after)
       (member_of before).sizes (member_of before).number
-      (own_steps (member_of before)) (own_steps (member_of after)) answer)
+      balanced (own_steps (member_of after)) answer)
+  pub counted : IfOk result (λ answer. balancing_of after ≡ after_deletion (next_turn before))
   pub adds : IfOk result (λ answer.
       Adds (member_of before) (member_of after) [] (option_to_list answer))
   pub busy : IfErr result (λ busy. Adds (member_of before) (member_of after) [] []
       × (choice_of after ≡ choice_of before)
-      × MissesDeletion (member_of before).number (own_steps (member_of before))
-      (own_steps (member_of after)) busy)
+      × (balancing_of after ≡ next_turn before)
+      × MissesDeletion (member_of before).number balanced (own_steps (member_of after)) busy)
 
 -- A look at the front, which the member's list notes: the front of a world of the lists that the member knew.
 pub record LooksAtFront (before after : OwnedMember) (front : ℕ) : Type 0 where
@@ -54,3 +79,4 @@ pub record LooksAtFront (before after : OwnedMember) (front : ℕ) : Type 0 wher
       (view (own (member_of before).number (own_steps (member_of before))
       ∷ known_of_others (member_of before))) front
   pub choice : choice_of after ≡ choice_of before
+  pub balancing : balancing_of after ≡ balancing_of before

@@ -5,10 +5,10 @@ ghost use Rattle.klsm_world.specs.OwnSteps.{inserted, deleted};
 ghost use Rattle.klsm_board.specs.Boards.{IsOf, own_steps};
 ghost use Rattle.klsm_board.specs.Members.{most_deletions, most_insertions};
 ghost use Rattle.klsm_owned.specs.Owned.{IsSameOwned, board_of, member_of};
-ghost use Rattle.klsm_owned.specs.Trying.{LooksAtFront, TriesInsert, TriesDelete};
+ghost use Rattle.klsm_owned.specs.Trying.{BalancesFirst, LooksAtFront, TriesInsert, TriesDelete};
 
 use crate::owned::OwnedMember;
-use klsm_board::{Busy, StandardBoard, StandardMember, TryInsertError};
+use klsm_board::{Busy, MOST_BALANCED, TryInsertError, WideBoard, WideMember};
 use klsm_run::{Item, Stamp};
 use std::alloc::Global;
 use std::sync::Arc;
@@ -23,13 +23,32 @@ impl OwnedMember {
         self.member.try_insert(&self.board, key, load)
     }
 
-    /// Deletes a small item, as `Member::try_delete_min`, by the member's own picker.
+    /// Deletes a small item, as `Member::try_delete_min`, by the member's own picker. Where it is time the member
+    /// balances first.
     #[inline]
     pub fn try_delete_min(&mut self) -> Result<Option<Item>, Busy>
         ensures same { IsSameOwned self.old self.new }
         ensures tries { TriesDelete self.old self.new result }
     {
-        self.member.try_delete_min(&self.board, &mut self.choice)
+        self.balance();
+        let choice = &mut self.choice;
+        let answer = self.member.try_delete_min(&self.board, choice)?;
+        self.balancing.count_deletion();
+        Ok(answer)
+    }
+
+    // Balances with the member whose turn it is, where it is time. One whose lock is held is passed over.
+    #[inline]
+    fn balance(&mut self)
+        ensures same { IsSameOwned self.old self.new }
+        ensures balances { BalancesFirst self.old self.new }
+    {
+        let number = self.member.number();
+        let threads = self.board.threads();
+        let Some(victim) = self.balancing.next_victim(number, threads) else {
+            return;
+        };
+        let _moved = self.member.try_balance(&self.board, victim, MOST_BALANCED);
     }
 
     /// The front, the key of the least shared item, as `Member::front`.
@@ -60,7 +79,7 @@ impl OwnedMember {
     }
 
     /// The share of the board, and the member.
-    pub fn into_parts(self) -> (Arc<StandardBoard, Global>, StandardMember)
+    pub fn into_parts(self) -> (Arc<WideBoard, Global>, WideMember)
         ensures board { arc_value result.0 ≡ board_of self }
         ensures member { result.1 ≡ member_of self }
         ensures fits { IsOf result.1 (arc_value result.0) }

@@ -9,9 +9,11 @@ mod made;
 mod meeting;
 mod numbered;
 mod rationed;
+mod wide;
 
 pub use crew::{Crew, refused};
 pub use made::{InOneHand, Made};
 pub use meeting::{Counting, LOOKS, Meeting};
 pub use numbered::add_words;
 pub use rationed::Rationed;
+pub use wide::WideCrew;

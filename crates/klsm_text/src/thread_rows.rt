@@ -1,5 +1,6 @@
 //! The rows of a script, kept for the threads that are to run them.
 ghost use Rattle.std.specs.Prelude.{◌≡◌, ◌<◌, ◌≤◌, ◌+◌, ℕ, List, [], length, map, Option, IfOk, IfErr};
+ghost use Rattle.klsm_run.specs.declared.limits.TheConstants.{PROGRAM_THREADS};
 ghost use Rattle.klsm_rows.specs.Rows.{Row};
 ghost use Rattle.klsm_text.specs.Script.{row_limit};
 ghost use Rattle.klsm_text.specs.Reading.{HasReadScript};
@@ -81,7 +82,7 @@ pub fn keep_rows<R: Read + Drop>(
     lists: &mut [Vec<ThreadRow>],
     progress: &impl Progress,
 ) -> Closing
-    requires { length lists.old ≤ 16 }
+    requires { length lists.old ≤ PROGRAM_THREADS }
     ensures { (threads : ℕ) (input : Option (List ℕ))
         → HasReadScript R.remaining input [] script.old
         → AreKept threads [] (map (λ list. list.items) lists.old)
@@ -108,7 +109,7 @@ fn keep_row<R: Read + Drop>(
     script: &mut Script<R>,
     lists: &mut [Vec<ThreadRow>],
 ) -> Result<(), Stop>
-    requires { length lists.old ≤ 16 }
+    requires { length lists.old ≤ PROGRAM_THREADS }
     ensures { (threads : ℕ) (input : Option (List ℕ)) (rows : List Row)
         → HasReadScript R.remaining input rows script.old → AreAccepted threads rows
         → length rows < row_limit → AreKept threads rows (map (λ list. list.items) lists.old)

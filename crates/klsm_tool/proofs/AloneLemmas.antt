@@ -4,6 +4,7 @@ use Rattle.std.specs.List.{flat_map}
 use mathlib.Core.Option.{some}
 use lib.ListN.{get_elem?}
 use Rattle.klsm_run.specs.declared.item.Item.{Item}
+use Rattle.klsm_run.specs.declared.limits.TheConstants.{MOST_LEVELS, PROGRAM_K}
 use Rattle.klsm_run.specs.Content.{sorted}
 use Rattle.klsm_parts.specs.Events.{minus}
 use Rattle.klsm_world.specs.declared.step.Entry.{Entry}
@@ -58,8 +59,8 @@ not_done before after text written written' result (inl whole) done = let bad = 
 not_done before after text written written' result (inr cut) done = let bad = sym cut.0 ∙ done in cc
 
 -- members that were in one hand have the lists that they had there
-module _ (board : Board 64 21) (all : AllMembers 64 21) (members : List (Member 64 21)) (crew : AreMembersOf board members) (sizes : sizes_of_all all ≡ board.sizes)
-    (steps : (i : ℕ) (member : Member 64 21) → get_elem? members i ≡ some member → own_steps member ≡ steps_for all i) where
+module _ (board : Board PROGRAM_K MOST_LEVELS) (all : AllMembers PROGRAM_K MOST_LEVELS) (members : List (Member PROGRAM_K MOST_LEVELS)) (crew : AreMembersOf board members) (sizes : sizes_of_all all ≡ board.sizes)
+    (steps : (i : ℕ) (member : Member PROGRAM_K MOST_LEVELS) → get_elem? members i ≡ some member → own_steps member ≡ steps_for all i) where
   pub spread_lists_of : all_lists all ≡ lists_of board.sizes.threads members
   spread_lists_of = are_lists (all_lists all) board.sizes.threads members (so_many_known (sizes_of_all all).threads all.acting.seat.me.0.lists ∙ ap (λ (z : Sizes). z.threads) sizes)
       (all_there board members crew)
@@ -70,7 +71,7 @@ module _ (board : Board 64 21) (all : AllMembers 64 21) (members : List (Member 
 
 module _ (m : Sizes) (input before after : Option (List ℕ)) (report : Report) where
   -- the lists are those of the members
-  pub alone : (all : AllMembers 64 21) → sizes_of_all all ≡ m → ReplaysToTheEnd m.threads m.k (all_lists all) input before after report
+  pub alone : (all : AllMembers PROGRAM_K MOST_LEVELS) → sizes_of_all all ≡ m → ReplaysToTheEnd m.threads m.k (all_lists all) input before after report
       → (report.end ≡ end.Done → AreListsAtEnd m (all_lists all)) → ReplaysAlone m input before after report
   alone all sizes replays at_end = record {
     lists = all_lists all;

@@ -2,6 +2,7 @@
 use Rattle.std.proofs.Common.{◌≡◌, ℕ, Bool, zero, suc, ◌+◌, ◌<◌, ◌≤◌, List, [], ◌∷◌, length, map, slice_index_or, Option, Some, None, Result, Ok, Err, IfOk, IfErr, refl, sym, ap, ◌∙◌, subst, arith}
 use Rattle.std.specs.List.{All}
 use Rattle.std.proofs.lemmas.List.{length-map}
+use Rattle.klsm_run.specs.declared.limits.TheConstants.{MOST_LEVELS, PROGRAM_K}
 use mathlib.Core.Option.{some, some-injective, some-ne-none}
 use lib.ListN.{get_elem?}
 use Rattle.klsm_world.specs.declared.step.Entry.{Entry}
@@ -32,7 +33,7 @@ use Rattle.klsm_tool.proofs.TotalLemmas.{adds_up, insertions_are}
 
 -- ---- before they begin
 
-ready_from : (board : Board 64 21) (members : List (Member 64 21)) (n : ℕ) → ((i : ℕ) (member : Member 64 21) → get_elem? members i ≡ some member → IsReady board (n + i) member) → (t : ℕ) (d : Option Worker) → t < length (map ready members) → IsReadyAt board (n + t) (slice_index_or (map ready members) t d)
+ready_from : (board : Board PROGRAM_K MOST_LEVELS) (members : List (Member PROGRAM_K MOST_LEVELS)) (n : ℕ) → ((i : ℕ) (member : Member PROGRAM_K MOST_LEVELS) → get_elem? members i ≡ some member → IsReady board (n + i) member) → (t : ℕ) (d : Option Worker) → t < length (map ready members) → IsReadyAt board (n + t) (slice_index_or (map ready members) t d)
 ready_from board [] n each t d within = absurd (omega (arith, within))
 ready_from board (m ∷ members) n each zero d within = each 0 m refl
 ready_from board (m ∷ members) n each (suc t) d within =
@@ -40,7 +41,7 @@ ready_from board (m ∷ members) n each (suc t) d within =
     (ready_from board members (n + 1) (λ i member there. subst (λ j. IsReady board j member) (let e : n + suc i ≡ (n + 1) + i = omega arith in e) (each (suc i) member there)) t d (omega (arith, within)))
 
 -- the members of a new board are ready at their places
-pub crew_ready : (board : Board 64 21) (members : List (Member 64 21)) → All (λ member. IsOf member board) members → AreNewMembersOf board members → (t : ℕ) (d : Option Worker) → t < length (map ready members)
+pub crew_ready : (board : Board PROGRAM_K MOST_LEVELS) (members : List (Member PROGRAM_K MOST_LEVELS)) → All (λ member. IsOf member board) members → AreNewMembersOf board members → (t : ℕ) (d : Option Worker) → t < length (map ready members)
     → IsReadyAt board t (slice_index_or (map ready members) t d)
 crew_ready board members of crew t d within =
     subst (λ j. IsReadyAt board j (slice_index_or (map ready members) t d)) (let e : 0 + t ≡ t = omega arith in e)
@@ -49,23 +50,23 @@ crew_ready board members of crew t d within =
 -- ---- when all are back
 
 -- what stands at the places from the n-th on
-record AreBack (board : Board 64 21) (n : ℕ) (crew : List (Option Worker)) : Type 0 where
-  of : (i : ℕ) (member : Member 64 21) → get_elem? (members_in crew) i ≡ some member → IsOf member board
-  numbered : (i : ℕ) (member : Member 64 21) → get_elem? (members_in crew) i ≡ some member → member.number ≡ n + i
+record AreBack (board : Board PROGRAM_K MOST_LEVELS) (n : ℕ) (crew : List (Option Worker)) : Type 0 where
+  of : (i : ℕ) (member : Member PROGRAM_K MOST_LEVELS) → get_elem? (members_in crew) i ≡ some member → IsOf member board
+  numbered : (i : ℕ) (member : Member PROGRAM_K MOST_LEVELS) → get_elem? (members_in crew) i ≡ some member → member.number ≡ n + i
   lists : lists_in (members_in crew) ≡ map steps_at crew
 
-one_more : (board : Board 64 21) (n : ℕ) (worker : Worker) (crew : List (Option Worker)) → IsOf worker.member board → worker.member.number ≡ n → AreBack board (n + 1) crew → AreBack board n (Some worker ∷ crew)
+one_more : (board : Board PROGRAM_K MOST_LEVELS) (n : ℕ) (worker : Worker) (crew : List (Option Worker)) → IsOf worker.member board → worker.member.number ≡ n → AreBack board (n + 1) crew → AreBack board n (Some worker ∷ crew)
 one_more board n worker crew is_of number rest = record { of = of; numbered = numbered; lists = ap (λ z. own_steps worker.member ∷ z) rest.lists }
   where
-    of : (i : ℕ) (member : Member 64 21) → get_elem? (worker.member ∷ members_in crew) i ≡ some member → IsOf member board
-    of zero member there = subst (λ (z : Member 64 21). IsOf z board) (some-injective worker.member member there) is_of
+    of : (i : ℕ) (member : Member PROGRAM_K MOST_LEVELS) → get_elem? (worker.member ∷ members_in crew) i ≡ some member → IsOf member board
+    of zero member there = subst (λ (z : Member PROGRAM_K MOST_LEVELS). IsOf z board) (some-injective worker.member member there) is_of
     of (suc i) member there = rest.of i member there
 
-    numbered : (i : ℕ) (member : Member 64 21) → get_elem? (worker.member ∷ members_in crew) i ≡ some member → member.number ≡ n + i
-    numbered zero member there = subst (λ (z : Member 64 21). z.number ≡ n + 0) (some-injective worker.member member there) (omega (arith, number))
+    numbered : (i : ℕ) (member : Member PROGRAM_K MOST_LEVELS) → get_elem? (worker.member ∷ members_in crew) i ≡ some member → member.number ≡ n + i
+    numbered zero member there = subst (λ (z : Member PROGRAM_K MOST_LEVELS). z.number ≡ n + 0) (some-injective worker.member member there) (omega (arith, number))
     numbered (suc i) member there = let behind = rest.numbered i member there in omega (arith, behind)
 
-are_back : (board : Board 64 21) (asked : ℕ → List Operation) (crew : List (Option Worker)) (n : ℕ) → ((t : ℕ) (d : Option Worker) → t < length crew → HasRunAt board (n + t) (asked (n + t)) (slice_index_or crew t d)) → AreBack board n crew
+are_back : (board : Board PROGRAM_K MOST_LEVELS) (asked : ℕ → List Operation) (crew : List (Option Worker)) (n : ℕ) → ((t : ℕ) (d : Option Worker) → t < length crew → HasRunAt board (n + t) (asked (n + t)) (slice_index_or crew t d)) → AreBack board n crew
 are_back board asked [] n ran = record { of = λ i member there. absurd (some-ne-none member (sym there)); numbered = λ i member there. absurd (some-ne-none member (sym there)); lists = refl }
 are_back board asked (None ∷ crew) n ran = absurd (ran 0 None (omega arith))
 are_back board asked (Some worker ∷ crew) n ran =
@@ -74,7 +75,7 @@ are_back board asked (Some worker ∷ crew) n ran =
     one_more board n worker crew here.of here.number rest
 
 -- they are the members of the board, and their lists stand at their places
-pub all_back : (board : Board 64 21) (asked : ℕ → List Operation) (crew : List (Option Worker)) → length crew ≡ board.sizes.threads → ((t : ℕ) (d : Option Worker) → t < length crew → HasRunAt board t (asked t) (slice_index_or crew t d))
+pub all_back : (board : Board PROGRAM_K MOST_LEVELS) (asked : ℕ → List Operation) (crew : List (Option Worker)) → length crew ≡ board.sizes.threads → ((t : ℕ) (d : Option Worker) → t < length crew → HasRunAt board t (asked t) (slice_index_or crew t d))
     → AreMembersOf board (members_in crew) × (lists_in (members_in crew) ≡ map steps_at crew)
 all_back board asked crew many ran =
     let from_zero = λ (t : ℕ). let e : t ≡ 0 + t = omega arith in e in
@@ -89,7 +90,7 @@ steps_there [] t d below = absurd (omega (arith, below))
 steps_there (place ∷ crew) zero d below = refl
 steps_there (place ∷ crew) (suc t) d below = steps_there crew t d (omega (arith, below))
 
-works_at : (board : Board 64 21) (t : ℕ) (asked : List Operation) (place : Option Worker) → HasRunAt board t asked place → Works board.sizes.k t asked (steps_at place) (gave_up_at place)
+works_at : (board : Board PROGRAM_K MOST_LEVELS) (t : ℕ) (asked : List Operation) (place : Option Worker) → HasRunAt board t asked place → Works board.sizes.k t asked (steps_at place) (gave_up_at place)
 works_at board t asked None ran = absurd ran
 works_at board t asked (Some worker) ran = ran.works
 
@@ -114,7 +115,7 @@ all_run m input rows lists totals all accepted many answers accounted =
       sum = omega (arith, sum, accounted.inserted_is, accounted.deleted_is, accounted.left_is);
     }
 
-module _ (m : Sizes) (rows : List Row) (accepted : AreAccepted m.threads rows) (board : Board 64 21) (sizes : board.sizes ≡ m) (crew : List (Option Worker)) (many : length crew ≡ m.threads)
+module _ (m : Sizes) (rows : List Row) (accepted : AreAccepted m.threads rows) (board : Board PROGRAM_K MOST_LEVELS) (sizes : board.sizes ≡ m) (crew : List (Option Worker)) (many : length crew ≡ m.threads)
     (ran : (t : ℕ) (d : Option Worker) → t < length crew → HasRunAt board t (asked_of m.threads t rows) (slice_index_or crew t d)) where
   back : AreMembersOf board (members_in crew) × (lists_in (members_in crew) ≡ map steps_at crew)
   back = all_back board (λ t. asked_of m.threads t rows) crew (many ∙ sym (ap (λ (z : Sizes). z.threads) sizes)) ran
@@ -143,10 +144,10 @@ module _ (m : Sizes) (rows : List Row) (accepted : AreAccepted m.threads rows) (
   finished failed input all (Err closing) none ok err = subst (HasNoTotals failed m input closing.row) (sym err) tt
 
   -- where one did, and their lists are those of one schedule, it was not for want of room
-  pub room_was_there : (lacked : Want) (t : ℕ) → t < m.threads → m.k ≤ 64 → gave_up_at (slice_index_or crew t None) ≡ Some lacked → lacked ≡ want.Room → AreListsAtEnd board.sizes (lists_in (members_in crew)) → ⊥
+  pub room_was_there : (lacked : Want) (t : ℕ) → t < m.threads → m.k ≤ PROGRAM_K → gave_up_at (slice_index_or crew t None) ≡ Some lacked → lacked ≡ want.Room → AreListsAtEnd board.sizes (lists_in (members_in crew)) → ⊥
   room_was_there lacked t below small is room at_end =
       never_full m (lists_in (members_in crew)) t (subst (λ (z : Sizes). AreListsAtEnd z (lists_in (members_in crew))) sizes at_end) few small
-      (subst (Wants 21 m.k t (steps_in (lists_in (members_in crew)) t)) room (subst (Works m.k t (asked_of m.threads t rows) (steps_in (lists_in (members_in crew)) t)) is (works t below)).wants)
+      (subst (Wants MOST_LEVELS m.k t (steps_in (lists_in (members_in crew)) t)) room (subst (Works m.k t (asked_of m.threads t rows) (steps_in (lists_in (members_in crew)) t)) is (works t below)).wants)
     where
       few : insertions (lists_in (members_in crew)) ≤ row_limit
       few = all_few m.threads rows (lists_in (members_in crew)) accepted so_many

@@ -1,6 +1,7 @@
 -- The board that answers the rows of a script, the lists of its members, and how one of them goes on.
 use Rattle.std.specs.Prelude.{ℕ, ◌≡◌, ◌≢◌, ◌+◌, ◌<◌, ◌≤◌, List, [], ◌∷◌, ◌++◌, length, map, slice_index_or}
 use Rattle.klsm_run.specs.declared.item.Item.{Item}
+use Rattle.klsm_run.specs.declared.limits.TheConstants.{MOST_LEVELS, PROGRAM_K}
 use Rattle.klsm_run.specs.Content.{without}
 use Rattle.klsm_parts.specs.Events.{plus}
 use Rattle.klsm_world.specs.declared.step.Entry.{Entry}
@@ -51,5 +52,5 @@ abbrev pub AreFew : ℕ → List (List Entry) → Type 0
 AreFew n lists = (account lists).inserted ≤ n
 
 -- no member has made a step
-abbrev pub HaveNoSteps : AllMembers 64 21 → Type 0
+abbrev pub HaveNoSteps : AllMembers PROGRAM_K MOST_LEVELS → Type 0
 HaveNoSteps all = (t : ℕ) → t < (sizes_of_all all).threads → steps_for all t ≡ []

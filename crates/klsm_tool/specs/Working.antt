@@ -1,5 +1,6 @@
 -- What the workers of a script do, each with a member of a board.
 use Rattle.std.specs.Prelude.{ℕ, ◌≡◌, List, [], ◌∷◌, ◌++◌, length, Option, Some, None}
+use Rattle.klsm_run.specs.declared.limits.TheConstants.{MOST_LEVELS, PROGRAM_K}
 use Rattle.klsm_world.specs.declared.step.Entry.{Entry}
 use Rattle.klsm_world.specs.Account.{account}
 use Rattle.klsm_board.specs.declared.board.Board.{Board}
@@ -21,7 +22,7 @@ pub record GaveUpAt (k t : ℕ) (asked : List Operation) (es : List Entry) (want
   pub later : List Operation
   pub all : asked ≡ earlier ++ here ∷ later
   pub answers : AreAnswers earlier (shown_in es)
-  pub wants : Wants 21 k t es want
+  pub wants : Wants MOST_LEVELS k t es want
 
 -- a list answers all that the thread was asked for, or up to where the thread gave up
 abbrev pub Works : ℕ → ℕ → List Operation → List Entry → Option Want → Type 0
@@ -29,17 +30,17 @@ Works k t asked es None = AreAnswers asked (shown_in es)
 Works k t asked es (Some want) = GaveUpAt k t asked es want
 
 -- the worker that a member is before it begins
-abbrev pub ready : Member 64 21 → Option Worker
+abbrev pub ready : Member PROGRAM_K MOST_LEVELS → Option Worker
 ready member = Some (record { member = member; passed = None; gave_up = None })
 
 -- the member is thread t's of the board, and its list answers nothing
-pub record IsReady (board : Board 64 21) (t : ℕ) (member : Member 64 21) : Type 0 where
+pub record IsReady (board : Board PROGRAM_K MOST_LEVELS) (t : ℕ) (member : Member PROGRAM_K MOST_LEVELS) : Type 0 where
   pub of : IsOf member board
   pub number : member.number ≡ t
   pub shows_none : shown_in (own_steps member) ≡ []
 
 -- it is, has passed the gate, and has run what it was asked for
-pub record HasRunRows (board : Board 64 21) (t : ℕ) (asked : List Operation) (worker : Worker)
+pub record HasRunRows (board : Board PROGRAM_K MOST_LEVELS) (t : ℕ) (asked : List Operation) (worker : Worker)
     : Type 0 where
   pub of : IsOf worker.member board
   pub number : worker.member.number ≡ t
@@ -47,11 +48,11 @@ pub record HasRunRows (board : Board 64 21) (t : ℕ) (asked : List Operation) (
   pub works : Works board.sizes.k t asked (own_steps worker.member) worker.gave_up
 
 -- at its place
-abbrev pub IsReadyAt : Board 64 21 → ℕ → Option Worker → Type 0
+abbrev pub IsReadyAt : Board PROGRAM_K MOST_LEVELS → ℕ → Option Worker → Type 0
 IsReadyAt board t None = ⊥
 IsReadyAt board t (Some worker) = IsReady board t worker.member
 
-abbrev pub HasRunAt : Board 64 21 → ℕ → List Operation → Option Worker → Type 0
+abbrev pub HasRunAt : Board PROGRAM_K MOST_LEVELS → ℕ → List Operation → Option Worker → Type 0
 HasRunAt board t asked None = ⊥
 HasRunAt board t asked (Some worker) = HasRunRows board t asked worker
 
@@ -61,7 +62,7 @@ steps_at None = []
 steps_at (Some worker) = own_steps worker.member
 
 -- the members at their places
-abbrev pub members_in : List (Option Worker) → List (Member 64 21)
+abbrev pub members_in : List (Option Worker) → List (Member PROGRAM_K MOST_LEVELS)
 members_in [] = []
 members_in (None ∷ crew) = members_in crew
 members_in (Some worker ∷ crew) = worker.member ∷ members_in crew

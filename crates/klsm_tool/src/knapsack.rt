@@ -1,5 +1,6 @@
 //! `klsm knapsack`: a best selection of the things of an instance.
 ghost use Rattle.std.specs.Prelude.{◌≡◌, ◌≤◌, Option, ℕ, List, IfErr, IfOk};
+ghost use Rattle.klsm_run.specs.declared.limits.TheConstants.{PROGRAM_K, PROGRAM_THREADS};
 ghost use Rattle.klsm_instance.specs.Answers.{IsBestAnswer};
 ghost use Rattle.klsm_instance.specs.Format.{IsProblemIn, RefusesInput};
 ghost use Rattle.klsm_tool.specs.Knapsack.{Solves, SolvesProblem, RefusesIn, WritesBest};
@@ -10,6 +11,7 @@ use klsm_knapsack::{
     Best, Instance, Listeners, ReadError, SearchOptions, UnsolvedError, solve_to_the_end,
 };
 use klsm_progress::Progress;
+use klsm_run::MOST_LEVELS;
 use klsm_text::{End, NO_MEMORY, Report, refusal_text, selection_text, write_last};
 use klsm_words::Search;
 use std::alloc::Global;
@@ -30,8 +32,8 @@ pub fn knapsack_over<
     H: Progress,
 >(rt: &P, reader: R, writer: &mut W, search: &Search, listeners: &Listeners<G, H>) -> Report
     requires some_thread { 1 ≤ search.now.threads }
-    requires threads { search.now.threads ≤ 16 }
-    requires k { search.now.k ≤ 64 }
+    requires threads { search.now.threads ≤ PROGRAM_THREADS }
+    requires k { search.now.k ≤ PROGRAM_K }
     ensures { Solves search.now.threads search.now.k (R.remaining reader) (W.contents writer.old)
         (W.contents writer.new) result }
 {
@@ -54,8 +56,8 @@ fn solve_read<P: AllocGlobal + Wait + Clock + Threads + Sync, W: Write, G: Gate,
     listeners: &Listeners<G, H>,
 ) -> Report
     requires some_thread { 1 ≤ search.now.threads }
-    requires threads { search.now.threads ≤ 16 }
-    requires k { search.now.k ≤ 64 }
+    requires threads { search.now.threads ≤ PROGRAM_THREADS }
+    requires k { search.now.k ≤ PROGRAM_K }
     ensures { SolvesProblem instance.now (W.contents writer.old) (W.contents writer.new) result }
 {
     match solve_reordered(rt, instance, search, listeners) {
@@ -73,8 +75,8 @@ fn solve_reordered<P: AllocGlobal + Wait + Clock + Threads + Sync, G: Gate, H: P
     listeners: &Listeners<G, H>,
 ) -> Result<Best, UnsolvedError>
     requires some_thread { 1 ≤ search.now.threads }
-    requires threads { search.now.threads ≤ 16 }
-    requires k { search.now.k ≤ 64 }
+    requires threads { search.now.threads ≤ PROGRAM_THREADS }
+    requires k { search.now.k ≤ PROGRAM_K }
     ensures best { IfOk result (λ best. IsBestAnswer instance.now best) }
     ensures memory { IfErr result (λ why. why ≡ UnsolvedError.NoMemory) }
 {
@@ -94,12 +96,12 @@ fn solve_heard<P: AllocGlobal + Wait + Clock + Threads + Sync, G: Gate, H: Progr
     listeners: &Listeners<G, H>,
 ) -> Result<Best, UnsolvedError>
     ensures best { IfOk result (λ best. IsBestAnswer instance.now best) }
-    ensures memory { 1 ≤ search.now.threads → search.now.threads ≤ 16 → search.now.k ≤ 64
+    ensures memory { 1 ≤ search.now.threads → search.now.threads ≤ PROGRAM_THREADS → search.now.k ≤ PROGRAM_K
         → IfErr result (λ why. why ≡ UnsolvedError.NoMemory) }
 {
     listeners.progress.begins(None);
     let options = SearchOptions::new(search.threads, search.k, search.idle);
-    let answer = solve_to_the_end::<G, H, 21>(rt, rt.alloc(), instance, &options, listeners);
+    let answer = solve_to_the_end::<G, H, MOST_LEVELS>(rt, rt.alloc(), instance, &options, listeners);
     listeners.progress.ended();
     answer
 }

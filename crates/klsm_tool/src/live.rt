@@ -1,6 +1,7 @@
 //! `klsm live`: each thread's rows in a thread of its own.
 ghost use Rattle.std.specs.Prelude.{All, ◌≡◌, ◌<◌, ◌≤◌, ℕ, Bool, List, [], length, map};
 ghost use Rattle.std.specs.Prelude.{slice_index_or, Option, Some, None, IfErr, IfOk, IfSome};
+ghost use Rattle.klsm_run.specs.declared.limits.TheConstants.{PROGRAM_K, PROGRAM_THREADS};
 ghost use Rattle.klsm_rows.specs.Rows.{Row, AreAllRows};
 ghost use Rattle.klsm_text.specs.Script.{row_limit};
 ghost use Rattle.klsm_text.specs.Reports.{GoesOrFails};
@@ -48,8 +49,8 @@ pub fn live_over<
     H: Progress,
 >(rt: &P, reader: R, writer: &mut W, settings: &Settings, listeners: &Listeners<G, H>) -> Report
     requires some_thread { 1 ≤ settings.now.threads }
-    requires threads { settings.now.threads ≤ 16 }
-    requires k { settings.now.k ≤ 64 }
+    requires threads { settings.now.threads ≤ PROGRAM_THREADS }
+    requires k { settings.now.k ≤ PROGRAM_K }
     requires refill { settings.now.refill ≤ settings.now.k }
     ensures { Lives (board_sizes settings.now) (R.remaining reader)
         (W.contents writer.old) (W.contents writer.new) result }
@@ -74,8 +75,8 @@ pub fn live_script<
     listeners: &Listeners<G, H>,
 ) -> Report
     requires some_thread { 1 ≤ settings.now.threads }
-    requires threads { settings.now.threads ≤ 16 }
-    requires k { settings.now.k ≤ 64 }
+    requires threads { settings.now.threads ≤ PROGRAM_THREADS }
+    requires k { settings.now.k ≤ PROGRAM_K }
     requires refill { settings.now.refill ≤ settings.now.k }
     requires read { (input : Option (List ℕ)) × HasReadScript R.remaining input [] script.old }
     ensures lives { (input : Option (List ℕ)) → HasReadScript R.remaining input [] script.old
@@ -113,8 +114,8 @@ fn run_script<P: AllocGlobal + Wait + Clock + Threads + Sync, R: Read + Drop, G:
     listeners: &Listeners<G, H>,
 ) -> Result<Totals, Closing>
     requires some_thread { 1 ≤ settings.now.threads }
-    requires threads { settings.now.threads ≤ 16 }
-    requires k { settings.now.k ≤ 64 }
+    requires threads { settings.now.threads ≤ PROGRAM_THREADS }
+    requires k { settings.now.k ≤ PROGRAM_K }
     requires refill { settings.now.refill ≤ settings.now.k }
     requires read { (input : Option (List ℕ)) × HasReadScript R.remaining input [] script.old }
     ensures runs { (input : Option (List ℕ)) → HasReadScript R.remaining input [] script.old
@@ -144,8 +145,8 @@ fn run_rows<P: AllocGlobal + Wait + Clock + Threads + Sync, G: Gate, H: Progress
     listeners: &Listeners<G, H>,
 ) -> Result<Totals, Closing>
     requires some_thread { 1 ≤ settings.now.threads }
-    requires threads { settings.now.threads ≤ 16 }
-    requires k { settings.now.k ≤ 64 }
+    requires threads { settings.now.threads ≤ PROGRAM_THREADS }
+    requires k { settings.now.k ≤ PROGRAM_K }
     requires refill { settings.now.refill ≤ settings.now.k }
     requires many { length rows.now ≡ settings.now.threads }
     requires script { (all : List Row) × AreAccepted settings.now.threads all

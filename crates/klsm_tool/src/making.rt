@@ -1,5 +1,6 @@
 //! The board over which a script is run.
 ghost use Rattle.std.specs.Prelude.{All, ◌≡◌, ◌≤◌, IfOk, length};
+ghost use Rattle.klsm_run.specs.declared.limits.TheConstants.{PROGRAM_K, PROGRAM_THREADS};
 ghost use Rattle.klsm_board.specs.Boards.{AreNewMembersOf, IsOf};
 ghost use Rattle.klsm_board.specs.Together.{AreOf};
 ghost use Rattle.klsm_tool.specs.Crews.{HaveNoSteps, board_sizes};
@@ -15,8 +16,8 @@ pub fn board_in_one_hand(
     settings: &Settings,
 ) -> Result<(StandardBoard, AllStandardMembers), AllocError>
     requires some_thread { 1 ≤ settings.now.threads }
-    requires threads { settings.now.threads ≤ 16 }
-    requires k { settings.now.k ≤ 64 }
+    requires threads { settings.now.threads ≤ PROGRAM_THREADS }
+    requires k { settings.now.k ≤ PROGRAM_K }
     requires refill { settings.now.refill ≤ settings.now.k }
     ensures sizes { IfOk result (λ made. made.0.sizes ≡ board_sizes settings.now) }
     ensures of { IfOk result (λ made. AreOf made.1 made.0) }
@@ -36,8 +37,8 @@ pub(crate) fn board_for(
     settings: &Settings,
 ) -> Result<(StandardBoard, Vec<StandardMember>), AllocError>
     requires some_thread { 1 ≤ settings.now.threads }
-    requires threads { settings.now.threads ≤ 16 }
-    requires k { settings.now.k ≤ 64 }
+    requires threads { settings.now.threads ≤ PROGRAM_THREADS }
+    requires k { settings.now.k ≤ PROGRAM_K }
     requires refill { settings.now.refill ≤ settings.now.k }
     ensures sizes { IfOk result (λ made. made.0.sizes ≡ board_sizes settings.now) }
     ensures of { IfOk result (λ made. All (λ member. IsOf member made.0) made.1.items) }

@@ -2,6 +2,7 @@
 ghost use Rattle.std.specs.Prelude.{◌≡◌, ℕ, ◌+◌, ◌*◌, ◌<◌, ◌≤◌, ◌^◌, List, [], ◌∷◌};
 ghost use Rattle.std.specs.Prelude.{length, Option, IfErr, IfOk, MatchResult, true};
 ghost use Rattle.klsm_run.specs.declared.item.Item.{Item};
+ghost use Rattle.klsm_run.specs.declared.limits.TheConstants.{PROGRAM_K, PROGRAM_THREADS};
 ghost use Rattle.klsm_world.specs.declared.step.Entry.{Entry};
 ghost use Rattle.klsm_board.specs.Together.{AreOf, all_lists};
 ghost use Rattle.klsm_world.specs.Account.{account};
@@ -44,8 +45,8 @@ pub fn replay_over<P: AllocGlobal, R: Read + Drop, W: Write>(
     progress: &impl Progress,
 ) -> Report
     requires some_thread { 1 ≤ settings.now.threads }
-    requires threads { settings.now.threads ≤ 16 }
-    requires k { settings.now.k ≤ 64 }
+    requires threads { settings.now.threads ≤ PROGRAM_THREADS }
+    requires k { settings.now.k ≤ PROGRAM_K }
     requires refill { settings.now.refill ≤ settings.now.k }
     ensures { ReplaysAlone (board_sizes settings.now) (R.remaining reader)
         (W.contents writer.old) (W.contents writer.new) result }

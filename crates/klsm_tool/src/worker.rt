@@ -1,5 +1,6 @@
 //! A worker of `klsm live`: a member of the board that runs the rows of its thread.
 ghost use Rattle.std.specs.Prelude.{◌≡◌, ◌<◌, ◌++◌, [], ◌∷◌, length, map, IfOk, IfErr};
+ghost use Rattle.klsm_run.specs.declared.limits.TheConstants.{MOST_LEVELS};
 ghost use Rattle.klsm_world.specs.OwnSteps.{inserted};
 ghost use Rattle.klsm_board.specs.Boards.{IsOf, IsSame, own_steps};
 ghost use Rattle.klsm_tool.specs.Shown.{shown_in};
@@ -108,7 +109,7 @@ fn answer(
         shown_in (own_steps member.new) ≡ shown_in (own_steps member.old) ++ answer ∷ []) }
     ensures refused { IfErr result (λ wanted.
         (shown_in (own_steps member.new) ≡ shown_in (own_steps member.old))
-        × Wants 21 member.old.sizes.k member.old.number (own_steps member.new) wanted) }
+        × Wants MOST_LEVELS member.old.sizes.k member.old.number (own_steps member.new) wanted) }
 {
     match operation {
         Operation::Insert { key, load } => match insert(rt, board, member, key, load) {

@@ -8,6 +8,7 @@ use Rattle.clap.specs.Walk.{Row, Rule, Text, first_of, one_of}
 use Rattle.clap.specs.Words.{App, new_rule, with_rule}
 use Rattle.clap.specs.declared.builder.value_parser.ValueParser.{ValueParser}
 use Rattle.clap.specs.declared.builder.value_parser.ValueParser.TheVariants as parser
+use Rattle.klsm_run.specs.declared.limits.TheConstants.{PROGRAM_K, PROGRAM_THREADS}
 use Rattle.klsm_parts.specs.declared.choice.Pick.{Pick}
 use Rattle.klsm_parts.specs.declared.choice.Pick.TheVariants as pick
 use Rattle.klsm_words.specs.declared.settings.Search.{Search}
@@ -26,22 +27,22 @@ option_rule name default parser = record (new_rule name) {
 abbrev pub with_letter : Text → Rule → Rule
 with_letter letter rule = record rule { short = slice_get letter 0 }
 
--- `--k` or `-k`, from 0 to 64
+-- `--k` or `-k`, from 0 to `PROGRAM_K`
 abbrev pub k_rule : Rule
 k_rule =
     with_letter (codes "k")
-    (option_rule (codes "k") (codes "64") (Some (parser.Unsigned 0 64)))
+    (option_rule (codes "k") (codes "64") (Some (parser.Unsigned 0 PROGRAM_K)))
 
--- `--threads` from 1 to 16, and `--k`
+-- `--threads` from 1 to `PROGRAM_THREADS`, and `--k`
 abbrev pub with_threads : App → App
 with_threads a =
-    let threads = option_rule (codes "threads") (codes "1") (Some (parser.Unsigned 1 16)) in
+    let threads = option_rule (codes "threads") (codes "1") (Some (parser.Unsigned 1 PROGRAM_THREADS)) in
     with_rule (with_rule a threads) k_rule
 
--- these and `--refill`, from 0 to 64
+-- these and `--refill`, from 0 to `PROGRAM_K`
 abbrev pub with_refill : App → App
 with_refill a =
-    let refill = option_rule (codes "refill") (codes "0") (Some (parser.Unsigned 0 64)) in
+    let refill = option_rule (codes "refill") (codes "0") (Some (parser.Unsigned 0 PROGRAM_K)) in
     with_rule (with_threads a) refill
 
 -- these and `--pick`
@@ -85,9 +86,9 @@ pick_at rows = option_and_then pick_of (first_of (codes "pick") rows)
 -- what the options come to, where the word of `--pick` names one
 abbrev pub settings_at : List Row → Option Settings
 settings_at rows = option_map (λ pick. record {
-  threads = number_at rows (codes "threads") 1 16;
-  k = number_at rows (codes "k") 0 64;
-  refill = number_at rows (codes "refill") 0 64;
+  threads = number_at rows (codes "threads") 1 PROGRAM_THREADS;
+  k = number_at rows (codes "k") 0 PROGRAM_K;
+  refill = number_at rows (codes "refill") 0 PROGRAM_K;
   pick = pick;
   seed = number_at rows (codes "seed") 0 18446744073709551615;
 }) (pick_at rows)
@@ -95,16 +96,16 @@ settings_at rows = option_map (λ pick. record {
 -- what the options of a search come to
 abbrev pub search_at : List Row → Search
 search_at rows = record {
-  threads = number_at rows (codes "threads") 1 16;
-  k = number_at rows (codes "k") 0 64;
+  threads = number_at rows (codes "threads") 1 PROGRAM_THREADS;
+  k = number_at rows (codes "k") 0 PROGRAM_K;
   idle = number_at rows (codes "idle") 0 1000000;
 }
 
 abbrev pub IsSearchInRange : Search → Type 0
-IsSearchInRange search = (1 ≤ search.threads) × (search.threads ≤ 16) × (search.k ≤ 64)
+IsSearchInRange search = (1 ≤ search.threads) × (search.threads ≤ PROGRAM_THREADS) × (search.k ≤ PROGRAM_K)
 
 -- what a script can be run by
 abbrev pub AreInRange : Settings → Type 0
 AreInRange settings =
-    (1 ≤ settings.threads) × (settings.threads ≤ 16) × (settings.k ≤ 64)
+    (1 ≤ settings.threads) × (settings.threads ≤ PROGRAM_THREADS) × (settings.k ≤ PROGRAM_K)
     × (settings.refill ≤ settings.k)

@@ -14,6 +14,7 @@ use crate::settings::{Search, Settings};
 use clap::builder::ValueParser;
 use clap::{Arg, ArgMatches, Command, value_parser};
 use klsm_parts::Pick;
+use klsm_run::{PROGRAM_K, PROGRAM_THREADS};
 use std::alloc::{AllocError, Global};
 
 /// A command over scripts, with its options.
@@ -44,8 +45,8 @@ fn with_refill<'a>(alloc: Global, command: Command<'a>) -> Result<Command<'a>, A
         → IfOk result (λ with. (fields_of with).has_globals ≡ false) }
 {
     let command = with_threads(alloc, command, THREADS_HELP, K_HELP)?;
-    let up_to_64 = value_parser!(u64).range(0..=64);
-    command.arg(number(alloc, REFILL, "0", REFILL_HELP, up_to_64))
+    let up_to_k = value_parser!(u64).range(0..=PROGRAM_K as i64);
+    command.arg(number(alloc, REFILL, "0", REFILL_HELP, up_to_k))
 }
 
 /// A command over instances, with its options.
@@ -75,8 +76,8 @@ fn with_threads<'a>(
     ensures local { (fields_of command.entry).has_globals ≡ false
         → IfOk result (λ with. (fields_of with).has_globals ≡ false) }
 {
-    let one_to_16 = value_parser!(u64).range(1..=16);
-    let command = command.arg(number(alloc, THREADS, "1", threads_help, one_to_16))?;
+    let one_to_most = value_parser!(u64).range(1..=PROGRAM_THREADS as i64);
+    let command = command.arg(number(alloc, THREADS, "1", threads_help, one_to_most))?;
     command.arg(k_option(alloc, k_help))
 }
 
@@ -85,8 +86,8 @@ fn k_option<'a>(alloc: Global, help: &'a str) -> Arg<'a>
     ensures rule { rule_of result ≡ k_rule }
     ensures local { result.global ≡ false }
 {
-    let up_to_64 = value_parser!(u64).range(0..=64);
-    number(alloc, K, "64", help, up_to_64).short('k')
+    let up_to_most = value_parser!(u64).range(0..=PROGRAM_K as i64);
+    number(alloc, K, "64", help, up_to_most).short('k')
 }
 
 // An option whose value is a number that the parser takes.
@@ -130,9 +131,9 @@ pub(crate) fn settings_of(options: &ArgMatches) -> Option<Settings>
 {
     let pick = pick_in(options)?;
     Some(Settings {
-        threads: number_in(options, THREADS, 1, 16) as usize,
-        k: number_in(options, K, 0, 64) as usize,
-        refill: number_in(options, REFILL, 0, 64) as usize,
+        threads: number_in(options, THREADS, 1, PROGRAM_THREADS as u64) as usize,
+        k: number_in(options, K, 0, PROGRAM_K as u64) as usize,
+        refill: number_in(options, REFILL, 0, PROGRAM_K as u64) as usize,
         pick,
         seed: number_in(options, SEED, 0, u64::MAX),
     })
@@ -143,8 +144,8 @@ pub(crate) fn search_of(options: &ArgMatches) -> Search
     ensures search { result ≡ search_at (rows_of (found_of options.now)) }
     ensures range { IsSearchInRange result }
 {
-    let threads = number_in(options, THREADS, 1, 16);
-    let k = number_in(options, K, 0, 64);
+    let threads = number_in(options, THREADS, 1, PROGRAM_THREADS as u64);
+    let k = number_in(options, K, 0, PROGRAM_K as u64);
     let idle = number_in(options, IDLE, 0, 1_000_000);
     Search {
         threads: threads as usize,

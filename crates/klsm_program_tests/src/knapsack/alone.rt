@@ -64,7 +64,7 @@ fn refilled(
 fn arguments_are_judged(rt: HostRuntime) {
     let bad_threads = Some(Err(UnsolvedError::BadThreads));
     assert!(rt; refilled(&rt, rt.alloc(), 0, 65, 66) == bad_threads);
-    assert!(rt; refilled(&rt, rt.alloc(), 17, 65, 66) == bad_threads);
+    assert!(rt; refilled(&rt, rt.alloc(), 65, 65, 66) == bad_threads);
     assert!(rt; refilled(&rt, rt.alloc(), 1, 65, 66) == Some(Err(UnsolvedError::BadK)));
     assert!(rt; refilled(&rt, rt.alloc(), 1, 4, 5) == Some(Err(UnsolvedError::BadRefill)));
     assert!(rt; refilled(&rt, rt.alloc(), 1, 4, 4) == Some(Ok(BEST)));

@@ -89,6 +89,6 @@ fn small_boards_are_full(rt: HostRuntime) {
 fn threads_are_judged_before_k(rt: HostRuntime) {
     let bad_threads = Some(Err(SolveError::BadThreads));
     assert!(rt; solved::<21>(&rt, rt.alloc(), 0, 0, 1) == bad_threads);
-    assert!(rt; solved::<21>(&rt, rt.alloc(), 17, 65, 1) == bad_threads);
+    assert!(rt; solved::<21>(&rt, rt.alloc(), 65, 65, 1) == bad_threads);
     assert!(rt; solved::<21>(&rt, rt.alloc(), 1, 65, 1) == Some(Err(SolveError::BadK)));
 }

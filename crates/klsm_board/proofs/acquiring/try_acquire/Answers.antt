@@ -1,4 +1,5 @@
 use Rattle.std.proofs.Common.{ℕ, ◌≤◌, refl, arith}
+use Rattle.klsm_run.specs.declared.limits.TheConstants.{MOST_THREADS}
 use Rattle.klsm_board.proofs.lemmas.calls.TestLemmas.{where_zero, where_not_zero}
 use Rattle.klsm_board.proofs.acquiring.try_acquire.Goals as goal
 
@@ -8,7 +9,7 @@ overflow_cast-result g c =
     let outcome = where_not_zero _ _ c.acquire_part-found.result c.if-found-eq0.false (c.acquire_part-found.ensures.outcome k.0 k.1) in
     let threads : ℕ = c.args.table.now.key.threads in
     let within : c.acquire_part-found.result ≤ threads = outcome.2 in
-    let few : threads ≤ 16 = seat.1.2 in
+    let few : threads ≤ MOST_THREADS = seat.1.2 in
     omega (arith, within, few)
 
 pub returns-then-found-eq0-clause-ok : goal.returns-then-found-eq0-clause-ok

@@ -7,6 +7,7 @@ use Rattle.std.proofs.Math.Logic.{∥∥₁_elim}
 use Rattle.klsm_run.specs.declared.item.Item.{Item}
 use Rattle.std.proofs.Math.Nat.{mul-le-mul_left, mul-le-mul_right}
 use Rattle.atomic_table.specs.Table.{Me}
+use Rattle.klsm_run.specs.declared.limits.TheConstants.{MOST_THREADS}
 use Rattle.klsm_parts.specs.Parts.{PartState}
 use Rattle.klsm_world.specs.OwnSteps.{Hand, content_in, hand_of, inserted, deleted}
 use Rattle.klsm_world.proofs.lemmas.hands.HandLemmas.{found_first}
@@ -56,9 +57,9 @@ module _ (capacity : ℕ) (m : Sizes) (sizes : AreSizes capacity m) (t : ℕ) wh
       let room : length (inserted (mine me.0)) ≤ m.quota = subst (λ es. length (inserted es) ≤ m.quota) reached.list_is (reached.within t reached.thread) in
       let most : ℕ = m.threads * m.quota in
       let few : length (deleted (mine me.0)) ≤ most = own_deletions_are_few (world_limits m) m.quota t (mine me.0) (possible_of m t me.0 reached) reached.thread in
-      let more : ℕ = 16 * m.quota in
+      let more : ℕ = MOST_THREADS * m.quota in
       let a : most ≤ more = mul-le-mul_right m.quota sizes.threads in
-      let b : more ≤ most_deletions = mul-le-mul_left 16 sizes.quota in
+      let b : more ≤ most_deletions = mul-le-mul_left MOST_THREADS sizes.quota in
       record {
         acts = carries.acts;
         carries_none = none_behind slot_content IsSlotOf m t me.1 carries.contents_are;

@@ -1,4 +1,5 @@
-use Rattle.std.proofs.Common.{arith}
+use Rattle.std.proofs.Common.{◌≡◌, ◌∷◌, ◌∙◌, ℕ, [], ap, arith, replicate}
+use Rattle.klsm_board.specs.declared.slot.Slot.TheVariants.{Own, Common}
 use Rattle.klsm_parts.proofs.FitLemmas.{local_fits, shared_fits}
 use Rattle.klsm_board.proofs.making.parts.Goals as goal
 
@@ -28,3 +29,8 @@ new-requires g c = (shared_fits _ c.requires.levels, (c.requires.levels, omega (
 
 pub new-requires-in-loop : goal.new-requires-in-loop
 new-requires-in-loop g c = (local_fits _ c.requires.capacity, (c.requires.capacity, c.requires.k))
+
+pub returns : goal.returns
+returns g c =
+    let all : c.loop.counter ≡ c.args.threads = omega arith in
+    c.loop.invariant ∙ ap (λ (n : ℕ). Common (record { k = c.args.k; blocks = [] }) ∷ replicate n (Own (record { k = c.args.k; blocks = [] }))) all

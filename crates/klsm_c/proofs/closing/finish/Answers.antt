@@ -1,5 +1,6 @@
 use Rattle.std.proofs.Common.{rules, ◌≤◌, ◌+◌, length, vec_capacity, ap, sym, subst, ◌∙◌}
 use Rattle.std.specs.List.{flat_map}
+use Rattle.klsm_run.specs.declared.limits.TheConstants.{MOST_K, MOST_LEVELS}
 use Rattle.klsm_world.specs.Account.{account}
 use Rattle.klsm_world.specs.OwnSteps.{deleted, inserted}
 use Rattle.klsm_board.specs.declared.board.Board.{Board}
@@ -12,7 +13,7 @@ use Rattle.klsm_c.proofs.closing.finish.Goals as goal
 pub finish_into-requires : goal.finish_into-requires
 finish_into-requires c =
     let members = c.args.members.items in let board = c.in_ok-board.board in
-    let one = subst (λ (b : Board 64 21). HasOneOf b members) (sym c.in_ok-board.ensures) c.requires.one in
+    let one = subst (λ (b : Board MOST_K MOST_LEVELS). HasOneOf b members) (sym c.in_ok-board.ensures) c.requires.one in
     let lists = lists_are board members c.requires.whole one in (
       search rules,
       (
@@ -33,14 +34,14 @@ finish_into-requires c =
 pub unreachable-requires : goal.unreachable-requires
 unreachable-requires c =
     let members = c.args.members.items in let board = c.in_ok-board.board in
-    let one = subst (λ (b : Board 64 21). HasOneOf b members) (sym c.in_ok-board.ensures) c.requires.one in
+    let one = subst (λ (b : Board MOST_K MOST_LEVELS). HasOneOf b members) (sym c.in_ok-board.ensures) c.requires.one in
     let missing = c.in_default.ensures.missing in
     missing.2.1 (all_there board members c.requires.whole one missing.0 missing.2.0)
 
 pub returns-clause-some : goal.returns-clause-some
 returns-clause-some c =
     let members = c.args.members.items in let board = c.in_ok-board.board in
-    let one = subst (λ (b : Board 64 21). HasOneOf b members) (sym c.in_ok-board.ensures) c.requires.one in
+    let one = subst (λ (b : Board MOST_K MOST_LEVELS). HasOneOf b members) (sym c.in_ok-board.ensures) c.requires.one in
     let lists = lists_are board members c.requires.whole one in
     let told = c.in-Ok.ensures.ok in
     let left = told.4 ∙ ap (λ ls. (account ls).left) lists in

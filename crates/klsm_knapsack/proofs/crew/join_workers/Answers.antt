@@ -1,5 +1,6 @@
 use Rattle.std.proofs.Common.{◌∙◌, refl, ◌++◌, ◌≤◌, [], ◌∷◌, sym, ap, arith, List}
 use Rattle.std.specs.Option.{option_or}
+use Rattle.klsm_run.specs.declared.limits.TheConstants.{PROGRAM_K}
 use Rattle.klsm_board.specs.declared.board.Member.{Member}
 use Rattle.klsm_knapsack.specs.declared.rule.View.{View}
 use Rattle.klsm_knapsack.specs.IncumbentSeats.{found_by}
@@ -15,7 +16,7 @@ loop-worker-preserved g c =
     let here : found_by w.seat ≤ found_by c.join.new.seat = omega (arith, found) in
     record {
       first = c.join.ensures.same ∙ inv.first;
-      members = ◌∙◌ {A = List (Member 64 g.row.LEVELS)} c.in-Ok.ensures.items (ap (λ (ms : List (Member 64 g.row.LEVELS)). ms ++ w.member ∷ []) inv.members ∙ member_appended c.loop-worker.yielded w);
+      members = ◌∙◌ {A = List (Member PROGRAM_K g.row.LEVELS)} c.in-Ok.ensures.items (ap (λ (ms : List (Member PROGRAM_K g.row.LEVELS)). ms ++ w.member ∷ []) inv.members ∙ member_appended c.loop-worker.yielded w);
       room = omega (arith, c.in-Ok.ensures.capacity, inv.room);
       found = found_too c.loop-worker.yielded w (found_by c.loop-worker.first) (found_by c.join.new.seat) before here inv.found;
       refused = c.or-refused.ensures ∙ (ap (λ r. option_or r w.refused) inv.refused ∙ sym (first_refused c.loop-worker.yielded w));

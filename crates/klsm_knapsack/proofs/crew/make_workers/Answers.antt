@@ -1,6 +1,7 @@
 use Rattle.std.proofs.Common.{◌≡◌, ◌++◌, [], ◌∷◌, None, arith, sym, ap, ◌∙◌, refl, List}
 use Rattle.std.specs.Prelude.{false, is_ok, not, true}
 use Rattle.std.proofs.lemmas.List.Elements.{All-append}
+use Rattle.klsm_run.specs.declared.limits.TheConstants.{PROGRAM_K}
 use Rattle.klsm_parts.specs.Generators.{generator_of}
 use Rattle.klsm_board.specs.declared.board.Member.{Member}
 use Rattle.klsm_knapsack.specs.declared.search_state.Worker.{Worker}
@@ -25,7 +26,7 @@ loop-member-preserved g c =
     let items : c.push.new.self.items ≡ c.loop-member.crew.items ++ w ∷ [] = rw pushed at c.push.ensures.items in
     record {
       first = c.split-seat.ensures.same ∙ inv.first;
-      members = rw items (sym (member_appended c.loop-member.crew.items w) ∙ ap (λ (ms : List (Member 64 g.row.LEVELS)). ms ++ w.member ∷ []) inv.members);
+      members = rw items (sym (member_appended c.loop-member.crew.items w) ∙ ap (λ (ms : List (Member PROGRAM_K g.row.LEVELS)). ms ++ w.member ∷ []) inv.members);
       seats = rw items (All-append is_seated c.loop-member.crew.items (w ∷ []) inv.seats (each_alone is_seated w (c.split-seat.ensures.new.0, ap (λ (v : View). v.found) c.split-seat.ensures.new.1, refl)));
       pickers = rw items (All-append is_of_number c.loop-member.crew.items (w ∷ []) inv.pickers (each_alone is_of_number w (c.random_of-picker.ensures ∙ ap generator_of c.number.ensures.number)));
     }

@@ -1,4 +1,5 @@
 use Rattle.std.proofs.Common.{◌≡◌, ◌<◌, ◌≤◌, ◌++◌, rules, All, length, drop, take, vec_capacity, lit<, sym, ap, subst, arith, List}
+use Rattle.klsm_run.specs.declared.limits.TheConstants.{PROGRAM_K}
 use Rattle.klsm_board.specs.declared.board.Member.{Member}
 use Rattle.klsm_board.specs.declared.sizes.Sizes.{Sizes}
 use Rattle.klsm_board.specs.Members.{most_insertions, sizes_of}
@@ -72,7 +73,7 @@ finish-requires g c =
     let as_long : c.in-Ok-make_workers.crew.len ≡ length after = search rules in
     let is : take c.in-Ok-make_workers.crew.len (after ++ drop (length after) c.in-Ok-make_workers.crew.items) ≡ after = whole c.in-Ok-make_workers.crew.len after (drop (length after) c.in-Ok-make_workers.crew.items) as_long in
     let back = rw is at c.in_default-join_workers.ensures.members in
-    (lit< tt, (lit< tt, (lit< tt, subst (λ (ms : List (Member 64 g.row.LEVELS)). All (λ (m : Member 64 g.row.LEVELS). IsOf m c.in_ok-board.board) ms) (sym back) (members_of state after c.search.ensures.crew))))
+    (lit< tt, (lit< tt, (lit< tt, subst (λ (ms : List (Member PROGRAM_K g.row.LEVELS)). All (λ (m : Member PROGRAM_K g.row.LEVELS). IsOf m c.in_ok-board.board) ms) (sym back) (members_of state after c.search.ensures.crew))))
 
 pub returns-clause-best : goal.returns-clause-best
 returns-clause-best g c =

@@ -2,6 +2,7 @@
 use Rattle.std.proofs.Common.{◌≡◌, ◌≢◌, ◌⊎◌, ◌↔◌, ℕ, ◌<◌, ◌≤◌, List, Result, Ok, Err, refl, sym, ◌∙◌, subst, inl, inr, arith}
 use Rattle.std.specs.Result.{IfErr, IsErrAnd}
 use Rattle.std.proofs.lemmas.Bool.{cases_lt}
+use Rattle.klsm_model.specs.declared.world.TheConstants.{WORLD_K, WORLD_THREADS}
 use Rattle.klsm_model.specs.declared.errors.StepError.{StepError}
 use Rattle.klsm_model.specs.declared.errors.WorldError.{WorldError}
 use Rattle.klsm_model.specs.declared.errors.WorldError.TheVariants.{BadThreads, BadK, NoMemory, At}
@@ -11,29 +12,29 @@ use Rattle.klsm_model.specs.Traces.{RefusesRun}
 use Rattle.klsm_world.specs.Worlds.{Limits}
 
 abbrev pub AreBadThreads : Limits → Type 0
-AreBadThreads limits = (limits.threads ≡ 0) ⊎ (16 < limits.threads)
+AreBadThreads limits = (limits.threads ≡ 0) ⊎ (WORLD_THREADS < limits.threads)
 
 abbrev pub IsBadK : Limits → Type 0
-IsBadK limits = (1 ≤ limits.threads) × (limits.threads ≤ 16) × (128 < limits.k)
+IsBadK limits = (1 ≤ limits.threads) × (limits.threads ≤ WORLD_THREADS) × (WORLD_K < limits.k)
 
 pub some_thread : (limits : Limits) → (limits.threads ≡ 0 → ⊥) → 1 ≤ limits.threads
 some_thread limits some = elim (cases_lt limits.threads 1) [ inl none ↦ absurd (some (omega (arith, none))) | inr one ↦ one ]
 
-pub are_threads : (limits : Limits) → (limits.threads ≡ 0 → ⊥) → limits.threads ≤ 16 → AreBadThreads limits → ⊥
+pub are_threads : (limits : Limits) → (limits.threads ≡ 0 → ⊥) → limits.threads ≤ WORLD_THREADS → AreBadThreads limits → ⊥
 are_threads limits some most (inl none) = absurd (some none)
 are_threads limits some most (inr many) = omega (arith, most, many)
 
-pub is_k : (limits : Limits) → limits.k ≤ 128 → IsBadK limits → ⊥
+pub is_k : (limits : Limits) → limits.k ≤ WORLD_K → IsBadK limits → ⊥
 is_k limits most bad = omega (arith, most, bad.2)
 
 pub are_limits : (limits : Limits) → (AreBadThreads limits → ⊥) → (IsBadK limits → ⊥) → AreLimits limits
 are_limits limits threads k =
     let some = some_thread limits (λ none. threads (inl none)) in
-    let most : limits.threads ≤ 16 = elim (cases_lt 16 limits.threads) [ inl many ↦ absurd (threads (inr many)) | inr few ↦ few ] in
+    let most : limits.threads ≤ WORLD_THREADS = elim (cases_lt WORLD_THREADS limits.threads) [ inl many ↦ absurd (threads (inr many)) | inr few ↦ few ] in
     record {
       some_threads = some;
       at_most = most;
-      k_in_range = elim (cases_lt 128 limits.k) [ inl many ↦ absurd (k (some, most, many)) | inr few ↦ few ];
+      k_in_range = elim (cases_lt WORLD_K limits.k) [ inl many ↦ absurd (k (some, most, many)) | inr few ↦ few ];
     }
 
 -- the causes differ

@@ -2,7 +2,8 @@ use Rattle.std.proofs.Common.{rules, ◌≡◌, ◌<◌, ◌+◌, ◌%◌, ◌^�
 use Rattle.std.specs.Arc.{arc_value}
 use Rattle.std.proofs.lemmas.List.{append-nil}
 use Rattle.klsm_parts.specs.Choices.{choice_by}
-use Rattle.klsm_owned.specs.Owned.{PickBy, choice_of, member_of, members_of}
+use Rattle.klsm_board.specs.Balancing.{balancing_each}
+use Rattle.klsm_owned.specs.Owned.{BalanceEach, PickBy, balancing_of, choice_of, member_of, members_of}
 use Rattle.klsm_owned.proofs.ListLemmas.{each_push, front_taken, length_mapped, map_push, none_in}
 use Rattle.klsm_owned.proofs.opening.box_members.Goals as goal
 
@@ -25,6 +26,8 @@ loop-number-preserved c =
           ∙ (ap (λ ms. ms ++ rest) (map_push member_of values s.value)
           ∙ (append_assoc (members_of values) (member_of s.value ∷ []) rest
           ∙ (ap (λ m. members_of values ++ m ∷ rest) is ∙ (ap (λ ms. members_of values ++ ms) (sym e) ∙ inv.boxed))));
+      balancings = subst (BalanceEach c.args.balance) (sym pushed)
+          (each_push (λ i y. balancing_of y ≡ balancing_each c.args.balance) values s.value inv.balancings (ap balancing_of c.in_ok-new.ensures.ok ∙ c.each.ensures));
       pickers = subst (PickBy c.args.pick c.args.seed) (sym pushed)
           (each_push (λ i y. choice_of y ≡ choice_by c.args.pick ((c.args.seed + i) % 2 ^ 64)) values s.value inv.pickers last);
     }

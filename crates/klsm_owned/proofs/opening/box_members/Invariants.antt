@@ -2,7 +2,7 @@ use Rattle.std.proofs.Common.{◌≡◌, ◌+◌, ◌++◌, length, map}
 use Rattle.std.specs.Prelude.{All}
 use Rattle.std.specs.Arc.{arc_value}
 use Rattle.klsm_board.specs.Boards.{IsOf}
-use Rattle.klsm_owned.specs.Owned.{PickBy, members_of}
+use Rattle.klsm_owned.specs.Owned.{BalanceEach, PickBy, members_of}
 use Rattle.klsm_owned.proofs.opening.box_members.Given as goal
 
 abbrev pub invariant-loop-number : goal.invariant-loop-number
@@ -12,4 +12,5 @@ invariant-loop-number l = record {
   made : length l.boxes.items ≡ l.number;
   boxed : members_of (map (λ b. b.value) l.boxes.items) ++ l.members.items ≡ l.fn.members.items;
   pickers : PickBy l.pick l.seed (map (λ b. b.value) l.boxes.items);
+  balancings : BalanceEach l.balance (map (λ b. b.value) l.boxes.items);
 }

@@ -1,17 +1,18 @@
 use Rattle.std.proofs.Common.{◌≡◌, ◌<◌, ◌≤◌, ◌⊎◌, ◌↔◌, inl, inr, ℕ, Result, Ok, Err, IfErr, refl, ap, arith}
 use Rattle.std.specs.Prelude.{IsErrAnd}
+use Rattle.klsm_run.specs.declared.limits.TheConstants.{MOST_THREADS, PROGRAM_K}
 use Rattle.klsm_instance.specs.declared.search.Best.{Best}
 use Rattle.klsm_knapsack.specs.declared.errors.UnsolvedError.{UnsolvedError}
 use Rattle.klsm_knapsack.specs.declared.errors.UnsolvedError.TheVariants.{BadThreads, BadK, BadRefill, NoMemory}
 use Rattle.klsm_tool.proofs.knapsack.solve_heard.Goals as goal
 
 -- where all options are in range it is memory that is wanted
-only_memory : (threads k refill : ℕ) (r : Result Best UnsolvedError) → (IsErrAnd r (λ why. why ≡ BadThreads) ↔ ((threads ≡ 0) ⊎ (16 < threads))) → (IsErrAnd r (λ why. why ≡ BadK) ↔ ((1 ≤ threads) × (threads ≤ 16) × (64 < k)))
-    → (IsErrAnd r (λ why. why ≡ BadRefill) ↔ ((1 ≤ threads) × (threads ≤ 16) × (k ≤ 64) × (k < refill))) → refill ≤ k → 1 ≤ threads → threads ≤ 16 → k ≤ 64 → IfErr r (λ why. why ≡ NoMemory)
+only_memory : (threads k refill : ℕ) (r : Result Best UnsolvedError) → (IsErrAnd r (λ why. why ≡ BadThreads) ↔ ((threads ≡ 0) ⊎ (MOST_THREADS < threads))) → (IsErrAnd r (λ why. why ≡ BadK) ↔ ((1 ≤ threads) × (threads ≤ MOST_THREADS) × (PROGRAM_K < k)))
+    → (IsErrAnd r (λ why. why ≡ BadRefill) ↔ ((1 ≤ threads) × (threads ≤ MOST_THREADS) × (k ≤ PROGRAM_K) × (k < refill))) → refill ≤ k → 1 ≤ threads → threads ≤ MOST_THREADS → k ≤ PROGRAM_K → IfErr r (λ why. why ≡ NoMemory)
 only_memory threads k refill (Ok best) bad_threads bad_k bad_refill within some few small = tt
 only_memory threads k refill (Err BadThreads) bad_threads bad_k bad_refill within some few small = outside (bad_threads.0 refl)
   where
-    outside : (threads ≡ 0) ⊎ (16 < threads) → BadThreads ≡ NoMemory
+    outside : (threads ≡ 0) ⊎ (MOST_THREADS < threads) → BadThreads ≡ NoMemory
     outside (inl none) = absurd (omega (arith, none, some))
     outside (inr many) = absurd (omega (arith, many, few))
 only_memory threads k refill (Err BadK) bad_threads bad_k bad_refill within some few small = let bad = bad_k.0 refl in absurd (omega (arith, bad.2, small))

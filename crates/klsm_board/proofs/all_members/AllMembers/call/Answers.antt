@@ -1,4 +1,5 @@
 use Rattle.std.proofs.Common.{◌≡◌, ◌<◌, ◌≤◌, ℕ, List, length, slice_index_or, sym, ap, subst, ◌∙◌, arith}
+use Rattle.klsm_run.specs.declared.limits.TheConstants.{MOST_THREADS}
 use Rattle.klsm_board.specs.declared.rule.Own.{Own}
 use Rattle.klsm_board.specs.declared.rule.View.{View}
 use Rattle.klsm_board.specs.declared.sizes.Sizes.{Sizes}
@@ -11,8 +12,8 @@ use Rattle.klsm_board.proofs.all_members.AllMembers.call.Goals as goal
 pub invariant_of-self : goal.invariant_of-self
 invariant_of-self g c =
     let all = c.args.self.now in let me = all.acting in let n = c.args.number in let lists = me.seat.me.0.lists in let noted = c.note.ensures in let outcome = c.hand_on.ensures in
-    let inside : length all.tally.inserted ≡ 16 = all.tally.sized.0 in let inside' : length all.tally.deleted ≡ 16 = all.tally.sized.1 in
-    let thread : me.number < me.sizes.threads = me.rests.thread in let few : me.sizes.threads ≤ 16 = me.in_range.threads in let whole = all.whole in
+    let inside : length all.tally.inserted ≡ MOST_THREADS = all.tally.sized.0 in let inside' : length all.tally.deleted ≡ MOST_THREADS = all.tally.sized.1 in
+    let thread : me.number < me.sizes.threads = me.rests.thread in let few : me.sizes.threads ≤ MOST_THREADS = me.in_range.threads in let whole = all.whole in
     let rests = all_rest me.sizes me.number me.inserted me.deleted lists all.tally.inserted all.tally.deleted (omega (arith, inside, thread, few)) (omega (arith, inside', thread, few)) whole (rests_as me.sizes me.number me.inserted me.deleted me.seat.me me.rests) in
     let ins = c.note.new.self.inserted in let dels = c.note.new.self.deleted in
     let now : (u : ℕ) → u < me.sizes.threads → IsAtRest me.sizes u (steps_known lists u) (slice_index_or ins u 0) (slice_index_or dels u 0) = (λ u below.

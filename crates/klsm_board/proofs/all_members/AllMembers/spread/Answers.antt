@@ -1,4 +1,5 @@
 use Rattle.std.proofs.Common.{arith, ◌≡◌, ◌≤◌, ◌<◌, ◌+◌, ℕ, List, [], ◌∷◌, ◌++◌, length, slice_index_or, refl, sym, ap, subst, ◌∙◌, length-append}
+use Rattle.klsm_run.specs.declared.limits.TheConstants.{MOST_THREADS}
 use lib.ListN.{get_elem?}
 use Rattle.klsm_parts.proofs.FitLemmas.{local_fits, shared_fits}
 use Rattle.klsm_world.specs.declared.step.Entry.{Entry}
@@ -15,8 +16,8 @@ use Rattle.klsm_board.proofs.all_members.AllMembers.spread.Goals as goal
 pub loop-number-init : goal.loop-number-init
 loop-number-init g c =
     let all = c.args.self in let me = all.acting in let whole = all.whole in let noted = c.note.ensures in let empty = all.empty in
-    let inside : length all.tally.inserted ≡ 16 = all.tally.sized.0 in let inside' : length all.tally.deleted ≡ 16 = all.tally.sized.1 in
-    let thread : me.number < me.sizes.threads = me.rests.thread in let few : me.sizes.threads ≤ 16 = me.in_range.threads in
+    let inside : length all.tally.inserted ≡ MOST_THREADS = all.tally.sized.0 in let inside' : length all.tally.deleted ≡ MOST_THREADS = all.tally.sized.1 in
+    let thread : me.number < me.sizes.threads = me.rests.thread in let few : me.sizes.threads ≤ MOST_THREADS = me.in_range.threads in
     let rests = all_rest me.sizes me.number me.inserted me.deleted me.seat.me.0.lists all.tally.inserted all.tally.deleted (omega (arith, inside, thread, few)) (omega (arith, inside', thread, few)) whole (rests_as me.sizes me.number me.inserted me.deleted me.seat.me me.rests) in
     record {
       of_table = c.requires.of.0;

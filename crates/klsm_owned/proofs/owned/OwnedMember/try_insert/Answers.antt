@@ -9,4 +9,5 @@ returns-clause-tries c = record {
   refused = c.try_insert.ensures.refused;
   spent = c.try_insert.ensures.spent;
   choice = search rules;
+  balancing = search rules;
 }

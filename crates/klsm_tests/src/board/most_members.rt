@@ -11,14 +11,15 @@ use std::alloc::Global;
 const CAUSES: &[(usize, usize, u64, usize, Option<MakeError>)] = &[
     (0, 0, 1, 1, Some(MakeError::BadThreads)),
     (0, 65, 281_474_976_710_657, 0, Some(MakeError::BadThreads)),
-    (17, 65, 1, 66, Some(MakeError::BadThreads)),
-    (17, 64, 281_474_976_710_657, 0, Some(MakeError::BadThreads)),
+    (65, 65, 1, 66, Some(MakeError::BadThreads)),
+    (65, 64, 281_474_976_710_657, 0, Some(MakeError::BadThreads)),
     (16, 65, 1, 66, Some(MakeError::BadK)),
     (2, 65, 281_474_976_710_657, 0, Some(MakeError::BadK)),
     (16, 64, 281_474_976_710_657, 65, Some(MakeError::BadQuota)),
     (16, 64, 281_474_976_710_656, 65, Some(MakeError::BadRefill)),
     (1, 0, 0, 1, Some(MakeError::BadRefill)),
     (16, 64, 281_474_976_710_656, 64, None),
+    (64, 64, 281_474_976_710_656, 64, None),
     (2, 64, 281_474_976_710_656, 16, None),
     (2, 64, 281_474_976_710_656, 0, None),
     (1, 0, 0, 0, None),
@@ -68,7 +69,7 @@ fn none_moves_where_none_was_asked_for(rt: HostRuntime) {
 }
 
 // How many members there are, and how many items each of them inserts.
-const MEMBERS: u32 = 16;
+const MEMBERS: u32 = 64;
 
 const EACH: u64 = 5;
 
