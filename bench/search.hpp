@@ -1,7 +1,7 @@
 // A branch-and-bound search by several threads that share the open nodes by one queue. A node's key is
-// how far its bound lies below the root's, so the most promising nodes come first; and of those with one
-// bound the deepest, which are the nearest to a solution. A child that takes a thing has the bound of its
-// parent, so without this thousands of nodes would share a key.
+// how far its bound lies below the root's, so the most promising nodes come first; of those with one bound the
+// deepest, which are the nearest to a solution; and of those the newest of a thread. A child that takes a thing
+// has the bound of its parent, so without this thousands of nodes would share a key.
 #ifndef BENCH_SEARCH_HPP
 #define BENCH_SEARCH_HPP
 
@@ -44,22 +44,30 @@ public:
         for (std::size_t t = 0; t < task_.threads; t++)
             handles.push_back(queue_.handle_of(t));
         open_.open(0, 1);
-        handles[0].insert({klsm_key_of_bound(0, 0), node{0, 0}.load()});
+        handles[0].insert({klsm_key_of_node(0, 0, 0), node{0, 0}.load()});
         const double seconds = time_of(
             task_.threads, where, [](std::size_t) {}, [&](std::size_t t) { nodes[t] = work(t, handles[t]); });
         return {seconds, std::accumulate(nodes.begin(), nodes.end(), std::uint64_t(0)), best_};
     }
 
 private:
+    // What a thread puts in: the children of one node, and how many it has made of all nodes.
+    struct children {
+        item of[2];
+        int count = 0;
+        std::uint64_t made = 0;
+    };
+
     // How many nodes this thread has examined. That no node is found is not the end: another thread may
     // be about to open some.
     std::uint64_t work(std::size_t t, handle by) {
         std::uint64_t examined = 0;
+        children opened;
         for (item next;;)
             if (by.delete_min(next)) {
                 if (bound_of(next) > best_.load(std::memory_order_relaxed)) {
                     examined++;
-                    examine(t, by, node::of(next.load), bound_of(next));
+                    examine(t, by, node::of(next.load), bound_of(next), opened);
                 }
                 open_.close(t);
             } else if (open_.are_none())
@@ -69,35 +77,34 @@ private:
     }
 
     // Puts in the children that may still be better than the best.
-    void examine(std::size_t t, handle &by, node at, std::uint64_t bounded) {
+    void examine(std::size_t t, handle &by, node at, std::uint64_t bounded, children &opened) {
         spin(task_.steps);
-        item children[2];
-        const int count = at.level == given_.things.size() ? 0 : branch(at, bounded, children);
-        open_.open(t, std::uint64_t(count));
-        for (int i = 0; i < count; i++)
-            by.insert(children[i]);
+        opened.count = 0;
+        if (at.level != given_.things.size()) branch(at, bounded, opened);
+        open_.open(t, std::uint64_t(opened.count));
+        for (int i = 0; i < opened.count; i++)
+            by.insert(opened.of[i]);
     }
 
-    int branch(node at, std::uint64_t bounded, item *children) {
-        int count = 0;
+    void branch(node at, std::uint64_t bounded, children &opened) {
         const sums without = given_.of(at);
         const thing &next = given_.things[at.level];
         const sums with{without.value + next.value, without.weight + next.weight};
         if (with.weight <= given_.capacity) {
             raise(with.value);
             // The bound does not change by a thing that fits.
-            add(node{at.level + 1, at.picks | std::uint64_t(1) << at.level}, bounded, children, count);
+            add(node{at.level + 1, at.picks | std::uint64_t(1) << at.level}, bounded, opened);
         }
-        add(node{at.level + 1, at.picks}, given_.bound(at.level + 1, without), children, count);
-        return count;
+        add(node{at.level + 1, at.picks}, given_.bound(at.level + 1, without), opened);
     }
 
-    void add(node at, std::uint64_t bounded, item *children, int &count) const {
-        if (bounded > best_.load(std::memory_order_relaxed))
-            children[count++] = {klsm_key_of_bound(top_ - bounded, std::uint32_t(at.level)), at.load()};
+    void add(node at, std::uint64_t bounded, children &opened) const {
+        if (bounded <= best_.load(std::memory_order_relaxed)) return;
+        const std::uint64_t key = klsm_key_of_node(top_ - bounded, std::uint32_t(at.level), opened.made++);
+        opened.of[opened.count++] = {key, at.load()};
     }
 
-    std::uint64_t bound_of(const item &one) const { return top_ - klsm_bound_of_key(one.key); }
+    std::uint64_t bound_of(const item &one) const { return top_ - klsm_bound_of_node(one.key); }
 
     void raise(std::uint64_t value) {
         std::uint64_t best = best_.load(std::memory_order_relaxed);

@@ -299,12 +299,29 @@ KLSM_INLINE int32_t klsm_open_with(klsm_queue *queue, const klsm_options *option
                                  klsm_or_default(options->refill, most));
 }
 
-/* Keys for a search by bounds, of which the smallest is the most promising. The key orders items by the
- * bound, and those of one bound by the depth, the deepest first. Where thousands of items share a key,
- * nearly each deletion takes the shared lock, since a member's own item goes without it only where its
- * key is less than that of each shared item; so it pays to tell items of one bound apart, and the
- * deepest ones are the nearest to a solution. A bound above KLSM_MAX_BOUND counts as that number, and a
- * depth above KLSM_MAX_DEPTH as that one. */
+/* Keys for a search by bounds, of which the smallest is the most promising. Where items share a key, a
+ * deletion takes the shared lock only to find that its member's own item goes first after all, since an own
+ * item goes without it only where its key is less than that of each shared item; so it pays to tell items of
+ * one bound apart.
+ *
+ * This key orders items by the bound; those of one bound by the depth, the deepest first, which are the
+ * nearest to a solution; and those of one depth too by the turn, the newest first. The turn is a count of the
+ * thread's own, as klsm_inserted of its member is: so the items of one thread have different keys, and those
+ * of two as a rule. A bound above KLSM_MAX_NODE_BOUND counts as that number, and a depth above
+ * KLSM_MAX_NODE_DEPTH as that one; the turn counts modulo 2^16. */
+#define KLSM_MAX_NODE_BOUND ((UINT64_C(1) << 36) - 1)
+#define KLSM_MAX_NODE_DEPTH UINT32_C(4095)
+
+KLSM_INLINE uint64_t klsm_key_of_node(uint64_t bound, uint32_t depth, uint64_t turn) {
+    uint64_t first = bound < KLSM_MAX_NODE_BOUND ? bound : KLSM_MAX_NODE_BOUND;
+    uint64_t then = KLSM_MAX_NODE_DEPTH - (depth < KLSM_MAX_NODE_DEPTH ? depth : KLSM_MAX_NODE_DEPTH);
+    return first << 28 | then << 16 | (~turn & 0xffff);
+}
+
+/* The bound of such a key. */
+KLSM_INLINE uint64_t klsm_bound_of_node(uint64_t key) { return key >> 28; }
+
+/* The same for greater bounds and depths, with no turn: for a search where few items share both. */
 #define KLSM_MAX_BOUND ((UINT64_C(1) << 48) - 1)
 #define KLSM_MAX_DEPTH UINT32_C(65535)
 

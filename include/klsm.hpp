@@ -76,7 +76,12 @@ enum class pick : std::uint32_t { first = KLSM_FIRST, last = KLSM_LAST, random =
 
 using item = klsm_item;
 
-// Keys for a search by bounds, and the bound of one: klsm.h says what they are good for.
+// Keys for a search by bounds, and the bound of one: klsm.h says what they are good for. The turn is the
+// inserted() of the member that inserts, or another count of its thread.
+[[nodiscard]] inline std::uint64_t key_of_node(std::uint64_t bound, std::uint32_t depth, std::uint64_t turn) noexcept {
+    return klsm_key_of_node(bound, depth, turn);
+}
+[[nodiscard]] inline std::uint64_t bound_of_node(std::uint64_t key) noexcept { return klsm_bound_of_node(key); }
 [[nodiscard]] inline std::uint64_t key_of_bound(std::uint64_t bound, std::uint32_t depth) noexcept {
     return klsm_key_of_bound(bound, depth);
 }

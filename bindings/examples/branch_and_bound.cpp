@@ -1,6 +1,6 @@
 // A 0-1 knapsack by best-first branch and bound: all threads share the open nodes by one queue, in
-// which a node's key is how far its bound lies below the root's, and of nodes of one bound the deepest
-// comes first. So the most promising nodes come first. The answer is compared with that of dynamic
+// which a node's key is how far its bound lies below the root's. So the most promising nodes come first;
+// of those of one bound the deepest, and of these the newest. The answer is compared with that of dynamic
 // programming.
 //
 //     c++ -std=c++17 branch_and_bound.cpp -Iinclude libklsm.a -pthread
@@ -56,7 +56,7 @@ public:
 private:
     void work(klsm::member &member) {
         while (std::optional<klsm::item> item = nodes_.next(member)) {
-            branch(member, node::of(item->load), top_ - klsm::bound_of_key(item->key));
+            branch(member, node::of(item->load), top_ - klsm::bound_of_node(item->key));
             nodes_.done();
         }
     }
@@ -76,7 +76,7 @@ private:
     void open(klsm::member &member, node at, std::uint64_t bounded) {
         if (bounded <= best_) return;
         nodes_.open(); // before another thread can take it
-        std::uint64_t key = klsm::key_of_bound(top_ - bounded, std::uint32_t(at.level));
+        std::uint64_t key = klsm::key_of_node(top_ - bounded, std::uint32_t(at.level), member.inserted());
         if (member.insert(key, at.load()) != klsm::code::ok) {
             branch(member, at, bounded);
             nodes_.done();

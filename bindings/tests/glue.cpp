@@ -52,6 +52,8 @@ static void names() {
     check("the picks are those of klsm.h", static_cast<std::uint32_t>(klsm::pick::first) == KLSM_FIRST &&
                                                static_cast<std::uint32_t>(klsm::pick::last) == KLSM_LAST &&
                                                static_cast<std::uint32_t>(klsm::pick::random) == KLSM_RANDOM);
+    check("a key of a node", klsm::key_of_node(7, 3, 5) == klsm_key_of_node(7, 3, 5));
+    check("the bound of a node", klsm::bound_of_node(klsm_key_of_node(7, 3, 5)) == 7);
     check("a key of a bound", klsm::key_of_bound(7, 3) == klsm_key_of_bound(7, 3));
     check("the bound of a key", klsm::bound_of_key(klsm_key_of_bound(7, 3)) == 7);
     check("a key of a double", klsm::key_of_double(-2.5) == klsm_key_of_double(-2.5));

@@ -30,6 +30,31 @@ static void beyond(void) {
     check("which is the least key of its bound", klsm_key_of_bound(9, UINT32_MAX) == UINT64_C(9) << 16);
 }
 
+/* Of a bound, a depth and a turn. */
+static void nodes(void) {
+    const uint64_t bounds[] = {0, 1, 2, 1 << 20, KLSM_MAX_NODE_BOUND - 1, KLSM_MAX_NODE_BOUND};
+    const uint32_t depths[] = {4095, 4094, 1000, 1, 0};
+    const uint64_t turns[] = {65535, 65534, 1000, 1, 0};
+    uint64_t last = 0;
+    int ascends = 1, has_bound = 1;
+    for (int i = 0; i < 6 * 5 * 5; i++) {
+        uint64_t bound = bounds[i / 25], key = klsm_key_of_node(bound, depths[i / 5 % 5], turns[i % 5]);
+        ascends = ascends && (i == 0 ? key == 0 : key > last);
+        has_bound = has_bound && klsm_bound_of_node(key) == bound;
+        last = key;
+    }
+    check("keys of nodes ascend by the bound, by falling depth, and by falling turn", ascends);
+    check("each gives its bound back", has_bound);
+    check("the greatest key of all is one", last == UINT64_MAX);
+    check("the bound of a node that is too great counts as the greatest",
+          klsm_key_of_node(UINT64_MAX, 5, 6) == klsm_key_of_node(KLSM_MAX_NODE_BOUND, 5, 6));
+    check("and so does a depth",
+          klsm_key_of_node(9, UINT32_MAX, 6) == klsm_key_of_node(9, KLSM_MAX_NODE_DEPTH, 6));
+    check("a turn counts modulo 2^16",
+          klsm_key_of_node(9, 5, 65536) == klsm_key_of_node(9, 5, 0) &&
+              klsm_key_of_node(9, 5, UINT64_MAX) == klsm_key_of_node(9, 5, 65535));
+}
+
 /* Doubles, ascending. */
 static const double doubles[] = {-INFINITY, -DBL_MAX, -1e300, -1.5, -1, -DBL_MIN, -DBL_TRUE_MIN, 0,
                                  DBL_TRUE_MIN, DBL_MIN, 1, 1.5, 1e300, DBL_MAX, INFINITY};
@@ -98,6 +123,7 @@ static void signed_numbers(void) {
 int main(void) {
     order();
     beyond();
+    nodes();
     doubles_in_order();
     random_doubles();
     signed_numbers();

@@ -96,6 +96,8 @@ static void limits(void) {
     says("bindings/rust/src/errors.rs", "made all its insertions, which are 2^48");
     check("the greatest bound is 2^48 - 1", KLSM_MAX_BOUND == UINT64_C(281474976710655));
     check("the greatest depth is 2^16 - 1", KLSM_MAX_DEPTH == 65535);
+    check("the greatest bound of a node is 2^36 - 1", KLSM_MAX_NODE_BOUND == UINT64_C(68719476735));
+    check("the greatest depth of a node is 2^12 - 1", KLSM_MAX_NODE_DEPTH == 4095);
 }
 
 static void versions(void) {

@@ -1,15 +1,49 @@
 //! Keys for a search by bounds, and for numbers that have a sign.
 
+const MOST_NODE_BOUND: u64 = (1 << 36) - 1;
+const MOST_NODE_DEPTH: u32 = 4_095;
 const MOST_BOUND: u64 = (1 << 48) - 1;
 const MOST_DEPTH: u32 = 65_535;
 
-/// A key that orders items by a bound, of which the smallest is the most promising, and items of one bound
-/// by their depth, the deepest first.
+/// A key that orders items by a bound, of which the smallest is the most promising; items of one bound by
+/// their depth, the deepest first; and those of one depth too by their turn, the newest first.
 ///
-/// Where thousands of items share a key, nearly each deletion takes the shared lock, since a member's own
-/// item goes without it only where its key is less than that of each shared item. So it pays to tell items
-/// of one bound apart, and the deepest ones are the nearest to a solution. A bound above 2^48 - 1 counts
-/// as that number, and a depth above 65,535 as that one.
+/// Where items share a key, a deletion takes the shared lock only to find that its member's own item goes
+/// first after all, since an own item goes without it only where its key is less than that of each shared
+/// item. So it pays to tell items of one bound apart: the deepest ones are the nearest to a solution, and
+/// the turn is a count of the thread's own, as [`inserted_count`](crate::Member::inserted_count) of its
+/// member is. A bound above 2^36 - 1 counts as that number, and a depth above 4,095 as that one; the turn
+/// counts modulo 2^16.
+///
+/// ```
+/// assert!(klsm::key_of_node(7, 3, 1) < klsm::key_of_node(7, 3, 0));
+/// assert!(klsm::key_of_node(7, 3, 0) < klsm::key_of_node(7, 2, 9));
+/// assert!(klsm::key_of_node(7, 2, 0) < klsm::key_of_node(8, 9, 9));
+/// assert_eq!(klsm::bound_of_node(klsm::key_of_node(7, 3, 1)), 7);
+/// ```
+#[must_use]
+pub const fn key_of_node(bound: u64, depth: u32, turn: u64) -> u64 {
+    let bound = if bound < MOST_NODE_BOUND {
+        bound
+    } else {
+        MOST_NODE_BOUND
+    };
+    let depth = if depth < MOST_NODE_DEPTH {
+        depth
+    } else {
+        MOST_NODE_DEPTH
+    };
+    bound << 28 | ((MOST_NODE_DEPTH - depth) as u64) << 16 | !turn & 0xffff
+}
+
+/// The bound of a key that [`key_of_node`] made.
+#[must_use]
+pub const fn bound_of_node(key: u64) -> u64 {
+    key >> 28
+}
+
+/// A key as [`key_of_node`] makes it, for greater bounds and depths and with no turn: for a search where few
+/// items share both. A bound above 2^48 - 1 counts as that number, and a depth above 65,535 as that one.
 ///
 /// ```
 /// assert!(klsm::key_of_bound(7, 3) < klsm::key_of_bound(7, 2));

@@ -37,7 +37,7 @@
 //! own the queue together, for a pool and for threads that borrow nothing. The items of a [`TypedQueue`]
 //! carry payloads of a type, such as a `String` or a `Box`, where those of a [`Queue`] have a number.
 //! [`Work`] tells the threads when all is done. Keys that are no whole numbers of 64 bits are made by
-//! [`key_of_f64`], [`key_of_i64`] and [`key_of_bound`].
+//! [`key_of_f64`], [`key_of_i64`], [`key_of_node`] and [`key_of_bound`].
 //!
 //! # What is behind it
 //!
@@ -192,7 +192,10 @@ pub use builder::Builder;
 pub use errors::{
     Busy, FinishError, InsertError, OpenError, Refused, TryInsertError, TypedFinishError,
 };
-pub use keys::{bound_of_key, f64_of_key, i64_of_key, key_of_bound, key_of_f64, key_of_i64};
+pub use keys::{
+    bound_of_key, bound_of_node, f64_of_key, i64_of_key, key_of_bound, key_of_f64, key_of_i64,
+    key_of_node,
+};
 pub use member::{Member, Members};
 pub use owned::OwnedMember;
 pub use queue::{Account, Pick, Queue};

@@ -1,6 +1,9 @@
 //! Keys for a search by bounds, and for numbers that have a sign.
 
-use klsm::{bound_of_key, f64_of_key, i64_of_key, key_of_bound, key_of_f64, key_of_i64};
+use klsm::{
+    bound_of_key, bound_of_node, f64_of_key, i64_of_key, key_of_bound, key_of_f64, key_of_i64,
+    key_of_node,
+};
 use std::cmp::Ordering;
 
 const MOST: u64 = (1 << 48) - 1;
@@ -25,6 +28,33 @@ fn what_is_too_great_counts_as_the_greatest() {
     assert_eq!(key_of_bound(u64::MAX, 5), key_of_bound(MOST, 5));
     assert_eq!(key_of_bound(9, 65_536), key_of_bound(9, 65_535));
     assert_eq!(key_of_bound(9, u32::MAX), 9 << 16);
+}
+
+const MOST_OF_A_NODE: u64 = (1 << 36) - 1;
+
+#[test]
+fn keys_of_nodes_order_by_the_bound_the_depth_and_the_turn() {
+    let mut last = None;
+    for bound in [0, 1, 2, 1 << 20, MOST_OF_A_NODE - 1, MOST_OF_A_NODE] {
+        for depth in [4_095, 4_094, 1_000, 1, 0] {
+            for turn in [65_535, 65_534, 1_000, 1, 0] {
+                let key = key_of_node(bound, depth, turn);
+                assert!(last < Some(key));
+                assert_eq!(bound_of_node(key), bound);
+                last = Some(key);
+            }
+        }
+    }
+    assert_eq!(last, Some(u64::MAX));
+    assert_eq!(key_of_node(0, 4_095, 65_535), 0);
+}
+
+#[test]
+fn a_part_of_a_node_that_is_too_great_is_cut() {
+    assert_eq!(key_of_node(u64::MAX, 5, 6), key_of_node(MOST_OF_A_NODE, 5, 6));
+    assert_eq!(key_of_node(9, u32::MAX, 6), key_of_node(9, 4_095, 6));
+    assert_eq!(key_of_node(9, 5, 65_536), key_of_node(9, 5, 0));
+    assert_eq!(key_of_node(9, 5, u64::MAX), key_of_node(9, 5, 65_535));
 }
 
 /// A small generator: splitmix64.

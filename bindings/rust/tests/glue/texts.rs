@@ -116,3 +116,14 @@ fn the_greatest_bound_and_depth_are_those_of_klsm_h() {
     assert_eq!(klsm::key_of_bound(0, 65_535), 0);
     assert_eq!(klsm::key_of_bound(0, u32::MAX), 0);
 }
+
+#[test]
+fn the_greatest_parts_of_a_node_are_those_of_klsm_h() {
+    assert!(HEADER.contains("#define KLSM_MAX_NODE_BOUND ((UINT64_C(1) << 36) - 1)"));
+    assert!(HEADER.contains("#define KLSM_MAX_NODE_DEPTH UINT32_C(4095)"));
+    assert_eq!(klsm::key_of_node(u64::MAX, 0, 0), u64::MAX);
+    assert_eq!(klsm::key_of_node((1 << 36) - 2, 0, 0), u64::MAX - (1 << 28));
+    assert_eq!(klsm::key_of_node(0, 4_094, 65_535), 1 << 16);
+    assert_eq!(klsm::key_of_node(0, 4_095, 65_534), 1);
+    assert_eq!(klsm::key_of_node(0, u32::MAX, u64::MAX), 0);
+}
