@@ -1,4 +1,4 @@
-/* klsm.h: the k-LSM relaxed priority queue for up to 16 threads. C11 and C++.
+/* klsm.h: the k-LSM relaxed priority queue for up to 64 threads. C11 and C++.
  *
  *     #include <klsm.h>
  *     #include <stdio.h>
@@ -23,7 +23,8 @@
  * all other items lie in one shared part.
  * - A deletion gives an item to which at most T*k smaller ones live when it takes effect. With k = 0
  *   that is the smallest item. It passes over none that its own member inserted and that lies in its
- *   own or in the shared part.
+ *   own or in the shared part. Such an item may also have moved to another member's part: seldom where the
+ *   queue has no refill and no balance, and often where it has a balance.
  * - KLSM_NOTHING is answered only where at most (T-1)*k items live. So with one thread, or k = 0, it
  *   means that the queue is empty; otherwise it does not, and a program that ends by it has to count
  *   what is open: klsm_work does.
@@ -62,24 +63,25 @@
 #include <sys/select.h>
 
 /* The version of this header, that of `klsm --version`. */
-#define KLSM_VERSION "1.0.0"
-#define KLSM_VERSION_MAJOR 1
+#define KLSM_VERSION "2.0.0"
+#define KLSM_VERSION_MAJOR 2
 #define KLSM_VERSION_MINOR 0
 #define KLSM_VERSION_PATCH 0
 #define KLSM_VERSION_NUMBER (10000 * KLSM_VERSION_MAJOR + 100 * KLSM_VERSION_MINOR + KLSM_VERSION_PATCH)
 
 /* The binary interface that this header describes. The library's is klsm_abi(); a program that may
  * meet another library than it was compiled for compares the two before any other call. */
-#define KLSM_ABI 1
+#define KLSM_ABI 2
 
 /* The most threads of a queue, the greatest k, and the insertions that a member can make. */
-#define KLSM_MAX_THREADS 16
-#define KLSM_MAX_K 64
+#define KLSM_MAX_THREADS 64
+#define KLSM_MAX_K 1024
 #define KLSM_MAX_INSERTIONS (UINT64_C(1) << 48)
 
 /* What klsm_open_with takes where klsm_options has 0. The refill is never above k. */
 #define KLSM_DEFAULT_K 64
 #define KLSM_DEFAULT_REFILL 16
+#define KLSM_DEFAULT_BALANCE 0
 
 /* In klsm_options: the number 0, where 0 itself stands for the default. */
 #define KLSM_ZERO SIZE_MAX
@@ -134,19 +136,21 @@ typedef struct klsm_account {
 
 /* How klsm_open_with opens a queue. What is 0 stands for the default. */
 typedef struct klsm_options {
-    size_t threads; /* 1 to 16; it has no default */
-    size_t k;       /* 0 to 64, 0 written as KLSM_ZERO; the default is KLSM_DEFAULT_K */
+    size_t threads; /* 1 to 64; it has no default */
+    size_t k;       /* 0 to 1024, 0 written as KLSM_ZERO; the default is KLSM_DEFAULT_K */
     uint32_t pick;  /* one of klsm_pick; the default is KLSM_FIRST */
     uint64_t seed;  /* the default is 0 */
     size_t refill;  /* 0 to k, 0 written as KLSM_ZERO; the default is the smaller of
                      * KLSM_DEFAULT_REFILL and k */
+    size_t balance; /* any number, 0 written as KLSM_ZERO; the default is KLSM_DEFAULT_BALANCE, and
+                     * a number above UINT32_MAX counts as that one */
 } klsm_options;
 
 KLSM_ASSERT(sizeof(void *) == 8 && sizeof(size_t) == 8);
 KLSM_ASSERT(sizeof(klsm_member) == 128);
 KLSM_ASSERT(offsetof(klsm_member, at) == 0 && offsetof(klsm_member, live) == 8);
 KLSM_ASSERT(offsetof(klsm_member, room) == 16);
-KLSM_ASSERT(sizeof(klsm_queue) == 2048 && offsetof(klsm_queue, members) == 0);
+KLSM_ASSERT(sizeof(klsm_queue) == 8192 && offsetof(klsm_queue, members) == 0);
 KLSM_ASSERT(sizeof(klsm_item) == 32);
 KLSM_ASSERT(offsetof(klsm_item, key) == 0 && offsetof(klsm_item, load) == 8);
 KLSM_ASSERT(offsetof(klsm_item, number) == 16 && offsetof(klsm_item, owner) == 24);
@@ -163,13 +167,13 @@ enum klsm_code {
     KLSM_OK = 0,         /* done */
     KLSM_NOTHING = 1,    /* deletion: no item was found where it looked */
     KLSM_BUSY = 2,       /* klsm_try_..: another member holds a lock that is needed */
-    KLSM_FULL = 3,       /* insertion: the shared part, of 2^20 items, has no room for what would move */
+    KLSM_FULL = 3,       /* insertion: the shared part, of 2^26 items, has no room for what would move */
     KLSM_NO_MEMORY = 4,  /* malloc gave none */
     KLSM_SPENT = 5,      /* insertion: the member has made 2^48 insertions */
     KLSM_NOT_OPEN = 6,   /* the member, or the queue that is to be closed, is not open */
     KLSM_OPEN = 7,       /* opening: the queue is open already */
-    KLSM_BAD_COUNT = 8,  /* opening: not 1 to 16 threads */
-    KLSM_BAD_K = 9,      /* opening: k is above 64 */
+    KLSM_BAD_COUNT = 8,  /* opening: not 1 to 64 threads */
+    KLSM_BAD_K = 9,      /* opening: k is above 1024 */
     KLSM_BAD_PICK = 10,  /* opening: no such pick */
     KLSM_SHARED = 11,    /* closing: another owner holds the queue's parts; see klsm_close */
     KLSM_BAD_REFILL = 12 /* opening: the refill is above k */
@@ -189,37 +193,47 @@ uint32_t klsm_abi(void);
 /* The version of the library, as KLSM_VERSION_NUMBER has that of this header. Any thread, at any time. */
 uint32_t klsm_version(void);
 
-/* Opens a closed queue for `threads` members, all empty, and with no refill: klsm_open_with_refill and
- * klsm_open_with have one. A larger k means fewer meetings of threads and less exact answers; 64 is a
- * good one for throughput. `seed` is used by KLSM_RANDOM alone. Has the whole queue for itself. Takes
- * some 17 KB of memory for each member, which klsm_close and klsm_drop give back.
+/* Opens a closed queue for `threads` members, all empty, with no refill and no balance: klsm_open_with,
+ * klsm_open_with_refill and klsm_open_with_balance have them. A larger k means fewer meetings of threads and
+ * less exact answers; 64 is a good one where the answers matter, and up to 1024 where the speed of many
+ * threads does. `seed` is used by KLSM_RANDOM alone. Has the whole queue for itself. Takes some 200 KB of
+ * memory for each member, which klsm_close and klsm_drop give back.
  * KLSM_OK, or the first of these that is true:
  *   KLSM_OPEN        it is open already
  *   KLSM_BAD_PICK    `pick` is none of the three
- *   KLSM_BAD_COUNT   `threads` is 0 or above 16
- *   KLSM_BAD_K       `k` is above 64
+ *   KLSM_BAD_COUNT   `threads` is 0 or above 64
+ *   KLSM_BAD_K       `k` is above 1024
  *   KLSM_NO_MEMORY   malloc gave none
  * After these the queue is as it was, byte by byte, and no memory is kept. */
 KLSM_MUST_USE KLSM_NOT_NULL(1)
 int32_t klsm_open(klsm_queue *queue, size_t threads, size_t k, uint32_t pick, uint64_t seed);
 
-/* Opens a closed queue as klsm_open does, with a refill, 0 to k. A deletion that took its item from
- * the shared part then moves the smallest shared items to its member's own part, at most `refill` of them
- * and at most half as many as there is room for, rounded up, while it holds the shared lock; so the
- * member's next deletions need its own lock alone. On average more smaller items are passed over,
- * since what moved, as a rule up to `refill` items for each member, waits in own parts; the bound
- * stays T*k.
+/* Opens a closed queue as klsm_open does, with a refill, 0 to k, and a balance, any number. Both move items
+ * between parts, which is neither an insertion nor a deletion, and the bound stays T*k.
+ *
+ * The refill: a deletion that took its item from the shared part then moves the smallest shared items to its
+ * member's own part, at most `refill` of them and at most half as many as there is room for, rounded up,
+ * while it holds the shared lock; so the member's next deletions need its own lock alone. On average more
+ * smaller items are passed over, since what moved, as a rule up to `refill` items for each member, waits in
+ * own parts.
+ *
+ * The balance: before each `balance`-th deletion of a member, and never where it is 0, the next other member
+ * in turn is looked at, unless its lock is held: where its smallest own item is smaller than the member's own
+ * ones and its key is below the front, its smallest items move to the member's part, at most four, at most
+ * half of them, rounded up, and at most as many as there is room for. So members whose own parts have drifted
+ * apart come to the smaller items again: where nearly all items lie in own parts, as with a k above a
+ * hundred and a few thousand items, far fewer smaller ones are passed over. 16 is a good number.
  * KLSM_OK, or the first of these that is true:
  *   KLSM_OPEN        it is open already
  *   KLSM_BAD_PICK    `pick` is none of the three
- *   KLSM_BAD_COUNT   `threads` is 0 or above 16
- *   KLSM_BAD_K       `k` is above 64
+ *   KLSM_BAD_COUNT   `threads` is 0 or above 64
+ *   KLSM_BAD_K       `k` is above 1024
  *   KLSM_BAD_REFILL  `refill` is above `k`
  *   KLSM_NO_MEMORY   malloc gave none
  * After these the queue is as it was, byte by byte, and no memory is kept. */
 KLSM_MUST_USE KLSM_NOT_NULL(1)
-int32_t klsm_open_with_refill(klsm_queue *queue, size_t threads, size_t k, uint32_t pick, uint64_t seed,
-                              size_t refill);
+int32_t klsm_open_with_balance(klsm_queue *queue, size_t threads, size_t k, uint32_t pick, uint64_t seed,
+                               size_t refill, uint32_t balance);
 
 /* Inserts an item. Waits for nobody. The member's thread, one call at a time.
  * Costs no lock but the member's own, which is free unless another member looks for items there
@@ -239,7 +253,8 @@ int32_t klsm_try_insert(klsm_member *member, uint64_t key, uint64_t load);
 
 /* Deletes a small item. Waits for nobody and takes no memory. The member's thread, one call at a
  * time. Costs no lock but the member's own where its smallest own key is below all shared ones;
- * otherwise the shared lock too, and where both parts are empty a look at the other members' parts.
+ * otherwise the shared lock too, and where both parts are empty a look at the other members' parts. With a
+ * balance each `balance`-th call first tries the lock of one other member, once.
  * KLSM_OK            *item is written
  * KLSM_NOTHING       the own part, the shared part, and each other part that was not held just then
  *                    were empty; so at most (T-1)*k items live
@@ -288,15 +303,24 @@ KLSM_INLINE size_t klsm_or_default(size_t number, size_t standard) {
     return number == KLSM_ZERO ? 0 : number == 0 ? standard : number;
 }
 
-/* Opens a closed queue by klsm_open_with_refill, whose codes it has in their order: so `threads` of 0
+/* Opens a closed queue by klsm_open_with_balance with no balance, and has its codes. */
+KLSM_MUST_USE KLSM_NOT_NULL(1)
+KLSM_INLINE int32_t klsm_open_with_refill(klsm_queue *queue, size_t threads, size_t k, uint32_t pick,
+                                          uint64_t seed, size_t refill) {
+    return klsm_open_with_balance(queue, threads, k, pick, seed, refill, 0);
+}
+
+/* Opens a closed queue by klsm_open_with_balance, whose codes it has in their order: so `threads` of 0
  * is KLSM_BAD_COUNT, and a refill that is named and above k is KLSM_BAD_REFILL. In C, for the defaults:
  * klsm_open_with(&queue, &(klsm_options){.threads = 4}). */
 KLSM_MUST_USE KLSM_NOT_NULL(1, 2)
 KLSM_INLINE int32_t klsm_open_with(klsm_queue *queue, const klsm_options *options) {
     size_t k = klsm_or_default(options->k, KLSM_DEFAULT_K);
     size_t most = k < KLSM_DEFAULT_REFILL ? k : KLSM_DEFAULT_REFILL;
-    return klsm_open_with_refill(queue, options->threads, k, options->pick, options->seed,
-                                 klsm_or_default(options->refill, most));
+    size_t refill = klsm_or_default(options->refill, most);
+    size_t balance = klsm_or_default(options->balance, KLSM_DEFAULT_BALANCE);
+    return klsm_open_with_balance(queue, options->threads, k, options->pick, options->seed, refill,
+                                  balance < UINT32_MAX ? (uint32_t)balance : UINT32_MAX);
 }
 
 /* Keys for a search by bounds, of which the smallest is the most promising. Where items share a key, a
@@ -429,8 +453,8 @@ KLSM_INLINE const char *klsm_text(int32_t code) {
     case KLSM_SPENT: return "the member has made all its insertions";
     case KLSM_NOT_OPEN: return "not open";
     case KLSM_OPEN: return "open already";
-    case KLSM_BAD_COUNT: return "not 1 to 16 threads";
-    case KLSM_BAD_K: return "k is above 64";
+    case KLSM_BAD_COUNT: return "not 1 to 64 threads";
+    case KLSM_BAD_K: return "k is above 1024";
     case KLSM_BAD_PICK: return "no such pick";
     case KLSM_SHARED: return "the queue has another owner";
     case KLSM_BAD_REFILL: return "the refill is above k";

@@ -48,7 +48,7 @@
 // A linker sees the inline namespace, so parts of a program that were compiled with headers of two versions are
 // not linked where one passes a queue to the other. No program has to name it.
 namespace klsm {
-inline namespace v1 {
+inline namespace v2 {
 
 // The codes of klsm.h.
 enum class code : std::int32_t {
@@ -94,13 +94,14 @@ using item = klsm_item;
 [[nodiscard]] inline std::int64_t int64_of_key(std::uint64_t key) noexcept { return klsm_int64_of_key(key); }
 
 // How a queue is opened: klsm::options{4}, or in C++20 klsm::options{.threads = 4, .refill = 8}. A number
-// here is itself, also 0. klsm.h says at klsm_open_with_refill what a refill does.
+// here is itself, also 0. klsm.h says at klsm_open_with_balance what a refill and a balance do.
 struct options {
-    std::size_t threads = 0; // 1 to 16: it has to be named
+    std::size_t threads = 0; // 1 to 64: it has to be named
     std::size_t k = KLSM_DEFAULT_K;
     pick how = pick::first;
     std::uint64_t seed = 0;
     std::optional<std::size_t> refill = std::nullopt; // none: the smaller of KLSM_DEFAULT_REFILL and k
+    std::uint32_t balance = KLSM_DEFAULT_BALANCE;
 };
 
 // What the constructors and close() throw.
@@ -199,11 +200,11 @@ private:
 
 class queue {
 public:
-    // Opens a queue with no refill. Throws an error with code::bad_pick, bad_count, bad_k or no_memory,
-    // the first of these that is true.
+    // Opens a queue with no refill and no balance. Throws an error with code::bad_pick, bad_count, bad_k or
+    // no_memory, the first of these that is true.
     explicit queue(std::size_t threads, std::size_t k = 64, pick how = pick::first,
                    std::uint64_t seed = 0)
-        : queue(options{threads, k, how, seed, 0}) {}
+        : queue(options{threads, k, how, seed, 0, 0}) {}
 
     // Opens a queue as the options say. Throws as the other one does, and code::bad_refill, which comes
     // after bad_k, where the refill is above k.
@@ -215,8 +216,9 @@ public:
         }
         block_->threads = by.threads;
         std::size_t refill = by.refill.value_or(std::min<std::size_t>(by.k, KLSM_DEFAULT_REFILL));
-        std::int32_t answer = klsm_open_with_refill(&block_->queue, by.threads, by.k,
-                                                    static_cast<std::uint32_t>(by.how), by.seed, refill);
+        std::int32_t answer =
+            klsm_open_with_balance(&block_->queue, by.threads, by.k, static_cast<std::uint32_t>(by.how), by.seed,
+                                   refill, by.balance);
         if (answer != KLSM_OK) throw error(klsm::code(answer));
     }
     queue(const queue &) = delete;
@@ -481,7 +483,7 @@ private:
     klsm::queue queue_;
 };
 
-} // namespace v1
+} // namespace v2
 } // namespace klsm
 
 #endif

@@ -42,10 +42,10 @@ KLSM_INLINE int32_t klsm_tsan_open(klsm_queue *queue, size_t threads, size_t k, 
     return code;
 }
 
-KLSM_INLINE int32_t klsm_tsan_open_with_refill(klsm_queue *queue, size_t threads, size_t k, uint32_t pick,
-                                               uint64_t seed, size_t refill) {
+KLSM_INLINE int32_t klsm_tsan_open_with_balance(klsm_queue *queue, size_t threads, size_t k, uint32_t pick,
+                                                uint64_t seed, size_t refill, uint32_t balance) {
     KLSM_TSAN(klsm_tsan_use_all(queue),
-              int32_t code = klsm_open_with_refill(queue, threads, k, pick, seed, refill));
+              int32_t code = klsm_open_with_balance(queue, threads, k, pick, seed, refill, balance));
     return code;
 }
 
@@ -88,7 +88,7 @@ KLSM_INLINE int32_t klsm_tsan_close_into(klsm_queue *queue, klsm_account *accoun
 KLSM_INLINE void klsm_tsan_drop(klsm_queue *queue) { KLSM_TSAN(klsm_tsan_use_all(queue), klsm_drop(queue)); }
 
 #define klsm_open klsm_tsan_open
-#define klsm_open_with_refill klsm_tsan_open_with_refill
+#define klsm_open_with_balance klsm_tsan_open_with_balance
 #define klsm_try_insert klsm_tsan_try_insert
 #define klsm_try_delete_min klsm_tsan_try_delete_min
 #define klsm_front klsm_tsan_front

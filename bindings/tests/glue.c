@@ -19,8 +19,8 @@ static const struct {
     {KLSM_SPENT, "the member has made all its insertions"},
     {KLSM_NOT_OPEN, "not open"},
     {KLSM_OPEN, "open already"},
-    {KLSM_BAD_COUNT, "not 1 to 16 threads"},
-    {KLSM_BAD_K, "k is above 64"},
+    {KLSM_BAD_COUNT, "not 1 to 64 threads"},
+    {KLSM_BAD_K, "k is above 1024"},
     {KLSM_BAD_PICK, "no such pick"},
     {KLSM_SHARED, "the queue has another owner"},
     {KLSM_BAD_REFILL, "the refill is above k"},
@@ -108,26 +108,31 @@ static void calls_that_do_not_wait(void) {
 static int has_opened(enum stub_call call, klsm_options numbers) {
     return was_asked(call, 1, address(&queue), numbers.threads, numbers.k) &&
            stub_argument(call, 3) == numbers.pick && stub_argument(call, 4) == numbers.seed &&
-           stub_argument(call, 5) == numbers.refill;
+           stub_argument(call, 5) == numbers.refill && stub_argument(call, 6) == numbers.balance;
 }
 
 static void openings(void) {
-    klsm_options numbers = {3, 40, KLSM_RANDOM, UINT64_C(7) << 40, 30}, none = {.threads = 4};
+    klsm_options numbers = {3, 40, KLSM_RANDOM, UINT64_C(7) << 40, 30, 20}, none = {.threads = 4};
     stub_begin();
     check_code("open_with", klsm_open_with(&queue, &numbers), KLSM_OK);
-    check("all numbers arrive", has_opened(STUB_OPEN_WITH_REFILL, numbers) && stub_asked(STUB_OPEN) == 0);
+    check("all numbers arrive", has_opened(STUB_OPEN_WITH_BALANCE, numbers) && stub_asked(STUB_OPEN) == 0);
     klsm_drop(&queue);
     check("one drop for one opening", stub_asked(STUB_DROP) == 1 && stub_queues() == 0);
     stub_begin();
     check_code("open_with, with the defaults", klsm_open_with(&queue, &none), KLSM_OK);
-    klsm_options defaults = {4, KLSM_DEFAULT_K, KLSM_FIRST, 0, KLSM_DEFAULT_REFILL};
-    check("the defaults arrive", has_opened(STUB_OPEN_WITH_REFILL, defaults));
+    klsm_options defaults = {4, KLSM_DEFAULT_K, KLSM_FIRST, 0, KLSM_DEFAULT_REFILL, KLSM_DEFAULT_BALANCE};
+    check("the defaults arrive", has_opened(STUB_OPEN_WITH_BALANCE, defaults));
+    klsm_drop(&queue);
+    stub_begin();
+    check_code("open_with_refill", klsm_open_with_refill(&queue, 3, 40, KLSM_RANDOM, UINT64_C(7) << 40, 30), KLSM_OK);
+    numbers.balance = 0;
+    check("it has no balance", has_opened(STUB_OPEN_WITH_BALANCE, numbers) && stub_asked(STUB_OPEN) == 0);
     klsm_drop(&queue);
     for (int i = 1; i < CODES; i++) {
         stub_begin();
-        stub_answer(STUB_OPEN_WITH_REFILL, (uint64_t)codes[i].code);
+        stub_answer(STUB_OPEN_WITH_BALANCE, (uint64_t)codes[i].code);
         check_code("open_with has this code", klsm_open_with(&queue, &numbers), codes[i].code);
-        check("and opens and drops nothing", stub_asked(STUB_OPEN_WITH_REFILL) == 1 && stub_queues() == 0 &&
+        check("and opens and drops nothing", stub_asked(STUB_OPEN_WITH_BALANCE) == 1 && stub_queues() == 0 &&
                                                  stub_asked(STUB_DROP) == 0);
     }
 }
@@ -139,7 +144,7 @@ static void counts(void) {
     stub_answer(STUB_DELETED, 4);
     check("nothing is left in a closed queue", klsm_left(&queue) == 0);
     check_code("open", klsm_open(&queue, KLSM_MAX_THREADS, 40, KLSM_LAST, 7), KLSM_OK);
-    klsm_options numbers = {KLSM_MAX_THREADS, 40, KLSM_LAST, 7, 0};
+    klsm_options numbers = {KLSM_MAX_THREADS, 40, KLSM_LAST, 7, 0, 0};
     check("its numbers arrive", has_opened(STUB_OPEN, numbers));
     check("what is left is that of each member", klsm_left(&queue) == KLSM_MAX_THREADS * 5);
     check("each is asked", stub_asked(STUB_INSERTED) == 2 * KLSM_MAX_THREADS &&

@@ -8,9 +8,9 @@
 #include <type_traits>
 #include <utility>
 
-static_assert(std::is_same_v<klsm::queue, klsm::v1::queue> && std::is_same_v<klsm::member, klsm::v1::member>);
-static_assert(std::is_same_v<klsm::code, klsm::v1::code> && std::is_same_v<klsm::error, klsm::v1::error>);
-static_assert(std::is_same_v<klsm::options, klsm::v1::options>);
+static_assert(std::is_same_v<klsm::queue, klsm::v2::queue> && std::is_same_v<klsm::member, klsm::v2::member>);
+static_assert(std::is_same_v<klsm::code, klsm::v2::code> && std::is_same_v<klsm::error, klsm::v2::error>);
+static_assert(std::is_same_v<klsm::options, klsm::v2::options>);
 
 static const struct {
     klsm::code code;
@@ -62,13 +62,13 @@ static void names() {
     check("the number of a key", klsm::int64_of_key(klsm_key_of_int64(-3)) == -3);
 }
 
-// Whether a queue was opened once, by the opening that names a refill, with these numbers.
+// Whether a queue was opened once, by the opening that names all numbers, with these numbers.
 static bool has_opened(klsm_options numbers) {
-    const std::uint32_t call = STUB_OPEN_WITH_REFILL;
+    const std::uint32_t call = STUB_OPEN_WITH_BALANCE;
     return stub_asked(call) == 1 && stub_asked(STUB_OPEN) == 0 && stub_argument(call, 0) != 0 &&
            stub_argument(call, 1) == numbers.threads && stub_argument(call, 2) == numbers.k &&
            stub_argument(call, 3) == numbers.pick && stub_argument(call, 4) == numbers.seed &&
-           stub_argument(call, 5) == numbers.refill;
+           stub_argument(call, 5) == numbers.refill && stub_argument(call, 6) == numbers.balance;
 }
 
 // What a queue that is made of these asks for, and that it is dropped, once.
@@ -81,29 +81,29 @@ static void asks(const char *name, klsm_options expected, Arguments... arguments
         check("it is open", stub_queues() == 1 && stub_asked(STUB_DROP) == 0);
     }
     check("one drop for one opening", stub_queues() == 0 && stub_asked(STUB_DROP) == 1);
-    check("of the same queue", stub_argument(STUB_DROP, 0) == stub_argument(STUB_OPEN_WITH_REFILL, 0));
+    check("of the same queue", stub_argument(STUB_DROP, 0) == stub_argument(STUB_OPEN_WITH_BALANCE, 0));
 }
 
 static void openings() {
     const klsm::pick last = klsm::pick::last, random = klsm::pick::random;
     const std::uint64_t seed = std::uint64_t(7) << 40;
-    asks("threads alone", {3, 64, KLSM_FIRST, 0, 0}, 3u);
-    asks("all numbers", {3, 40, KLSM_RANDOM, seed, 0}, 3u, 40u, random, seed);
-    asks("the last pick", {5, 0, KLSM_LAST, 9, 0}, 5u, 0u, last, 9u);
+    asks("threads alone", {3, 64, KLSM_FIRST, 0, 0, 0}, 3u);
+    asks("all numbers", {3, 40, KLSM_RANDOM, seed, 0, 0}, 3u, 40u, random, seed);
+    asks("the last pick", {5, 0, KLSM_LAST, 9, 0, 0}, 5u, 0u, last, 9u);
     klsm::options options{};
     options.threads = 4;
-    asks("default options", {4, 64, KLSM_FIRST, 0, 16}, options);
-    asks("all options", {3, 40, KLSM_RANDOM, seed, 30}, klsm::options{3, 40, random, seed, 30});
-    asks("no refill", {3, 40, KLSM_LAST, 9, 0}, klsm::options{3, 40, last, 9, 0});
-    asks("a refill of k = 15", {3, 15, KLSM_FIRST, 0, 15}, klsm::options{3, 15});
-    asks("a refill of k = 16", {3, 16, KLSM_FIRST, 0, 16}, klsm::options{3, 16});
-    asks("k = 0", {3, 0, KLSM_FIRST, 0, 0}, klsm::options{3, 0});
+    asks("default options", {4, 64, KLSM_FIRST, 0, 16, 0}, options);
+    asks("all options", {3, 40, KLSM_RANDOM, seed, 30, UINT32_MAX}, klsm::options{3, 40, random, seed, 30, UINT32_MAX});
+    asks("no refill", {3, 40, KLSM_LAST, 9, 0, 5}, klsm::options{3, 40, last, 9, 0, 5});
+    asks("a refill of k = 15", {3, 15, KLSM_FIRST, 0, 15, 0}, klsm::options{3, 15});
+    asks("a refill of k = 16", {3, 16, KLSM_FIRST, 0, 16, 0}, klsm::options{3, 16});
+    asks("k = 0", {3, 0, KLSM_FIRST, 0, 0, 0}, klsm::options{3, 0});
 }
 
 static void refused_openings() {
     for (auto [code, number] : codes) {
         if (number == KLSM_OK) continue;
-        begin(STUB_OPEN_WITH_REFILL, 0, number);
+        begin(STUB_OPEN_WITH_BALANCE, 0, number);
         bool threw = false;
         try {
             klsm::queue queue(2);
@@ -135,7 +135,7 @@ struct opened {
 
     static bool asked(stub_call call, std::uint64_t times) {
         return stub_asked(call) == times && stub_repeats(call) &&
-               stub_argument(call, 0) == stub_argument(STUB_OPEN_WITH_REFILL, 0) + 2 * sizeof(klsm_member);
+               stub_argument(call, 0) == stub_argument(STUB_OPEN_WITH_BALANCE, 0) + 2 * sizeof(klsm_member);
     }
     static bool inserts(std::uint64_t times) {
         return asked(STUB_TRY_INSERT, times) && stub_argument(STUB_TRY_INSERT, 1) == 5 &&
@@ -195,7 +195,7 @@ static void counts() {
 // Whether a closing was made once, of the queue that was opened, into an array of so many items.
 static bool has_closed(std::uint64_t room) {
     return stub_asked(STUB_CLOSE) == 1 &&
-           stub_argument(STUB_CLOSE, 0) == stub_argument(STUB_OPEN_WITH_REFILL, 0) &&
+           stub_argument(STUB_CLOSE, 0) == stub_argument(STUB_OPEN_WITH_BALANCE, 0) &&
            stub_argument(STUB_CLOSE, 1) != 0 && stub_argument(STUB_CLOSE, 2) != 0 &&
            stub_argument(STUB_CLOSE, 3) == room;
 }

@@ -70,7 +70,7 @@ int main(int argc, char **argv) {
         threads = strtoull(argv[1], NULL, 10);
     if (argc > 2)
         rounds = strtoull(argv[2], NULL, 10);
-    check_or_stop("1 to 16 threads", threads >= 1 && threads <= KLSM_MAX_THREADS);
+    check_or_stop("1 to 64 threads", threads >= 1 && threads <= KLSM_MAX_THREADS);
     pthread_t running[KLSM_MAX_THREADS];
     klsm_account account;
     check_or_stop("open", klsm_open_with(&queue, &(klsm_options){.threads = threads}) == KLSM_OK);

@@ -127,7 +127,7 @@ static uint64_t calls_without(void) {
     codes = klsm_try_insert(&closed.members[0], 1, 1) == KLSM_NOT_OPEN;
     codes = codes && klsm_try_delete_min(&closed.members[0], &item) == KLSM_NOT_OPEN;
     codes = codes && klsm_open(&queue, 1, 1, KLSM_FIRST, 1) == KLSM_OPEN;
-    codes = codes && klsm_open(&closed, 17, 1, KLSM_FIRST, 1) == KLSM_BAD_COUNT;
+    codes = codes && klsm_open(&closed, KLSM_MAX_THREADS + 1, 1, KLSM_FIRST, 1) == KLSM_BAD_COUNT;
     check("calls that are refused for another reason", without(codes));
     check("counts", without(klsm_left(&queue) == ITEMS - 2));
     klsm_drop(&roomy);

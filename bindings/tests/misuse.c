@@ -21,9 +21,9 @@ static void not_open(void) {
     memset(&item, 0x5a, sizeof item);
     memcpy(&same, &item, sizeof item);
     check_code("try_insert, never opened", klsm_try_insert(&queue.members[0], 1, 2), KLSM_NOT_OPEN);
-    check_code("insert, never opened", klsm_insert(&queue.members[15], 1, 2), KLSM_NOT_OPEN);
+    check_code("insert, never opened", klsm_insert(&queue.members[KLSM_MAX_THREADS - 1], 1, 2), KLSM_NOT_OPEN);
     check_code("try_delete_min, never opened", klsm_try_delete_min(&queue.members[0], &item), KLSM_NOT_OPEN);
-    check_code("delete_min, never opened", klsm_delete_min(&queue.members[15], &item), KLSM_NOT_OPEN);
+    check_code("delete_min, never opened", klsm_delete_min(&queue.members[KLSM_MAX_THREADS - 1], &item), KLSM_NOT_OPEN);
     check("the item is as it was", memcmp(&same, &item, sizeof item) == 0);
     check("inserted, never opened", klsm_inserted(&queue.members[0]) == 0);
     check("deleted, never opened", klsm_deleted(&queue.members[0]) == 0);
@@ -45,18 +45,18 @@ static void refused(const char *name, size_t threads, size_t k, uint32_t pick, i
 
 static void openings(void) {
     refused("open, 0 threads", 0, 64, KLSM_FIRST, KLSM_BAD_COUNT);
-    refused("open, 17 threads", 17, 64, KLSM_FIRST, KLSM_BAD_COUNT);
+    refused("open, 65 threads", 65, 64, KLSM_FIRST, KLSM_BAD_COUNT);
     refused("open, as many threads as there are numbers", SIZE_MAX, 64, KLSM_FIRST, KLSM_BAD_COUNT);
     refused("open, 2^32 + 1 threads", ((size_t)1 << 32) + 1, 64, KLSM_FIRST, KLSM_BAD_COUNT);
-    refused("open, k = 65", 4, 65, KLSM_FIRST, KLSM_BAD_K);
+    refused("open, k = 1025", 4, 1025, KLSM_FIRST, KLSM_BAD_K);
     refused("open, the greatest number as k", 4, SIZE_MAX, KLSM_FIRST, KLSM_BAD_K);
     refused("open, 2^32 as k", 4, (size_t)1 << 32, KLSM_FIRST, KLSM_BAD_K);
     refused("open, pick 3", 4, 64, 3, KLSM_BAD_PICK);
     refused("open, the greatest number as pick", 4, 64, UINT32_MAX, KLSM_BAD_PICK);
-    refused("the pick comes before the count and k", 0, 65, 3, KLSM_BAD_PICK);
-    refused("the count comes before k", 0, 65, KLSM_FIRST, KLSM_BAD_COUNT);
-    refused("the pick comes before the count", 17, 64, 3, KLSM_BAD_PICK);
-    refused("the pick comes before k", 4, 65, 3, KLSM_BAD_PICK);
+    refused("the pick comes before the count and k", 0, 1025, 3, KLSM_BAD_PICK);
+    refused("the count comes before k", 0, 1025, KLSM_FIRST, KLSM_BAD_COUNT);
+    refused("the pick comes before the count", 65, 64, 3, KLSM_BAD_PICK);
+    refused("the pick comes before k", 4, 1025, 3, KLSM_BAD_PICK);
     check("all bytes are 0 after all of them", memcmp(&queue, &closed, sizeof queue) == 0);
 }
 
@@ -65,10 +65,10 @@ static void opening_twice(void) {
     check_code("open", klsm_open(&queue, 2, 64, KLSM_FIRST, 0), KLSM_OK);
     check_code("insert", klsm_insert(&queue.members[1], 3, 30), KLSM_OK);
     refused("open what is open", 2, 64, KLSM_FIRST, KLSM_OPEN);
-    refused("being open comes before all else", 0, 65, 3, KLSM_OPEN);
+    refused("being open comes before all else", 0, 1025, 3, KLSM_OPEN);
     check("the items are still there", klsm_left(&queue) == 1);
     check_code("member 2 of two", klsm_try_insert(&queue.members[2], 1, 2), KLSM_NOT_OPEN);
-    check_code("member 15 of two", klsm_delete_min(&queue.members[15], &item), KLSM_NOT_OPEN);
+    check_code("the last member of two", klsm_delete_min(&queue.members[KLSM_MAX_THREADS - 1], &item), KLSM_NOT_OPEN);
     check_code("delete_min", klsm_delete_min(&queue.members[0], &item), KLSM_OK);
     check("it is the item", item.key == 3 && item.load == 30 && item.owner == 1 && item.number == 0);
 }
@@ -91,13 +91,13 @@ static void closing_twice(void) {
 
 static void opening_again(void) {
     klsm_item item;
-    check_code("open again, with more threads", klsm_open(&queue, 16, 0, KLSM_LAST, 1), KLSM_OK);
+    check_code("open again, with more threads", klsm_open(&queue, KLSM_MAX_THREADS, 0, KLSM_LAST, 1), KLSM_OK);
     check("it is empty", klsm_left(&queue) == 0);
-    check_code("and finds nothing", klsm_delete_min(&queue.members[15], &item), KLSM_NOTHING);
-    check_code("insert", klsm_insert(&queue.members[15], 5, 6), KLSM_OK);
+    check_code("and finds nothing", klsm_delete_min(&queue.members[KLSM_MAX_THREADS - 1], &item), KLSM_NOTHING);
+    check_code("insert", klsm_insert(&queue.members[KLSM_MAX_THREADS - 1], 5, 6), KLSM_OK);
     klsm_drop(&queue);
     check("drop closes all members", is_closed());
-    check_code("insert after drop", klsm_insert(&queue.members[15], 5, 6), KLSM_NOT_OPEN);
+    check_code("insert after drop", klsm_insert(&queue.members[KLSM_MAX_THREADS - 1], 5, 6), KLSM_NOT_OPEN);
     save();
     klsm_drop(&queue);
     check("drop a second time changes nothing", is_same());

@@ -86,13 +86,13 @@ static void picks(void) {
 static void limits(void) {
     is_number("crates/klsm_c/src/queue.rt", "slots: [Slot; ", KLSM_MAX_THREADS);
     is_number("crates/klsm_board/src/making.rt", "const MOST_THREADS: usize = ", KLSM_MAX_THREADS);
-    says("crates/klsm_owned/src/owned.rt", "board: Arc<StandardBoard, Global>,");
-    is_number("crates/klsm_board/src/board.rt", "StandardBoard = Board<", KLSM_MAX_K);
-    is_number("crates/klsm_board/src/board.rt", "StandardBoard = Board<64, ", 20 + 1);
+    says("crates/klsm_owned/src/owned.rt", "board: Arc<WideBoard, Global>,");
+    is_number("crates/klsm_board/src/board.rt", "WideBoard = Board<", KLSM_MAX_K);
+    is_number("crates/klsm_board/src/board.rt", "WideBoard = Board<1024, ", 26 + 1);
     is_number("crates/klsm_board/src/making.rt", "const MOST_INSERTIONS: u64 = ", KLSM_MAX_INSERTIONS);
-    says("include/klsm.h", "the shared part, of 2^20 items, has no room");
+    says("include/klsm.h", "the shared part, of 2^26 items, has no room");
     says("include/klsm.h", "the member has made 2^48 insertions");
-    says("bindings/rust/src/errors.rs", "it has room for 2^20 items");
+    says("bindings/rust/src/errors.rs", "it has room for 2^26 items");
     says("bindings/rust/src/errors.rs", "made all its insertions, which are 2^48");
     check("the greatest bound is 2^48 - 1", KLSM_MAX_BOUND == UINT64_C(281474976710655));
     check("the greatest depth is 2^16 - 1", KLSM_MAX_DEPTH == 65535);

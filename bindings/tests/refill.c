@@ -85,26 +85,28 @@ static void what_moved_is_left(void) {
 /* An opening that is refused with this code. */
 static void refused(const char *name, size_t threads, size_t k, uint32_t pick, size_t refill, int32_t expected) {
     check_code(name, klsm_open_with_refill(&queue, threads, k, pick, 0, refill), expected);
-    klsm_options options = {threads, k, pick, 0, refill};
+    klsm_options options = {threads, k, pick, 0, refill, 0};
     check_code("the same by options", klsm_open_with(&queue, &options), expected);
 }
 
 static void refusals(void) {
     refused("a refill above k", 2, 8, KLSM_FIRST, 9, KLSM_BAD_REFILL);
     refused("far above it", 2, 64, KLSM_FIRST, SIZE_MAX - 1, KLSM_BAD_REFILL);
-    refused("k comes before the refill", 2, 65, KLSM_FIRST, 66, KLSM_BAD_K);
-    refused("the count comes before k and the refill", 17, 65, KLSM_FIRST, 66, KLSM_BAD_COUNT);
-    refused("the count comes before the refill", 17, 8, KLSM_FIRST, 9, KLSM_BAD_COUNT);
+    refused("k comes before the refill", 2, 1025, KLSM_FIRST, 1026, KLSM_BAD_K);
+    refused("the count comes before k and the refill", 65, 1025, KLSM_FIRST, 1026, KLSM_BAD_COUNT);
+    refused("the count comes before the refill", 65, 8, KLSM_FIRST, 9, KLSM_BAD_COUNT);
     refused("no count", 0, 8, KLSM_FIRST, 9, KLSM_BAD_COUNT);
-    refused("the pick comes before all of them", 17, 65, 3, 66, KLSM_BAD_PICK);
+    refused("the pick comes before all of them", 65, 1025, 3, 1026, KLSM_BAD_PICK);
     refused("the pick comes before the refill", 2, 8, 3, 9, KLSM_BAD_PICK);
     check_code("a refill of k", klsm_open_with_refill(&queue, 2, 8, KLSM_FIRST, 0, 8), KLSM_OK);
-    refused("being open comes before all of them", 17, 65, 3, 66, KLSM_OPEN);
+    refused("being open comes before all of them", 65, 1025, 3, 1026, KLSM_OPEN);
     refused("being open comes before the refill", 2, 8, KLSM_FIRST, 9, KLSM_OPEN);
     klsm_drop(&queue);
     check_code("k = 0 has no room", klsm_open_with_refill(&queue, 2, 0, KLSM_FIRST, 0, 1), KLSM_BAD_REFILL);
     klsm_options exact = {.threads = 2, .k = KLSM_ZERO};
     check_code("k = 0 by options", klsm_open_with(&queue, &exact), KLSM_OK);
+    klsm_drop(&queue);
+    check_code("the greatest k and refill", klsm_open_with_refill(&queue, 2, 1024, KLSM_FIRST, 0, 1024), KLSM_OK);
     klsm_drop(&queue);
 }
 

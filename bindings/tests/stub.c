@@ -2,7 +2,7 @@
 #include "stub.h"
 #include <string.h>
 
-enum { PLACES = 6, PATIENCE = 1000 };
+enum { PLACES = 7, PATIENCE = 1000 };
 
 typedef struct arguments {
     uint64_t of[PLACES];
@@ -86,10 +86,10 @@ int32_t klsm_open(klsm_queue *queue, size_t threads, size_t k, uint32_t pick, ui
     return code;
 }
 
-int32_t klsm_open_with_refill(klsm_queue *queue, size_t threads, size_t k, uint32_t pick, uint64_t seed,
-                              size_t refill) {
-    arguments with = {{address(queue), threads, k, pick, seed, refill}};
-    int32_t code = answer_code(STUB_OPEN_WITH_REFILL, with);
+int32_t klsm_open_with_balance(klsm_queue *queue, size_t threads, size_t k, uint32_t pick, uint64_t seed,
+                               size_t refill, uint32_t balance) {
+    arguments with = {{address(queue), threads, k, pick, seed, refill, balance}};
+    int32_t code = answer_code(STUB_OPEN_WITH_BALANCE, with);
     if (code == KLSM_OK)
         open_members(queue, threads);
     return code;

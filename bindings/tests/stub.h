@@ -13,7 +13,7 @@ extern "C" {
 enum stub_call {
     STUB_ABI,
     STUB_OPEN,
-    STUB_OPEN_WITH_REFILL,
+    STUB_OPEN_WITH_BALANCE,
     STUB_TRY_INSERT,
     STUB_TRY_DELETE_MIN,
     STUB_INSERTED,

@@ -1,5 +1,6 @@
-/* Four threads over one queue, by the waiting calls and by those that wait for nobody: each item is
- * deleted once or left once, and the account says so. threads [INSERTIONS OF EACH MEMBER].
+/* Threads over one queue, by the waiting calls and by those that wait for nobody: each item is deleted once
+ * or left once, and the account says so. threads [INSERTIONS OF EACH OF FOUR MEMBERS]; where there are more
+ * members each makes fewer.
  *
  * With -DKLSM_SERIAL each call has a mutex round it. The tools that look for data races, such as
  * helgrind and drd, do not know the queue's own locks, which are atomic words. */
@@ -17,9 +18,8 @@ static void begin(void) {}
 static void end(void) {}
 #endif
 
-enum { THREADS = 4 };
-
 static klsm_queue queue;
+static size_t threads;
 static uint64_t insertions; /* of each member in each of the two rounds */
 
 /* A member's share of a round, and what it deleted in all. */
@@ -31,14 +31,14 @@ typedef struct share {
     char apart[128]; /* no two shares on one line of the cache */
 } share;
 
-static share shares[THREADS];
+static share shares[KLSM_MAX_THREADS];
 
 /* The key and the load of a member's insertion of a number: to be known again. */
 static uint64_t key_of(uint64_t member, uint64_t number) {
-    uint64_t state = number * THREADS + member;
+    uint64_t state = number * threads + member;
     return check_random(&state) % 100000;
 }
-static uint64_t load_of(uint64_t member, uint64_t number) { return ~(number * THREADS + member); }
+static uint64_t load_of(uint64_t member, uint64_t number) { return ~(number * threads + member); }
 
 static int32_t insert(klsm_member *member, int waits, uint64_t key, uint64_t load) {
     int32_t code;
@@ -83,40 +83,41 @@ static void *work(void *arg) {
 
 /* Each member is used by a thread of its own, and by another one in each round. */
 static void run_round(size_t shift) {
-    pthread_t threads[THREADS];
-    for (size_t t = 0; t < THREADS; t++)
-        check_or_stop("a thread", pthread_create(&threads[t], NULL, work, &shares[(t + shift) % THREADS]) == 0);
-    for (size_t t = 0; t < THREADS; t++)
-        pthread_join(threads[t], NULL);
+    pthread_t running[KLSM_MAX_THREADS];
+    for (size_t t = 0; t < threads; t++)
+        check_or_stop("a thread", pthread_create(&running[t], NULL, work, &shares[(t + shift) % threads]) == 0);
+    for (size_t t = 0; t < threads; t++)
+        pthread_join(running[t], NULL);
 }
 
 /* Marks an item as seen. Whether it was inserted, and is seen for the first time. */
 static int see(unsigned char *seen, const klsm_item *item) {
-    if (item->owner >= THREADS || item->number >= 2 * insertions)
+    if (item->owner >= threads || item->number >= 2 * insertions)
         return 0;
-    unsigned char *mark = &seen[item->number * THREADS + item->owner];
+    unsigned char *mark = &seen[item->number * threads + item->owner];
     if (*mark)
         return 0;
     *mark = 1;
     return item->key == key_of(item->owner, item->number) && item->load == load_of(item->owner, item->number);
 }
 
-static char run_name[64];
+static char run_name[96];
 
 static void check_run(const char *name, int holds) {
-    char whole[128];
+    char whole[160];
     snprintf(whole, sizeof whole, "%s: %s", run_name, name);
     check(whole, holds);
 }
 
-static void run(size_t k, uint32_t pick, size_t refill) {
-    const uint64_t all = 2 * insertions * THREADS;
-    snprintf(run_name, sizeof run_name, "k = %zu, pick %u, refill %zu", k, pick, refill);
+static void run(size_t k, uint32_t pick, size_t refill, uint32_t balance) {
+    const uint64_t all = 2 * insertions * threads;
+    snprintf(run_name, sizeof run_name, "%zu threads, k = %zu, pick %u, refill %zu, balance %u", threads, k, pick,
+             refill, balance);
     unsigned char *seen = calloc(all + 1, 1);
     klsm_item *left = calloc(all + 1, sizeof *left);
     check_or_stop("memory for the test", seen != NULL && left != NULL);
-    check_or_stop("open", klsm_open_with_refill(&queue, THREADS, k, pick, 9, refill) == KLSM_OK);
-    for (uint32_t t = 0; t < THREADS; t++) {
+    check_or_stop("open", klsm_open_with_balance(&queue, threads, k, pick, 9, refill, balance) == KLSM_OK);
+    for (uint32_t t = 0; t < threads; t++) {
         klsm_item *deleted = calloc(2 * insertions + 1, sizeof *deleted);
         check_or_stop("memory for the test", deleted != NULL);
         shares[t] = (share){.member = t, .deleted = deleted};
@@ -126,7 +127,7 @@ static void run(size_t k, uint32_t pick, size_t refill) {
 
     uint64_t deleted = 0, sum = klsm_left(&queue);
     int counts = 1, once = 1, failed = 0, ascending = 1;
-    for (size_t t = 0; t < THREADS; t++) {
+    for (size_t t = 0; t < threads; t++) {
         counts = counts && klsm_inserted(&queue.members[t]) == 2 * insertions;
         counts = counts && klsm_deleted(&queue.members[t]) == shares[t].count;
         deleted += shares[t].count;
@@ -151,12 +152,29 @@ static void run(size_t k, uint32_t pick, size_t refill) {
     free(left);
 }
 
+/* From now on there are so many threads, of which all together insert as many items as four would. */
+static void have(size_t crew, uint64_t of_four) {
+    threads = crew;
+    insertions = (4 * of_four + crew - 1) / crew;
+}
+
 int main(int argc, char **argv) {
-    insertions = argc > 1 ? strtoull(argv[1], NULL, 10) : 20000;
-    const size_t ks[] = {0, 1, 64}, refills[] = {0, 1, 8, 16, 64};
+    const uint64_t of_four = argc > 1 ? strtoull(argv[1], NULL, 10) : 20000;
+    const size_t ks[] = {0, 1, 64}, refills[] = {0, 1, 8, 16, 64}, great_ks[] = {256, 1024};
+    const uint32_t balances[] = {0, 1, 16};
+    have(4, of_four);
     for (size_t i = 0; i < 3; i++)
         for (size_t j = 0; j < 5 && refills[j] <= ks[i]; j++)
             for (uint32_t pick = KLSM_FIRST; pick <= KLSM_RANDOM; pick++)
-                run(ks[i], pick, refills[j]);
+                run(ks[i], pick, refills[j], 0);
+    run(64, KLSM_RANDOM, 16, 1);
+    have(16, of_four);
+    for (size_t i = 0; i < 2; i++)
+        for (size_t j = 0; j < 3; j++) {
+            run(great_ks[i], KLSM_FIRST, 64, balances[j]);
+            run(great_ks[i], KLSM_RANDOM, great_ks[i], balances[j]);
+        }
+    have(KLSM_MAX_THREADS, of_four);
+    run(256, KLSM_FIRST, 64, 1);
     return check_status();
 }

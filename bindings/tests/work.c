@@ -39,12 +39,12 @@ static void *run(void *arg) {
 }
 
 /* Whether all pieces are done: what all threads counted before the end is seen here without a join. */
-static void ends(size_t k, size_t refill) {
+static void ends(size_t k, size_t refill, uint32_t balance) {
     pthread_t threads[THREADS];
     klsm_account account;
     uint64_t done = 0;
     int failed = 0;
-    check_or_stop("open", klsm_open_with_refill(&queue, THREADS, k, KLSM_FIRST, 0, refill) == KLSM_OK);
+    check_or_stop("open", klsm_open_with_balance(&queue, THREADS, k, KLSM_FIRST, 0, refill, balance) == KLSM_OK);
     for (size_t t = 0; t < THREADS; t++)
         shares[t] = (share){.member = &queue.members[t]};
     submit(&shares[0], 0);
@@ -58,16 +58,18 @@ static void ends(size_t k, size_t refill) {
     for (size_t t = 0; t < THREADS; t++)
         failed = failed || shares[t].failed;
     check_or_stop("close", klsm_close(&queue, &account, NULL, 0) == KLSM_OK);
-    char name[64];
-    snprintf(name, sizeof name, "k = %zu, refill %zu: all work is done once", k, refill);
+    char name[96];
+    snprintf(name, sizeof name, "k = %zu, refill %zu, balance %u: all work is done once", k, refill, balance);
     check(name, !failed && done == (UINT64_C(2) << DEPTH) - 1 && account.deleted == done && account.left == 0);
     check("none is open", klsm_work_left(&work) == 0);
 }
 
 int main(void) {
-    ends(0, 0);
-    ends(1, 1);
-    ends(64, 0);
-    ends(64, 16);
+    ends(0, 0, 0);
+    ends(1, 1, 0);
+    ends(64, 0, 0);
+    ends(64, 16, 0);
+    ends(64, 16, 1);
+    ends(1024, 64, 16);
     return check_status();
 }

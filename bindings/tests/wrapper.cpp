@@ -49,8 +49,8 @@ static void opening_throws(const char *name, std::size_t threads, std::size_t k,
 
 static void openings() {
     opening_throws("0 threads", 0, 64, klsm::pick::first, klsm::code::bad_count);
-    opening_throws("17 threads", 17, 64, klsm::pick::first, klsm::code::bad_count);
-    opening_throws("k = 65", 4, 65, klsm::pick::first, klsm::code::bad_k);
+    opening_throws("65 threads", 65, 64, klsm::pick::first, klsm::code::bad_count);
+    opening_throws("k = 1025", 4, 1025, klsm::pick::first, klsm::code::bad_k);
     opening_throws("no such pick", 4, 64, klsm::pick(3), klsm::code::bad_pick);
     refuses = true;
     opening_throws("no memory", 4, 64, klsm::pick::first, klsm::code::no_memory);
@@ -71,13 +71,13 @@ static void options_throw(const char *name, const klsm::options &by, klsm::code 
 static void options() {
     const klsm::options standard;
     check("the defaults", standard.threads == 0 && standard.k == 64 && standard.how == klsm::pick::first &&
-                              standard.seed == 0 && !standard.refill);
+                              standard.seed == 0 && !standard.refill && standard.balance == 0);
     options_throw("no threads are named", {}, klsm::code::bad_count);
     options_throw("a refill above k", {4, 8, klsm::pick::first, 0, 9}, klsm::code::bad_refill);
     options_throw("above k = 0", {4, 0, klsm::pick::first, 0, 1}, klsm::code::bad_refill);
-    options_throw("k comes before the refill", {4, 65, klsm::pick::first, 0, 66}, klsm::code::bad_k);
-    options_throw("the count comes before k", {17, 65, klsm::pick::first, 0, 66}, klsm::code::bad_count);
-    options_throw("the pick comes before the count", {17, 65, klsm::pick(3), 0, 66}, klsm::code::bad_pick);
+    options_throw("k comes before the refill", {4, 1025, klsm::pick::first, 0, 1026}, klsm::code::bad_k);
+    options_throw("the count comes before k", {65, 1025, klsm::pick::first, 0, 1026}, klsm::code::bad_count);
+    options_throw("the pick comes before the count", {65, 1025, klsm::pick(3), 0, 1026}, klsm::code::bad_pick);
     refuses = true;
     options_throw("no memory", {4}, klsm::code::no_memory);
     refuses = false;
@@ -104,6 +104,22 @@ static void refills() {
     check("none with k = 0", moved_in(klsm::queue(klsm::options{2, 0})) == 0);
     check("a refill that is named", moved_in(klsm::queue(klsm::options{2, 64, first, 0, 5})) == 5);
     check("0 is none", moved_in(klsm::queue(klsm::options{2, 64, first, 0, 0})) == 0);
+}
+
+// The key of member 1's first deletion, where member 0 keeps the keys from 0 and it has one greater.
+static std::uint64_t first_in(klsm::queue queue) {
+    klsm::member first = queue.member(0).value(), second = queue.member(1).value();
+    for (std::uint64_t i = 0; i < 10; i++) check_or_stop("insert", first.insert(i, i) == klsm::code::ok);
+    check_or_stop("insert", second.insert(100, 100) == klsm::code::ok);
+    return second.delete_min()->key;
+}
+
+static void balances() {
+    const klsm::pick first = klsm::pick::first;
+    check("the old constructor has no balance", first_in(klsm::queue(2)) == 100);
+    check("nor has the default", first_in(klsm::queue(klsm::options{2})) == 100);
+    check("a balance of 1", first_in(klsm::queue(klsm::options{2, 64, first, 0, 0, 1})) == 0);
+    check("a balance of 2", first_in(klsm::queue(klsm::options{2, 64, first, 0, 0, 2})) == 100);
 }
 
 static void members() {
@@ -255,6 +271,7 @@ int main() {
     openings();
     options();
     refills();
+    balances();
     members();
     calls();
     moves();

@@ -6,14 +6,20 @@ use crate::typed::TypedQueue;
 
 const DEFAULT_K: usize = 64;
 const DEFAULT_REFILL: usize = 16;
+const DEFAULT_BALANCE: u32 = 0;
 
 /// The numbers of a queue that is to be opened: what [`Queue::builder`] gives.
 ///
 /// A deletion that took its item from the shared part moves the smallest shared items to its member's own
 /// part, at most `refill` of them and at most half as many as there is room for, rounded up, so that the
 /// member's next deletions need its own lock alone. On average more smaller items are passed over,
-/// since what moved, as a rule up to `refill` items for each member, waits in own parts; the bound
-/// stays T·k.
+/// since what moved, as a rule up to `refill` items for each member, waits in own parts.
+///
+/// Before each `balance`-th deletion of a member the next other member in turn is looked at, unless its lock
+/// is held. Where its smallest item is smaller than the member's own ones and its key is below the front, up to
+/// four of its smallest items move to the member's part, at most half of them, rounded up. So members whose
+/// parts have drifted apart come to the smaller items again: it pays where nearly all items lie in own parts.
+/// The bound stays T·k with both.
 #[derive(Clone, Debug)]
 pub struct Builder {
     threads: usize,
@@ -21,6 +27,7 @@ pub struct Builder {
     pick: Pick,
     seed: u64,
     refill: Option<usize>,
+    balance: u32,
 }
 
 impl Builder {
@@ -31,10 +38,11 @@ impl Builder {
             pick: Pick::First,
             seed: 0,
             refill: None,
+            balance: DEFAULT_BALANCE,
         }
     }
 
-    /// How many items each member keeps for itself at most, 0 to 64. It is 64 until it is named.
+    /// How many items each member keeps for itself at most, 0 to 1,024. It is 64 until it is named.
     pub fn k(&mut self, k: usize) -> &mut Builder {
         self.k = k;
         self
@@ -58,6 +66,13 @@ impl Builder {
         self
     }
 
+    /// Before each how manyth deletion of a member it may balance with another one, any number; never where
+    /// it is 0. It is 0 until it is named.
+    pub fn balance(&mut self, balance: u32) -> &mut Builder {
+        self.balance = balance;
+        self
+    }
+
     /// Opens a queue. It takes memory, and no lock.
     ///
     /// # Errors
@@ -65,7 +80,8 @@ impl Builder {
     /// A number is out of its range, memory was refused, or the library is of another version.
     pub fn open(&self) -> Result<Queue, OpenError> {
         let refill = self.refill.unwrap_or(self.k.min(DEFAULT_REFILL));
-        Queue::open(self.threads, self.k, self.pick, self.seed, refill)
+        let (pick, seed, balance) = (self.pick, self.seed, self.balance);
+        Queue::open(self.threads, self.k, pick, seed, refill, balance)
     }
 
     /// Opens a queue whose items carry payloads, as [`open`](Builder::open) does one of loads.

@@ -14,9 +14,9 @@ pub struct Busy;
 pub enum OpenError {
     /// The library is of another version of the interface: its own, then the one of this crate.
     Version(u32, u32),
-    /// Not 1 to 16 threads.
+    /// Not 1 to 64 threads.
     BadThreads,
-    /// k is above 64.
+    /// k is above 1,024.
     BadK,
     /// The refill is above k.
     BadRefill,
@@ -29,7 +29,7 @@ pub enum OpenError {
 pub enum InsertError {
     /// The member has made all its insertions, which are 2^48.
     Spent,
-    /// The shared part has no room for what would move there: it has room for 2^20 items.
+    /// The shared part has no room for what would move there: it has room for 2^26 items.
     Full,
     /// Memory was refused.
     NoMemory,
@@ -42,7 +42,7 @@ pub enum TryInsertError {
     Spent,
     /// A lock that the call needed was held by another member.
     Busy,
-    /// The shared part has no room for what would move there: it has room for 2^20 items.
+    /// The shared part has no room for what would move there: it has room for 2^26 items.
     Full,
     /// Memory was refused.
     NoMemory,
@@ -102,8 +102,8 @@ impl fmt::Display for OpenError {
                     "the library's interface is of version {has}, not {wanted}"
                 )
             }
-            OpenError::BadThreads => to.write_str("the number of threads is not 1 to 16"),
-            OpenError::BadK => to.write_str("k is above 64"),
+            OpenError::BadThreads => to.write_str("the number of threads is not 1 to 64"),
+            OpenError::BadK => to.write_str("k is above 1024"),
             OpenError::BadRefill => to.write_str("the refill is above k"),
             OpenError::NoMemory => to.write_str(MEMORY_TEXT),
         }

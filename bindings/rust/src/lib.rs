@@ -1,4 +1,4 @@
-//! A k-LSM relaxed concurrent priority queue, for up to sixteen threads.
+//! A k-LSM relaxed concurrent priority queue, for up to 64 threads.
 //!
 //! An [`Item`] has a 64-bit key, of which the smallest is the most urgent, and a 64-bit load, which the
 //! queue never reads. A [`Queue`] of T threads and k has T members. Each [`Member`] is used by one

@@ -34,9 +34,9 @@ pub struct Account<I = Item> {
     pub left: Vec<I>,
 }
 
-/// A relaxed priority queue with a member for each of up to sixteen threads.
+/// A relaxed priority queue with a member for each of up to 64 threads.
 ///
-/// Its own memory is 2 KiB and what the library takes for its members and items. Dropping a queue
+/// Its own memory is 8 KiB and what the library takes for its members and items. Dropping a queue
 /// drops the items that are left; [`finish`](Queue::finish) gives them.
 pub struct Queue {
     // The library wants this memory to stay where it is. It is boxed, and no reference to it leaves
@@ -51,8 +51,8 @@ pub struct Queue {
 unsafe impl Sync for Queue {}
 
 impl Queue {
-    /// Opens a queue for `threads` threads, 1 to 16, each of which keeps at most `k` items for itself,
-    /// 0 to 64. Where a deletion takes a shared item, it is the smallest, and it moves no others. It takes
+    /// Opens a queue for `threads` threads, 1 to 64, each of which keeps at most `k` items for itself,
+    /// 0 to 1,024. Where a deletion takes a shared item, it is the smallest, and it moves no others. It takes
     /// memory, and no lock. [`builder`](Queue::builder) names more.
     ///
     /// # Errors
@@ -69,10 +69,10 @@ impl Queue {
     ///
     /// Those of [`new`](Queue::new).
     pub fn with_pick(threads: usize, k: usize, pick: Pick, seed: u64) -> Result<Queue, OpenError> {
-        Queue::open(threads, k, pick, seed, 0)
+        Queue::open(threads, k, pick, seed, 0, 0)
     }
 
-    /// Begins a queue for `threads` threads, 1 to 16, whose other numbers are the defaults of a
+    /// Begins a queue for `threads` threads, 1 to 64, whose other numbers are the defaults of a
     /// [`Builder`] until they are named.
     ///
     /// ```
@@ -93,6 +93,7 @@ impl Queue {
         pick: Pick,
         seed: u64,
         refill: usize,
+        balance: u32,
     ) -> Result<Queue, OpenError> {
         // SAFETY: the call takes nothing and answers a constant.
         let version = unsafe { sys::klsm_abi() };
@@ -102,13 +103,13 @@ impl Queue {
         let mut slots = Box::new(Slots::closed());
         let (at, pick): (*mut Slots, _) = (&mut *slots, pick as u32);
         // SAFETY: the pointer is that of the memory of a closed queue, which no one else has.
-        match unsafe { sys::klsm_open_with_refill(at, threads, k, pick, seed, refill) } {
+        match unsafe { sys::klsm_open_with_balance(at, threads, k, pick, seed, refill, balance) } {
             code::OK => Ok(Queue { slots, threads }),
             code::BAD_COUNT => Err(OpenError::BadThreads),
             code::BAD_K => Err(OpenError::BadK),
             code::BAD_REFILL => Err(OpenError::BadRefill),
             code::NO_MEMORY => Err(OpenError::NoMemory),
-            other => sys::unexpected("klsm_open_with_refill", other),
+            other => sys::unexpected("klsm_open_with_balance", other),
         }
     }
 

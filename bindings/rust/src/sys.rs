@@ -11,10 +11,10 @@ use std::ptr::{null_mut, NonNull};
 compile_error!("libklsm.a is for Linux on x86-64");
 
 /// The version of the interface that this file describes.
-pub(crate) const ABI: u32 = 1;
+pub(crate) const ABI: u32 = 2;
 
 /// The most members of a queue.
-pub(crate) const MOST_MEMBERS: usize = 16;
+pub(crate) const MOST_MEMBERS: usize = 64;
 
 /// What the functions answer.
 pub(crate) mod code {
@@ -120,7 +120,7 @@ const _: () = {
     assert!(size_of::<Fields>() == 128 && offset_of!(Slot, 0) == 0);
     assert!(offset_of!(Fields, at) == 0 && offset_of!(Fields, live) == 8);
     assert!(offset_of!(Fields, room) == 16);
-    assert!(size_of::<Slots>() == 2048 && align_of::<Slots>() == 128);
+    assert!(size_of::<Slots>() == 8192 && align_of::<Slots>() == 128);
     assert!(size_of::<Item>() == 32 && align_of::<Item>() == 8);
     assert!(offset_of!(Item, key) == 0 && offset_of!(Item, load) == 8);
     assert!(offset_of!(Item, number) == 16 && offset_of!(Item, owner) == 24);
@@ -131,13 +131,14 @@ const _: () = {
 
 extern "C" {
     pub(crate) fn klsm_abi() -> u32;
-    pub(crate) fn klsm_open_with_refill(
+    pub(crate) fn klsm_open_with_balance(
         queue: *mut Slots,
         threads: usize,
         k: usize,
         pick: u32,
         seed: u64,
         refill: usize,
+        balance: u32,
     ) -> i32;
     pub(crate) fn klsm_close_into(
         queue: *mut Slots,

@@ -52,13 +52,14 @@ impl Model {
     }
 }
 
-fn compare(threads: usize, k: usize, pick: Pick, refill: usize) {
+fn compare(threads: usize, k: usize, pick: Pick, refill: usize, balance: u32) {
     let mut numbers = Queue::builder(threads);
     let mut queue = numbers
         .k(k)
         .pick(pick)
         .seed(3)
         .refill(refill)
+        .balance(balance)
         .open()
         .unwrap();
     let mut draw = Draw(0x9e37_79b9_7f4a_7c15 + (threads * 100 + k) as u64);
@@ -89,7 +90,19 @@ fn a_deletion_passes_over_few_smaller_items() {
     for pick in [Pick::First, Pick::Last, Pick::Random] {
         for (threads, k) in [(1, 0), (1, 64), (2, 1), (3, 4), (4, 0), (4, 64), (16, 8)] {
             for refill in [0, 1, 8, 16, 64].into_iter().filter(|refill| *refill <= k) {
-                compare(threads, k, pick, refill);
+                compare(threads, k, pick, refill, 0);
+            }
+        }
+    }
+}
+
+#[test]
+fn and_so_it_does_with_balances() {
+    for pick in [Pick::First, Pick::Last, Pick::Random] {
+        for (threads, k) in [(1, 1_024), (2, 64), (4, 1_024), (16, 256), (64, 16)] {
+            for balance in [1, 3, 16, u32::MAX] {
+                compare(threads, k, pick, 0, balance);
+                compare(threads, k, pick, k, balance);
             }
         }
     }

@@ -6,13 +6,13 @@ use klsm::{Builder, InsertError, Item, OpenError, Pick, Queue, TryInsertError};
 fn the_counts_of_an_opening_are_judged_in_their_order() {
     let refusal = |threads, k| Queue::new(threads, k).err();
     assert_eq!(refusal(0, 4), Some(OpenError::BadThreads));
-    assert_eq!(refusal(17, 4), Some(OpenError::BadThreads));
-    assert_eq!(refusal(17, 65), Some(OpenError::BadThreads));
+    assert_eq!(refusal(65, 4), Some(OpenError::BadThreads));
+    assert_eq!(refusal(65, 1_025), Some(OpenError::BadThreads));
     assert_eq!(refusal(usize::MAX, 4), Some(OpenError::BadThreads));
-    assert_eq!(refusal(4, 65), Some(OpenError::BadK));
+    assert_eq!(refusal(4, 1_025), Some(OpenError::BadK));
     assert_eq!(refusal(4, usize::MAX), Some(OpenError::BadK));
     assert_eq!(refusal(1, 0), None);
-    assert_eq!(refusal(16, 64), None);
+    assert_eq!(refusal(64, 1_024), None);
 }
 
 #[test]
@@ -21,13 +21,16 @@ fn a_refill_is_judged_after_the_counts() {
     assert_eq!(refusal(4, 8, 9), Some(OpenError::BadRefill));
     assert_eq!(refusal(4, 0, 1), Some(OpenError::BadRefill));
     assert_eq!(refusal(4, 64, usize::MAX), Some(OpenError::BadRefill));
-    assert_eq!(refusal(4, 65, 66), Some(OpenError::BadK));
-    assert_eq!(refusal(17, 8, 9), Some(OpenError::BadThreads));
-    assert_eq!(refusal(0, 65, 66), Some(OpenError::BadThreads));
+    assert_eq!(refusal(4, 1_025, 1_026), Some(OpenError::BadK));
+    assert_eq!(refusal(65, 8, 9), Some(OpenError::BadThreads));
+    assert_eq!(refusal(0, 1_025, 1_026), Some(OpenError::BadThreads));
     assert_eq!(refusal(4, 8, 8), None);
-    assert_eq!(refusal(16, 64, 0), None);
+    assert_eq!(refusal(64, 1_024, 1_024), None);
     assert_eq!(Queue::builder(0).open().err(), Some(OpenError::BadThreads));
-    assert_eq!(Queue::builder(4).k(65).open().err(), Some(OpenError::BadK));
+    assert_eq!(
+        Queue::builder(4).k(1_025).open().err(),
+        Some(OpenError::BadK)
+    );
 }
 
 /// How many items move when member 1 takes the least of a thousand keys that member 0 inserted: the next
@@ -57,9 +60,33 @@ fn the_numbers_that_are_not_named_are_the_defaults() {
     assert_eq!(moved_by(Queue::builder(2).refill(0)), 0);
     let (one, other) = (
         Queue::builder(2),
-        Queue::builder(2).seed(0).pick(Pick::First).k(64).clone(),
+        Queue::builder(2)
+            .seed(0)
+            .pick(Pick::First)
+            .k(64)
+            .balance(0)
+            .clone(),
     );
     assert_eq!(format!("{one:?}"), format!("{other:?}"));
+}
+
+/// Member 0 keeps small items, and member 1 a greater one, which it deletes first where it does not balance.
+#[test]
+fn a_balance_arrives() {
+    let first_of = |builder: &mut Builder| {
+        let mut queue = builder.refill(0).open().unwrap();
+        let mut members = queue.members();
+        let (mut one, mut other) = (members.next().unwrap(), members.next().unwrap());
+        for key in 0..10 {
+            one.insert(key, key).unwrap();
+        }
+        other.insert(100, 100).unwrap();
+        other.delete_min().unwrap().key
+    };
+    assert_eq!(first_of(&mut Queue::builder(2)), 100);
+    assert_eq!(first_of(Queue::builder(2).balance(2)), 100);
+    assert_eq!(first_of(Queue::builder(2).balance(u32::MAX)), 100);
+    assert_eq!(first_of(Queue::builder(2).balance(1)), 0);
 }
 
 #[test]
@@ -103,20 +130,20 @@ fn an_item_comes_back_as_it_was_given() {
 
 #[test]
 fn each_member_is_lent_once_and_again() {
-    let mut queue = Queue::new(16, 0).unwrap();
-    assert_eq!(queue.threads(), 16);
+    let mut queue = Queue::new(64, 0).unwrap();
+    assert_eq!(queue.threads(), 64);
     for round in 0..2 {
         let members: Vec<_> = queue.members().collect();
-        assert_eq!(members.len(), 16);
+        assert_eq!(members.len(), 64);
         for (number, mut member) in members.into_iter().enumerate() {
             assert_eq!(member.number() as usize, number);
             assert_eq!(member.inserted_count(), round);
             assert_eq!(member.try_insert(number as u64, round), Ok(()));
         }
     }
-    assert_eq!(queue.members().len(), 16);
-    assert_eq!(queue.members().next_back().unwrap().number(), 15);
-    assert_eq!(queue.left(), 32);
+    assert_eq!(queue.members().len(), 64);
+    assert_eq!(queue.members().next_back().unwrap().number(), 63);
+    assert_eq!(queue.left(), 128);
 }
 
 #[test]
@@ -134,30 +161,6 @@ fn what_is_left_is_given_in_ascending_order() {
     assert!(account.left.windows(2).all(|two| two[0] < two[1]));
     assert!(account.left.iter().all(|item| item.load == 10 * item.key));
     assert!(!account.left.contains(&gone));
-}
-
-#[test]
-fn a_full_queue_refuses_and_goes_on() {
-    let mut queue = Queue::new(1, 64).unwrap();
-    let mut member = queue.members().next().unwrap();
-    let refusal = loop {
-        let count = member.inserted_count();
-        assert!(count < 1 << 21, "the queue is never full");
-        match member.insert(1 << 40, count) {
-            Ok(()) => {}
-            Err(why) => break why,
-        }
-    };
-    assert_eq!(refusal, InsertError::Full);
-    assert_eq!(member.try_insert(0, 0), Err(TryInsertError::Full));
-    let count = member.inserted_count();
-    assert!(count >= 1 << 20, "full at {count}");
-    for _ in 0..1 << 10 {
-        assert!(member.delete_min().is_some());
-    }
-    assert_eq!(member.insert(7, 7), Ok(()));
-    assert_eq!(member.delete_min().map(|item| item.key), Some(7));
-    assert_eq!(queue.left(), count - (1 << 10));
 }
 
 #[test]
@@ -190,6 +193,6 @@ fn errors_have_a_text_each() {
     for why in [InsertError::Spent, InsertError::Full, InsertError::NoMemory] {
         assert_eq!(TryInsertError::from(why).to_string(), why.to_string());
     }
-    let boxed: Box<dyn std::error::Error> = Box::new(Queue::new(1, 65).unwrap_err());
-    assert_eq!(boxed.to_string(), "k is above 64");
+    let boxed: Box<dyn std::error::Error> = Box::new(Queue::new(1, 1_025).unwrap_err());
+    assert_eq!(boxed.to_string(), "k is above 1024");
 }

@@ -51,7 +51,10 @@ fn keys_of_nodes_order_by_the_bound_the_depth_and_the_turn() {
 
 #[test]
 fn a_part_of_a_node_that_is_too_great_is_cut() {
-    assert_eq!(key_of_node(u64::MAX, 5, 6), key_of_node(MOST_OF_A_NODE, 5, 6));
+    assert_eq!(
+        key_of_node(u64::MAX, 5, 6),
+        key_of_node(MOST_OF_A_NODE, 5, 6)
+    );
     assert_eq!(key_of_node(9, u32::MAX, 6), key_of_node(9, 4_095, 6));
     assert_eq!(key_of_node(9, 5, 65_536), key_of_node(9, 5, 0));
     assert_eq!(key_of_node(9, 5, u64::MAX), key_of_node(9, 5, 65_535));

@@ -1,12 +1,12 @@
 //! Members used by threads at once: the account is exact, and members may change threads.
 
-use klsm::{FinishError, Member, Members, Pick, Queue};
+use klsm::{Builder, FinishError, Member, Members, Pick, Queue};
 use std::error::Error;
 use std::sync::mpsc;
 use std::thread;
 
-const THREADS: usize = 4;
-const INSERTIONS: u64 = 20_000;
+/// All threads together make so many insertions.
+const ALL: u64 = 80_000;
 
 fn is_send<T: Send>() {}
 
@@ -59,12 +59,12 @@ fn next_of(state: &mut u64) -> u64 {
     *state >> 40
 }
 
-/// Inserts loads of its own and deletes three of four, as far as it finds them. The loads that it got.
-fn work(mut member: Member<'_>) -> Vec<u64> {
+/// Inserts so many loads of its own and deletes three of four, as far as it finds them. The loads that it got.
+fn work(mut member: Member<'_>, insertions: u64) -> Vec<u64> {
     let mut state = u64::from(member.number()) + 1;
-    let first = u64::from(member.number()) * INSERTIONS;
+    let first = u64::from(member.number()) * insertions;
     let mut got = Vec::new();
-    for i in 0..INSERTIONS {
+    for i in 0..insertions {
         let key = next_of(&mut state);
         if i % 2 == 0 {
             member.insert(key, first + i).unwrap();
@@ -79,31 +79,32 @@ fn work(mut member: Member<'_>) -> Vec<u64> {
             _ => got.extend(member.delete_min().map(|item| item.load)),
         }
     }
-    assert_eq!(member.inserted_count(), INSERTIONS);
+    assert_eq!(member.inserted_count(), insertions);
     assert_eq!(member.deleted_count(), got.len() as u64);
     got
 }
 
+/// By four threads.
 fn each_load_is_deleted_or_left_once(k: usize, pick: Pick, refill: usize) {
-    let mut numbers = Queue::builder(THREADS);
-    let mut queue = numbers
-        .k(k)
-        .pick(pick)
-        .seed(7)
-        .refill(refill)
-        .open()
-        .unwrap();
+    let mut numbers = Queue::builder(4);
+    all_are_deleted_or_left_once(numbers.k(k).pick(pick).seed(7).refill(refill));
+}
+
+fn all_are_deleted_or_left_once(numbers: &Builder) {
+    let mut queue = numbers.open().unwrap();
+    let threads = queue.threads() as u64;
+    let insertions = ALL / threads;
     let mut loads: Vec<u64> = thread::scope(|scope| {
         let running: Vec<_> = queue
             .members()
-            .map(|member| scope.spawn(move || work(member)))
+            .map(|member| scope.spawn(move || work(member, insertions)))
             .collect();
         running
             .into_iter()
             .flat_map(|thread| thread.join().unwrap())
             .collect()
     });
-    let (inserted, deleted) = (THREADS as u64 * INSERTIONS, loads.len() as u64);
+    let (inserted, deleted) = (threads * insertions, loads.len() as u64);
     assert_eq!(queue.left(), inserted - deleted);
     let account = queue.finish().unwrap();
     assert_eq!((account.inserted, account.deleted), (inserted, deleted));
@@ -139,6 +140,21 @@ fn the_account_is_exact_with_refills() {
         each_load_is_deleted_or_left_once(64, Pick::First, refill);
     }
     each_load_is_deleted_or_left_once(8, Pick::Random, 8);
+}
+
+#[test]
+fn the_account_is_exact_with_balances() {
+    for k in [256, 1_024] {
+        for balance in [0, 1, 16] {
+            let mut numbers = Queue::builder(16);
+            all_are_deleted_or_left_once(numbers.k(k).refill(64).balance(balance));
+        }
+    }
+}
+
+#[test]
+fn the_account_is_exact_with_the_most_threads() {
+    all_are_deleted_or_left_once(Queue::builder(64).k(256).balance(1));
 }
 
 #[test]

@@ -24,7 +24,7 @@ fn said<T: Debug>(call: impl FnOnce(&mut klsm::Member<'_>) -> T) -> String {
 fn assert_asked(call: Call, times: u64) {
     assert_eq!(stub::asked(call), times);
     assert!(stub::repeats(call));
-    let queue = stub::argument(Call::OpenWithRefill, 0);
+    let queue = stub::argument(Call::OpenWithBalance, 0);
     assert_eq!(stub::argument(call, 0), queue + 2 * SLOT);
 }
 
@@ -109,7 +109,7 @@ fn a_held_lock_is_busy() {
 fn each_member_has_its_own_slot() {
     stub::begin();
     let mut queue = Queue::new(16, 4).unwrap();
-    let first = stub::argument(Call::OpenWithRefill, 0);
+    let first = stub::argument(Call::OpenWithBalance, 0);
     assert_eq!(queue.members().len(), 16);
     for (number, mut member) in (0..).zip(queue.members()) {
         assert_eq!(u64::from(member.number()), number);

@@ -16,7 +16,7 @@ fn queue_of(each: u64) -> Queue {
 fn assert_closed_into(room: u64) {
     assert_eq!(stub::asked(Call::Close), 1);
     let arguments = [0, 1, 2, 3].map(|place| stub::argument(Call::Close, place));
-    assert_eq!(arguments[0], stub::argument(Call::OpenWithRefill, 0));
+    assert_eq!(arguments[0], stub::argument(Call::OpenWithBalance, 0));
     assert!(arguments[1] != 0 && arguments[2] != 0);
     assert_eq!(arguments[3], room);
 }

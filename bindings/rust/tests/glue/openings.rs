@@ -3,16 +3,16 @@
 use crate::stub::{self, Call};
 use klsm::{OpenError, Pick, Queue};
 
-/// The numbers of the last opening behind the queue: threads, k, pick, seed and refill.
-fn opened() -> [u64; 5] {
-    assert_eq!(stub::asked(Call::OpenWithRefill), 1);
+/// The numbers of the last opening behind the queue: threads, k, pick, seed, refill and balance.
+fn opened() -> [u64; 6] {
+    assert_eq!(stub::asked(Call::OpenWithBalance), 1);
     assert_eq!(stub::asked(Call::Open), 0);
-    assert_ne!(stub::argument(Call::OpenWithRefill, 0), 0);
-    [1, 2, 3, 4, 5].map(|place| stub::argument(Call::OpenWithRefill, place))
+    assert_ne!(stub::argument(Call::OpenWithBalance, 0), 0);
+    [1, 2, 3, 4, 5, 6].map(|place| stub::argument(Call::OpenWithBalance, place))
 }
 
 /// What an opening asks for; its queue is dropped, once.
-fn asked_by(open: impl FnOnce() -> Result<Queue, OpenError>) -> [u64; 5] {
+fn asked_by(open: impl FnOnce() -> Result<Queue, OpenError>) -> [u64; 6] {
     stub::begin();
     let queue = open().unwrap();
     let numbers = opened();
@@ -22,7 +22,7 @@ fn asked_by(open: impl FnOnce() -> Result<Queue, OpenError>) -> [u64; 5] {
     assert_eq!((stub::queues(), stub::asked(Call::Drop)), (0, 1));
     assert_eq!(
         stub::argument(Call::Drop, 0),
-        stub::argument(Call::OpenWithRefill, 0)
+        stub::argument(Call::OpenWithBalance, 0)
     );
     numbers
 }
@@ -36,14 +36,14 @@ fn all_numbers_arrive() {
         stub::pick("Last"),
         stub::pick("Random"),
     );
-    assert_eq!(asked_by(|| Queue::new(3, 40)), [3, 40, first, 0, 0]);
+    assert_eq!(asked_by(|| Queue::new(3, 40)), [3, 40, first, 0, 0, 0]);
     assert_eq!(
         asked_by(|| Queue::with_pick(3, 40, Pick::Random, SEED)),
-        [3, 40, random, SEED, 0]
+        [3, 40, random, SEED, 0, 0]
     );
     assert_eq!(
         asked_by(|| Queue::with_pick(5, 0, Pick::Last, 9)),
-        [5, 0, last, 9, 0]
+        [5, 0, last, 9, 0, 0]
     );
     assert_eq!(
         asked_by(|| {
@@ -53,13 +53,14 @@ fn all_numbers_arrive() {
                 .pick(Pick::Random)
                 .seed(SEED)
                 .refill(30)
+                .balance(u32::MAX)
                 .open()
         }),
-        [3, 40, random, SEED, 30]
+        [3, 40, random, SEED, 30, u32::MAX.into()]
     );
     assert_eq!(
         asked_by(|| Queue::builder(16).pick(Pick::Last).open()),
-        [16, 64, last, 0, 16]
+        [16, 64, last, 0, 16, 0]
     );
 }
 
@@ -67,9 +68,12 @@ fn all_numbers_arrive() {
 fn what_is_not_named_is_the_default() {
     let first = stub::pick("First");
     assert_eq!(Pick::default(), Pick::First);
-    assert_eq!(asked_by(|| Queue::builder(4).open()), [4, 64, first, 0, 16]);
+    assert_eq!(
+        asked_by(|| Queue::builder(4).open()),
+        [4, 64, first, 0, 16, 0]
+    );
     for k in [0, 1, 15, 16, 17] {
-        let expected = [4, k, first, 0, k.min(16)];
+        let expected = [4, k, first, 0, k.min(16), 0];
         assert_eq!(
             asked_by(|| Queue::builder(4).k(k as usize).open()),
             expected
@@ -77,7 +81,7 @@ fn what_is_not_named_is_the_default() {
     }
     assert_eq!(
         asked_by(|| Queue::builder(4).refill(0).open()),
-        [4, 64, first, 0, 0]
+        [4, 64, first, 0, 0, 0]
     );
 }
 
@@ -90,12 +94,12 @@ fn each_code_is_its_own_error() {
             "BAD_K" => "BadK".to_string(),
             "BAD_REFILL" => "BadRefill".to_string(),
             "NO_MEMORY" => "NoMemory".to_string(),
-            _ => stub::never("klsm_open_with_refill", code),
+            _ => stub::never("klsm_open_with_balance", code),
         };
-        stub::answer_code(Call::OpenWithRefill, 0, code);
+        stub::answer_code(Call::OpenWithBalance, 0, code);
         assert_eq!(stub::said(|| Queue::new(2, 4).unwrap_err()), expected);
         assert_eq!((stub::queues(), stub::asked(Call::Drop)), (0, 0));
-        stub::answer_code(Call::OpenWithRefill, 0, code);
+        stub::answer_code(Call::OpenWithBalance, 0, code);
         assert_eq!(
             stub::said(|| Queue::builder(2).open().unwrap_err()),
             expected
@@ -106,7 +110,7 @@ fn each_code_is_its_own_error() {
 
 #[test]
 fn another_version_is_refused() {
-    for version in [0, 2, u32::MAX] {
+    for version in [0, 1, 3, u32::MAX] {
         stub::begin();
         stub::answer(Call::Abi, version.into());
         let refused = Some(OpenError::Version(version, stub::abi()));
@@ -115,7 +119,7 @@ fn another_version_is_refused() {
         assert_eq!(Queue::builder(2).open().err(), refused);
         assert_eq!(stub::asked(Call::Abi), 3);
         assert_eq!(
-            stub::asked(Call::OpenWithRefill) + stub::asked(Call::Drop),
+            stub::asked(Call::OpenWithBalance) + stub::asked(Call::Drop),
             0
         );
     }

@@ -16,7 +16,7 @@ fn each_owned_member_has_its_own_slot() {
         stub::begin();
         let members = Queue::new(threads, 4).unwrap().into_members();
         assert_eq!(members.len(), threads);
-        let first = stub::argument(Call::OpenWithRefill, 0);
+        let first = stub::argument(Call::OpenWithBalance, 0);
         for (number, mut member) in (0..).zip(members) {
             assert_eq!(u64::from(member.number()), number);
             member.insert(1, 2).unwrap();
@@ -36,7 +36,7 @@ fn member() -> OwnedMember {
 fn assert_asked(call: Call, times: u64) {
     assert_eq!(stub::asked(call), times);
     assert!(stub::repeats(call));
-    let queue = stub::argument(Call::OpenWithRefill, 0);
+    let queue = stub::argument(Call::OpenWithBalance, 0);
     assert_eq!(stub::argument(call, 0), queue + 2 * SLOT);
 }
 

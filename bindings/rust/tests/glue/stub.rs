@@ -8,7 +8,7 @@ use std::panic::{catch_unwind, AssertUnwindSafe};
 pub enum Call {
     Abi,
     Open,
-    OpenWithRefill,
+    OpenWithBalance,
     TryInsert,
     TryDeleteMin,
     Inserted,
@@ -64,7 +64,7 @@ pub fn repeats(call: Call) -> bool {
 }
 
 pub fn argument(call: Call, place: u32) -> u64 {
-    assert!(place < 6);
+    assert!(place < 7);
     unsafe { declared::stub_argument(call as u32, place) }
 }
 

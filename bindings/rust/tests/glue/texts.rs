@@ -42,7 +42,7 @@ fn texts() -> [(Box<dyn Error>, &'static str); 17] {
         ),
         (
             Box::new(OpenError::BadThreads),
-            "the number of threads is not 1 to 16",
+            "the number of threads is not 1 to 64",
         ),
         (Box::new(OpenError::BadK), of_code("BAD_K")),
         (Box::new(OpenError::BadRefill), of_code("BAD_REFILL")),

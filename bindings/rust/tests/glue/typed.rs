@@ -54,7 +54,7 @@ fn payload() -> String {
 fn assert_asked(times: u64) {
     assert_eq!(stub::asked(Call::TryInsert), times);
     assert!(stub::repeats(Call::TryInsert));
-    let queue = stub::argument(Call::OpenWithRefill, 0);
+    let queue = stub::argument(Call::OpenWithBalance, 0);
     assert_eq!(stub::argument(Call::TryInsert, 0), queue + 2 * 128);
     assert_eq!(stub::argument(Call::TryInsert, 1), 5);
 }
@@ -190,7 +190,7 @@ fn what_is_left_is_dropped_with_the_queue() {
 fn each_member_is_asked_for_what_is_left() {
     drop(queue_of_15("NOTHING"));
     assert_eq!((DROPS.get(), stub::asked(Call::TryDeleteMin)), (0, 3));
-    let last = stub::argument(Call::OpenWithRefill, 0) + 2 * 128;
+    let last = stub::argument(Call::OpenWithBalance, 0) + 2 * 128;
     assert_eq!(stub::argument(Call::TryDeleteMin, 0), last);
     assert_eq!((stub::queues(), stub::asked(Call::Drop)), (0, 1));
 }
@@ -209,14 +209,14 @@ fn all_numbers_of_an_opening_arrive() {
     stub::begin();
     let mut numbers = klsm::Queue::builder(3);
     let numbers = numbers.k(40).pick(Pick::Random).seed(9).refill(30);
-    let queue = numbers.open_typed::<String>().unwrap();
-    let opened = [1, 2, 3, 4, 5].map(|place| stub::argument(Call::OpenWithRefill, place));
-    assert_eq!(opened, [3, 40, stub::pick("Random"), 9, 30]);
+    let queue = numbers.balance(20).open_typed::<String>().unwrap();
+    let opened = [1, 2, 3, 4, 5, 6].map(|place| stub::argument(Call::OpenWithBalance, place));
+    assert_eq!(opened, [3, 40, stub::pick("Random"), 9, 30, 20]);
     assert_eq!(queue.threads(), 3);
     drop(TypedQueue::<String>::new(5, 7).unwrap());
-    let opened = [1, 2, 3, 4, 5].map(|place| stub::argument(Call::OpenWithRefill, place));
-    assert_eq!(opened, [5, 7, stub::pick("First"), 0, 0]);
-    stub::answer_code(Call::OpenWithRefill, 0, stub::code("BAD_K"));
+    let opened = [1, 2, 3, 4, 5, 6].map(|place| stub::argument(Call::OpenWithBalance, place));
+    assert_eq!(opened, [5, 7, stub::pick("First"), 0, 0, 0]);
+    stub::answer_code(Call::OpenWithBalance, 0, stub::code("BAD_K"));
     assert_eq!(
         stub::said(|| TypedQueue::<u8>::new(2, 4).unwrap_err()),
         "BadK"
