@@ -49,10 +49,11 @@ chosen those_everywhere(const bench &with, std::size_t threads) {
     return found;
 }
 
+// With the most threads all settings, too.
 chosen those_that_search(const bench &with, std::size_t threads) {
     chosen found;
-    for (const subject *one : those_everywhere(with, threads))
-        if (!one->has_fixed_room) found.push_back(one);
+    for (const subject *one : those(with, threads, with.given.setting_items))
+        if (!one->has_fixed_room && one->takes != part::as_wide) found.push_back(one);
     return found;
 }
 
@@ -194,15 +195,16 @@ std::vector<job> rank_jobs(const bench &with) {
 
 std::vector<job> search_jobs(const bench &with) {
     std::vector<job> jobs;
-    const instance drawn = drawn_instance(with.given.things, with.given.knapsack_seed);
-    const std::uint64_t best = drawn.by_table();
-    for (std::size_t microseconds : with.given.microseconds)
+    for (const planned_search &planned : with.given.searches) {
+        const instance drawn = drawn_instance(planned.things, planned.seed);
+        const std::uint64_t best = drawn.by_table();
+        const std::size_t microseconds = planned.microseconds, things = planned.things;
         for (std::size_t threads : with.given.threads) {
             const chosen some = those_that_search(with, threads);
             auto run = [=, &with] {
                 const std::uint64_t spins = std::uint64_t(with.steps_in_a_microsecond * double(microseconds));
                 const search_task task{&drawn, threads, spins};
-                const cell in{threads, "search " + std::to_string(microseconds) + " us", with.given.things};
+                const cell in{threads, "search " + std::to_string(microseconds) + " us", things};
                 with.to.compare(some, in, with.given.rounds, [&](const subject &one, std::size_t) {
                     const search_result found = one.search_for(task, with.where);
                     if (found.best != best) stop((one.queue + ": the search has not found the best").c_str());
@@ -210,13 +212,14 @@ std::vector<job> search_jobs(const bench &with) {
                                                {"search_nodes", "nodes", double(found.nodes)}};
                 });
             };
-            const double nodes = double(with.given.search_nodes) / double(threads);
+            const double nodes = double(planned.nodes) / double(threads);
             jobs.push_back({"search: " + std::to_string(microseconds) + " microseconds a node, " + in_words(threads),
                             seconds_of(with, some,
                                        costs::queue_of_a_search +
                                            nodes * (costs::searched_node + double(microseconds) * 1e-6)),
                             run});
         }
+    }
     return jobs;
 }
 

@@ -16,9 +16,7 @@ void make_short(plan &one) {
     one.setting_items = 10000;
     one.work_items = {10000};
     one.rank_calls = 40000;
-    one.things = 36;
-    one.search_nodes = 17000;
-    one.knapsack_seed = 5;
+    one.searches = {{0, 36, 5, 17000}, {1, 36, 5, 17000}, {10, 36, 5, 17000}, {100, 30, 7, 1500}};
     one.graph_nodes = 20000;
 }
 

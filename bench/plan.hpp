@@ -7,6 +7,13 @@
 #include <string>
 #include <vector>
 
+// A search: its work for each node, and the knapsack, with the nodes that one thread examines.
+struct planned_search {
+    std::size_t microseconds, things;
+    std::uint64_t seed;
+    std::size_t nodes;
+};
+
 struct plan {
     std::string csv;     // the file that is written
     std::string command; // for the comments in it
@@ -25,10 +32,9 @@ struct plan {
 
     std::size_t rank_calls = 120000;
 
-    std::size_t things = 48; // of a knapsack that takes 131,000 nodes
-    std::size_t search_nodes = 131000;
-    std::uint64_t knapsack_seed = 7;
-    std::vector<std::size_t> microseconds{0, 1, 10}; // the work of a node
+    // Much work has a smaller knapsack, so that it does not take most of a run.
+    std::vector<planned_search> searches{
+        {0, 48, 7, 131000}, {1, 48, 7, 131000}, {10, 48, 7, 131000}, {100, 48, 6, 13700}};
 
     std::size_t graph_nodes = 250000;
 

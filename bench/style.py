@@ -11,10 +11,12 @@ from matplotlib.ticker import FuncFormatter, NullFormatter, NullLocator
 WIDTH = 5.2  # inches: 500 px, so that the text can be read where a page has 400
 GREY = "#555555"
 OURS = "#0b5394"
+OURS_TOO = "#3d85c6"
 
-# Colour, marker and dashes. No two have one marker, so that colour is not needed. Ours is the thick one.
+# Colour, marker and dashes. No two have one marker, so that colour is not needed. Ours are the thick ones.
 STYLES = {
     "k-LSM": (OURS, "o", "-"),
+    "k-LSM balance": (OURS_TOO, "s", (0, (4, 1))),
     "MultiQueue": ("#b45f06", "^", (0, (6, 2, 1, 2))),
     "Stealing MultiQueue": ("#674ea7", "v", (0, (3, 1.5))),
     "skip list": ("#38761d", "D", (0, (4, 1.5, 1, 1.5, 1, 1.5))),
@@ -44,7 +46,7 @@ def set_up():
 
 def line_of(name, has_line=True):
     colour, marker, dashes = STYLES[name]
-    is_ours = name == "k-LSM"
+    is_ours = name.startswith("k-LSM")
     return {
         "color": colour,
         "marker": marker,
@@ -73,7 +75,7 @@ def two_panels(title, more, names):
         x, y = 0.015 + i % 3 * 0.335, 0.838 - i // 3 * 0.062
         style = line_of(name) | {"markevery": [1]}
         figure.add_artist(plt.Line2D([x, x + 0.03, x + 0.06], [y] * 3, transform=figure.transFigure, **style))
-        weight = "bold" if name == "k-LSM" else "normal"
+        weight = "bold" if name.startswith("k-LSM") else "normal"
         figure.text(x + 0.07, y, written, color=STYLES[name][0], va="center", fontweight=weight)
     return figure, grid
 
@@ -84,6 +86,10 @@ def millions(value, _):
 
 def plain(value, _):
     return f"{value:,g}"
+
+
+def short(value, _):
+    return f"{value / 1000:g}k" if value >= 10000 else f"{value:,g}"
 
 
 def set_threads(axes, threads):
@@ -103,11 +109,17 @@ def set_from_zero(axes, form):
 
 def set_ranks(axes):
     """0 and 1 at an even distance, and from 1 on as a logarithm."""
-    axes.set_xscale("symlog", linthresh=1, linscale=0.6)
-    highest = max(axes.get_xlim()[1], 500)
-    axes.set_xlim(-0.25, highest)
-    axes.set_xticks([0] + [10**power for power in range(7) if 10**power <= highest])
-    axes.xaxis.set_major_formatter(FuncFormatter(plain))
+    set_from_exact(axes, 0, 500)
+
+
+def set_from_exact(axes, least, reach):
+    """0 and a power of ten at an even distance, from that on as a logarithm, and at least as far as to `reach`."""
+    first = 10**least
+    axes.set_xscale("symlog", linthresh=first, linscale=0.6)
+    highest = max(axes.get_xlim()[1], reach)
+    axes.set_xlim(-0.25 * first, highest)
+    axes.set_xticks([0] + [10**power for power in range(least, 7) if 10**power <= highest])
+    axes.xaxis.set_major_formatter(FuncFormatter(short))
     axes.xaxis.set_minor_locator(NullLocator())
     axes.xaxis.set_minor_formatter(NullFormatter())
 

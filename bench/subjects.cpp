@@ -55,17 +55,30 @@ subject board(part takes, std::string queue, std::string parameter, klsm_board::
     return made;
 }
 
+void add_with_balance(std::vector<subject> &all, std::size_t k, std::size_t refill, std::uint32_t balance) {
+    const bool is_shown = k == 1024 && refill == 64 && balance == 16;
+    all.push_back(board(is_shown ? part::everywhere : part::as_setting, "k-LSM balance",
+                        named("k=", k) + named("; refill=", refill) + named("; balance=", balance),
+                        {k, KLSM_FIRST, refill, balance}));
+}
+
 void add_boards(std::vector<subject> &all) {
     for (std::size_t k : {4, 16, 64})
         all.push_back(board(k == 64 ? part::everywhere : part::as_setting, "k-LSM first", named("k=", k),
-                            {k, KLSM_FIRST, 0}));
+                            {k, KLSM_FIRST, 0, 0}));
     for (std::size_t k : {4, 16, 64})
         all.push_back(board(k == 64 ? part::everywhere : part::as_setting, "k-LSM random", named("k=", k),
-                            {k, KLSM_RANDOM, 0}));
+                            {k, KLSM_RANDOM, 0, 0}));
     // With k = 64. A refill of 0 is the board with k = 64 above.
     for (std::size_t refill : {1, 4, 16, 64})
         all.push_back(board(refill == 16 ? part::everywhere : part::as_setting, "k-LSM refill",
-                            named("refill=", refill), {64, KLSM_FIRST, refill}));
+                            named("refill=", refill), {64, KLSM_FIRST, refill, 0}));
+    // With greater own parts, of which a balance keeps the members near to each other.
+    for (std::size_t k : {256, 1024})
+        for (std::size_t refill : {16, 64, 256})
+            add_with_balance(all, k, refill, 16);
+    for (std::uint32_t balance : {0, 1, 64})
+        add_with_balance(all, 1024, 64, balance);
 }
 
 // Queues whose deletions may pass over any number of items.

@@ -15,7 +15,7 @@
 // Where a queue takes part.
 enum class part {
     everywhere,
-    as_setting, // another setting of a queue: only where settings are compared
+    as_setting, // another setting of a queue: only where settings are compared, with the most threads
     as_wide     // a queue once more, with items of 32 bytes: only with the most threads
 };
 

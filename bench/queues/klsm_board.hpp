@@ -14,11 +14,13 @@ public:
         std::size_t k;
         klsm_pick pick;
         std::size_t refill;
+        std::uint32_t balance;
     };
 
     klsm_board(std::size_t threads, std::size_t, setting given) {
-        const std::int32_t code = klsm_open_with_refill(&queue_, threads, given.k, given.pick, 1, given.refill);
-        if (code != KLSM_OK) stop("klsm_open_with_refill was refused");
+        const std::int32_t code =
+            klsm_open_with_balance(&queue_, threads, given.k, given.pick, 1, given.refill, given.balance);
+        if (code != KLSM_OK) stop("klsm_open_with_balance was refused");
     }
     ~klsm_board() { klsm_drop(&queue_); }
     klsm_board(const klsm_board &) = delete;
