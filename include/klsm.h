@@ -196,7 +196,7 @@ uint32_t klsm_version(void);
 /* Opens a closed queue for `threads` members, all empty, with no refill and no balance: klsm_open_with,
  * klsm_open_with_refill and klsm_open_with_balance have them. A larger k means fewer meetings of threads and
  * less exact answers; 64 is a good one where the answers matter, and up to 1024 where the speed of many
- * threads does. `seed` is used by KLSM_RANDOM alone. Has the whole queue for itself. Takes some 200 KB of
+ * threads does. `seed` is used by KLSM_RANDOM alone. Has the whole queue for itself. Takes some 400 KB of
  * memory for each member, which klsm_close and klsm_drop give back.
  * KLSM_OK, or the first of these that is true:
  *   KLSM_OPEN        it is open already
