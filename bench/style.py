@@ -72,7 +72,7 @@ def two_panels(title, more, names):
     figure.text(0.015, 0.955, title, fontsize=10.5, fontweight="bold", va="center")
     figure.text(0.015, 0.9, more, color=GREY, va="center")
     for i, (name, written) in enumerate(names):
-        x, y = 0.015 + i % 3 * 0.335, 0.838 - i // 3 * 0.062
+        x, y = 0.015 + i % 3 * 0.32, 0.838 - i // 3 * 0.062
         style = line_of(name) | {"markevery": [1]}
         figure.add_artist(plt.Line2D([x, x + 0.03, x + 0.06], [y] * 3, transform=figure.transFigure, **style))
         weight = "bold" if name.startswith("k-LSM") else "normal"
@@ -118,7 +118,7 @@ def set_from_exact(axes, least, reach):
     axes.set_xscale("symlog", linthresh=first, linscale=0.6)
     highest = max(axes.get_xlim()[1], reach)
     axes.set_xlim(-0.25 * first, highest)
-    axes.set_xticks([0] + [10**power for power in range(least, 7) if 10**power <= highest])
+    axes.set_xticks([0] + [10**power for power in range(least, 7) if 1.3 * 10**power <= highest])
     axes.xaxis.set_major_formatter(FuncFormatter(short))
     axes.xaxis.set_minor_locator(NullLocator())
     axes.xaxis.set_minor_formatter(NullFormatter())
