@@ -1,6 +1,6 @@
 /* Threads over one queue, by the waiting calls and by those that wait for nobody: each item is deleted once
  * or left once, and the account says so. threads [INSERTIONS OF EACH OF FOUR MEMBERS]; where there are more
- * members each makes fewer.
+ * members each makes fewer. With 250000 of them it takes some minutes.
  *
  * With -DKLSM_SERIAL each call has a mutex round it. The tools that look for data races, such as
  * helgrind and drd, do not know the queue's own locks, which are atomic words. */

@@ -66,8 +66,8 @@ impl Builder {
         self
     }
 
-    /// Before each how manyth deletion of a member it may balance with another one, any number; never where
-    /// it is 0. It is 0 until it is named.
+    /// How often a member balances with another one: before each `balance`-th of its deletions, and never where
+    /// this is 0. It is 0 until it is named.
     pub fn balance(&mut self, balance: u32) -> &mut Builder {
         self.balance = balance;
         self
