@@ -127,7 +127,7 @@ by_cmake() {
     cat >CMakeLists.txt <<'END'
 cmake_minimum_required(VERSION 3.10)
 project(user C CXX)
-foreach(other 0.9 1.999 2.0)
+foreach(other 0.9 1.999 2.999 3.0)
     find_package(klsm ${other} QUIET)
     if(klsm_FOUND)
         message(FATAL_ERROR "klsm ${klsm_VERSION} is taken for ${other}")

@@ -84,11 +84,13 @@ static void picks(void) {
 
 /* A board of K and L has at most 2^(L - 1) shared items. */
 static void limits(void) {
-    is_number("crates/klsm_c/src/queue.rt", "slots: [Slot; ", KLSM_MAX_THREADS);
-    is_number("crates/klsm_board/src/making.rt", "const MOST_THREADS: usize = ", KLSM_MAX_THREADS);
+    const char *path = "crates/klsm_run/src/limits.rt";
+    is_number(path, "const MOST_THREADS: usize = ", KLSM_MAX_THREADS);
+    is_number(path, "const MOST_K: usize = ", KLSM_MAX_K);
+    is_number(path, "const MOST_LEVELS: usize = ", 26 + 1);
+    says("crates/klsm_c/src/queue.rt", "slots: [Slot; MOST_THREADS]");
     says("crates/klsm_owned/src/owned.rt", "board: Arc<WideBoard, Global>,");
-    is_number("crates/klsm_board/src/board.rt", "WideBoard = Board<", KLSM_MAX_K);
-    is_number("crates/klsm_board/src/board.rt", "WideBoard = Board<1024, ", 26 + 1);
+    says("crates/klsm_board/src/board.rt", "WideBoard = Board<MOST_K, MOST_LEVELS>;");
     is_number("crates/klsm_board/src/making.rt", "const MOST_INSERTIONS: u64 = ", KLSM_MAX_INSERTIONS);
     says("include/klsm.h", "the shared part, of 2^26 items, has no room");
     says("include/klsm.h", "the member has made 2^48 insertions");
