@@ -1,0 +1,91 @@
+/* How much of the stack the calls use, of 512 KB: threads run on stacks of the test's own, which are painted
+ * before, and looked at after. */
+#define _POSIX_C_SOURCE 200809L
+#include "check.h"
+#include <pthread.h>
+#include <string.h>
+
+enum { STACK = 512 << 10, PAINT = 0x5a, K = 1024, ITEMS = 1000, MOST_THREADS = 16 };
+
+static klsm_queue queue;
+static int failed;
+
+/* What a function used of the stack when a thread ran it, with what a thread needs anyway. */
+static size_t used_by(void *(*run)(void *)) {
+    pthread_t thread;
+    pthread_attr_t attributes;
+    unsigned char *stack = aligned_alloc(1 << 16, STACK);
+    check_or_stop("memory for the test", stack != NULL && pthread_attr_init(&attributes) == 0);
+    memset(stack, PAINT, STACK);
+    check_or_stop("a stack", pthread_attr_setstack(&attributes, stack, STACK) == 0);
+    check_or_stop("a thread", pthread_create(&thread, &attributes, run, NULL) == 0);
+    pthread_join(thread, NULL);
+    pthread_attr_destroy(&attributes);
+    size_t untouched = 0;
+    while (untouched < STACK && stack[untouched] == PAINT)
+        untouched++;
+    free(stack);
+    return STACK - untouched;
+}
+
+static void *count(void *none) {
+    failed = failed || klsm_inserted(&queue.members[0]) == UINT64_MAX;
+    return none;
+}
+
+static void *open_all(void *none) {
+    failed = failed || klsm_open_with_balance(&queue, MOST_THREADS, K, KLSM_FIRST, 0, K, 1) != KLSM_OK;
+    return none;
+}
+
+/* Into the own part, which has room for them. */
+static void *insert_own(void *none) {
+    for (uint64_t i = 0; i < ITEMS; i++)
+        failed = failed || klsm_try_insert(&queue.members[0], i * 7919 % 1009, i) != KLSM_OK;
+    return none;
+}
+
+static void *delete_own(void *none) {
+    klsm_item item;
+    for (uint64_t i = 0; i < ITEMS; i++)
+        failed = failed || klsm_try_delete_min(&queue.members[0], &item) != KLSM_OK;
+    return none;
+}
+
+/* So many that most are shared, by all members, and all of them again: with refills, balances and looks at others. */
+static void *insert_and_delete_all(void *none) {
+    klsm_item item;
+    for (uint64_t i = 0; i < 4 * MOST_THREADS * K; i++)
+        failed = failed || klsm_try_insert(&queue.members[i % MOST_THREADS], i * 7919 % 100003, i) != KLSM_OK;
+    for (uint64_t i = 0; i < 4 * MOST_THREADS * K; i++)
+        failed = failed || klsm_try_delete_min(&queue.members[i * i % MOST_THREADS], &item) != KLSM_OK;
+    return none;
+}
+
+static void *close_all(void *none) {
+    klsm_account account;
+    failed = failed || klsm_close(&queue, &account, NULL, 0) != KLSM_OK || account.left != 0;
+    return none;
+}
+
+/* Whether a function uses at most so many bytes more than a count. */
+static void uses(const char *name, size_t least, void *(*run)(void *), size_t most) {
+    char line[128];
+    failed = 0;
+    size_t used = used_by(run);
+    used = used > least ? used - least : 0;
+    snprintf(line, sizeof line, "%s: %zu bytes, at most %zu", name, used, most);
+    check(line, !failed && used <= most);
+}
+
+int main(void) {
+    size_t least = used_by(count);
+    uses("an opening of 16 members", least, open_all, STACK / 2);
+    uses("insertions into an own part, the first ones", least, insert_own, STACK / 2);
+    uses("deletions from it, the first ones", least, delete_own, STACK / 2);
+    uses("insertions into an own part", least, insert_own, 4096);
+    uses("deletions from it", least, delete_own, 4096);
+    uses("all other insertions and deletions", least, insert_and_delete_all, STACK / 2);
+    uses("a closing", least, close_all, STACK / 2);
+    return check_status();
+}
