@@ -5,7 +5,7 @@
 #include <pthread.h>
 #include <string.h>
 
-enum { STACK = 512 << 10, PAINT = 0x5a, K = 1024, ITEMS = 1000, MOST_THREADS = 16 };
+enum { STACK = 512 << 10, PAINT = 0x5a, K = 1024, ITEMS = 1000, TRIES = 24, MOST_THREADS = 16 };
 
 static klsm_queue queue;
 static int failed;
@@ -52,6 +52,17 @@ static void *delete_own(void *none) {
     return none;
 }
 
+static void *insert_one(void *none) {
+    failed = failed || klsm_try_insert(&queue.members[0], 7, 7) != KLSM_OK;
+    return none;
+}
+
+static void *delete_one(void *none) {
+    klsm_item item;
+    failed = failed || klsm_try_delete_min(&queue.members[0], &item) != KLSM_OK;
+    return none;
+}
+
 /* So many that most are shared, by all members, and all of them again: with refills, balances and looks at others. */
 static void *insert_and_delete_all(void *none) {
     klsm_item item;
@@ -68,24 +79,28 @@ static void *close_all(void *none) {
     return none;
 }
 
-/* Whether a function uses at most so many bytes more than a count. */
-static void uses(const char *name, size_t least, void *(*run)(void *), size_t most) {
+/* Whether a function uses at most so many bytes more than a count, the least of so many times. */
+static void uses(const char *name, size_t count, void *(*run)(void *), int times, size_t most) {
     char line[128];
+    size_t least = STACK;
     failed = 0;
-    size_t used = used_by(run);
-    used = used > least ? used - least : 0;
-    snprintf(line, sizeof line, "%s: %zu bytes, at most %zu", name, used, most);
-    check(line, !failed && used <= most);
+    for (int i = 0; i < times; i++) {
+        size_t used = used_by(run);
+        used = used > count ? used - count : 0;
+        least = used < least ? used : least;
+    }
+    snprintf(line, sizeof line, "%s: %zu bytes, at most %zu", name, least, most);
+    check(line, !failed && least <= most);
 }
 
 int main(void) {
-    size_t least = used_by(count);
-    uses("an opening of 16 members", least, open_all, STACK / 2);
-    uses("insertions into an own part, the first ones", least, insert_own, STACK / 2);
-    uses("deletions from it, the first ones", least, delete_own, STACK / 2);
-    uses("insertions into an own part", least, insert_own, 4096);
-    uses("deletions from it", least, delete_own, 4096);
-    uses("all other insertions and deletions", least, insert_and_delete_all, STACK / 2);
-    uses("a closing", least, close_all, STACK / 2);
+    size_t none = used_by(count);
+    uses("an opening of 16 members", none, open_all, 1, STACK / 2);
+    uses("insertions into an own part", none, insert_own, 1, STACK / 2);
+    uses("one as a rule", none, insert_one, TRIES, 2048);
+    uses("a deletion from it as a rule", none, delete_one, TRIES, 2048);
+    uses("deletions from it", none, delete_own, 1, STACK / 2);
+    uses("all other insertions and deletions", none, insert_and_delete_all, 1, STACK / 2);
+    uses("a closing", none, close_all, 1, STACK / 2);
     return check_status();
 }
