@@ -113,7 +113,9 @@ mod together;
 
 pub use all_members::{AllMembers, AllStandardMembers, GatherRefused};
 pub use balancing::{Balancing, MOST_BALANCED};
-pub use board::{Board, Held, HoldRefused, Member, StandardBoard, StandardMember, WideBoard, WideMember};
+pub use board::{
+    Board, Held, HoldRefused, Member, StandardBoard, StandardMember, WideBoard, WideMember,
+};
 pub use errors::{Busy, FinishError, HoldError, InsertError, MakeError, TryInsertError};
 pub use finishing::{Account, FinishRefused};
 pub use gate::{Gate, Open};

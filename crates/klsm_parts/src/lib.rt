@@ -83,7 +83,6 @@ mod spying;
 mod stealing;
 mod taking;
 
-
 pub use choice::{Choice, Pick};
 pub use flushing::flush;
 pub use klsm_lsm::LsmError;

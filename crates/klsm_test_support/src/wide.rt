@@ -26,12 +26,7 @@ impl Drop for WideCrew {
 
 impl WideCrew {
     /// A new board, and all its members.
-    pub fn new(
-        alloc: Global,
-        threads: usize,
-        k: usize,
-        refill: usize,
-    ) -> Result<Self, MakeError> {
+    pub fn new(alloc: Global, threads: usize, k: usize, refill: usize) -> Result<Self, MakeError> {
         let (board, members) = Board::with_refill(alloc, threads, k, 1 << 40, refill)?;
         Ok(WideCrew { board, members })
     }

@@ -101,7 +101,13 @@ fn solve_heard<P: AllocGlobal + Wait + Clock + Threads + Sync, G: Gate, H: Progr
 {
     listeners.progress.begins(None);
     let options = SearchOptions::new(search.threads, search.k, search.idle);
-    let answer = solve_to_the_end::<G, H, MOST_LEVELS>(rt, rt.alloc(), instance, &options, listeners);
+    let answer = solve_to_the_end::<G, H, MOST_LEVELS>(
+        rt,
+        rt.alloc(),
+        instance,
+        &options,
+        listeners,
+    );
     listeners.progress.ended();
     answer
 }

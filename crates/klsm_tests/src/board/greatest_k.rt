@@ -3,7 +3,7 @@
 use klsm_board::MakeError;
 use klsm_run::MOST_K;
 use klsm_test_support::WideCrew;
-use rand_core::{RngCore, SeedableRng};
+use rand_core::{Rng, SeedableRng};
 use rand_pcg::Pcg32;
 use std::alloc::Global;
 
@@ -37,7 +37,8 @@ fn are_in_order(alloc: Global, k: usize, refill: usize, count: u64) -> Option<bo
     let mut crew = WideCrew::new(alloc, 1, k, refill).ok()?;
     let mut keys = Pcg32::seed_from_u64(count);
     for number in 0..count {
-        crew.try_insert(0, u64::from(keys.next_u32()), number)?.ok()?;
+        crew.try_insert(0, u64::from(keys.next_u32()), number)?
+            .ok()?;
     }
     let mut last = 0;
     for _ in 0..count {

@@ -141,7 +141,7 @@ fn find_all_once(alloc: Global, k: usize) -> Option<bool> {
 }
 
 #[test]
-fn sixteen_members_find_all_items_once(rt: HostRuntime) {
+fn all_members_find_all_items_once(rt: HostRuntime) {
     for k in [0, 1, 3, 64] {
         assert!(rt; find_all_once(rt.alloc(), k) == Some(true));
     }

@@ -5,7 +5,7 @@ ghost use Rattle.klsm_board.specs.Boards.{IsOf};
 
 use klsm_board::{Account, StandardBoard, StandardMember};
 use klsm_parts::Last;
-use klsm_run::{Item, Stamp};
+use klsm_run::{Item, MOST_LEVELS, Stamp};
 use klsm_test_support::Crew;
 use rand_core::{Rng, SeedableRng};
 use rand_pcg::Pcg32;
@@ -291,7 +291,7 @@ fn run_all<R: Threads + Wait + Clock + Sync>(
 // A board whose members are back, and what they noted.
 #[derive(Drop)]
 struct Found {
-    crew: Crew<21>,
+    crew: Crew<MOST_LEVELS>,
     inserted: Vec<Item>,
     deleted: Vec<Item>,
 }
@@ -377,7 +377,7 @@ fn tells_all(account: Account, inserted: Vec<Item>, deleted: Vec<Item>) -> Optio
 }
 
 // What is found once these workers are back.
-fn found_by(alloc: Global, crew: Crew<21>, workers: Vec<Worker>) -> Option<Found>
+fn found_by(alloc: Global, crew: Crew<MOST_LEVELS>, workers: Vec<Worker>) -> Option<Found>
     requires { All (λ worker. IsOf worker.member crew.board) workers.items }
 {
     let found = Found {
@@ -391,7 +391,7 @@ fn found_by(alloc: Global, crew: Crew<21>, workers: Vec<Worker>) -> Option<Found
 }
 
 // The board of a team, whose last member may hold the shared part.
-fn crew_of(alloc: Global, team: &Team) -> Option<Crew<21>> {
+fn crew_of(alloc: Global, team: &Team) -> Option<Crew<MOST_LEVELS>> {
     let quota = u64::from(team.calls).saturating_mul(2);
     let mut crew = Crew::with_refill(alloc, team.threads, team.k, quota, team.refill).ok()?;
     if team.work == Work::BelowHeld {

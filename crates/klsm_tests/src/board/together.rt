@@ -3,7 +3,7 @@ ghost use Rattle.std.specs.Prelude.{All};
 ghost use Rattle.klsm_board.specs.Boards.{IsOf};
 ghost use Rattle.klsm_board.specs.Together.{AreOf};
 
-use klsm_board::{AllStandardMembers, Board, GatherRefused, StandardBoard, StandardMember};
+use klsm_board::{AllStandardMembers, GatherRefused, StandardBoard, StandardMember};
 use klsm_parts::First;
 
 // The most insertions of a member.
@@ -75,7 +75,7 @@ fn is(members: &[StandardMember], number: u32, inserted: u64, deleted: u64) -> b
 
 #[test]
 fn members_come_back_with_what_they_did(rt: HostRuntime) {
-    let Ok((board, members)) = Board::<64, 21>::new(rt.alloc(), 2, 1, MANY) else {
+    let Ok((board, members)) = StandardBoard::new(rt.alloc(), 2, 1, MANY) else {
         panic!(rt; "no memory");
     };
     let Ok(mut all) = board.gather(members) else {
@@ -91,7 +91,7 @@ fn members_come_back_with_what_they_did(rt: HostRuntime) {
 
 #[test]
 fn the_least_missing_member_is_named(rt: HostRuntime) {
-    let Ok((board, mut members)) = Board::<64, 21>::new(rt.alloc(), 3, 1, MANY) else {
+    let Ok((board, mut members)) = StandardBoard::new(rt.alloc(), 3, 1, MANY) else {
         panic!(rt; "no memory");
     };
     let Some(last) = members.pop() else {
