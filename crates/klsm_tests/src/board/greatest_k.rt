@@ -59,21 +59,21 @@ fn one_member_deletes_in_order(rt: HostRuntime) {
     assert!(rt; are_in_order(rt.alloc(), 256, 64, 5000) == Some(true));
 }
 
-// How many items one member of two deletes that the other inserted, until it finds none.
-fn deleted_by_another(alloc: Global, k: usize, refill: usize, count: u64) -> Option<u64> {
+// Whether one member of two deletes all items that the other inserted, and then finds none.
+fn are_found_by_another(alloc: Global, k: usize, refill: usize, count: u64) -> Option<bool> {
     let mut crew = WideCrew::new(alloc, 2, k, refill).ok()?;
     for number in 0..count {
-        crew.try_insert(0, number * 7 % 1009, number)?.ok()?;
+        crew.try_insert(0, number.wrapping_mul(7) % 1009, number)?
+            .ok()?;
     }
-    let mut deleted = 0;
-    while crew.try_delete_min(1)?.ok()?.is_some() {
-        deleted += 1;
+    for _ in 0..count {
+        let _item = crew.try_delete_min(1)?.ok()??;
     }
-    Some(deleted)
+    Some(crew.try_delete_min(1)?.ok()?.is_none())
 }
 
 #[test]
 fn another_member_finds_all(rt: HostRuntime) {
-    assert!(rt; deleted_by_another(rt.alloc(), MOST_K, 0, 1024) == Some(1024));
-    assert!(rt; deleted_by_another(rt.alloc(), MOST_K, MOST_K, 5000) == Some(5000));
+    assert!(rt; are_found_by_another(rt.alloc(), MOST_K, 0, 1024) == Some(true));
+    assert!(rt; are_found_by_another(rt.alloc(), MOST_K, MOST_K, 5000) == Some(true));
 }
