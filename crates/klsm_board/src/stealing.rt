@@ -48,9 +48,9 @@ pub(crate) fn balance_now<S: PartSlot>(
     Ok(moves)
 }
 
-/// Tries one victim: true where items moved from its part to the own one. The least items of the victim's part move,
-/// `most` at most, where the least of them is below the front and smaller than the least own item.
-pub(crate) fn steal_from<S: PartSlot>(
+// Tries one victim: true where items moved from its part to the own one. The least items of the victim's part move,
+// `most` at most, where the least of them is below the front and smaller than the least own item.
+fn steal_from<S: PartSlot>(
     table: &Locks<S>,
     seat: &mut MemberSeat<S>,
     thread: usize,
