@@ -11,7 +11,7 @@ use Rattle.klsm_run.specs.declared.item.Item.{Item}
 use Rattle.klsm_run.specs.Content.{sorted}
 use Rattle.klsm_run.proofs.AllLemmas.{all_front, all_back}
 use Rattle.klsm_run.proofs.ContainsLemmas.{contains_sorted}
-use Rattle.klsm_run.proofs.IndexLemmas.{at_each, slice_get-drop, taken_at}
+use Rattle.klsm_run.proofs.IndexLemmas.{at_each, slice_get-drop, slice_get-take}
 use Rattle.klsm_run.proofs.RankLemmas.{least_skip_few}
 use Rattle.klsm_lsm.specs.Lsm.{content, IsLsm}
 use Rattle.klsm_lsm.specs.Adding.{without_items, cut_items}
@@ -28,7 +28,7 @@ use Rattle.klsm_parts.proofs.MarkedLemmas.{pivot_in_block}
 use Rattle.klsm_parts.proofs.MendLemmas.{AreSplit, AreApart, split_unmarked, split_within, split_fewer, split_remove, split_united, sum_united, count_marked, pivots_if_split, split_if_pivots, SkipsFew, SkipsMany, skips_apart}
 use Rattle.klsm_parts.proofs.OwnerLemmas.{owners_remove}
 use Rattle.klsm_parts.proofs.PivotLemmas.{length_marked}
-use Rattle.klsm_parts.proofs.RankingCutLemmas.{IsCandidateAt, candidate_ranked, contains_other, in_one, in_others, new_if_removed, ranking_map, ranking_remove, sorted_after_cut}
+use Rattle.klsm_parts.proofs.RankingCutLemmas.{IsCandidateAt, contains_other, in_one, in_others, new_if_removed, ranking_map, ranking_remove, sorted_after_cut}
 
 abbrev Blocks : Type 0
 Blocks = List (List Item)
@@ -38,14 +38,14 @@ pub sum_of_pivots : (n : ℕ) (bs : List (List Item)) (ps : List ℕ) → ArePiv
 sum_of_pivots n bs ps pivots = sym (count_marked bs ps pivots.within) ∙ length_marked n bs ps pivots
 
 -- an item that is one of the least is before its block's pivot
-pub before_pivot : (n : ℕ) (bs : List (List Item)) (ps : List ℕ) (j i rank : ℕ) (x : Item) → IsLsm bs → ArePivots n bs ps → slice_get (get_or bs j []) i ≡ Some x → slice_get (least n (content bs)) rank ≡ Some x → i < get_or ps j 0
-before_pivot n bs ps j i rank x lsm pivots at among = elim (cases_lt i (get_or ps j 0)) [
+pub before_pivot : (n : ℕ) (bs : List (List Item)) (ps : List ℕ) (j i rank : ℕ) (x : Item) → IsLsm bs → ArePivots n bs ps → slice_get (get_or bs j []) i ≡ Some x → rank < n → slice_get (sorted (content bs)) rank ≡ Some x → i < get_or ps j 0
+before_pivot n bs ps j i rank x lsm pivots at below among = elim (cases_lt i (get_or ps j 0)) [
   | inl before ↦ before
   | inr behind ↦
       let c = content bs in
       let up = ascending_content bs lsm in
       let split = split_if_pivots n bs ps up pivots in
-      let few : SkipsFew c n x = at_each (SkipsFew c n) (least n c) rank x (least_skip_few n c up) among in
+      let few : SkipsFew c n x = at_each (SkipsFew c n) (least n c) rank x (least_skip_few n c up) (slice_get-take n (sorted c) rank below ∙ among) in
       let many : SkipsMany c n x = at_unmarked (SkipsMany c n) bs ps j i x pivots.within (split_unmarked (SkipsFew c n) (SkipsMany c n) bs ps split) behind at in
       absurd (omega (arith, few, many))
 ]
@@ -185,33 +185,31 @@ stays_open true is_all order at alone some = absurd (false≢true (sym alone))
 stays_open false true order at alone some = absurd (false≢true (sym some))
 stays_open false false order at alone some = refl
 
--- what is left of a part before its next items are ranked
+-- what is left of a part before its least item is known again
 pub record CanRankOn (k : ℕ) (now : Blocks) (pivots order owners : List ℕ) : Type 0 where
   pub pivots_are : ArePivots (length order) now pivots
   pub ranked : AreRanked now order owners
   pub fewer : length order ≤ min (k + 1) (length (content now))
 
 -- after a candidate was cut out
-pub one_gone : (k at index rank : ℕ) (bs : Blocks) (ps order owners : List ℕ) (now : Blocks) (pivots left : List ℕ) → IsLsm bs → ArePivots (k + 1) bs ps → AreRanked bs order owners → length order ≡ min (k + 1) (length (content bs))
+pub one_gone : (k at index rank : ℕ) (bs : Blocks) (ps order owners : List ℕ) (now : Blocks) (pivots left : List ℕ) → IsLsm bs → ArePivots (length order) bs ps → AreRanked bs order owners → rank < length order → length order ≤ min (k + 1) (length (content bs))
     → IsCandidateAt k bs at index rank → IsBlockCut bs ps (remove order rank) at index 1 now pivots left → CanRankOn k now pivots left (remove owners rank)
-one_gone k at index rank bs ps order owners now pivots left lsm marks ranking whole it cut =
-    let c = content bs in let all = sorted c in let x = it.item in let b = get_or bs at [] in
-    let few = SkipsFew c (k + 1) in let many = SkipsMany c (k + 1) in let up = ascending_content bs lsm in
-    let ranked : rank < length order = candidate_ranked k bs order rank x whole it.among in
-    let there = (taken_at (k + 1) all rank x it.among).1 in
-    let before : index < get_or ps at 0 = before_pivot (k + 1) bs ps at index rank x lsm marks it.found it.among in
-    let step = mended_by cut.joins few many (λ y. y ≢ x) (remove all rank) at index 1 bs ps (remove order rank) (skips_apart c (k + 1)) cut.joining it.here (omega (arith, before)) (split_if_pivots (k + 1) bs ps up marks) (ranking_remove bs all order rank ranking.in_blocks ranked) (new_if_removed all rank x up there)
+one_gone k at index rank bs ps order owners now pivots left lsm marks ranking ranked few_ranked it cut =
+    let c = content bs in let all = sorted c in let x = it.item in let b = get_or bs at [] in let n = length order in
+    let few = SkipsFew c n in let many = SkipsMany c n in let up = ascending_content bs lsm in
+    let before : index < get_or ps at 0 = before_pivot n bs ps at index rank x lsm marks it.found ranked it.ranked in
+    let step = mended_by cut.joins few many (λ y. y ≢ x) (remove all rank) at index 1 bs ps (remove order rank) (skips_apart c n) cut.joining it.here (omega (arith, before)) (split_if_pivots n bs ps up marks) (ranking_remove bs all order rank ranking.in_blocks ranked) (new_if_removed all rank x up it.ranked)
     (λ y other within. contains_other b index x y it.found other within) in
-    let rest : sorted (content now) ≡ remove all rank = ap (λ cs. sorted (content cs)) cut.blocks_are ∙ sorted_after_cut bs at index rank x lsm it.found there in
+    let rest : sorted (content now) ≡ remove all rank = ap (λ cs. sorted (content cs)) cut.blocks_are ∙ sorted_after_cut bs at index rank x lsm it.found it.ranked in
     let size : length left + 1 ≡ length order = omega (arith, ap length cut.order_is, step.as_many, length-remove order rank ranked) in
     let owned : rank < length owners = omega (arith, ranked, ranking.as_many) in
     let one_less : length (content now) + 1 ≡ length c = omega (arith, ap (λ cs. length (content cs)) cut.blocks_are, length_cut bs at index x it.found) in
     record {
-      pivots_are = rw (cut.blocks_are, cut.pivots_are) (pivots_if_split few many (length left) (cut_items bs at index 1) _ (skips_apart c (k + 1)) step.split (omega (arith, step.total, size, sum_of_pivots (k + 1) bs ps marks, whole)));
+      pivots_are = rw (cut.blocks_are, cut.pivots_are) (pivots_if_split few many (length left) (cut_items bs at index 1) _ (skips_apart c n) step.split (omega (arith, step.total, size, sum_of_pivots n bs ps marks, few_ranked)));
       ranked = record {
         in_blocks = subst (λ zs. AreInBlocks now zs left) (sym rest) (rw (cut.blocks_are, cut.order_is) step.ranking);
         owned = subst (λ zs. AreOwners zs (remove owners rank)) (sym rest) (owners_remove all owners rank ranking.owned owned);
         as_many = omega (arith, length-remove owners rank owned, size, ranking.as_many);
       };
-      fewer = omega (arith, size, whole, one_less);
+      fewer = omega (arith, size, few_ranked, one_less);
     }

@@ -50,10 +50,6 @@ lsm_fits a b c d k p l m s limit whole = omega (arith, whole)
 pub pivots_fit : (a b l m p q limit : ℕ) → up a (up b (up 8 (up 8 q + p) + l) + m) < limit → p < limit
 pivots_fit a b l m p q limit whole = omega (arith, whole)
 
--- what is known of the candidates of a shared part that a run is put into
-pub merging_fits : (a b m p q limit : ℕ) → up a (up b (up 8 (up 8 q + p) + 3144) + m) < limit → up 8 (up 8 (3120 + p) + 8) < limit
-merging_fits a b m p q limit whole = omega (arith, whole)
-
 -- what is as small has a place
 small_fits : (s : ℕ) → s < 1048576 → s < 9223372036854775808
 small_fits s small = omega (arith, small)
@@ -98,6 +94,10 @@ local_fits n capacity = part_fits _ _ (lsm_is_small _ (run_is_small n capacity))
 -- the LSM of a shared part of any number of levels
 pub shared_lsm_fits : (n : ℕ) → IsLevelCount n → lsm n 56 < 9223372036854775808
 shared_lsm_fits n levels = omega (arith, levels.at_most)
+
+-- the pivots of any number of blocks
+pub level_pivots_fit : (n : ℕ) → IsLevelCount n → array_vec n 8 < 9223372036854775808
+level_pivots_fit n levels = omega (arith, levels.at_most)
 
 -- of the bytes of a ranking
 abbrev bytes : ℕ

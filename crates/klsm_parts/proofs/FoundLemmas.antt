@@ -16,6 +16,7 @@ use Rattle.klsm_lsm.specs.Lsm.{content, IsLsm}
 use Rattle.klsm_lsm.proofs.SlotLemmas.{refill_same}
 use Rattle.klsm_lsm.proofs.LeastLemmas.{content_more}
 use Rattle.klsm_parts.specs.Pivots.{marked, unmarked, AreWithin, ArePivots}
+use Rattle.klsm_parts.specs.Ranking.{more_marked}
 use Rattle.klsm_parts.proofs.PivotLemmas.{length_marked, marked_and_unmarked, first_unmarked, pivot_more}
 
 pub one_each : (bs : List (List Item)) (ps : List ℕ) → AreWithin bs ps → length ps ≡ length bs
@@ -120,6 +121,10 @@ pub pivot_counted : (n : ℕ) (bs : List (List Item)) (ps lent : List ℕ) (j : 
     → ArePivots (n + 1) bs (refill (length ps) ps (set lent j (get_or lent j 0 + 1)))
 pivot_counted n bs ps lent j same lsm pivots more first =
     rw same (rw (refill_same ps (set ps j (get_or ps j 0 + 1)) (length-set ps j (get_or ps j 0 + 1))) (pivot_more n bs ps j lsm pivots more first))
+
+-- the same, where it is known which item that is
+pub marked_in_place : (ps lent : List ℕ) (b : ℕ) → lent ≡ ps → refill (length ps) ps (set lent b (get_or lent b 0 + 1)) ≡ more_marked ps b
+marked_in_place ps lent b same = rw same (refill_same ps (set ps b (get_or ps b 0 + 1)) (length-set ps b (get_or ps b 0 + 1)))
 
 -- the item behind the pivots of n items is the one of rank n, whichever way the pivots are lent
 pub ranked : (n : ℕ) (bs : List (List Item)) (ps lent read : List ℕ) (j : ℕ) → lent ≡ ps → read ≡ ps → IsLsm bs → ArePivots n bs ps

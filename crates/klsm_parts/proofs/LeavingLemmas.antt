@@ -275,24 +275,24 @@ pub record CanTake (n : ℕ) (bs : Blocks) (counts ps order : List ℕ) : Type 0
   pub few : sum ps ≤ MOST_K + 1
   pub ranking : AreInBlocks bs (drop (sum counts) (sorted (content bs))) (drop n order)
 
-pub can_take : (k n : ℕ) (bs : Blocks) (counts ps order : List ℕ) → k ≤ MOST_K → n ≤ length order → ArePivots n bs counts → ArePivots (k + 1) bs ps → IsRanking bs order → length order ≡ min (k + 1) (length (content bs)) → CanTake n bs counts ps order
-can_take k n bs counts ps order range few counts_are pivots_are ranking whole =
-    let total : sum ps ≡ length order = sum_of_pivots (k + 1) bs ps pivots_are ∙ sym whole in
-    let counted : sum counts ≡ n = omega (arith, sum_of_pivots n bs counts counts_are, few, whole) in
+pub can_take : (k n : ℕ) (bs : Blocks) (counts ps order : List ℕ) → k ≤ MOST_K → n ≤ length order → ArePivots n bs counts → ArePivots (length order) bs ps → IsRanking bs order → length order ≤ min (k + 1) (length (content bs)) → CanTake n bs counts ps order
+can_take k n bs counts ps order range few counts_are pivots_are ranking within =
+    let total : sum ps ≡ length order = omega (arith, sum_of_pivots (length order) bs ps pivots_are, within) in
+    let counted : sum counts ≡ n = omega (arith, sum_of_pivots n bs counts counts_are, few, within) in
     record {
       counted = counted;
       counts_are = pivots_summed n bs counts counts_are;
       total = total;
-      pivots_are = pivots_summed (k + 1) bs ps pivots_are;
+      pivots_are = pivots_summed (length order) bs ps pivots_are;
       fewer = omega (arith, counted, total, few);
-      few = omega (arith, total, whole, range);
+      few = omega (arith, total, within, range);
       ranking = rw counted (ranking_behind bs (sorted (content bs)) order n ranking);
     }
 
 -- and after that
-pub can_rank_on : (k n : ℕ) (bs now : Blocks) (counts ps pivots order left owners kept : List ℕ) → CanTake n bs counts ps order → AreRanked bs order owners → n ≤ length order → length order ≡ min (k + 1) (length (content bs))
+pub can_rank_on : (k n : ℕ) (bs now : Blocks) (counts ps pivots order left owners kept : List ℕ) → CanTake n bs counts ps order → AreRanked bs order owners → n ≤ length order → length order ≤ min (k + 1) (length (content bs))
     → sorted (content now) ≡ drop (sum counts) (sorted (content bs)) → ArePivots (sum ps - sum counts) now pivots → IsRanking now left → length left ≡ length (drop n order) → kept ≡ drop n owners → CanRankOn k now pivots left kept
-can_rank_on k n bs now counts ps pivots order left owners kept can ranked few whole holds marks ranking as_many owners_are =
+can_rank_on k n bs now counts ps pivots order left owners kept can ranked few within holds marks ranking as_many owners_are =
     let rest : length (content now) ≡ length (content bs) - n = omega (arith, length_sorted (content now), ap length holds, length-drop (sum counts) (sorted (content bs)), length_sorted (content bs), can.counted) in
     let size : length left ≡ length order - n = as_many ∙ length-drop n order in
     let marked : sum ps - sum counts ≡ length left = omega (arith, can.total, can.counted, size) in
@@ -303,5 +303,5 @@ can_rank_on k n bs now counts ps pivots order left owners kept can ranked few wh
         owned = rw (holds, can.counted, owners_are) (owners_behind (sorted (content bs)) owners n ranked.owned);
         as_many = omega (arith, ap length owners_are, length-drop n owners, ranked.as_many, size);
       };
-      fewer = omega (arith, size, rest, whole);
+      fewer = omega (arith, size, rest, within);
     }

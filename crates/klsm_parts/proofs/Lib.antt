@@ -9,7 +9,6 @@ pub mod LeavingLemmas
 pub mod ListingLemmas
 pub mod MarkedLemmas
 pub mod MendLemmas
-pub mod MergingLemmas
 pub mod OwnLemmas
 pub mod OwnOrderLemmas
 pub mod OwnerLemmas
@@ -26,4 +25,3 @@ pub mod RisingLemmas
 pub mod SpyLemmas
 pub mod StealLemmas
 pub mod TakeLemmas
-pub mod UnitedLemmas

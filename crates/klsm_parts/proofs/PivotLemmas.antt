@@ -19,6 +19,7 @@ use Rattle.klsm_lsm.specs.Lsm.{content, IsLsm}
 use Rattle.klsm_lsm.proofs.ContentLemmas.{ascending_content}
 use Rattle.klsm_lsm.proofs.CutLemmas.{sorted_swap_before}
 use Rattle.klsm_parts.specs.Least.{least}
+use Rattle.klsm_parts.specs.Parts.{PartState, candidates_of}
 use Rattle.klsm_parts.specs.Pivots.{marked, unmarked, AreWithin, ArePivots, count_in_least}
 
 -- the marked items and the others are the content
@@ -49,13 +50,9 @@ unmarked_is_rest n bs ps up pivots =
     ∙ (sym (sorted_sorted (marked bs ps) u) ∙ ap (λ xs. sorted (xs ++ u)) pivots.exact))) in
     sym (sorted_cancel first rest u whole) ∙ sorted_ascending rest (ascending_drop n all up)
 
--- the least of the other items is the one of rank n, where no item is in the content twice
-pub first_unmarked_ascending : (n : ℕ) (bs : List (List Item)) (ps : List ℕ) → IsAscending (sorted (content bs)) → ArePivots n bs ps → slice_get (sorted (content (unmarked bs ps))) 0 ≡ slice_get (sorted (content bs)) n
-first_unmarked_ascending n bs ps up pivots = ap (λ xs. slice_get xs 0) (unmarked_is_rest n bs ps up pivots) ∙ first_behind n (sorted (content bs))
-
--- and so in a lawful LSM
+-- the least of the other items is the one of rank n
 pub first_unmarked : (n : ℕ) (bs : List (List Item)) (ps : List ℕ) → IsLsm bs → ArePivots n bs ps → slice_get (sorted (content (unmarked bs ps))) 0 ≡ slice_get (sorted (content bs)) n
-first_unmarked n bs ps lsm pivots = first_unmarked_ascending n bs ps (ascending_content bs lsm) pivots
+first_unmarked n bs ps lsm pivots = ap (λ xs. slice_get xs 0) (unmarked_is_rest n bs ps (ascending_content bs lsm) pivots) ∙ first_behind n (sorted (content bs))
 
 -- one more marked item of block j
 marked_more : (bs : List (List Item)) (ps : List ℕ) (j : ℕ) (x : Item) → AreWithin bs ps → slice_get (get_or bs j []) (get_or ps j 0) ≡ Some x → sorted (marked bs (set ps j (get_or ps j 0 + 1))) ≡ sorted (x ∷ marked bs ps)
@@ -76,15 +73,14 @@ within_more (b ∷ bs) [] j within less = absurd within
 within_more (b ∷ bs) (p ∷ ps) zero within less = (omega (arith, less), within.1)
 within_more (b ∷ bs) (p ∷ ps) (suc j) within less = (within.0, within_more bs ps j within.1 less)
 
--- pivots of the least n items, and one more at a block that begins there with the least of the other items, where no item is in the
--- content twice
-pub pivot_more_ascending : (n : ℕ) (bs : List (List Item)) (ps : List ℕ) (j : ℕ) → IsAscending (sorted (content bs)) → ArePivots n bs ps → n < length (content bs)
+-- pivots of the least n items, and one more at a block that begins there with the least of the other items
+pub pivot_more : (n : ℕ) (bs : List (List Item)) (ps : List ℕ) (j : ℕ) → IsLsm bs → ArePivots n bs ps → n < length (content bs)
     → slice_get (get_or bs j []) (get_or ps j 0) ≡ slice_get (sorted (content (unmarked bs ps))) 0
     → ArePivots (n + 1) bs (set ps j (get_or ps j 0 + 1))
-pivot_more_ascending n bs ps j up pivots more first =
-    let all = sorted (content bs) in
+pivot_more n bs ps j lsm pivots more first =
+    let all = sorted (content bs) in let up = ascending_content bs lsm in
     let next = at_index all n (omega (arith, more, length_sorted (content bs))) in
-    let there : slice_get (get_or bs j []) (get_or ps j 0) ≡ Some next.0 = first ∙ (first_unmarked_ascending n bs ps up pivots ∙ next.1) in
+    let there : slice_get (get_or bs j []) (get_or ps j 0) ≡ Some next.0 = first ∙ (first_unmarked n bs ps lsm pivots ∙ next.1) in
     let one_more : take (n + 1) all ≡ take n all ++ next.0 ∷ [] =
     take_more all n next.0 (slice_get_within all n next.0 next.1) ∙ ap (λ y. take n all ++ y ∷ []) (get_or_from_slice_get all n next.0 next.0 next.1) in
     record {
@@ -97,12 +93,6 @@ pivot_more_ascending n bs ps j up pivots more first =
           ∙ (ap sorted (sym one_more)
           ∙ sorted_ascending (take (n + 1) all) (ascending_take (n + 1) all up)))));
     }
-
--- and so in a lawful LSM
-pub pivot_more : (n : ℕ) (bs : List (List Item)) (ps : List ℕ) (j : ℕ) → IsLsm bs → ArePivots n bs ps → n < length (content bs)
-    → slice_get (get_or bs j []) (get_or ps j 0) ≡ slice_get (sorted (content (unmarked bs ps))) 0
-    → ArePivots (n + 1) bs (set ps j (get_or ps j 0 + 1))
-pivot_more n bs ps j lsm pivots more first = pivot_more_ascending n bs ps j (ascending_content bs lsm) pivots more first
 
 -- no item is marked
 marked_none : (bs : List (List Item)) → marked bs (replicate (length bs) 0) ≡ []
@@ -149,3 +139,10 @@ pivot_counts n bs ps j lsm pivots =
 -- the number of candidates
 pub count_of_least : (k : ℕ) (bs : List (List Item)) → min (length (content bs)) (k + 1) ≡ length (least (k + 1) (content bs))
 count_of_least k bs = omega (arith, length-take (k + 1) (sorted (content bs)), length_sorted (content bs))
+
+-- candidates of a part, as its fields know it, are at most k+1, and are among its items
+pub among_candidates : (inside part : PartState) (n : ℕ) → inside ≡ part → n ≤ length (candidates_of part) → (n ≤ inside.k + 1) × (n ≤ length (content inside.blocks))
+among_candidates inside part n same few =
+    let here : n ≤ length (candidates_of inside) = subst (λ (p : PartState). n ≤ length (candidates_of p)) (sym same) few in
+    let count = count_of_least inside.k inside.blocks in
+    (omega (arith, here, count), omega (arith, here, count))

@@ -1,7 +1,7 @@
 -- The bytes of a ranking in their store.
-use Rattle.std.proofs.Common.{◌≡◌, ℕ, zero, suc, ◌+◌, ◌-◌, ◌<◌, ◌≤◌, List, [], ◌∷◌, length, take, drop, map, remove, refl, sym, ap, ◌∙◌, arith}
+use Rattle.std.proofs.Common.{◌≡◌, ℕ, zero, suc, ◌+◌, ◌-◌, ◌<◌, ◌≤◌, List, [], ◌∷◌, length, take, drop, remove, refl, sym, ap, ◌∙◌, arith}
 use Rattle.std.specs.List.{copy_within}
-use Rattle.std.proofs.lemmas.List.{length-take, length-drop, drop-drop, drop-map, drop-take, take-map}
+use Rattle.std.proofs.lemmas.List.{length-take, length-drop, drop-drop, drop-take}
 use Rattle.klsm_run.proofs.ShiftLemmas.{shift_down}
 use Rattle.klsm_parts.specs.declared.rank_bytes.TheConstants.{STORE}
 use Rattle.klsm_parts.specs.RankBytes.{IsRange, between}
@@ -9,10 +9,6 @@ use Rattle.klsm_parts.specs.RankBytes.{IsRange, between}
 -- how many they are
 pub length_between : (start end : ℕ) (places : List ℕ) → IsRange start end → length places ≡ STORE → length (between start end places) ≡ end - start
 length_between start end places range whole = omega (arith, length-take (end - start) (drop start places), length-drop start places, range.order, range.within, whole)
-
--- each of them is changed alike, with the others of the store
-pub map_between : (f : ℕ → ℕ) (start end : ℕ) (places : List ℕ) → between start end (map f places) ≡ map f (between start end places)
-map_between f start end places = ap (take (end - start)) (drop-map f start places) ∙ take-map f (end - start) (drop start places)
 
 -- the first elements behind one
 rest_of : {X : Type 0} (start count : ℕ) (xs : List X) → take count (drop (suc start) xs) ≡ remove (take (suc count) (drop start xs)) 0

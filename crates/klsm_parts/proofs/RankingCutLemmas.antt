@@ -1,8 +1,8 @@
 -- The ranking after an item was cut out: the other items keep their order, and the blocks behind may move up.
-use Rattle.std.proofs.Common.{◌≡◌, ◌≢◌, ℕ, ◌+◌, ◌-◌, ◌<◌, List, [], ◌∷◌, ◌++◌, length, map, min, get_or, remove, take, drop, Some, sym, ap, ◌∙◌, subst, arith, zero, suc, inl, inr}
+use Rattle.std.proofs.Common.{◌≡◌, ◌≢◌, ℕ, ◌+◌, ◌-◌, ◌<◌, List, [], ◌∷◌, ◌++◌, length, map, get_or, remove, take, drop, Some, sym, ap, ◌∙◌, subst, arith, zero, suc, inl, inr}
 use Rattle.std.specs.List.{AllByRecursion, Contains, slice_get}
 use Rattle.std.proofs.lemmas.Bool.{cases_lt, cases_eq, lt-ltb, le-ltb}
-use Rattle.std.proofs.lemmas.List.{length-take, length-take-le, get_or-take, get_or-drop, get_or_append_left, get_or-append_right}
+use Rattle.std.proofs.lemmas.List.{length-take-le, get_or-take, get_or-drop, get_or_append_left, get_or-append_right}
 use Rattle.std.proofs.lemmas.List.Edits.{get_or-remove_below, get_or-remove_above}
 use Rattle.std.proofs.lemmas.Option.{slice_get_within, none-some, same_Some}
 use Rattle.klsm_run.specs.declared.item.Item.{Item}
@@ -14,7 +14,7 @@ use Rattle.klsm_run.proofs.SortedLemmas.{IsNew, sorted_ascending, length_sorted}
 use Rattle.klsm_run.proofs.RemoveLemmas.{ascending_remove}
 use Rattle.klsm_run.proofs.ContentLemmas.{sorted_remove, sorted_itself}
 use Rattle.klsm_run.proofs.LeastLemmas.{Has}
-use Rattle.klsm_run.proofs.IndexLemmas.{at_each, at_index}
+use Rattle.klsm_run.proofs.IndexLemmas.{at_each, at_index, taken_at}
 use Rattle.klsm_run.proofs.ContainsLemmas.{contains_if_has, has_if_contains}
 use Rattle.klsm_run.proofs.WithoutLemmas.{placed_cancel}
 use Rattle.klsm_lsm.specs.Lsm.{content, IsLsm}
@@ -22,7 +22,6 @@ use Rattle.klsm_lsm.specs.Adding.{without_items, cut}
 use Rattle.klsm_lsm.proofs.ContentLemmas.{ascending_content}
 use Rattle.klsm_lsm.proofs.CutLemmas.{sorted_cut}
 use Rattle.klsm_parts.specs.Ranking.{AreInBlocks, place_after_cut}
-use Rattle.klsm_parts.specs.Least.{least}
 use Rattle.klsm_parts.specs.Parts.{PartState, candidates_of}
 
 -- the sorted content after an item was cut out
@@ -108,18 +107,15 @@ in_one bs at b one y here first second within =
       ])
     ]
 
--- a candidate's rank is one of the ranking
-pub candidate_ranked : (k : ℕ) (bs : List (List Item)) (order : List ℕ) (rank : ℕ) (x : Item) → length order ≡ min (k + 1) (length (content bs)) → slice_get (least (k + 1) (content bs)) rank ≡ Some x → rank < length order
-candidate_ranked k bs order rank x whole among =
-    omega (arith, whole, slice_get_within (least (k + 1) (content bs)) rank x among, length-take (k + 1) (sorted (content bs)), length_sorted (content bs))
-
 -- a candidate by where it stands and by its rank
 pub record IsCandidateAt (k : ℕ) (bs : List (List Item)) (at index rank : ℕ) : Type 0 where
   pub here : at < length bs
   pub within : index < length (get_or bs at [])
   pub item : Item
   pub found : slice_get (get_or bs at []) index ≡ Some item
-  pub among : slice_get (least (k + 1) (content bs)) rank ≡ Some item
+  pub few : rank < k + 1
+  pub counted : rank < length (content bs)
+  pub ranked : slice_get (sorted (content bs)) rank ≡ Some item
 
 -- a candidate of a part, as its fields know it
 pub candidate_at : (inside part : PartState) (at index rank : ℕ) → inside ≡ part → at < length part.blocks → index < length (get_or part.blocks at []) → slice_get (get_or part.blocks at []) index ≡ slice_get (candidates_of part) rank
@@ -127,10 +123,15 @@ pub candidate_at : (inside part : PartState) (at index rank : ℕ) → inside �
 candidate_at inside part at index rank same here within ranked =
     let inner = subst (λ (p : PartState). index < length (get_or p.blocks at [])) (sym same) within in
     let item = at_index (get_or inside.blocks at []) index inner in
+    let all = sorted (content inside.blocks) in
+    let among : slice_get (candidates_of inside) rank ≡ Some item.0 = sym (subst (λ (p : PartState). slice_get (get_or p.blocks at []) index ≡ slice_get (candidates_of p) rank) (sym same) ranked) ∙ item.1 in
+    let there = taken_at (inside.k + 1) all rank item.0 among in
     record {
       here = subst (λ (p : PartState). at < length p.blocks) (sym same) here;
       within = inner;
       item = item.0;
       found = item.1;
-      among = sym (subst (λ (p : PartState). slice_get (get_or p.blocks at []) index ≡ slice_get (candidates_of p) rank) (sym same) ranked) ∙ item.1;
+      few = there.0;
+      counted = omega (arith, slice_get_within all rank item.0 there.1, length_sorted (content inside.blocks));
+      ranked = there.1;
     }

@@ -39,13 +39,14 @@ pub record IsOwn (capacity : ℕ) (part : PartState) (found : Option ℕ) : Type
   pub capacity_in_range : IsCapacity capacity
   pub found_is : (at : ℕ) → found ≡ Some at → HasLeastFirst part.blocks at
 
--- a shared part is a lawful LSM with exact pivots of its least k+1 items, of which the blocks and the owners' low bytes are known in
--- their order, and the least one itself
+-- a shared part is a lawful LSM with exact pivots of some of its least k+1 items, of which the blocks and the owners' low bytes are
+-- known in their order, as far as these were asked for: of the least one always, and that itself
 pub record IsShared (levels : ℕ) (part : PartState) (pivots ranking owners : List ℕ) (least : Option Item) : Type 0 where
   pub lawful : IsLsm part.blocks
-  pub pivots_exact : ArePivots (part.k + 1) part.blocks pivots
+  pub pivots_exact : ArePivots (length ranking) part.blocks pivots
   pub ranking_exact : AreRanked part.blocks ranking owners
-  pub ranking_whole : length ranking ≡ min (part.k + 1) (length (content part.blocks))
+  pub ranking_some : min 1 (length (content part.blocks)) ≤ length ranking
+  pub ranking_few : length ranking ≤ min (part.k + 1) (length (content part.blocks))
   pub least_found : least ≡ least_in part
   pub k_in_range : part.k ≤ MOST_K
   pub levels_in_range : IsLevelCount levels

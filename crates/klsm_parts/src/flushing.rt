@@ -58,8 +58,7 @@ pub fn flush<const CAP: usize, const LEVELS: usize, A: Allocator + Copy>(
 }
 
 // Puts what moves into the shared part: a copy of the own part's largest block, or the item where
-// there is none. It is kept apart from the insertions that need none of it, since what is known of the candidates
-// lies on the stack meanwhile.
+// there is none. It is kept apart from the insertions that need none of it.
 #[inline(never)]
 fn absorb_moved<const CAP: usize, const LEVELS: usize, A: Allocator + Copy>(
     own: &Local<CAP>,

@@ -1,18 +1,17 @@
 //! How items of a shared part leave it, one or the least ones at once: which these are, and what becomes
 //! of the pivots and the ranking.
-ghost use Rattle.std.specs.Prelude.{◌≡◌, ◌+◌, ◌-◌, ◌<◌, ◌≤◌, length, min, take, drop, sum, slice_get, slice_index_or};
+ghost use Rattle.std.specs.Prelude.{◌≡◌, ◌+◌, ◌-◌, ◌<◌, ◌≤◌, [], length, take, drop, sum, slice_get, slice_index_or, Some};
 ghost use Rattle.klsm_run.specs.declared.limits.TheConstants.{MOST_K};
 ghost use Rattle.klsm_run.specs.Content.{sorted};
 ghost use Rattle.klsm_lsm.specs.Lsm.{content, IsLsm};
 ghost use Rattle.klsm_lsm.specs.Limit.{IsLevelCount};
 ghost use Rattle.klsm_parts.specs.Pivots.{ArePivots, AreWithin};
-ghost use Rattle.klsm_parts.specs.Ranking.{AreInBlocks, IsRanking, AreRanked};
+ghost use Rattle.klsm_parts.specs.Ranking.{AreInBlocks, IsRanking};
 ghost use Rattle.klsm_parts.specs.Mending.{IsBlockCut};
 
 use crate::mending::cut_pivot;
-use crate::merging::next_item;
-use crate::ranking::{LeastItems, Ranking};
-use crate::ranks::{mark_least, none_of};
+use crate::ranking::Ranking;
+use crate::ranks::none_of;
 use arrayvec::ArrayVec;
 use klsm_lsm::Lsm;
 use klsm_run::{Item, Run};
@@ -35,13 +34,34 @@ pub(crate) fn copy_least<R: Run, const LEVELS: usize>(
     let _known = lsm.len();
     let mut counts = none_of(lsm);
     for rank in 0..places.len() {
-        let Some((block, item)) = next_item(ranking, lsm, counts.as_slice(), rank) else {
-            unreachable!();
-        };
+        let (block, item) = ranked_item(ranking, lsm, counts.as_slice(), rank);
         places[rank] = item;
         counts.as_mut_slice()[block] += 1;
     }
     counts
+}
+
+// The item of a rank, with its block. The pivots are those of the items before it.
+#[inline]
+fn ranked_item<R: Run, const LEVELS: usize>(
+    ranking: &Ranking,
+    lsm: &Lsm<R, LEVELS>,
+    pivots: &[usize],
+    rank: usize,
+) -> (usize, Item)
+    requires lawful { IsLsm lsm.now }
+    requires ranking { IsRanking lsm.now ranking.now.blocks.items }
+    requires pivots { ArePivots rank lsm.now pivots.now }
+    requires rank { rank < length ranking.now.blocks.items }
+    ensures block { result.0 < length lsm.now }
+    ensures next { slice_get (slice_index_or lsm.now result.0 [])
+        (slice_index_or pivots.now result.0 0) ≡ Some result.1 }
+    ensures rank { slice_get (sorted (content lsm.now)) rank ≡ Some result.1 }
+{
+    let blocks = ranking.blocks.as_slice();
+    let block = usize::from(blocks[rank]);
+    let item = lsm.block(block).item_at(pivots[block]);
+    (block, item)
 }
 
 /// Takes the first items of each block out, so many of each: together they are the least, which are
@@ -104,58 +124,5 @@ pub(crate) fn cut_block<R: Run, const LEVELS: usize>(
     cut_pivot(pivots, block, count, is_all, joins);
     if joins || is_all {
         ranking.close_up(block);
-    }
-}
-
-/// Ranks the items that are candidates now and were not before, and looks at the least one.
-#[inline]
-pub(crate) fn rank_candidates<R: Run, const LEVELS: usize>(
-    lsm: &Lsm<R, LEVELS>,
-    pivots: &mut ArrayVec<usize, LEVELS>,
-    least: &mut LeastItems,
-    k: usize,
-)
-    requires levels { IsLevelCount LEVELS }
-    requires k { k ≤ MOST_K }
-    requires lawful { IsLsm lsm.now }
-    requires pivots { ArePivots (length least.old.ranking.blocks.items) lsm.now pivots.old.items }
-    requires ranked { AreRanked lsm.now
-        least.old.ranking.blocks.items least.old.ranking.owners.items }
-    requires fewer { length least.old.ranking.blocks.items
-        ≤ min (k + 1) (length (content lsm.now)) }
-    ensures pivots { ArePivots (k + 1) lsm.now pivots.new.items }
-    ensures ranked { AreRanked lsm.now
-        least.new.ranking.blocks.items least.new.ranking.owners.items }
-    ensures whole { length least.new.ranking.blocks.items ≡ min (k + 1) (length (content lsm.now)) }
-    ensures first { least.new.first ≡ slice_get (sorted (content lsm.now)) 0 }
-{
-    let most = lsm.len().min(k + 1);
-    rank_up_to(lsm, pivots, &mut least.ranking, most);
-    least.first = least.ranking.least(lsm);
-}
-
-// Ranks the next items, until so many are ranked. It costs one comparison a block for each.
-fn rank_up_to<R: Run, const LEVELS: usize>(
-    lsm: &Lsm<R, LEVELS>,
-    pivots: &mut ArrayVec<usize, LEVELS>,
-    ranking: &mut Ranking,
-    most: usize,
-)
-    requires levels { IsLevelCount LEVELS }
-    requires lawful { IsLsm lsm.now }
-    requires pivots { ArePivots (length ranking.old.blocks.items) lsm.now pivots.old.items }
-    requires ranked { AreRanked lsm.now ranking.old.blocks.items ranking.old.owners.items }
-    requires fewer { length ranking.old.blocks.items ≤ most }
-    requires there { most ≤ length (content lsm.now) }
-    requires room { most ≤ MOST_K + 1 }
-    ensures pivots { ArePivots most lsm.now pivots.new.items }
-    ensures ranked { AreRanked lsm.now ranking.new.blocks.items ranking.new.owners.items }
-    ensures all { length ranking.new.blocks.items ≡ most }
-{
-    // For the proof: the number of each block fits a byte.
-    let _known = lsm.blocks();
-    for _ in ranking.len()..most {
-        let next = mark_least(lsm, pivots);
-        ranking.push(next);
     }
 }

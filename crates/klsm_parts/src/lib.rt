@@ -55,22 +55,21 @@
 //!   its callers.
 //! - **A deletion takes no memory** and is never refused. `flush` makes one growth, before anything
 //!   changes; refused, it has changed nothing: clauses `unchanged`.
-//! - **The candidates are known in their order**, two bytes for each, its block and its owner, so that a
-//!   deletion finds any of them without a comparison, and the first of an owner's by its byte.
-//! - **Pivots are mended where an item goes**, at about one comparison a block. Where items come, a
-//!   flush merges them into the order of the candidates, at one comparison a candidate, and the
-//!   pivots are what each block then has of these. `Shared::pivot_anew` counts them from the blocks
-//!   alone, and its contract is that of `pivot`.
+//! - **Candidates are ranked when they are asked for.** A deletion that picks index i ranks the items up to
+//!   that one, at one comparison a block each, and they stay ranked until items come: two bytes for each, its
+//!   block and its owner, so that the next deletions find them without a comparison, and the first of an
+//!   owner's by its byte. A flush forgets them and ranks the least item, so it costs one comparison a
+//!   block whatever k is. `Shared::pivot` and `Shared::candidate` search anew, for tests and readers.
 #![tactic(auto)]
 
 mod appending;
 mod choice;
 mod flushing;
+mod known;
 pub mod laws;
 mod leaving;
 mod local;
 mod mending;
-mod merging;
 mod part;
 mod picker;
 mod queue;

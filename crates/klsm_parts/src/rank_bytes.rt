@@ -95,11 +95,20 @@ impl RankBytes {
         self.start += count;
     }
 
+    /// Takes all bytes out. None moves.
+    #[inline]
+    pub(crate) fn clear(&mut self)
+        ensures { self.new.items ≡ [] }
+    {
+        self.start = 0;
+        self.end = 0;
+    }
+
     /// Each byte above another becomes one less.
     pub(crate) fn close_up(&mut self, below: u8)
         ensures { self.new.items ≡ map (place_after_cut below) self.old.items }
     {
-        lower(&mut self.places, below);
+        lower(&mut self.places[self.start..self.end], below);
     }
 }
 

@@ -1,4 +1,4 @@
-//! The candidates of the shared part in their order: the block of each, and a byte of its owner.
+//! The first candidates of the shared part in their order: the block of each, and a byte of its owner.
 ghost use Rattle.std.specs.Prelude.{◌≡◌, ◌+◌, ◌%◌, ◌<◌, ◌≤◌, ◌↔◌, ◌++◌, ◌∷◌, ℕ, [], length, map, drop, remove, slice_get, slice_index_or, count_by, nat_eq, Some, IfSome, IsTrue};
 ghost use Rattle.klsm_run.specs.declared.limits.TheConstants.{MOST_K};
 ghost use Rattle.klsm_run.specs.Content.{sorted};
@@ -11,28 +11,21 @@ use crate::ranks::{Place, Ranked};
 use klsm_lsm::Lsm;
 use klsm_run::{Item, Run};
 
-/// What is known of the least items, so that a deletion need not search for them.
-#[derive(Drop)]
-pub(crate) struct LeastItems {
-    /// The least item, if there is one. A look at it needs no access to a block.
-    pub(crate) first: Option<Item>,
-    pub(crate) ranking: Ranking,
-}
-
-/// The blocks of the candidates and who inserted these, in their order.
+/// The blocks of the least items and who inserted these, in their order: of as many as deletions asked for since the last
+/// flush.
 ///
-/// Since a block is in ascending order, a candidate's index there is the number of candidates before it that are of the same
+/// Since a block is in ascending order, an item's index there is the number of items before it that are of the same
 /// block.
 #[derive(Drop)]
 pub(crate) struct Ranking {
-    // With room for the k+1 candidates.
+    // With room for k+1 items.
     pub(crate) blocks: RankBytes,
     // The low bytes of the owners, so that a search for an owner's candidate reads no other item.
     pub(crate) owners: RankBytes,
 }
 
 impl Ranking {
-    /// No candidate.
+    /// No item.
     pub(crate) fn new() -> Self
         ensures blocks { result.blocks.items ≡ [] }
         ensures owners { result.owners.items ≡ [] }
@@ -43,7 +36,7 @@ impl Ranking {
         }
     }
 
-    /// The number of candidates.
+    /// How many items are ranked.
     #[inline]
     pub(crate) fn len(&self) -> usize
         ensures { result ≡ length self.now.blocks.items }
@@ -51,7 +44,7 @@ impl Ranking {
         self.blocks.len()
     }
 
-    /// The candidate of a rank, and where it stands. It costs a look at the bytes of the ranking before it.
+    /// The item of a rank, and where it stands. It costs a look at the bytes of the ranking before it.
     #[inline]
     pub(crate) fn place<R: Run, const LEVELS: usize>(
         &self,
@@ -74,7 +67,7 @@ impl Ranking {
         Place { block, index, item }
     }
 
-    /// The least candidate, if there is one.
+    /// The least item, if there is one.
     #[inline]
     pub(crate) fn least<R: Run, const LEVELS: usize>(&self, lsm: &Lsm<R, LEVELS>) -> Option<Item>
         requires lawful { IsLsm lsm.now }
@@ -88,7 +81,7 @@ impl Ranking {
         Some(self.place(lsm, 0).item)
     }
 
-    /// Of the candidates up to one of a rank, the rank of the first that an owner inserted, and of that one where there is none.
+    /// Of the items up to one of a rank, the rank of the first that an owner inserted, and of that one where there is none.
     /// It costs a look at a byte for each, and reads an item only where the byte is the owner's.
     pub(crate) fn own_first<R: Run, const LEVELS: usize>(
         &self,
@@ -110,7 +103,7 @@ impl Ranking {
         rank
     }
 
-    // Whether an owner inserted the candidate of a rank. Where the low bytes differ, no item is read.
+    // Whether an owner inserted the item of a rank. Where the low bytes differ, no item is read.
     #[inline]
     fn is_owned<R: Run, const LEVELS: usize>(
         &self,
@@ -128,7 +121,7 @@ impl Ranking {
             && self.place(lsm, rank).item.stamp.owner == owner
     }
 
-    /// One candidate more, the next after those that are known.
+    /// One item more, the next after those that are ranked.
     #[inline]
     pub(crate) fn push(&mut self, next: Ranked)
         requires room { length self.old.blocks.items < MOST_K + 1 }
@@ -141,7 +134,7 @@ impl Ranking {
         self.owners.push(low_byte(next.owner));
     }
 
-    /// The candidate of a rank leaves.
+    /// The item of a rank leaves.
     #[inline]
     pub(crate) fn remove(&mut self, rank: usize)
         requires rank { rank < length self.old.blocks.items }
@@ -153,7 +146,7 @@ impl Ranking {
         self.owners.remove(rank);
     }
 
-    /// The first candidates leave, so many of them.
+    /// The first items leave, so many of them.
     #[inline]
     pub(crate) fn remove_first(&mut self, count: usize)
         requires count { count ≤ length self.old.blocks.items }
@@ -163,6 +156,16 @@ impl Ranking {
     {
         self.blocks.remove_first(count);
         self.owners.remove_first(count);
+    }
+
+    /// No item is ranked any more. Nothing moves, and the store is not written.
+    #[inline]
+    pub(crate) fn clear(&mut self)
+        ensures blocks { self.new.blocks.items ≡ [] }
+        ensures owners { self.new.owners.items ≡ [] }
+    {
+        self.blocks.clear();
+        self.owners.clear();
     }
 
     /// The block behind another has the place of that.

@@ -75,6 +75,18 @@ pub(crate) fn pivots_of<R: Run, const LEVELS: usize>(
     pivots
 }
 
+/// The item of a rank. It costs `rank + 1` comparisons a block.
+pub(crate) fn item_of_rank<R: Run, const LEVELS: usize>(lsm: &Lsm<R, LEVELS>, rank: usize) -> Item
+    requires levels { IsLevelCount LEVELS }
+    requires lawful { IsLsm lsm.now }
+    requires rank { rank < length (content lsm.now) }
+    ensures { slice_get (sorted (content lsm.now)) rank ≡ Some result }
+{
+    let pivots = pivots_of(lsm, rank);
+    let block = least_unmarked(lsm, pivots.as_slice());
+    lsm.block(block).item_at(pivots.as_slice()[block])
+}
+
 /// Marks one item more, the least of those that are not marked, and answers its block and its owner. It costs one comparison a
 /// block.
 pub(crate) fn mark_least<R: Run, const LEVELS: usize>(

@@ -12,11 +12,10 @@ ghost use Rattle.klsm_parts.specs.Taking.{own_first};
 ghost use Rattle.klsm_parts.specs.Parts.{PartState, IsShared, items_in, least_in, candidates_of};
 
 use crate::appending::append_blocks;
-use crate::leaving::{copy_least, cut_block, cut_blocks, rank_candidates};
-use crate::mending::unite_pivots;
-use crate::merging::{Merging, merged};
-use crate::ranking::{LeastItems, Ranking};
-use crate::ranks::{Place, pivots_of};
+use crate::known::{LeastItems, know_least, rank_up_to};
+use crate::leaving::{copy_least, cut_block, cut_blocks};
+use crate::ranking::Ranking;
+use crate::ranks::{Place, item_of_rank, none_of, pivots_of};
 use arrayvec::ArrayVec;
 use klsm_lsm::{Lsm, LsmError};
 use klsm_run::{HeapRun, Item, Run};
@@ -24,14 +23,17 @@ use std::alloc::{AllocError, Allocator, Global};
 use std::fmt;
 use std::marker::Model;
 
-/// The part that all members share: an LSM whose blocks take memory, with a pivot for each block.
-/// The least k+1 of its items, or all where there are fewer, are the candidates of a deletion, and
-/// a block's pivot is how many of them it has.
+/// The part that all members share: an LSM whose blocks take memory. The least k+1 of its items, or
+/// all where there are fewer, are the candidates of a deletion, and a block's pivot is how many of
+/// them it has.
+///
+/// It keeps the least item, and the first candidates in their order, as many as deletions asked for. A flush
+/// forgets all but the least one, so it costs the same whatever k is.
 #[derive(Drop)]
 pub struct Shared<const LEVELS: usize, A: Allocator + Copy = Global> {
     lsm: Lsm<HeapRun<A>, LEVELS>,
     k: usize,
-    // How many of each block's first items are candidates.
+    // How many of each block's first items are ranked.
     pivots: ArrayVec<usize, LEVELS>,
     least: LeastItems,
     alloc: A,
@@ -132,18 +134,9 @@ impl<const LEVELS: usize, A: Allocator + Copy> Shared<LEVELS, A> {
         append_blocks(&self.lsm, all)
     }
 
-    /// How many candidates block `block` has. They are its first items.
+    /// How many candidates block `block` has. They are its first items. They are counted at each call, at
+    /// `k + 1` comparisons a block: no other call needs it.
     pub fn pivot(&self, block: usize) -> usize
-        requires { block < length self.now.blocks }
-        ensures exact { IsPivotAt (self.now.k + 1) self.now.blocks block result }
-        ensures counts { result ≡ count_in_least (self.now.k + 1) (content self.now.blocks)
-            (slice_index_or self.now.blocks block []) }
-    {
-        self.pivots.as_slice()[block]
-    }
-
-    /// The same as `pivot`, counted anew. It costs `k + 1` comparisons a block.
-    pub fn pivot_anew(&self, block: usize) -> usize
         requires { block < length self.now.blocks }
         ensures exact { IsPivotAt (self.now.k + 1) self.now.blocks block result }
         ensures counts { result ≡ count_in_least (self.now.k + 1) (content self.now.blocks)
@@ -159,33 +152,30 @@ impl<const LEVELS: usize, A: Allocator + Copy> Shared<LEVELS, A> {
         (self.k + 1).min(self.lsm.len())
     }
 
-    /// Candidate `index`, counted from the least. It costs a look at one byte for each candidate
-    /// before it.
+    /// Candidate `index`, counted from the least. It is searched for at each call, at `index + 1`
+    /// comparisons a block: a deletion finds its own from what is ranked.
     pub fn candidate(&self, index: usize) -> Item
         requires { index < length (candidates_of self.now) }
         ensures { slice_get (candidates_of self.now) index ≡ Some result }
     {
-        self.place_of_candidate(index).item
+        item_of_rank(&self.lsm, index)
     }
 
-    // A candidate, and where it stands.
-    pub(crate) fn place_of_candidate(&self, index: usize) -> Place
-        requires { index < length (candidates_of self.now) }
-        ensures block { result.block < length self.now.blocks }
-        ensures index { slice_get (slice_index_or self.now.blocks result.block []) result.index
-            ≡ Some result.item }
-        ensures candidate { slice_get (candidates_of self.now) index ≡ Some result.item }
+    // Of the candidates up to one, the first that an owner inserted, or that one where there is none: where it stands, and
+    // its index. Those up to that one which are not ranked yet are ranked first.
+    pub(crate) fn own_first(&mut self, owner: u32, index: usize) -> (Place, usize)
+        requires { index < length (candidates_of self.old) }
+        ensures same { self.new ≡ self.old }
+        ensures first { result.1 ≡ own_first owner index (candidates_of self.old) }
+        ensures block { result.0.block < length self.old.blocks }
+        ensures index { slice_get (slice_index_or self.old.blocks result.0.block []) result.0.index
+            ≡ Some result.0.item }
+        ensures candidate { slice_get (candidates_of self.old) result.1 ≡ Some result.0.item }
     {
-        self.least.ranking.place(&self.lsm, index)
-    }
-
-    // Of the candidates up to one, the index of the first that an owner inserted, and of that one where there is none.
-    pub(crate) fn own_first(&self, owner: u32, index: usize) -> usize
-        requires { index < length (candidates_of self.now) }
-        ensures first { result ≡ own_first owner index (candidates_of self.now) }
-        ensures at_most { result ≤ index }
-    {
-        self.least.ranking.own_first(&self.lsm, owner, index)
+        let ranking = &mut self.least.ranking;
+        rank_up_to(&self.lsm, &mut self.pivots, ranking, index + 1);
+        let rank = ranking.own_first(&self.lsm, owner, index);
+        (ranking.place(&self.lsm, rank), rank)
     }
 
     // Puts a copy of a run in. What can be refused comes first, and Full before a growth.
@@ -199,23 +189,13 @@ impl<const LEVELS: usize, A: Allocator + Copy> Shared<LEVELS, A> {
             < length (content self.old.blocks) + length (R.items run.now)) }
         ensures unchanged { OnErr result (self.new ≡ self.old) }
     {
-        let merged = merged(&self.least.ranking, &self.lsm, run, self.k);
         match self.lsm.absorb_copy(self.alloc, run) {
             Ok(()) => {
-                let Merging {
-                    cascade,
-                    ranking,
-                    mut pivots,
-                    of_run,
-                } = merged;
-                // For the proof: there is a pivot's place for each block.
-                let _known = self.lsm.blocks();
-                unite_pivots(&mut pivots, cascade.first, cascade.count, of_run);
-                self.pivots = pivots;
-                self.least = LeastItems {
-                    first: ranking.least(&self.lsm),
-                    ranking,
-                };
+                // Items that came may lie between those that were ranked.
+                let none = none_of(&self.lsm);
+                self.pivots = none;
+                self.least.ranking.clear();
+                know_least(&self.lsm, &mut self.pivots, &mut self.least);
                 Ok(())
             }
             Err(why) => Err(why),
@@ -229,11 +209,12 @@ impl<const LEVELS: usize, A: Allocator + Copy> Shared<LEVELS, A> {
         ensures taken { places.new ≡ take (length places.old) (items_in self.old) }
         ensures left { items_in self.new ≡ drop (length places.old) (items_in self.old) }
     {
-        let counts = copy_least(&self.least.ranking, &self.lsm, places);
         let ranking = &mut self.least.ranking;
+        rank_up_to(&self.lsm, &mut self.pivots, ranking, places.len());
+        let counts = copy_least(ranking, &self.lsm, places);
         ranking.remove_first(places.len());
         cut_blocks(&mut self.lsm, &mut self.pivots, ranking, counts.as_slice());
-        rank_candidates(&self.lsm, &mut self.pivots, &mut self.least, self.k);
+        know_least(&self.lsm, &mut self.pivots, &mut self.least);
     }
 
     // Takes the candidate of a rank out, which is item `index` of block `block`.
@@ -246,9 +227,10 @@ impl<const LEVELS: usize, A: Allocator + Copy> Shared<LEVELS, A> {
             ≡ record { k = self.old.k; blocks = cut self.old.blocks block index } }
     {
         let ranking = &mut self.least.ranking;
+        rank_up_to(&self.lsm, &mut self.pivots, ranking, rank + 1);
         ranking.remove(rank);
         cut_block(&mut self.lsm, &mut self.pivots, ranking, block, index, 1);
-        rank_candidates(&self.lsm, &mut self.pivots, &mut self.least, self.k);
+        know_least(&self.lsm, &mut self.pivots, &mut self.least);
     }
 }
 

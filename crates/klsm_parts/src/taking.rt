@@ -17,8 +17,9 @@ use std::alloc::Allocator;
 /// first before it that `owner` inserted, if there is one. `None` where both parts are empty.
 ///
 /// What it takes skips at most k items of the two parts, and none that `owner` inserted. It takes no
-/// memory. It costs one comparison a block of the own part and, where a shared item goes, one a block
-/// of the shared one and a look at a byte of each candidate before the one that goes.
+/// memory. It costs one comparison a block of the own part and, where a shared item goes, a look at a byte
+/// of each candidate before the one that goes, and one comparison a block of the shared part for each
+/// candidate up to the picked one that no deletion asked for since the last flush, and one at least.
 pub fn take<const CAP: usize, const LEVELS: usize, A: Allocator + Copy, P: Picker>(
     owner: u32,
     own: &mut Local<CAP>,
@@ -65,30 +66,31 @@ pub fn take<const CAP: usize, const LEVELS: usize, A: Allocator + Copy, P: Picke
 }
 
 // The candidate to take, and how many candidates are smaller. `None` where the least own item is to be taken, if there is one.
+// The part stays as it is, and has more items ranked.
 fn choose<const LEVELS: usize, A: Allocator + Copy, P: Picker>(
     owner: u32,
     least_own: Option<Item>,
-    shared: &Shared<LEVELS, A>,
+    shared: &mut Shared<LEVELS, A>,
     picker: &mut P,
 ) -> Option<(Place, usize)>
-    ensures unasked { picks least_own (least_in shared.now) ≡ false
+    ensures same { shared.new ≡ shared.old }
+    ensures unasked { picks least_own (least_in shared.old) ≡ false
         → (picker.new ≡ picker.old) × (result ≡ None) }
-    ensures asked { IsTrue (picks least_own (least_in shared.now))
-        → IsPicked P.may_pick picker.old picker.new owner (candidates_of shared.now)
+    ensures asked { IsTrue (picks least_own (least_in shared.old))
+        → IsPicked P.may_pick picker.old picker.new owner (candidates_of shared.old)
         (λ candidate. option_map (λ chosen. chosen.0.item) result
         ≡ unless_smaller candidate least_own) }
-    ensures place { IfSome result (λ chosen. (chosen.0.block < length shared.now.blocks)
-        × (slice_get (slice_index_or shared.now.blocks chosen.0.block []) chosen.0.index
+    ensures place { IfSome result (λ chosen. (chosen.0.block < length shared.old.blocks)
+        × (slice_get (slice_index_or shared.old.blocks chosen.0.block []) chosen.0.index
         ≡ Some chosen.0.item)
-        × (slice_get (candidates_of shared.now) chosen.1 ≡ Some chosen.0.item)) }
+        × (slice_get (candidates_of shared.old) chosen.1 ≡ Some chosen.0.item)) }
 {
     let least = shared.least()?;
     if is_smaller_own(least_own, least) {
         return None;
     }
     let index = picker.pick(shared.candidates());
-    let rank = shared.own_first(owner, index);
-    let candidate = shared.place_of_candidate(rank);
+    let (candidate, rank) = shared.own_first(owner, index);
     if is_smaller_own(least_own, candidate.item) {
         return None;
     }

@@ -114,14 +114,14 @@ fn has_blocks<R: Run, const LEVELS: usize>(lsm: &Lsm<R, LEVELS>, blocks: &[Vec<I
     true
 }
 
-// Whether each pivot, as it is kept and as it is counted anew, marks the block's candidates.
+// Whether each pivot marks the block's candidates.
 fn has_pivots(shared: &RationedShared, blocks: &[Vec<Item>], candidates: &[Item]) -> bool {
     if shared.lsm().blocks() != blocks.len() {
         return false;
     }
     for (index, block) in blocks.iter().enumerate() {
         let want = marked(block.as_slice(), candidates);
-        if shared.pivot(index) != want || shared.pivot_anew(index) != want {
+        if shared.pivot(index) != want {
             return false;
         }
     }

@@ -1,4 +1,4 @@
-use Rattle.std.proofs.Common.{◌≡◌, ◌<◌, true, false, length, refl, sym, ap, subst, ◌∙◌, arith, rules}
+use Rattle.std.proofs.Common.{◌≡◌, true, false, refl, sym, ap, subst, ◌∙◌, rules}
 use Rattle.std.specs.List.{slice_get}
 use Rattle.klsm_lsm.specs.Lsm.{content}
 use Rattle.klsm_parts.specs.Parts.{candidates_of}
@@ -29,9 +29,9 @@ pub returns-then-is_smaller_own-2-clause-asked : goal.returns-then-is_smaller_ow
 returns-then-is_smaller_own-2-clause-asked g c asked = record {
   index = c.pick-index.result;
   picked = rw (← c.candidates.ensures) c.pick-index.ensures.picked;
-  candidate = c.place_of_candidate-candidate.result.item;
-  found = ap (slice_get (candidates_of c.args.shared.now)) (sym c.own_first-rank.ensures.first) ∙ c.place_of_candidate-candidate.ensures.candidate;
-  follows = own_goes _ c.place_of_candidate-candidate.result.item c.is_smaller_own-2.result c.is_smaller_own-2.ensures c.if-is_smaller_own-2.true;
+  candidate = c.own_first-rank.result.0.item;
+  found = ap (slice_get (candidates_of c.args.shared.now)) (sym c.own_first-rank.ensures.first) ∙ c.own_first-rank.ensures.candidate;
+  follows = own_goes _ c.own_first-rank.result.0.item c.is_smaller_own-2.result c.is_smaller_own-2.ensures c.if-is_smaller_own-2.true;
 }
 
 pub returns-clause-unasked : goal.returns-clause-unasked
@@ -45,14 +45,14 @@ pub returns-clause-asked : goal.returns-clause-asked
 returns-clause-asked g c asked = record {
   index = c.pick-index.result;
   picked = rw (← c.candidates.ensures) c.pick-index.ensures.picked;
-  candidate = c.place_of_candidate-candidate.result.item;
-  found = ap (slice_get (candidates_of c.args.shared.now)) (sym c.own_first-rank.ensures.first) ∙ c.place_of_candidate-candidate.ensures.candidate;
-  follows = candidate_goes _ c.place_of_candidate-candidate.result.item c.is_smaller_own-2.result c.is_smaller_own-2.ensures c.if-is_smaller_own-2.false;
+  candidate = c.own_first-rank.result.0.item;
+  found = ap (slice_get (candidates_of c.args.shared.now)) (sym c.own_first-rank.ensures.first) ∙ c.own_first-rank.ensures.candidate;
+  follows = candidate_goes _ c.own_first-rank.result.0.item c.is_smaller_own-2.result c.is_smaller_own-2.ensures c.if-is_smaller_own-2.false;
 }
 
 pub returns-clause-place : goal.returns-clause-place
 returns-clause-place g c =
-    (c.place_of_candidate-candidate.ensures.block, c.place_of_candidate-candidate.ensures.index, c.place_of_candidate-candidate.ensures.candidate)
+    (c.own_first-rank.ensures.block, c.own_first-rank.ensures.index, c.own_first-rank.ensures.candidate)
 
 pub least-requires : goal.least-requires
 least-requires g c = search
@@ -71,11 +71,6 @@ candidates-requires g c = search
 
 pub is_smaller_own-requires-2 : goal.is_smaller_own-requires-2
 is_smaller_own-requires-2 g c = search
-
-pub place_of_candidate-candidate-requires : goal.place_of_candidate-candidate-requires
-place_of_candidate-candidate-requires g c =
-    let below : c.pick-index.result < length (candidates_of c.args.shared.now) = rw (← c.candidates.ensures) c.pick-index.ensures.below in
-    (search, omega (arith, c.own_first-rank.ensures.at_most, below))
 
 pub own_first-rank-requires : goal.own_first-rank-requires
 own_first-rank-requires g c = (search, rw (← c.candidates.ensures) c.pick-index.ensures.below)
@@ -99,3 +94,15 @@ returns-then-is_smaller_own-clause-place g c = tt
 
 pub returns-then-is_smaller_own-2-clause-place : goal.returns-then-is_smaller_own-2-clause-place
 returns-then-is_smaller_own-2-clause-place g c = tt
+
+pub returns-in_err-least-clause-same : goal.returns-in_err-least-clause-same
+returns-in_err-least-clause-same g c = refl
+
+pub returns-then-is_smaller_own-clause-same : goal.returns-then-is_smaller_own-clause-same
+returns-then-is_smaller_own-clause-same g c = refl
+
+pub returns-then-is_smaller_own-2-clause-same : goal.returns-then-is_smaller_own-2-clause-same
+returns-then-is_smaller_own-2-clause-same g c = c.own_first-rank.ensures.same
+
+pub returns-clause-same : goal.returns-clause-same
+returns-clause-same g c = c.own_first-rank.ensures.same

@@ -25,12 +25,12 @@ returns-in-Some-clause-asked g c asked =
 
 pub returns-in-Some-clause-left : goal.returns-in-Some-clause-left
 returns-in-Some-clause-left g c =
-    let rest = c.remove.ensures in
+    let rest = rw c.choose.ensures.same at c.remove.ensures in
     (refl, ap (λ (p : PartState). p.k) rest, inr ((c.in-Some.place.block, c.in-Some.place.index, c.in-Some.ensures.place.1, ap (λ (p : PartState). p.blocks) rest), refl))
 
 pub returns-in-Some-clause-nothing : goal.returns-in-Some-clause-nothing
 returns-in-Some-clause-nothing g c =
-    let rest = c.remove.ensures in
+    let rest = rw c.choose.ensures.same at c.remove.ensures in
     let gone : IsCutFrom c.in-Some.place.item c.args.shared.now.blocks c.remove.new.self.blocks = (c.in-Some.place.block, c.in-Some.place.index, c.in-Some.ensures.place.1, ap (λ (p : PartState). p.blocks) rest) in
     (λ bad. cc, λ none. absurd (some_cut c.args.shared.now.blocks c.remove.new.self.blocks c.in-Some.place.item gone none.shared_empty))
 
@@ -38,7 +38,7 @@ pub returns-in-Some-clause-event : goal.returns-in-Some-clause-event
 returns-in-Some-clause-event g c =
     let own_is = c.item_of.ensures ∙ c.least_place-least_own.ensures.item in
     let own_asked = asked_of g.P.Picker.may_pick c.args.picker.now c.choose.new.picker c.args.owner (candidates_of c.args.shared.now) (least_in c.args.shared.now) _ _ (least_in c.args.own.now) own_is c.in-Some.ensures.asked in
-    let rest = c.remove.ensures in
+    let rest = rw c.choose.ensures.same at c.remove.ensures in
     let gone : IsCutFrom c.in-Some.place.item c.args.shared.now.blocks c.remove.new.self.blocks = (c.in-Some.place.block, c.in-Some.place.index, c.in-Some.ensures.place.1, ap (λ (p : PartState). p.blocks) rest) in
     let taken = chosen_may_go g.P.Picker.may_pick c.args.picker.now c.choose.new.picker c.args.shared.now.k c.args.owner (content c.args.own.now.blocks) (content c.args.shared.now.blocks) c.in-Some.place.item (λ unasked. let bad = (c.in-Some.ensures.unasked (ap (λ o. picks o (least_in c.args.shared.now)) own_is ∙ unasked)).1 in cc) own_asked in
     let absent : Contains (content c.args.own.now.blocks) c.in-Some.place.item → ⊥ = λ in_own. c.requires.apart c.in-Some.place.item in_own (contains_cut c.args.shared.now.blocks c.remove.new.self.blocks c.in-Some.place.item gone) in
@@ -96,7 +96,7 @@ returns-in_ok-least-in-None-clause-event g c =
     let own_asked = asked_of g.P.Picker.may_pick c.args.picker.now c.choose.new.picker c.args.owner (candidates_of c.args.shared.now) (least_in c.args.shared.now) _ _ (least_in c.args.own.now) own_is c.in-None.ensures.asked in
     let taken = own_may_go g.P.Picker.may_pick c.args.picker.now c.choose.new.picker c.args.shared.now.k c.args.owner (content c.args.own.now.blocks) (content c.args.shared.now.blocks) c.remove-in-None.result c.remove-in-None.ensures.least own_asked in
     let within = contains_cut c.args.own.now.blocks c.remove-in-None.new.self.blocks c.remove-in-None.result c.remove-in-None.ensures.cut in
-    (may_take_sorted c.args.own.now.k c.args.owner (content c.args.own.now.blocks) (content c.args.shared.now.blocks) c.remove-in-None.result (rw c.requires.same_k taken), cut_is_taken c.args.own.now.blocks c.remove-in-None.new.self.blocks c.remove-in-None.result c.remove-in-None.ensures.cut, shared_stays c.args.own.now.blocks c.args.shared.now.blocks c.remove-in-None.result within)
+    (may_take_sorted c.args.own.now.k c.args.owner (content c.args.own.now.blocks) (content c.args.shared.now.blocks) c.remove-in-None.result (rw c.requires.same_k taken), cut_is_taken c.args.own.now.blocks c.remove-in-None.new.self.blocks c.remove-in-None.result c.remove-in-None.ensures.cut, ap items_in c.choose.ensures.same ∙ shared_stays c.args.own.now.blocks c.args.shared.now.blocks c.remove-in-None.result within)
 
 pub returns-in_ok-least-in-None-clause-skips : goal.returns-in_ok-least-in-None-clause-skips
 returns-in_ok-least-in-None-clause-skips g c =
@@ -106,7 +106,7 @@ returns-in_ok-least-in-None-clause-skips g c =
     take_skips_few c.args.own.now.k (items_in c.args.own.now) (items_in c.args.shared.now) c.remove-in-None.result (may_take_sorted c.args.own.now.k c.args.owner (content c.args.own.now.blocks) (content c.args.shared.now.blocks) c.remove-in-None.result (rw c.requires.same_k taken)).in_reach
 
 pub returns-in_ok-least-in-None-clause-left : goal.returns-in_ok-least-in-None-clause-left
-returns-in_ok-least-in-None-clause-left g c = (c.remove-in-None.ensures.k, refl, inl (c.remove-in-None.ensures.cut, refl))
+returns-in_ok-least-in-None-clause-left g c = (c.remove-in-None.ensures.k, ap (λ (p : PartState). p.k) c.choose.ensures.same, inl (c.remove-in-None.ensures.cut, ap (λ (p : PartState). p.blocks) c.choose.ensures.same))
 
 pub choose-requires : goal.choose-requires
 choose-requires g c = search
@@ -118,7 +118,7 @@ pub remove-requires : goal.remove-requires
 remove-requires g c =
     let place = c.in-Some.place in
     let found = c.in-Some.ensures.place in
-    (search, (found.0, (slice_get_within (get_or c.args.shared.now.blocks place.block []) place.index place.item found.1, found.1 ∙ sym found.2)))
+    (search, rw c.choose.ensures.same (found.0, (slice_get_within (get_or c.args.shared.now.blocks place.block []) place.index place.item found.1, found.1 ∙ sym found.2)))
 
 pub remove-requires-in-None : goal.remove-requires-in-None
 remove-requires-in-None g c =
@@ -128,7 +128,7 @@ remove-requires-in-None g c =
     (search, (found.place.0, (within, found.place.1 ∙ found.item)))
 
 pub returns-in_err-least-in-None-clause-left : goal.returns-in_err-least-in-None-clause-left
-returns-in_err-least-in-None-clause-left g c = rw c.from_residual.ensures (refl, refl)
+returns-in_err-least-in-None-clause-left g c = rw c.from_residual.ensures (refl, c.choose.ensures.same)
 
 pub returns-in_err-least-in-None-clause-event : goal.returns-in_err-least-in-None-clause-event
 returns-in_err-least-in-None-clause-event g c = rw c.from_residual.ensures tt
