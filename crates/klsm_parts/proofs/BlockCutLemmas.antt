@@ -2,7 +2,7 @@
 use Rattle.std.proofs.Common.{◌≡◌, ◌≢◌, ℕ, ◌+◌, ◌-◌, ◌<◌, ◌≤◌, ◌==◌, ◌↔◌, ◌||◌, ◌⊎◌, Bool, true, false, List, [], ◌∷◌, ◌++◌, length, map, get_or, set, remove, take, drop, min, sum, refl, sym, ap, ◌∙◌, subst, arith, zero, suc, inl, inr, IsTrue, Some}
 use Rattle.std.specs.List.{AllByRecursion, Contains, slice_get}
 use Rattle.std.proofs.lemmas.Bool.{false≢true, cases_lt, cases_eq, eq-eqb, ne_eqb}
-use Rattle.std.proofs.lemmas.List.{append-nil, drop_more, drop-set, drop-set-lt, take-set, length-append, length-map, length-set, length-take-le, take_all, take-append-le, take-set-le, get_or-set_same, get_or-set_other, nil_from_length}
+use Rattle.std.proofs.lemmas.List.{drop-set-lt, take-set, length-append, length-map, length-set, length-take-le, take_all, take-append-le, take-set-le, get_or-set_same, get_or-set_other, nil_from_length}
 use Rattle.std.proofs.lemmas.List.Edits.{length-remove}
 use Rattle.std.proofs.lemmas.List.Elements.{Contains-append_left, Contains-append_right}
 use Rattle.std.proofs.lemmas.List.Sums.{sum_by-set, sum_by-remove}
@@ -15,19 +15,20 @@ use Rattle.klsm_run.proofs.IndexLemmas.{at_each, slice_get-drop, slice_get-take}
 use Rattle.klsm_run.proofs.RankLemmas.{least_skip_few}
 use Rattle.klsm_lsm.specs.Lsm.{content, IsLsm}
 use Rattle.klsm_lsm.specs.Adding.{without_items, cut_items}
-use Rattle.klsm_lsm.specs.Places.{JoinsNext, united, cut_together}
+use Rattle.klsm_lsm.specs.Places.{JoinsNext, cut_together}
 use Rattle.klsm_lsm.proofs.ContentLemmas.{ascending_content}
 use Rattle.klsm_lsm.proofs.CutLemmas.{length_without, length_cut}
 use Rattle.klsm_lsm.proofs.FallLemmas.{cut_joins, cut_is_alone}
 use Rattle.klsm_parts.specs.Least.{least}
-use Rattle.klsm_parts.specs.Mending.{united_pivots, fewer_marked, cut_pivots, closed_up, IsBlockCut}
+use Rattle.klsm_parts.specs.Mending.{joined_pivots, fewer_marked, cut_pivots, closed_up, IsBlockCut}
 use Rattle.klsm_parts.specs.Pivots.{unmarked, AreWithin, ArePivots}
 use Rattle.klsm_parts.specs.Ranking.{AreInBlocks, AreRanked, AreOwners, place_after_cut}
 use Rattle.klsm_parts.proofs.FoundLemmas.{one_each}
 use Rattle.klsm_parts.proofs.MarkedLemmas.{pivot_in_block}
-use Rattle.klsm_parts.proofs.MendLemmas.{AreSplit, AreApart, split_unmarked, split_within, split_fewer, split_remove, split_united, sum_united, count_marked, pivots_if_split, split_if_pivots, SkipsFew, SkipsMany, skips_apart}
+use Rattle.klsm_parts.proofs.MendLemmas.{AreSplit, AreApart, split_unmarked, split_within, split_fewer, split_remove, split_joined, count_marked, pivots_if_split, split_if_pivots, SkipsFew, SkipsMany, skips_apart}
 use Rattle.klsm_parts.proofs.OwnerLemmas.{owners_remove}
 use Rattle.klsm_parts.proofs.PivotLemmas.{length_marked}
+use Rattle.klsm_parts.proofs.PivotListLemmas.{sum_joined}
 use Rattle.klsm_parts.proofs.RankingCutLemmas.{IsCandidateAt, contains_other, in_one, in_others, new_if_removed, ranking_map, ranking_remove, sorted_after_cut}
 
 abbrev Blocks : Type 0
@@ -59,16 +60,13 @@ before_pivot n bs ps j i rank x lsm pivots at below among = elim (cases_lt i (ge
         at_each Q (drop q d) (k - q) y (all_front Q (drop q d) (content (unmarked cs qs)) all) (slice_get-drop q d (k - q) ∙ (ap (λ m. slice_get d m) whole ∙ found))
     at_unmarked Q (d ∷ cs) (q ∷ qs) (suc b) k y within all behind found = at_unmarked Q cs qs b k y within.1 (all_back Q (drop q d) (content (unmarked cs qs)) all) behind found
 
--- a block and the next, as one
-set_together : (bs : List (List Item)) (at : ℕ) (x : List Item) → at + 1 < length bs → united (set bs at x) at 2 [] ≡ take at bs ++ sorted (x ++ get_or bs (at + 1) []) ∷ drop (at + 2) bs
+-- a block that was changed and the next, as one
+set_together : (bs : List (List Item)) (at : ℕ) (x : List Item) → at + 1 < length bs
+    → take at (set bs at x) ++ sorted (get_or (set bs at x) at [] ++ get_or (set bs at x) (at + 1) []) ∷ drop (at + 2) (set bs at x) ≡ take at bs ++ sorted (x ++ get_or bs (at + 1) []) ∷ drop (at + 2) bs
 set_together bs at x within =
-    let y = get_or bs (at + 1) [] in
-    let two : take 2 (drop at (set bs at x)) ≡ x ∷ y ∷ [] = ap (take 2) (drop-set bs at x (omega (arith, within)) ∙ ap (λ cs. x ∷ cs) (drop_more bs (at + 1) [] within)) in
-    let one : sorted (content (take 2 (drop at (set bs at x))) ++ []) ≡ sorted (x ++ y) =
-    ap (λ cs. sorted (content cs ++ [])) two ∙ (ap sorted (append-nil (x ++ (y ++ []))) ∙ ap (λ ys. sorted (x ++ ys)) (append-nil y)) in
-    ap (λ cs. cs ++ sorted (content (take 2 (drop at (set bs at x))) ++ []) ∷ drop (at + 2) (set bs at x)) (take-set bs at x)
-    ∙ (ap (λ b. take at bs ++ b ∷ drop (at + 2) (set bs at x)) one
-    ∙ ap (λ cs. take at bs ++ sorted (x ++ y) ∷ cs) (drop-set-lt (at + 2) bs at x (omega arith)))
+    let here = get_or-set_same bs at x [] (omega (arith, within)) in
+    let next = get_or-set_other bs at (at + 1) x [] (λ same. absurd (omega (arith, same))) in
+    rw (here, next, take-set bs at x, drop-set-lt (at + 2) bs at x (omega arith)) refl
 
 -- they count so many less
 sum_fewer : (ps : List ℕ) (at c : ℕ) → at < length ps → c ≤ get_or ps at 0 → sum (fewer_marked ps at c) + c ≡ sum ps
@@ -136,20 +134,20 @@ mended_gone P Q R xs at from c now pivots left here fewer size split ranking all
 
 -- where it joined the next
 mended_joined : (P Q R : Item → Type 0) (xs : List Item) (at from c : ℕ) (now : Blocks) (pivots left : List ℕ) → AreApart P Q → at + 1 < length now → from + c ≤ get_or pivots at 0 → AreSplit P Q now pivots → AreInBlocks now xs left → AllByRecursion R xs
-    → ((y : Item) → R y → Contains (get_or now at []) y → Contains (without_items (get_or now at []) from c) y) → IsMendedAt P Q xs at c now (cut_together now at from c) pivots (united_pivots (fewer_marked pivots at c) at 2 0) left (map (place_after_cut at) left)
+    → ((y : Item) → R y → Contains (get_or now at []) y → Contains (without_items (get_or now at []) from c) y) → IsMendedAt P Q xs at c now (cut_together now at from c) pivots (joined_pivots (fewer_marked pivots at c) at) left (map (place_after_cut at) left)
 mended_joined P Q R xs at from c now pivots left apart here fewer split ranking all stays =
     let each = one_each now pivots (split_within P Q now pivots split) in
     let x = without_items (get_or now at []) from c in let next = get_or now (at + 1) [] in
     let w = sorted (x ++ next) in let ps = fewer_marked pivots at c in
     let size : length ps ≡ length pivots = length-set pivots at (get_or pivots at 0 - c) in
     let fewer_split = split_fewer P Q now pivots at from c (omega (arith, here)) fewer split in
-    let joined = split_united P Q (set now at x) ps at 2 0 [] apart (omega arith, tt, tt, fewer_split) in
+    let joined = split_joined P Q (set now at x) ps at apart (omega (arith, length-set now at x, here)) fewer_split in
     record {
       within = omega (arith, length-append (take at now) (w ∷ drop (at + 2) now), length-take-le at now (omega (arith, here)));
       front = front_of at now (w ∷ drop (at + 2) now) (omega (arith, here));
       pivots_front = front_of at ps _ (omega (arith, size, each, here)) ∙ take-set-le at pivots at (get_or pivots at 0 - c) (omega arith);
-      split = subst (λ cs. AreSplit P Q cs (united_pivots ps at 2 0)) (set_together now at x here) joined;
-      total = omega (arith, sum_united ps at 2 0, sum_fewer pivots at c (omega (arith, each, here)) (omega (arith, fewer)));
+      split = subst (λ cs. AreSplit P Q cs (joined_pivots ps at)) (set_together now at x here) joined;
+      total = omega (arith, sum_joined ps at (omega (arith, size, each, here)), sum_fewer pivots at c (omega (arith, each, here)) (omega (arith, fewer)));
       ranking = ranking_map now (cut_together now at from c) R (place_after_cut at) xs left (λ y b r within. in_one now at b w y here
           (λ same. contains_sorted y (x ++ next) (Contains-append_left x next y (stays y r (subst (λ n. Contains (get_or now n []) y) same within))))
           (λ same. contains_sorted y (x ++ next) (Contains-append_right x next y (subst (λ n. Contains (get_or now n []) y) same within))) within) all ranking;
@@ -162,7 +160,7 @@ pub mended_by : (joins : Bool) (P Q R : Item → Type 0) (xs : List Item) (at fr
 mended_by true P Q R xs at from c now pivots left apart told here fewer split ranking all stays =
     let joins = told.0 refl in
     let inside = pivot_in_block now pivots at (split_within P Q now pivots split) in
-    subst (λ cs. IsMendedAt P Q xs at c now cs pivots (united_pivots (fewer_marked pivots at c) at 2 0) left (map (place_after_cut at) left)) (sym (cut_joins now at from c joins (omega (arith, fewer, inside))))
+    subst (λ cs. IsMendedAt P Q xs at c now cs pivots (joined_pivots (fewer_marked pivots at c) at) left (map (place_after_cut at) left)) (sym (cut_joins now at from c joins (omega (arith, fewer, inside))))
     (mended_joined P Q R xs at from c now pivots left apart joins.within fewer split ranking all stays)
 mended_by false P Q R xs at from c now pivots left apart told here fewer split ranking all stays =
     let b = get_or now at [] in

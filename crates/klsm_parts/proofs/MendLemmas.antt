@@ -3,24 +3,22 @@
 use Rattle.std.proofs.Common.{◌≡◌, ℕ, ◌+◌, ◌-◌, ◌<◌, ◌≤◌, Bool, true, false, List, [], ◌∷◌, ◌++◌, length, get_or, set, remove, take, drop, sum, refl, sym, ap, ◌∙◌, subst, arith, zero, suc, if◌then◌else◌}
 use Rattle.std.specs.List.{AllByRecursion}
 use Rattle.std.proofs.Math.Seq.{take-append-add, drop-append-add}
-use Rattle.std.proofs.lemmas.List.{take-append-le, drop-append-le, take_all, drop-drop, drop-take, length-append, length-take-le}
-use Rattle.std.proofs.lemmas.List.Sums.{sum_by-cons, sum_by-append, sum_by-take-drop}
+use Rattle.std.proofs.lemmas.List.{append-nil, take-append-le, drop-append-le, take_all, drop-drop, drop-take, length-append, length-take-le}
+use Rattle.std.proofs.lemmas.List.Sums.{sum_by-cons}
 use Rattle.klsm_run.specs.declared.item.Item.{Item}
 use Rattle.klsm_run.specs.ItemOrder.{is_smaller, IsSmaller}
 use Rattle.klsm_run.specs.Content.{placed, sorted, skipped, IsAscending}
 use Rattle.klsm_run.proofs.AllLemmas.{all_weaker, all_append, all_front, all_back}
 use Rattle.klsm_run.proofs.SortedLemmas.{placed_first, all_sorted, length_sorted}
-use Rattle.klsm_run.proofs.ContentLemmas.{sorted_swap}
 use Rattle.klsm_run.proofs.LeastLemmas.{all_unsorted}
 use Rattle.klsm_run.proofs.LesserLemmas.{less_if_smaller}
 use Rattle.klsm_run.proofs.RankLemmas.{skipped_not_above, least_skip_few, rest_skip_many}
 use Rattle.klsm_lsm.specs.Lsm.{content}
 use Rattle.klsm_lsm.specs.Adding.{without_items}
-use Rattle.klsm_lsm.specs.Places.{united}
 use Rattle.klsm_lsm.proofs.CutLemmas.{length_without, all_without}
 use Rattle.klsm_lsm.proofs.MovingLemmas.{shorter}
 use Rattle.klsm_parts.specs.Pivots.{marked, unmarked, AreWithin, ArePivots}
-use Rattle.klsm_parts.specs.Mending.{united_pivots, fewer_marked}
+use Rattle.klsm_parts.specs.Mending.{joined_pivots, fewer_marked}
 use Rattle.klsm_parts.proofs.PivotLemmas.{marked_and_unmarked, unmarked_is_rest}
 
 -- what is true of each marked item, and of each other
@@ -169,27 +167,21 @@ split_append P Q [] cs (p ∷ ps) qs split rest = absurd split
 split_append P Q (b ∷ bs) cs [] qs split rest = absurd split
 split_append P Q (b ∷ bs) cs (p ∷ ps) qs split rest = (split.0, split.1, split.2, split_append P Q bs cs ps qs split.3 rest)
 
--- blocks that become one with a run, and pivots that add
-pub split_united : (P Q : Item → Type 0) (bs : List (List Item)) (ps : List ℕ) (first count q : ℕ) (run : List Item) → AreApart P Q → AreSplit P Q (run ∷ bs) (q ∷ ps) → AreSplit P Q (united bs first count run) (united_pivots ps first count q)
-split_united P Q bs ps first count q run apart split =
-    let mid = take count (drop first bs) in let pmid = take count (drop first ps) in
-    let inner : AreSplit P Q (run ∷ mid) (q ∷ pmid) = (split.0, split.1, split.2, split_take P Q count (drop first bs) (drop first ps) (split_drop P Q first bs ps split.3)) in
-    let one : IsOneOf P Q (sorted (content mid ++ run)) (q + sum pmid) = one_of P Q (run ∷ mid) (q ∷ pmid) _ _ apart inner (sorted_swap (content mid) run) (sym (sum_by-cons (λ x. x) q pmid)) in
-    split_append P Q (take first bs) _ (take first ps) _ (split_take P Q first bs ps split.3)
-    (one.within, one.some, one.rest, split_drop P Q (first + count) bs ps split.3)
-
--- the pivots count as many as before, and those of the run
-pub sum_united : (ps : List ℕ) (first count q : ℕ) → sum (united_pivots ps first count q) ≡ q + sum ps
-sum_united ps first count q =
+-- a block and the next that become one, and their pivots
+pub split_joined : (P Q : Item → Type 0) (bs : List (List Item)) (ps : List ℕ) (at : ℕ) → AreApart P Q → at + 1 < length bs → AreSplit P Q bs ps → AreSplit P Q (take at bs ++ sorted (get_or bs at [] ++ get_or bs (at + 1) []) ∷ drop (at + 2) bs) (joined_pivots ps at)
+split_joined P Q [] ps at apart within split = absurd (omega (arith, within))
+split_joined P Q (b ∷ []) ps at apart within split = absurd (omega (arith, within))
+split_joined P Q (b ∷ c ∷ bs) [] at apart within split = absurd split
+split_joined P Q (b ∷ c ∷ bs) (p ∷ []) at apart within split = absurd split.3
+split_joined P Q (b ∷ c ∷ bs) (p ∷ q ∷ ps) zero apart within split =
     let f = λ (x : ℕ). x in
-    omega (
-      arith,
-      sum_by-append f (take first ps) ((q + sum (take count (drop first ps))) ∷ drop (first + count) ps),
-      sum_by-cons f (q + sum (take count (drop first ps))) (drop (first + count) ps),
-      ap sum (drop-drop count first ps),
-      sum_by-take-drop f (drop first ps) count,
-      sum_by-take-drop f ps first,
-    )
+    let both : AreSplit P Q (b ∷ c ∷ []) (p ∷ q ∷ []) = (split.0, split.1, split.2, (split.3.0, split.3.1, split.3.2, tt)) in
+    let one = one_of P Q (b ∷ c ∷ []) (p ∷ q ∷ []) (sorted (b ++ c)) (p + q) apart both (ap (λ xs. sorted (b ++ xs)) (sym (append-nil c))) (omega (arith, sum_by-cons f p (q ∷ []), sum_by-cons f q [])) in
+    (one.within, one.some, one.rest, split.3.3)
+split_joined P Q (b ∷ c ∷ bs) (p ∷ q ∷ ps) (suc at) apart within split =
+    let one : suc at + 1 ≡ suc (at + 1) = omega arith in
+    let two : suc at + 2 ≡ suc (at + 2) = omega arith in
+    rw (one, two) (split.0, split.1, split.2, split_joined P Q (c ∷ bs) (q ∷ ps) at apart (omega (arith, within)) split.3)
 
 -- a block with some marked items less
 fewer_in_block : (P Q : Item → Type 0) (b : List Item) (p from c : ℕ) → from + c ≤ p → p ≤ length b → AllByRecursion P (take p b) → AllByRecursion Q (drop p b) → IsOneOf P Q (without_items b from c) (p - c)

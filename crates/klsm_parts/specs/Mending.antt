@@ -1,14 +1,14 @@
 -- What becomes of the pivots and the ranking of a shared part where its blocks change. No public clause speaks of it: those say which
 -- items are marked.
-use Rattle.std.specs.Prelude.{ℕ, ◌≡◌, ◌+◌, ◌-◌, ◌↔◌, ◌==◌, ◌||◌, ◌∷◌, ◌++◌, Bool, true, false, List, [], length, map, take, drop, remove, sum, slice_set, slice_index_or, if◌then◌else◌, IsTrue}
+use Rattle.std.specs.Prelude.{ℕ, ◌≡◌, ◌+◌, ◌-◌, ◌↔◌, ◌==◌, ◌||◌, ◌∷◌, ◌++◌, Bool, true, false, List, [], length, map, take, drop, remove, slice_set, slice_index_or, if◌then◌else◌, IsTrue}
 use Rattle.klsm_run.specs.declared.item.Item.{Item}
 use Rattle.klsm_lsm.specs.Adding.{cut_items}
 use Rattle.klsm_lsm.specs.Places.{JoinsNext}
 use Rattle.klsm_parts.specs.Ranking.{place_after_cut}
 
--- the pivots with one in the place of the `count` pivots from `first` on, which adds theirs to another
-abbrev pub united_pivots : List ℕ → ℕ → ℕ → ℕ → List ℕ
-united_pivots pivots first count pivot = take first pivots ++ (pivot + sum (take count (drop first pivots))) ∷ drop (first + count) pivots
+-- the pivots where block `at` and the next are one, which has the marked items of both
+abbrev pub joined_pivots : List ℕ → ℕ → List ℕ
+joined_pivots pivots at = take at pivots ++ (slice_index_or pivots at 0 + slice_index_or pivots (at + 1) 0) ∷ drop (at + 2) pivots
 
 -- the pivots with so many marked items less in a block
 abbrev pub fewer_marked : List ℕ → ℕ → ℕ → List ℕ
@@ -16,7 +16,7 @@ fewer_marked pivots at count = slice_set pivots at (slice_index_or pivots at 0 -
 
 -- the pivots after so many marked items were cut out of block `at`: whether these were all, and whether what is left joined the next
 abbrev pub cut_pivots : List ℕ → ℕ → ℕ → Bool → Bool → List ℕ
-cut_pivots pivots at count is_all true = united_pivots (fewer_marked pivots at count) at 2 0
+cut_pivots pivots at count is_all true = joined_pivots (fewer_marked pivots at count) at
 cut_pivots pivots at count is_all false = if is_all then remove pivots at else fewer_marked pivots at count
 
 -- a ranking, where the block behind another has the place of that

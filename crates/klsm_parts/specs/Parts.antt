@@ -39,8 +39,8 @@ pub record IsOwn (capacity : ℕ) (part : PartState) (found : Option ℕ) : Type
   pub capacity_in_range : IsCapacity capacity
   pub found_is : (at : ℕ) → found ≡ Some at → HasLeastFirst part.blocks at
 
--- a shared part is a lawful LSM with exact pivots of some of its least k+1 items, of which the blocks and the owners' low bytes are
--- known in their order, as far as these were asked for: of the least one always, and that itself
+-- a shared part is a lawful LSM. The first of its least k+1 items are ranked, the least one always: exact pivots of these are known,
+-- their blocks and their owners' low bytes in their order, and the least item itself
 pub record IsShared (levels : ℕ) (part : PartState) (pivots ranking owners : List ℕ) (least : Option Item) : Type 0 where
   pub lawful : IsLsm part.blocks
   pub pivots_exact : ArePivots (length ranking) part.blocks pivots

@@ -18,8 +18,8 @@ use std::alloc::Allocator;
 /// Puts an item into an own part that holds k items: its largest block moves to the shared part.
 /// With k = 0 the item itself goes there.
 ///
-/// It costs one copy of what moves and the merges of the shared part, whose blocks are as they were
-/// after a refusal.
+/// It costs one copy of what moves, the merges of the shared part and, whatever k is, one comparison a
+/// block of that, by which its least item is found. After a refusal its blocks are as they were.
 pub fn flush<const CAP: usize, const LEVELS: usize, A: Allocator + Copy>(
     own: &mut Local<CAP>,
     shared: &mut Shared<LEVELS, A>,

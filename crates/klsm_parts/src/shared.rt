@@ -27,8 +27,8 @@ use std::marker::Model;
 /// all where there are fewer, are the candidates of a deletion, and a block's pivot is how many of
 /// them it has.
 ///
-/// It keeps the least item, and the first candidates in their order, as many as deletions asked for. A flush
-/// forgets all but the least one, so it costs the same whatever k is.
+/// It keeps the least item, and the first candidates in their order, as many as deletions asked for since the
+/// last flush. A flush looks for the least one alone, so it costs the same whatever k is.
 #[derive(Drop)]
 pub struct Shared<const LEVELS: usize, A: Allocator + Copy = Global> {
     lsm: Lsm<HeapRun<A>, LEVELS>,

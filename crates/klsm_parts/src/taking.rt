@@ -18,8 +18,9 @@ use std::alloc::Allocator;
 ///
 /// What it takes skips at most k items of the two parts, and none that `owner` inserted. It takes no
 /// memory. It costs one comparison a block of the own part and, where a shared item goes, a look at a byte
-/// of each candidate before the one that goes, and one comparison a block of the shared part for each
-/// candidate up to the picked one that no deletion asked for since the last flush, and one at least.
+/// of each candidate before that one. Candidates up to the picked one that no deletion asked for since the
+/// last flush are ranked first, at one comparison a block of the shared part each; so is the least item
+/// that is left, where no other is ranked.
 pub fn take<const CAP: usize, const LEVELS: usize, A: Allocator + Copy, P: Picker>(
     owner: u32,
     own: &mut Local<CAP>,
