@@ -13,6 +13,7 @@ ghost use Rattle.klsm_world.specs.declared.step.Entry.TheVariants.{Looked};
 ghost use Rattle.klsm_board.specs.Boards.{AreMembersOf, Gains, IsOf, own_steps};
 ghost use Rattle.klsm_board.specs.Inserting.{Inserts, RefusesInsert, as_tried, stamp_of, stamped};
 ghost use Rattle.klsm_board.specs.Deleting.{AnswersDeletion};
+ghost use Rattle.klsm_board.specs.Stealing.{Balances};
 ghost use Rattle.klsm_board.specs.Finishing.{AreAll, AreListsAtEnd, IsLeastAbsent, lists_of};
 ghost use Rattle.klsm_board.specs.Knowing.{AreCounted, IsAtRest};
 ghost use Rattle.klsm_board.specs.Rule.{view};
@@ -150,6 +151,34 @@ impl<const CAP: usize, const LEVELS: usize> AllMembers<CAP, LEVELS> {
             unreachable!();
         };
         answer
+    }
+
+    /// Balances with a victim as the member of this number does (`Member::try_balance`), and answers whether items
+    /// moved. It meets no lock that is held.
+    pub fn balance(
+        &mut self,
+        board: &Board<CAP, LEVELS>,
+        number: u32,
+        victim: u32,
+        most: usize,
+    ) -> bool
+        requires of { AreOf self.old board.now }
+        requires number { number < (sizes_of_all self.old).threads }
+        requires victim { (victim < (sizes_of_all self.old).threads) × (victim ≢ number) }
+        ensures same { ActsFor number self.old self.new }
+        ensures turn { turn_of self.new ≡ number }
+        ensures ok { Balances (sizes_of_all self.old) number most victim
+            (steps_for self.old number) (steps_for self.new number) result }
+        ensures adds { Gains (steps_for self.old number) (steps_for self.new number) [] [] }
+        ensures left { left_of self.new ≡ left_of self.old }
+        ensures counts { (account (all_lists self.new)).inserted
+            ≡ (account (all_lists self.old)).inserted }
+    {
+        self.call(board, number);
+        let Ok(moved) = self.acting.try_balance(board, victim, most) else {
+            unreachable!();
+        };
+        moved
     }
 
     /// The front that a member's own `front` would see now: the key of the least shared item, or the greatest number

@@ -34,6 +34,25 @@ fn deletes(
     found.map(|item| item.key) == key
 }
 
+// Whether the member of this number balances with a victim, and items move then, or none.
+fn balances(
+    board: &StandardBoard,
+    all: &mut AllStandardMembers,
+    number: u32,
+    victim: u32,
+    most: usize,
+    moves: bool,
+) -> bool
+    requires of { AreOf all.old board.now }
+    ensures of { AreOf all.new board.now }
+{
+    let threads = all.threads();
+    if number as usize >= threads || victim as usize >= threads || victim == number {
+        return false;
+    }
+    all.balance(board, number, victim, most) == moves
+}
+
 // Whether the front that they see is this key.
 fn sees(board: &StandardBoard, all: &mut AllStandardMembers, front: u64) -> bool
     requires of { AreOf all.old board.now }
@@ -59,6 +78,28 @@ fn go_by_turns(board: &StandardBoard, all: &mut AllStandardMembers) -> bool
         && deletes(board, all, 0, Some(9))
         && deletes(board, all, 1, None)
         && inserts(board, all, 1, 4)
+}
+
+// Whether two members who keep four items each balance by turns: half of what the other one has comes over, rounded
+// up, and no more than are asked for. None comes while the least own item is smaller.
+fn balance_by_turns(board: &StandardBoard, all: &mut AllStandardMembers) -> bool
+    requires of { AreOf all.old board.now }
+    ensures of { AreOf all.new board.now }
+{
+    inserts(board, all, 0, 5)
+        && inserts(board, all, 0, 3)
+        && inserts(board, all, 0, 1)
+        && inserts(board, all, 1, 9)
+        && balances(board, all, 1, 0, 4, true)
+        && deletes(board, all, 1, Some(1))
+        && balances(board, all, 1, 0, 4, false)
+        && deletes(board, all, 0, Some(5))
+        && balances(board, all, 0, 1, 0, false)
+        && balances(board, all, 0, 1, 1, true)
+        && deletes(board, all, 0, Some(3))
+        && deletes(board, all, 1, Some(9))
+        && balances(board, all, 1, 0, 4, false)
+        && deletes(board, all, 0, None)
 }
 
 // Whether this member has this number and these counts.
@@ -87,6 +128,20 @@ fn members_come_back_with_what_they_did(rt: HostRuntime) {
     assert!(rt; members.len() == 2);
     assert!(rt; is(members.as_slice(), 0, 2, 2));
     assert!(rt; is(members.as_slice(), 1, 2, 1));
+}
+
+#[test]
+fn members_balance_by_turns(rt: HostRuntime) {
+    let Ok((board, members)) = StandardBoard::new(rt.alloc(), 2, 4, MANY) else {
+        panic!(rt; "no memory");
+    };
+    let Ok(mut all) = board.gather(members) else {
+        panic!(rt; "a member is missing");
+    };
+    assert!(rt; balance_by_turns(&board, &mut all));
+    let members = all.spread(&board);
+    assert!(rt; is(members.as_slice(), 0, 3, 2));
+    assert!(rt; is(members.as_slice(), 1, 1, 2));
 }
 
 #[test]

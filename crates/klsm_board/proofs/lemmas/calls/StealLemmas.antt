@@ -1,10 +1,9 @@
 -- When a steal moves items, by the least items of the two parts, and what a balancing adds.
-use Rattle.std.proofs.Common.{◌≡◌, ℕ, Bool, true, false, List, [], ◌∷◌, ◌++◌, refl, sym, ap, ◌∙◌, subst, Option, Some, MatchBool, if◌then◌else◌, inl, inr, append_assoc, Result, Ok, Err, IfOk, IfErr}
+use Rattle.std.proofs.Common.{◌≡◌, ℕ, Bool, true, false, List, [], ◌∷◌, ◌++◌, refl, sym, ap, ◌∙◌, subst, Option, Some, MatchBool, ◌⊎◌, if◌then◌else◌, inl, inr, append_assoc, Result, Ok, Err, IfOk, IfErr}
 use Rattle.atomic_table.specs.Table.{Me}
 use Rattle.std.specs.List.{slice_get}
 use Rattle.klsm_run.specs.declared.item.Item.{Item}
 use Rattle.klsm_parts.specs.Stealing.{MaySteal, own_after_steal, victim_after_steal, steal_of}
-use Rattle.klsm_world.specs.declared.step.Event.{Event}
 use Rattle.klsm_world.specs.declared.step.Event.TheVariants.{Steal}
 use Rattle.klsm_world.specs.declared.step.Entry.{Entry}
 use Rattle.klsm_world.specs.declared.step.Entry.TheVariants.{Acquired, Committed, Released, Missed}
@@ -62,25 +61,32 @@ pub tried_either : {S : Type 0} (content : S → List Item) (suits : ℕ → ℕ
 tried_either content suits m t front most victim own es me true did = record { own_after = own_after_steal own did.0; has = did.1; tries = (did.0, did.2) }
 tried_either content suits m t front most victim own es me false none = record { own_after = own; has = none.0; tries = none.1 }
 
--- a balancing inserts and deletes nothing
-pub balances_gain : (m : Sizes) (t most victim : ℕ) (es es' : List Entry) (moves : Bool) → Balances m t most victim es es' moves → Gains es es' [] []
-balances_gain m t most victim es es' true did =
+-- a balancing commits a steal, or nothing
+pub balances_events : (m : Sizes) (t most victim : ℕ) (es es' : List Entry) (moves : Bool) → Balances m t most victim es es' moves
+    → (committed_in es' ≡ committed_in es) ⊎ ((moved : List Item) × (committed_in es' ≡ committed_in es ++ Steal victim moved ∷ []))
+balances_events m t most victim es es' true did =
     let looked = own_looked t did.own (Some did.front) es in
     let moved : List Item = did.tries.0 in let found = did.tries.1.found in
     let more : List Entry = Acquired (own_part victim) found ∷ Committed (Steal victim moved) ∷ Released (own_part victim) ∷ [] in
     let steps : es' ≡ looked ++ (more ++ Released (own_part t) ∷ []) = did.steps ∙ (ap (λ z. z ++ Released (own_part t) ∷ []) did.tries.1.steps ∙ append_assoc looked more (Released (own_part t) ∷ [])) in
-    let e = goes_on es looked (more ++ Released (own_part t) ∷ []) es' (look_quiet t did.own (Some did.front) es) steps in
-    let added : List Event = Steal victim moved ∷ [] in
-    record { inserted_are = inserts es es' added e; deleted_are = deletes es es' added e }
-balances_gain m t most victim es es' false did =
+    inr (moved, goes_on es looked (more ++ Released (own_part t) ∷ []) es' (look_quiet t did.own (Some did.front) es) steps)
+balances_events m t most victim es es' false did =
     let looked = own_looked t did.own (Some did.front) es in
     let added : List Entry = did.tries.0 in
     let steps : es' ≡ looked ++ (added ++ Released (own_part t) ∷ []) = did.steps ∙ (ap (λ z. z ++ Released (own_part t) ∷ []) did.tries.2 ∙ append_assoc looked added (Released (own_part t) ∷ [])) in
-    quiet_gains es es' (same_events looked (added ++ Released (own_part t) ∷ []) es' steps (quiet did.front did.own added did.tries.1) ∙ look_quiet t did.own (Some did.front) es)
+    inl (same_events looked (added ++ Released (own_part t) ∷ []) es' steps (quiet did.front did.own added did.tries.1) ∙ look_quiet t did.own (Some did.front) es)
   where
     quiet : (front : ℕ) (own : List Item) (added : List Entry) → StealsNone front most m.k victim own added → committed_in (added ++ Released (own_part t) ∷ []) ≡ []
     quiet front own added (inl missed) = ap (λ z. committed_in (z ++ Released (own_part t) ∷ [])) missed.1
     quiet front own added (inr none) = ap (λ z. committed_in (z ++ Released (own_part t) ∷ [])) none.2
+
+-- so it inserts and deletes nothing
+balances_gain : (m : Sizes) (t most victim : ℕ) (es es' : List Entry) (moves : Bool) → Balances m t most victim es es' moves → Gains es es' [] []
+balances_gain m t most victim es es' moves did = by_events (balances_events m t most victim es es' moves did)
+  where
+    by_events : (committed_in es' ≡ committed_in es) ⊎ ((moved : List Item) × (committed_in es' ≡ committed_in es ++ Steal victim moved ∷ [])) → Gains es es' [] []
+    by_events (inl none) = quiet_gains es es' none
+    by_events (inr (moved, one)) = record { inserted_are = inserts es es' (Steal victim moved ∷ []) one; deleted_are = deletes es es' (Steal victim moved ∷ []) one }
 
 -- whatever it answers
 pub balance_gains : (m : Sizes) (t most victim : ℕ) (es es' : List Entry) (answer : Result Bool Busy) → IfOk answer (Balances m t most victim es es') → IfErr answer (MissesOwn t es es') → Gains es es' [] []
