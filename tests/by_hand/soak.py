@@ -1,5 +1,5 @@
-"""Runs a million rows by sixteen threads with `klsm live`, for k of 0, 1 and 64 and refills from 0 to k, and
-checks the totals.
+"""Runs a million rows by sixteen threads with `klsm live`, for k of 0, 1 and 64, refills from 0 to k, and
+with balances and without, and checks the totals.
 
     python3 soak.py ../../crates/klsm/out/klsm
 
@@ -16,8 +16,8 @@ import sys
 ROWS = 1_000_000
 THREADS = 16
 
-# k and refill.
-SIZES = [(0, 0), (1, 0), (1, 1), (64, 0), (64, 1), (64, 8), (64, 16), (64, 64)]
+# k, refill and balance.
+SIZES = [(0, 0, 0), (1, 0, 1), (1, 1, 0), (64, 0, 0), (64, 0, 1), (64, 1, 0), (64, 8, 0), (64, 16, 16), (64, 64, 0)]
 
 
 def script(seed):
@@ -36,15 +36,16 @@ def script(seed):
 
 
 def main(klsm):
-    for seed, (k, refill) in enumerate(SIZES):
+    for seed, (k, refill, balance) in enumerate(SIZES):
         rows, insertions = script(seed)
-        command = [klsm, "live", "--threads", str(THREADS), "--k", str(k), "--refill", str(refill), "--pick", "random"]
+        sizes = ["--k", str(k), "--refill", str(refill), "--balance", str(balance)]
+        command = [klsm, "live", "--threads", str(THREADS), *sizes, "--pick", "random"]
         line = subprocess.run(command, input=rows, capture_output=True, check=True).stdout.decode()
         inserted, deleted, left = map(int, re.fullmatch(r"inserted (\d+) deleted (\d+) left (\d+)\n", line).groups())
         assert inserted == insertions, line
         assert inserted == deleted + left, line
         assert deleted <= ROWS - insertions, line
-        print(f"k {k} refill {refill}: {line}", end="")
+        print(f"k {k} refill {refill} balance {balance}: {line}", end="")
 
 
 main(*sys.argv[1:])

@@ -1,5 +1,5 @@
 -- One of all members goes on, and the others stay as they are.
-use Rattle.std.proofs.Common.{◌≡◌, ⊎_elim, ℕ, zero, suc, ◌+◌, ◌*◌, ◌-◌, ◌<◌, ◌≤◌, max, List, [], ◌∷◌, ◌++◌, length, mul-le-mul_right, Some, refl, sym, ap, subst, ◌∙◌, arith}
+use Rattle.std.proofs.Common.{◌≡◌, ⊎_elim, ℕ, zero, suc, ◌+◌, ◌*◌, ◌-◌, ◌<◌, ◌≤◌, max, List, [], ◌∷◌, ◌++◌, length, append-nil, mul-le-mul_right, Some, refl, sym, ap, subst, ◌∙◌, arith}
 use Rattle.std.specs.List.{flat_map}
 use Rattle.std.proofs.Math.Logic.{∥∥₁_map}
 use Rattle.std.proofs.lemmas.Bool.{cases_lt}
@@ -60,6 +60,24 @@ module _ (all after : AllMembers PROGRAM_K MOST_LEVELS) (t : ℕ) (acts : ActsFo
     left_is = left;
     inserted_are = counts;
   }
+
+-- where no step is made nothing is shown
+pub goes_nowhere : (t : ℕ) (a : List (List Entry)) → Goes t a a []
+goes_nowhere t a = record {
+  here = sym (append-nil (shown_in (steps_in a t)));
+  else = λ u other. refl;
+  left_is = refl;
+  inserted_are = omega arith;
+}
+
+-- steps that show nothing may come first
+pub goes_then : (t : ℕ) (a b c : List (List Entry)) (answers : List Answer) → Goes t a b [] → Goes t b c answers → Goes t a c answers
+goes_then t a b c answers first later = record {
+  here = later.here ∙ ap (λ z. z ++ answers) (first.here ∙ append-nil (shown_in (steps_in a t)));
+  else = λ u other. later.else u other ∙ first.else u other;
+  left_is = later.left_is ∙ ap (λ z. content_by z answers) first.left_is;
+  inserted_are = omega (arith, later.inserted_are, first.inserted_are);
+}
 
 -- no thread inserted more than all did
 pub few_of_one : (all : AllMembers PROGRAM_K MOST_LEVELS) (t : ℕ) → t < (sizes_of_all all).threads → length (inserted (steps_for all t)) ≤ (account (all_lists all)).inserted

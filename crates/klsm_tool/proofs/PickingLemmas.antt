@@ -1,14 +1,8 @@
--- The pickers of the threads, and what a deletion does to one.
-use Rattle.std.proofs.Common.{◌≡◌, ◌<◌, ◌+◌, ◌-◌, ◌∙◌, ℕ, Bool, true, false, List, [], ◌∷◌, ◌++◌, length, length-append, length-set, slice_index_or, slice_set, Option, Some, None, inl, inr, refl, ap, sym, subst, arith, slice_get}
+-- The pickers of the threads, at their places.
+use Rattle.std.proofs.Common.{◌≡◌, ◌<◌, ◌+◌, ◌-◌, ◌∙◌, ℕ, List, [], ◌∷◌, ◌++◌, length, length-append, length-set, slice_index_or, slice_set, ap, sym, subst, arith}
 use Rattle.std.proofs.lemmas.List.{get_or_append_left, get_or-append_right, get_or-set_same, get_or-set_other}
 use mathlib.Core.Logic.{dite}
 use native.Mathlib.Decide.{ℕ_discrete}
-use Rattle.klsm_run.specs.declared.item.Item.{Item}
-use Rattle.klsm_parts.specs.Taking.{picks}
-use Rattle.klsm_world.specs.declared.step.Entry.{Entry}
-use Rattle.klsm_board.specs.declared.sizes.Sizes.{Sizes}
-use Rattle.klsm_board.specs.Choosing.{Chooses}
-use Rattle.klsm_board.specs.Deleting.{AnswersDeletion, AnswersWaiting}
 use Rattle.klsm_words.specs.declared.settings.Settings.{Settings}
 use Rattle.klsm_tool.specs.declared.picking.ThreadPicker.{ThreadPicker}
 use Rattle.klsm_tool.specs.Picking.{ArePickers, ArePlaced, picker_of}
@@ -36,21 +30,3 @@ pub placed_after : (pickers : List ThreadPicker) (t : ℕ) (picker : ThreadPicke
 placed_after pickers t picker placed own within u d below = dite (ℕ_discrete u t)
     (λ here. subst (λ i. (slice_index_or (slice_set pickers t picker) i d).thread ≡ i) (sym here) (ap (λ (p : ThreadPicker). p.thread) (get_or-set_same pickers t picker d within) ∙ own))
     (λ other. ap (λ (p : ThreadPicker). p.thread) (get_or-set_other pickers t u picker d other) ∙ placed u d (omega (arith, below, length-set pickers t picker)))
-
--- a deletion leaves its picker that of the same thread
-module _ (may_pick : ThreadPicker → ℕ → ℕ → ThreadPicker → Type 0) (keeps : (p q : ThreadPicker) (candidates index : ℕ) → may_pick p candidates index q → q.thread ≡ p.thread) (before after : ThreadPicker) where
-  by_choice : (k owner : ℕ) (own shared : List Item) (x : Item) → Chooses may_pick before after k owner own shared x → after.thread ≡ before.thread
-  by_choice k owner own shared x chooses = by_test (picks (slice_get own 0) (slice_get shared 0)) refl
-    where
-      by_test : (asked : Bool) → picks (slice_get own 0) (slice_get shared 0) ≡ asked → after.thread ≡ before.thread
-      by_test true asked = let picked = chooses.asked asked in keeps before after _ picked.index picked.picked
-      by_test false asked = ap (λ (p : ThreadPicker). p.thread) (chooses.unasked asked).0
-
-  pub same_by : (m : Sizes) (t : ℕ) (es es' : List Entry) (answer : Option Item) → AnswersDeletion may_pick before after m t es es' answer → after.thread ≡ before.thread
-  same_by m t es es' answer (own, inl early) = ap (λ (p : ThreadPicker). p.thread) early.1
-  same_by m t es es' None (own, inr both) = ap (λ (p : ThreadPicker). p.thread) both.3.1
-  same_by m t es es' (Some x) (own, inr (shared, look, past, inl takes)) = by_choice m.k t own shared x takes.1
-  same_by m t es es' (Some x) (own, inr (shared, look, past, inr spied)) = ap (λ (p : ThreadPicker). p.thread) spied.1
-
-  pub same_thread : (m : Sizes) (t : ℕ) (es es' : List Entry) (answer : Option Item) → AnswersWaiting may_pick before after m t es es' answer → after.thread ≡ before.thread
-  same_thread m t es es' answer told = same_by m t told.0 es' answer told.2

@@ -1,5 +1,5 @@
 -- What the calls of a member show in the text.
-use Rattle.std.proofs.Common.{◌≡◌, ◌≤◌, ℕ, suc, List, [], ◌∷◌, ◌++◌, length, length-append, refl, ap, ◌∙◌, inl, inr, arith, Option, Some, None}
+use Rattle.std.proofs.Common.{◌≡◌, ◌≤◌, ◌⊎◌, ℕ, Bool, suc, List, [], ◌∷◌, ◌++◌, length, length-append, append-nil, refl, ap, ◌∙◌, inl, inr, arith, Option, Some, None}
 use Rattle.std.proofs.lemmas.Grind.{flat_map-append}
 use Rattle.std.proofs.lemmas.List.Concat.{flat_map-cons}
 use Rattle.std.specs.List.{flat_map}
@@ -7,7 +7,9 @@ use Rattle.klsm_run.specs.declared.item.Item.{Item}
 use Rattle.klsm_world.specs.declared.step.Event.{Event}
 use Rattle.klsm_world.specs.declared.step.Event.TheVariants as event
 use Rattle.klsm_world.specs.declared.step.Entry.{Entry}
-use Rattle.klsm_world.specs.OwnSteps.{inserted, inserted_by}
+use Rattle.klsm_world.specs.declared.step.Entry.TheVariants.{Missed}
+use Rattle.klsm_world.specs.OwnSteps.{inserted, inserted_by, own_part}
+use Rattle.klsm_board.specs.declared.balancing.TheConstants.{MOST_BALANCED}
 use Rattle.klsm_board.specs.declared.sizes.Sizes.{Sizes}
 use Rattle.klsm_board.specs.declared.errors.InsertError.{InsertError}
 use Rattle.klsm_board.specs.declared.errors.TryInsertError.{TryInsertError}
@@ -15,13 +17,18 @@ use Rattle.klsm_board.specs.Entries.{own_acquired, both_looked}
 use Rattle.klsm_board.specs.Inserting.{Inserts, InsertsWaiting, RefusesInsert, RefusesInsertWaiting, Waits}
 use Rattle.klsm_board.specs.Deleting.{Deletes, FindsNothing, AnswersDeletion, AnswersWaiting, victim_of, refilled}
 use Rattle.klsm_board.specs.Effects.{committed_in}
+use Rattle.klsm_board.specs.Balancing.{HasBalanced}
+use Rattle.klsm_board.specs.Stealing.{Balances}
 use Rattle.klsm_board.proofs.lemmas.calls.AddLemmas.{own_quiet, both_look_quiet}
 use Rattle.klsm_board.proofs.lemmas.calls.AddedLemmas.{puts_events, flushes_events, refused_events, refused_waiting_events}
 use Rattle.klsm_board.proofs.lemmas.calls.DeletedLemmas.{takes_events, early_events, spied_events, nothing_events}
+use Rattle.klsm_board.proofs.lemmas.calls.EventLemmas.{same_events}
 use Rattle.klsm_board.proofs.lemmas.calls.MissLemmas.{waits_quiet}
 use Rattle.klsm_board.proofs.lemmas.calls.RefillLemmas.{is_refilled}
+use Rattle.klsm_board.proofs.lemmas.calls.StealLemmas.{balances_events}
 use Rattle.klsm_text.specs.declared.answer.Answer.{Answer}
 use Rattle.klsm_text.specs.declared.answer.Answer.TheVariants.{Inserted, Deleted, Nothing}
+use Rattle.klsm_tool.specs.Courses.{BalancesWith}
 use Rattle.klsm_tool.specs.Shown.{shown, shown_in}
 
 -- events more show answers more
@@ -111,3 +118,21 @@ module _ {P : Type 0} (may_pick : P → ℕ → ℕ → P → Type 0) (before af
 
   pub none_shows : (es es' : List Entry) → AnswersWaiting may_pick before after m t es es' None → shown_in es' ≡ shown_in es ++ Nothing ∷ []
   none_shows es es' told = one_none told.0 es' told.2 ∙ after_waits t _ es told.0 (Nothing ∷ []) told.1
+
+-- a balance shows nothing
+balance_shows : (m : Sizes) (t victim : ℕ) (es es' : List Entry) (moves : Bool) → Balances m t MOST_BALANCED victim es es' moves → shown_in es' ≡ shown_in es
+balance_shows m t victim es es' moves did = by_events (balances_events m t MOST_BALANCED victim es es' moves did)
+  where
+    by_events : (committed_in es' ≡ committed_in es) ⊎ ((moved : List Item) × (committed_in es' ≡ committed_in es ++ event.Steal victim moved ∷ [])) → shown_in es' ≡ shown_in es
+    by_events (inl none) = ap (flat_map shown) none
+    by_events (inr (moved, one)) = shows_more es es' (event.Steal victim moved ∷ []) one ∙ append-nil (shown_in es)
+
+-- nor does one with none, or one that met the own lock
+pub balanced_shows : (m : Sizes) (t : ℕ) (victim : Option ℕ) (es es' : List Entry) → HasBalanced m t victim es es' → shown_in es' ≡ shown_in es
+balanced_shows m t None es es' same = ap shown_in same
+balanced_shows m t (Some victim) es es' (inl did) = balance_shows m t victim es es' did.0 did.1
+balanced_shows m t (Some victim) es es' (inr missed) = ap (flat_map shown) (same_events es (Missed (own_part t) missed.0.by ∷ []) es' missed.1.steps refl)
+
+pub balanced_in_one_hand_shows : (m : Sizes) (t : ℕ) (victim : Option ℕ) (es es' : List Entry) → BalancesWith m t victim es es' → shown_in es' ≡ shown_in es
+balanced_in_one_hand_shows m t None es es' same = ap shown_in same
+balanced_in_one_hand_shows m t (Some victim) es es' did = balance_shows m t victim es es' did.0 did.1

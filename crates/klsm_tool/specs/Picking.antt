@@ -1,7 +1,8 @@
--- How the deletions of each thread pick.
+-- How the deletions of each thread pick, and when its member begins to balance.
 use Rattle.std.specs.Prelude.{ℕ, ◌≡◌, ◌+◌, ◌%◌, ◌^◌, ◌<◌, List, length, slice_index_or}
-use Rattle.klsm_parts.specs.Choices.{choice_by, may_choose}
+use Rattle.klsm_parts.specs.Choices.{choice_by}
 use Rattle.klsm_parts.specs.declared.choice.Choice.{Choice}
+use Rattle.klsm_board.specs.Balancing.{balancing_each}
 use Rattle.klsm_words.specs.declared.settings.Settings.{Settings}
 use Rattle.klsm_tool.specs.declared.picking.ThreadPicker.{ThreadPicker}
 
@@ -9,16 +10,15 @@ use Rattle.klsm_tool.specs.declared.picking.ThreadPicker.{ThreadPicker}
 abbrev pub choice_for : Settings → ℕ → Choice
 choice_for settings t = choice_by settings.pick ((settings.seed + t) % 2 ^ 64)
 
--- it picks as its choice does, and stays that of its thread
-abbrev pub may_pick_for : ThreadPicker → ℕ → ℕ → ThreadPicker → Type 0
-may_pick_for before candidates index after =
-    may_choose before.choice candidates index after.choice × (after.thread ≡ before.thread)
-
--- the picker of thread t, which has drawn nothing yet
+-- the picker of thread t, which has drawn nothing yet and has no deletion behind it
 abbrev pub picker_of : Settings → ℕ → ThreadPicker
-picker_of settings t = record { thread = t; choice = choice_for settings t }
+picker_of settings t = record {
+  thread = t;
+  choice = choice_for settings t;
+  balancing = balancing_each settings.balance;
+}
 
--- the pickers of all threads, which have drawn nothing yet, each at the place of its thread
+-- the pickers of all threads, at their beginning, each at the place of its thread
 pub record ArePickers (settings : Settings) (pickers : List ThreadPicker) : Type 0 where
   pub many : length pickers ≡ settings.threads
   pub each : (t : ℕ) (d : ThreadPicker) → t < settings.threads

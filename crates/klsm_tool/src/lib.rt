@@ -7,7 +7,7 @@
 //! ```text
 //! let script: &[u8] = b"0,i,5,50\n0,i,3,30\n0,d,,\n";
 //! let mut text = Vec::new(rt.alloc());
-//! let settings = Settings { threads: 1, k: 64, refill: 0, pick: Pick::First, seed: 1 };
+//! let settings = Settings { threads: 1, k: 64, refill: 0, balance: 0, pick: Pick::First, seed: 1 };
 //! let report = replay_over(&rt, script, &mut text, &settings, &Silent);
 //! // report.end is End::Done, and the text ends with "max skip 0 bound 64"
 //! ```
@@ -22,7 +22,8 @@
 //! a row, `replay_state` lets the member of its thread answer and has `skip_counter` count the skip, and
 //! the line goes out with others before a further row is waited for. Where threads run the rows,
 //! `live` has a `worker` for each, which goes through the gate by `passing`; `making` has the board of
-//! either, and `picking` the pickers. `knapsack` reads an instance, has it solved with the things of the
+//! either, `picking` what each thread's deletions go by, and `member_calls` the calls of a member, which
+//! balances where it is time. `knapsack` reads an instance, has it solved with the things of the
 //! greatest value for their weight first, and writes its answer by the rows. `program` runs what its
 //! words ask for, as `klsm_words` reads them, and by `advising` a user at a terminal is told what was
 //! expected where something is refused.
@@ -51,7 +52,7 @@
 //! - **The process ends with that status.** Nothing outside this crate makes a `Status`, and
 //!   `Status::report` says that the process ends with its number.
 //! - **What no contract says**: that the process's words are those that the system gave, what
-//!   standard input and output carried, and how a replay picks.
+//!   standard input and output carried, and, of a whole run, how its deletions pick and which balances come before them.
 #![tactic(auto)]
 
 mod advising;

@@ -1,29 +1,25 @@
-//! How the deletions of each thread pick.
+//! How the deletions of each thread pick, and when its member balances.
 ghost use Rattle.std.specs.Prelude.{◌≡◌, IfOk};
-ghost use Rattle.klsm_tool.specs.Picking.{ArePickers, may_pick_for, picker_of};
+ghost use Rattle.klsm_tool.specs.Picking.{ArePickers, picker_of};
 
-use klsm_parts::{Choice, Picker};
+use klsm_board::Balancing;
+use klsm_parts::Choice;
 use klsm_words::Settings;
 use std::alloc::{AllocError, Global};
 
-/// The picker of one thread.
+/// What the deletions of one thread go by.
 #[derive(Drop)]
 pub(crate) struct ThreadPicker {
-    /// The thread for whose deletions it picks.
+    /// The thread whose deletions they are.
     pub thread: u64,
-    choice: Choice,
-}
-
-impl Picker for ThreadPicker {
-    ghost may_pick = { may_pick_for };
-
-    fn pick(&mut self, candidates: usize) -> usize {
-        self.choice.pick(candidates)
-    }
+    /// Which candidate a deletion picks.
+    pub choice: Choice,
+    /// Before which deletions the thread's member balances, and with which other one.
+    pub balancing: Balancing,
 }
 
 impl ThreadPicker {
-    /// The picker of the thread of this number. Each thread has a seed of its own.
+    /// That of the thread of this number, which has deleted nothing yet. Each thread has a seed of its own.
     pub(crate) fn of(settings: &Settings, thread: u64) -> ThreadPicker
         ensures { result ≡ picker_of settings.now thread }
     {
@@ -31,6 +27,7 @@ impl ThreadPicker {
         ThreadPicker {
             thread,
             choice: Choice::of(settings.pick, seed),
+            balancing: Balancing::each(settings.balance),
         }
     }
 }

@@ -15,6 +15,7 @@ ghost use Rattle.klsm_text.specs.Script.{row_limit};
 ghost use Rattle.klsm_tool.specs.Crews.{AreFew, HaveNoSteps, board_sizes};
 ghost use Rattle.klsm_tool.specs.Answering.{live_kept, picker_count, pickers_kept};
 ghost use Rattle.klsm_tool.specs.Picking.{ArePickers};
+ghost use Rattle.klsm_tool.specs.Courses.{AreOnCourse};
 ghost use Rattle.klsm_text.specs.Reading.{HasReadScript, reader_failed};
 ghost use Rattle.klsm_text.specs.ThreadRows.{AreAccepted, HasReadToRefusal, StandsAtRefusal};
 ghost use Rattle.klsm_text.specs.Waiting.{HasSentBefore};
@@ -153,6 +154,8 @@ impl Replay {
         requires pickers { picker_count self.old.state ≡ board.now.sizes.threads }
         requires choices { ArePickers settings.now (pickers_kept self.old.state) }
         requires few { AreFew 0 (all_lists all.old) }
+        requires course { AreOnCourse settings.now.balance board.now.sizes.threads
+            (all_lists all.old) (pickers_kept self.old.state) }
         requires put { put_count self.old.output ≡ 0 }
         ensures of { AreOf all.new board.now }
         ensures put { put_count self.new.output ≤ 160 * row_limit }
@@ -170,6 +173,8 @@ impl Replay {
             script.old (live_kept self.old.state) self.old.state.most
             → IsTold before (W.contents writer.old) [] self.old.output
             → StandsAtRefusal R.remaining settings.now.threads input script.new result.stop }
+        ensures course { AreOnCourse settings.now.balance board.now.sizes.threads
+            (all_lists all.new) (pickers_kept self.new.state) }
     {
         let bound = settings.threads * settings.k;
         let mut pace = Pace::new(Counted::RowsAnswered);
@@ -227,6 +232,10 @@ impl Replay {
             → HasReadScript R.remaining input rows script.old
             → AreAccepted board.now.sizes.threads rows → length rows < row_limit
             → IfErr result (StandsAtRefusal R.remaining board.now.sizes.threads input script.new) }
+        ensures course { (every : ℕ) → AreOnCourse every board.now.sizes.threads
+            (all_lists all.old) (pickers_kept self.old.state)
+            → AreOnCourse every board.now.sizes.threads (all_lists all.new)
+            (pickers_kept self.new.state) }
     {
         send_before_wait(script, &mut self.output, writer)?;
         let line = next_line(script, &self.output, &mut self.state, board, all)?;
@@ -290,6 +299,10 @@ fn next_line<R: Read + Drop>(
         → HasReadScript R.remaining input rows script.old
         → AreAccepted board.now.sizes.threads rows → length rows < row_limit
         → IfErr result (StandsAtRefusal R.remaining board.now.sizes.threads input script.new) }
+    ensures course { (every : ℕ) → AreOnCourse every board.now.sizes.threads
+        (all_lists all.old) (pickers_kept state.old)
+        → AreOnCourse every board.now.sizes.threads (all_lists all.new)
+        (pickers_kept state.new) }
 {
     script.advance(output)?;
     match request_of(&script.row, board.threads()) {

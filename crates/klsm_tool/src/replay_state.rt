@@ -10,7 +10,7 @@ use klsm_text::{Answer, Line, Operation, Printed, Request, Stop};
 use klsm_words::Settings;
 use std::alloc::{AllocError, Global};
 
-/// The picker of each thread, at the thread's place, the live items, and the greatest skip so far.
+/// What each thread's deletions go by, at the thread's place, the live items, and the greatest skip so far.
 #[derive(Drop)]
 pub(crate) struct ReplayState {
     pickers: Vec<ThreadPicker>,
@@ -20,7 +20,7 @@ pub(crate) struct ReplayState {
 }
 
 impl ReplayState {
-    ghost use Rattle.std.specs.Prelude.{◌≡◌, ◌<◌, [], ◌∷◌, max, IfOk, IfErr};
+    ghost use Rattle.std.specs.Prelude.{◌≡◌, ◌<◌, [], ◌∷◌, ℕ, max, slice_index_or, IfOk, IfErr};
     ghost use Rattle.klsm_run.specs.Content.{sorted};
     ghost use Rattle.klsm_world.specs.Account.{account};
     ghost use Rattle.klsm_text.specs.AnswerText.{live_after, skip_of};
@@ -28,7 +28,9 @@ impl ReplayState {
     ghost use Rattle.klsm_tool.specs.Answering.{Answers, picker_count, pickers_kept, live_kept};
     ghost use Rattle.klsm_tool.specs.Picking.{ArePickers};
     ghost use Rattle.klsm_tool.specs.MemberCalls.{IsDeletion};
-    ghost use Rattle.klsm_board.specs.Together.{AreOf, all_lists};
+    ghost use Rattle.klsm_tool.specs.Courses.{AreOnCourse, DeletesInOneHand};
+    ghost use Rattle.klsm_tool.specs.declared.picking.ThreadPicker.{ThreadPicker};
+    ghost use Rattle.klsm_board.specs.Together.{AreOf, all_lists, steps_for};
     ghost use Rattle.klsm_text.specs.Script.{row_limit};
     ghost use Rattle.klsm_text.specs.declared.stop.Stop.TheVariants as stop;
     ghost use Rattle.klsm_text.specs.declared.answer.Answer.TheVariants.{Inserted};
@@ -67,6 +69,17 @@ impl ReplayState {
         ensures refused { IfErr result (λ why. (why ≡ stop.NoMemory)
             × Goes request.thread (all_lists all.old) (all_lists all.new) []
             × (self.new.most ≡ self.old.most)) }
+        ensures deletes { request.operation ≡ Operation.Delete
+            → IfOk result (λ printed. (d : ThreadPicker)
+            → DeletesInOneHand board.now.sizes request.thread
+            (slice_index_or (pickers_kept self.old) request.thread d)
+            (slice_index_or (pickers_kept self.new) request.thread d)
+            (steps_for all.old request.thread) (steps_for all.new request.thread)
+            printed.line.answer) }
+        ensures course { (every : ℕ) → AreOnCourse every board.now.sizes.threads
+            (all_lists all.old) (pickers_kept self.old)
+            → AreOnCourse every board.now.sizes.threads (all_lists all.new)
+            (pickers_kept self.new) }
     {
         let Request { thread, operation } = request;
         match operation {
@@ -103,7 +116,7 @@ impl ReplayState {
         requires quota { row_limit < board.now.sizes.quota }
         requires few { (account (all_lists all.old)).inserted < row_limit }
         ensures of { AreOf all.new board.now }
-        ensures pickers { picker_count self.new ≡ picker_count self.old }
+        ensures pickers { pickers_kept self.new ≡ pickers_kept self.old }
         ensures most { self.new.most ≡ self.old.most }
         ensures item { IfOk result (λ x. (x.key ≡ key) × (x.load ≡ load)) }
         ensures goes { IfOk result (λ x.
@@ -124,7 +137,7 @@ impl ReplayState {
     // How many items a deletion skips. Its item lives no longer.
     fn count_skip(&mut self, answer: Answer) -> usize
         requires { IsDeletion answer }
-        ensures pickers { picker_count self.new ≡ picker_count self.old }
+        ensures pickers { pickers_kept self.new ≡ pickers_kept self.old }
         ensures skip { result ≡ skip_of (live_kept self.old) answer }
         ensures live { sorted (live_kept self.new)
             ≡ sorted (live_after (live_kept self.old) answer) }

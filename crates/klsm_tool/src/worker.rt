@@ -1,5 +1,5 @@
 //! A worker of `klsm live`: a member of the board that runs the rows of its thread.
-ghost use Rattle.std.specs.Prelude.{◌≡◌, ◌<◌, ◌++◌, [], ◌∷◌, length, map, IfOk, IfErr};
+ghost use Rattle.std.specs.Prelude.{◌≡◌, ◌<◌, ◌++◌, ℕ, [], ◌∷◌, length, map, IfOk, IfErr};
 ghost use Rattle.klsm_run.specs.declared.limits.TheConstants.{MOST_LEVELS};
 ghost use Rattle.klsm_world.specs.OwnSteps.{inserted};
 ghost use Rattle.klsm_board.specs.Boards.{IsOf, IsSame, own_steps};
@@ -7,6 +7,7 @@ ghost use Rattle.klsm_tool.specs.Shown.{shown_in};
 ghost use Rattle.klsm_tool.specs.MemberCalls.{IsAnswerTo, Wants};
 ghost use Rattle.klsm_text.specs.Keeping.{operation_in};
 ghost use Rattle.klsm_tool.specs.Picking.{picker_of};
+ghost use Rattle.klsm_tool.specs.Courses.{DeletesInTurn, IsOnCourse};
 ghost use Rattle.klsm_tool.specs.Working.{HasRunRows, IsReady, Works};
 
 use crate::member_calls::{Want, delete, insert};
@@ -81,6 +82,8 @@ fn answer_all(
     ensures same { IsSame member.old member.new }
     ensures works { Works board.now.sizes.k member.old.number (map operation_in rows.now)
         (own_steps member.new) result }
+    ensures course { IsOnCourse settings.now.balance board.now.sizes.threads
+        (own_steps member.new) picker.new }
 {
     let mut pace = Pace::new(Counted::RowsRun);
     for row in rows {
@@ -110,6 +113,12 @@ fn answer(
     ensures refused { IfErr result (λ wanted.
         (shown_in (own_steps member.new) ≡ shown_in (own_steps member.old))
         × Wants MOST_LEVELS member.old.sizes.k member.old.number (own_steps member.new) wanted) }
+    ensures deletes { operation ≡ Operation.Delete
+        → IfOk result (DeletesInTurn member.old.sizes member.old.number picker.old picker.new
+        (own_steps member.old) (own_steps member.new)) }
+    ensures course { (every : ℕ)
+        → IsOnCourse every board.now.sizes.threads (own_steps member.old) picker.old
+        → IsOnCourse every board.now.sizes.threads (own_steps member.new) picker.new }
 {
     match operation {
         Operation::Insert { key, load } => match insert(rt, board, member, key, load) {

@@ -95,7 +95,7 @@ RefillsAtMostK (Knapsack search) = ⊤
 
 -- where no option is given
 abbrev pub usual_settings : Settings
-usual_settings = record { threads = 1; k = 64; refill = 0; pick = First; seed = 1 }
+usual_settings = record { threads = 1; k = 64; refill = 0; balance = 0; pick = First; seed = 1 }
 
 -- the words are text, in which the parser finds a command
 abbrev pub IsCommand : List (List ℕ) → Type 0

@@ -45,9 +45,15 @@ with_refill a =
     let refill = option_rule (codes "refill") (codes "0") (Some (parser.Unsigned 0 PROGRAM_K)) in
     with_rule (with_threads a) refill
 
+-- these and `--balance`, from 0 to 2^32 - 1
+abbrev pub with_balance : App → App
+with_balance a =
+    let balance = option_rule (codes "balance") (codes "0") (Some (parser.Unsigned 0 4294967295)) in
+    with_rule (with_refill a) balance
+
 -- these and `--pick`
 abbrev pub with_pick : App → App
-with_pick a = with_rule (with_refill a) (option_rule (codes "pick") (codes "first") None)
+with_pick a = with_rule (with_balance a) (option_rule (codes "pick") (codes "first") None)
 
 -- these and `--seed`
 abbrev pub with_options : App → App
@@ -89,6 +95,7 @@ settings_at rows = option_map (λ pick. record {
   threads = number_at rows (codes "threads") 1 PROGRAM_THREADS;
   k = number_at rows (codes "k") 0 PROGRAM_K;
   refill = number_at rows (codes "refill") 0 PROGRAM_K;
+  balance = number_at rows (codes "balance") 0 4294967295;
   pick = pick;
   seed = number_at rows (codes "seed") 0 18446744073709551615;
 }) (pick_at rows)

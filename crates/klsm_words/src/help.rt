@@ -16,7 +16,9 @@ Threads are numbered from 0, so THREAD has to be below THREADS, the value of
 that all share, of which a deletion takes a candidate, but none above one of its
 thread's own. Where it took a shared one, some of the least that are left there
 go to its thread's own, at most as many as --refill says. A number of --refill
-above K is refused, with status 2.
+above K is refused, with status 2. With --balance N a thread takes over some of
+what another one keeps before each N-th of its deletions: the least items, where
+they are below its own and the shared ones.
 
 Answers:
   THREAD i KEY STAMP                      The item was inserted

@@ -6,6 +6,7 @@ ghost use Rattle.klsm_words.specs.Options.{AreInRange, number_at, option_rule, p
 ghost use Rattle.klsm_words.specs.Options.{IsSearchInRange, k_rule, search_at, settings_at};
 ghost use Rattle.klsm_words.specs.Options.{with_options as with_options_of};
 ghost use Rattle.klsm_words.specs.Options.{with_search_options as with_search_options_of};
+ghost use Rattle.klsm_words.specs.Options.{with_balance as with_balance_of};
 ghost use Rattle.klsm_words.specs.Options.{with_pick as with_pick_of};
 ghost use Rattle.klsm_words.specs.Options.{with_refill as with_refill_of};
 ghost use Rattle.klsm_words.specs.Options.{with_threads as with_threads_of};
@@ -35,7 +36,18 @@ fn with_pick<'a>(alloc: Global, command: Command<'a>) -> Result<Command<'a>, All
     ensures local { (fields_of command.entry).has_globals ≡ false
         → IfOk result (λ with. (fields_of with).has_globals ≡ false) }
 {
-    with_refill(alloc, command)?.arg(option(alloc, PICK, "first", "PICK", PICK_HELP))
+    with_balance(alloc, command)?.arg(option(alloc, PICK, "first", "PICK", PICK_HELP))
+}
+
+// Those of how many threads and items there are, and of when a thread balances.
+fn with_balance<'a>(alloc: Global, command: Command<'a>) -> Result<Command<'a>, AllocError>
+    ensures app { IfOk result (λ with. app_of with ≡ with_balance_of (app_of command.entry)) }
+    ensures local { (fields_of command.entry).has_globals ≡ false
+        → IfOk result (λ with. (fields_of with).has_globals ≡ false) }
+{
+    let command = with_refill(alloc, command)?;
+    let up_to_most = value_parser!(u64).range(0..=u32::MAX as i64);
+    command.arg(number(alloc, BALANCE, "0", BALANCE_HELP, up_to_most))
 }
 
 // Those of how many threads and items there are.
@@ -134,6 +146,7 @@ pub(crate) fn settings_of(options: &ArgMatches) -> Option<Settings>
         threads: number_in(options, THREADS, 1, PROGRAM_THREADS as u64) as usize,
         k: number_in(options, K, 0, PROGRAM_K as u64) as usize,
         refill: number_in(options, REFILL, 0, PROGRAM_K as u64) as usize,
+        balance: number_in(options, BALANCE, 0, u32::MAX as u64) as u32,
         pick,
         seed: number_in(options, SEED, 0, u64::MAX),
     })
@@ -188,6 +201,8 @@ const K: &str = "k";
 
 const REFILL: &str = "refill";
 
+const BALANCE: &str = "balance";
+
 const PICK: &str = "pick";
 
 const SEED: &str = "seed";
@@ -203,6 +218,11 @@ const K_HELP: &str = "How many items each keeps for itself, 0 to 64";
 const REFILL_HELP: &str = "\
 How many items a deletion of a shared one moves to its
 thread at most, 0 to 64, but no more than K";
+
+const BALANCE_HELP: &str = "\
+Before each N-th of its deletions a thread takes over up
+to 4 small items of the next other thread in turn,
+0 to 4294967295; 0 is never";
 
 const PICK_HELP: &str = "\
 Which candidate a deletion picks:

@@ -11,6 +11,8 @@ pub struct Settings {
     pub k: usize,
     /// How many shared items a deletion that took one moves to its thread's own, at most k.
     pub refill: usize,
+    /// Before each so-manyth of its deletions a thread balances, with the other threads in turn. With 0 never.
+    pub balance: u32,
     /// How deletions pick a candidate.
     pub pick: Pick,
     /// The seed of thread 0's random picks. Each further thread has a seed that is greater by one.

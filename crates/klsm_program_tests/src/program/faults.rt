@@ -103,6 +103,7 @@ const USUAL: Settings = Settings {
     threads: 1,
     k: 64,
     refill: 0,
+    balance: 0,
     pick: Pick::First,
     seed: 1,
 };

@@ -12,11 +12,13 @@ pub(super) const LIVE: &[&[u8]] = &[b"klsm", b"live"];
 
 const LIVE_OF_TWO: &[&[u8]] = &[b"klsm", b"live", b"--threads", b"2"];
 
+const LIVE_BALANCED: &[&[u8]] = &[b"klsm", b"live", b"--threads", b"4", b"--balance", b"1"];
+
 /// The line of the script of one thread.
 pub(super) const TOTALS: &[u8] = b"inserted 3 deleted 3 left 0\n";
 
-// What each thread does does not depend on the others here: one thread, insertions alone, or a script
-// that is not run.
+// What each thread does does not depend on the others here, or not how many items are deleted: one thread, insertions
+// alone, one item that one of four threads deletes, whichever comes first, or a script that is not run.
 const WORKED: &[Told] = &[
     (LIVE, SCRIPT, 0, TOTALS),
     (LIVE, b"", 0, b"inserted 0 deleted 0 left 0\n"),
@@ -35,6 +37,24 @@ const WORKED: &[Told] = &[
     (
         LIVE_OF_TWO,
         b"1,i,1,0\n1,d,,\n1,d,,\n",
+        0,
+        b"inserted 1 deleted 1 left 0\n",
+    ),
+    (
+        LIVE_BALANCED,
+        b"0,i,1,0\n0,i,2,0\n1,i,3,0\n3,i,4,0\n",
+        0,
+        b"inserted 4 deleted 0 left 4\n",
+    ),
+    (
+        LIVE_BALANCED,
+        b"2,i,1,0\n2,d,,\n2,i,2,0\n",
+        0,
+        b"inserted 2 deleted 1 left 1\n",
+    ),
+    (
+        LIVE_BALANCED,
+        b"0,i,1,0\n0,d,,\n1,d,,\n",
         0,
         b"inserted 1 deleted 1 left 0\n",
     ),
@@ -59,6 +79,7 @@ fn two_threads_run_side_by_side(rt: HostRuntime) {
         threads: 2,
         k: 64,
         refill: 0,
+        balance: 0,
         pick: Pick::First,
         seed: 1,
     };
@@ -82,6 +103,7 @@ const OF_THREE: Settings = Settings {
     threads: 3,
     k: 64,
     refill: 0,
+    balance: 0,
     pick: Pick::First,
     seed: 1,
 };

@@ -84,6 +84,7 @@ const OF_TWO: Settings = Settings {
     threads: 2,
     k: 64,
     refill: 0,
+    balance: 0,
     pick: Pick::First,
     seed: 1,
 };
@@ -92,6 +93,7 @@ const OF_THREE: Settings = Settings {
     threads: 3,
     k: 64,
     refill: 0,
+    balance: 0,
     pick: Pick::First,
     seed: 1,
 };

@@ -10,6 +10,7 @@ const TWO_THREADS: Settings = Settings {
     threads: 2,
     k: 1,
     refill: 0,
+    balance: 0,
     pick: Pick::First,
     seed: 1,
 };

@@ -1,6 +1,6 @@
 //! Scripts of one thread and of several, over boards of their own and over boards that are given: the texts,
-//! how the runs end, and how many items each member inserted and deleted. And one of more items
-//! than a thread keeps for itself.
+//! how the runs end, and how many items each member inserted and deleted; some of them by threads that balance. And
+//! one of more items than a thread keeps for itself.
 
 use super::replayed::{Counts, run_on, run_over};
 use klsm_test_support::add_words;
@@ -23,6 +23,7 @@ const LAST_OF_TWO: Scripts = Scripts {
         threads: 2,
         k: 1,
         refill: 0,
+        balance: 0,
         pick: Pick::Last,
         seed: 1,
     },
@@ -61,6 +62,7 @@ const LAST_OF_ONE: Scripts = Scripts {
         threads: 1,
         k: 1,
         refill: 0,
+        balance: 0,
         pick: Pick::Last,
         seed: 1,
     },
@@ -86,6 +88,7 @@ const NONE_KEPT: Scripts = Scripts {
         threads: 4,
         k: 0,
         refill: 0,
+        balance: 0,
         pick: Pick::Last,
         seed: 1,
     },
@@ -115,6 +118,7 @@ const FIRST_OF_TWO: Scripts = Scripts {
         threads: 2,
         k: 4,
         refill: 0,
+        balance: 0,
         pick: Pick::First,
         seed: 1,
     },
@@ -169,12 +173,81 @@ max skip 1 bound 8
     ],
 };
 
+// Before each of its deletions a thread takes over the lower half of what the other one has. In the script from above
+// it is the item that the deletion passes over there. And 20 comes over, which is less than 30, but not 40.
+const BALANCED: Scripts = Scripts {
+    settings: Settings {
+        threads: 2,
+        k: 4,
+        refill: 0,
+        balance: 1,
+        pick: Pick::First,
+        seed: 1,
+    },
+    worked: &[
+        (
+            b"0,i,10,0\n0,i,20,0\n1,d,,\n0,d,,\n1,d,,\n",
+            End::Done,
+            b"\
+0 i 10 0.0
+0 i 20 0.1
+1 d 10 0.0 load 0 skip 0
+0 d 20 0.1 load 0 skip 0
+1 d none
+max skip 0 bound 8
+",
+            &[(2, 1), (0, 1)],
+        ),
+        (
+            b"0,i,30,0\n1,i,20,0\n1,i,40,0\n0,d,,\n0,d,,\n1,d,,\n",
+            End::Done,
+            b"\
+0 i 30 0.0
+1 i 20 1.0
+1 i 40 1.1
+0 d 20 1.0 load 0 skip 0
+0 d 30 0.0 load 0 skip 0
+1 d 40 1.1 load 0 skip 0
+max skip 0 bound 8
+",
+            &[(1, 2), (2, 1)],
+        ),
+    ],
+};
+
+// Each second deletion alone is one before which a thread balances.
+const BALANCED_BY_TWO: Scripts = Scripts {
+    settings: Settings {
+        threads: 2,
+        k: 4,
+        refill: 0,
+        balance: 2,
+        pick: Pick::First,
+        seed: 1,
+    },
+    worked: &[(
+        b"0,i,30,0\n0,i,50,0\n1,i,20,0\n1,i,40,0\n0,d,,\n0,d,,\n",
+        End::Done,
+        b"\
+0 i 30 0.0
+0 i 50 0.1
+1 i 20 1.0
+1 i 40 1.1
+0 d 30 0.0 load 0 skip 1
+0 d 20 1.0 load 0 skip 0
+max skip 1 bound 8
+",
+        &[(2, 2), (2, 0)],
+    )],
+};
+
 // The number of threads is the least number that no thread has.
 const OF_SIXTEEN: Scripts = Scripts {
     settings: Settings {
         threads: 16,
         k: 64,
         refill: 0,
+        balance: 0,
         pick: Pick::Random,
         seed: 18_446_744_073_709_551_615,
     },
@@ -231,6 +304,8 @@ fn scripts_of_several_threads(rt: HostRuntime) {
         &LAST_OF_ONE,
         &NONE_KEPT,
         &FIRST_OF_TWO,
+        &BALANCED,
+        &BALANCED_BY_TWO,
         &OF_SIXTEEN,
     ] {
         assert!(rt; all_go_so(&rt, scripts));
@@ -241,6 +316,7 @@ const ONE_THREAD: Settings = Settings {
     threads: 1,
     k: 64,
     refill: 0,
+    balance: 0,
     pick: Pick::First,
     seed: 1,
 };

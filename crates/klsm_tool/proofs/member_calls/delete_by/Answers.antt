@@ -1,40 +1,25 @@
-use Rattle.std.proofs.Common.{[], ◌∷◌, Some, None, ap, subst, arith}
-use Rattle.klsm_board.specs.declared.sizes.Sizes.{Sizes}
-use Rattle.klsm_board.specs.Together.{all_lists, left_of, steps_for}
-use Rattle.klsm_run.specs.Content.{skipped}
-use Rattle.klsm_text.specs.declared.answer.Answer.TheVariants.{Deleted, Nothing}
-use Rattle.klsm_tool.specs.Picking.{may_pick_for}
+use Rattle.std.proofs.Common.{List, ◌∷◌, [], ap, subst, ◌∙◌}
+use Rattle.klsm_run.specs.declared.item.Item.{Item}
+use Rattle.klsm_board.specs.Balancing.{after_deletion}
+use Rattle.klsm_board.specs.Together.{all_lists, steps_for}
+use Rattle.klsm_text.specs.AnswerText.{skip_of}
 use Rattle.klsm_tool.specs.Shown.{IsFew}
-use Rattle.klsm_tool.proofs.AllLemmas.{all_go, few_answered}
-use Rattle.klsm_tool.proofs.PickingLemmas.{same_by}
-use Rattle.klsm_tool.proofs.ShownLemmas.{one_item, one_none}
+use Rattle.klsm_tool.proofs.AllLemmas.{goes_then}
 use Rattle.klsm_tool.proofs.member_calls.delete_by.Goals as goal
 
-pub returns-in-Some-clause-goes : goal.returns-in-Some-clause-goes
-returns-in-Some-clause-goes c =
-    let all = c.args.all.now in let after = c.delete_min.new.self in let t = c.args.thread in let told = c.in-Some.ensures in let ok = told.ok in
-    let threads = ap (λ (z : Sizes). z.threads) c.requires.of.1 in
-    all_go all after t told.same (omega (arith, c.requires.thread, threads)) (Deleted c.in-Some.item ∷ [])
-    (one_item may_pick_for c.args.picker.now c.delete_min.new.picker all.acting.sizes t (steps_for all t) (steps_for after t) c.in-Some.item ok) told.left (omega (arith, told.counts))
+pub returns-clause-goes : goal.returns-clause-goes
+returns-clause-goes c =
+    goes_then c.args.thread (all_lists c.args.all.now) (all_lists c.balance_by.new.all) (all_lists c.delete_item_by-answer.new.all) (c.delete_item_by-answer.result ∷ []) c.balance_by.ensures.goes c.delete_item_by-answer.ensures.goes
 
-pub returns-in-None-clause-goes : goal.returns-in-None-clause-goes
-returns-in-None-clause-goes c =
-    let all = c.args.all.now in let after = c.delete_min.new.self in let t = c.args.thread in let told = c.in-None.ensures in let ok = told.ok in
-    let threads = ap (λ (z : Sizes). z.threads) c.requires.of.1 in
-    all_go all after t told.same (omega (arith, c.requires.thread, threads)) (Nothing ∷ [])
-    (one_none may_pick_for c.args.picker.now c.delete_min.new.picker all.acting.sizes t (steps_for all t) (steps_for after t) ok) told.left (omega (arith, told.counts))
+pub returns-clause-few : goal.returns-clause-few
+returns-clause-few c =
+    let sizes = c.args.board.now.sizes in
+    subst (λ (left : List Item). IsFew sizes.threads sizes.k (skip_of left c.delete_item_by-answer.result)) c.balance_by.ensures.goes.left_is c.delete_item_by-answer.ensures.few
 
-pub returns-in-Some-clause-few : goal.returns-in-Some-clause-few
-returns-in-Some-clause-few c =
-    let all = c.args.all.now in
-    subst (λ (z : Sizes). IsFew z.threads z.k (skipped (left_of all) c.in-Some.item)) c.requires.of.1 (few_answered all.acting.sizes (all_lists all) _ c.in-Some.item c.in-Some.ensures.few)
-
-pub returns-in-Some-clause-picker : goal.returns-in-Some-clause-picker
-returns-in-Some-clause-picker c =
-    let all = c.args.all.now in let t = c.args.thread in let ok = c.in-Some.ensures.ok in
-    same_by may_pick_for (λ p q candidates index may. may.1) c.args.picker.now c.delete_min.new.picker all.acting.sizes t (steps_for all t) (steps_for c.delete_min.new.self t) (Some c.in-Some.item) ok
-
-pub returns-in-None-clause-picker : goal.returns-in-None-clause-picker
-returns-in-None-clause-picker c =
-    let all = c.args.all.now in let t = c.args.thread in let ok = c.in-None.ensures.ok in
-    same_by may_pick_for (λ p q candidates index may. may.1) c.args.picker.now c.delete_min.new.picker all.acting.sizes t (steps_for all t) (steps_for c.delete_min.new.self t) None ok
+pub returns-clause-deletes : goal.returns-clause-deletes
+returns-clause-deletes c = record {
+  balanced = steps_for c.balance_by.new.all c.args.thread;
+  first = c.balance_by.ensures.balances;
+  deletes = c.delete_item_by-answer.ensures.ok;
+  counted = c.count_deletion.ensures ∙ ap after_deletion c.balance_by.ensures.turn;
+}

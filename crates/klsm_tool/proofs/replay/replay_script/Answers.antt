@@ -8,6 +8,8 @@ use Rattle.klsm_tool.specs.Shown.{Show}
 use Rattle.klsm_tool.proofs.AllLemmas.{fresh_inserts_none, fresh_leaves_none, fresh_shows_none}
 use Rattle.klsm_tool.proofs.ClosingLemmas.{fault_failed, refused_closing, replays, replays_nothing}
 use Rattle.klsm_tool.proofs.ReplayLemmas.{first_stands}
+use Rattle.klsm_tool.specs.Answering.{pickers_kept}
+use Rattle.klsm_tool.proofs.CourseLemmas.{fresh_on_course}
 use Rattle.klsm_tool.proofs.TellingLemmas.{nothing_told}
 use Rattle.klsm_tool.proofs.replay.replay_script.Goals as goal
 
@@ -26,6 +28,11 @@ returns-in_default-clause-replays g c = λ input read.
 
 pub answer_rows-closing-requires-clause-few : goal.answer_rows-closing-requires-clause-few
 answer_rows-closing-requires-clause-few g c κs within = let none = fresh_inserts_none c.args.all.now c.requires.fresh in omega (arith, none)
+
+pub answer_rows-closing-requires-clause-course : goal.answer_rows-closing-requires-clause-course
+answer_rows-closing-requires-clause-course g c κs within t d below =
+    let threads = ap (λ (z : Sizes). z.threads) (c.requires.of.1 ∙ c.requires.sizes) in
+    fresh_on_course c.args.settings.now c.args.board.now.sizes.threads c.args.all.now (pickers_kept c.in-Ok.replay.state) c.requires.fresh (sym threads) c.in-Ok.ensures.choices t d below
 
 pub returns-clause-replays : goal.returns-clause-replays
 returns-clause-replays g c = λ input read.

@@ -1,9 +1,11 @@
-use Rattle.std.proofs.Common.{◌≡◌, ◌∙◌, [], false, get_or, take, refl, subst, sym, ap, arith}
+use Rattle.std.proofs.Common.{◌≡◌, ◌∙◌, List, [], false, get_or, take, refl, subst, sym, ap, arith}
 use Rattle.std.proofs.lemmas.List.{take_all}
 use Rattle.klsm_run.specs.declared.limits.TheConstants.{MOST_LEVELS}
 use Rattle.klsm_board.specs.Boards.{own_steps}
 use Rattle.klsm_text.specs.declared.thread_rows.ThreadRow.{ThreadRow}
+use Rattle.klsm_text.specs.declared.answer.Answer.{Answer}
 use Rattle.klsm_tool.specs.declared.picking.ThreadPicker.{ThreadPicker}
+use Rattle.klsm_tool.specs.Courses.{balancing_after, deletions_in}
 use Rattle.klsm_tool.specs.MemberCalls.{AreAnswers}
 use Rattle.klsm_tool.specs.MemberCalls.{IsAnswerTo, Wants}
 use Rattle.klsm_tool.proofs.ShownLemmas.{inserted_within}
@@ -34,6 +36,7 @@ loop-row-preserved g c =
     record {
       same = (told.same.0 ∙ was.same.0, told.same.1 ∙ was.same.1, told.same.2 ∙ was.same.2);
       picks = told.picker ∙ (was.picks ∙ sym told.same.0);
+      course = told.course c.args.settings.now.balance was.course;
       answers = row_answered c.args.rows.now c.loop-row.row-index empty c.loop-row-test.true (own_steps c.loop-row.member) (own_steps c.answer.new.member) c.in_default.field-0 was.answers
           (subst (λ o. IsAnswerTo o c.in_default.field-0) c.operation.ensures told.answer) told.shown;
     }
@@ -42,6 +45,7 @@ pub loop-row-init : goal.loop-row-init
 loop-row-init g c = record {
   same = (refl, refl, refl);
   picks = ap (λ (p : ThreadPicker). p.thread) c.requires.picks;
+  course = ap (λ (p : ThreadPicker). p.balancing) c.requires.picks ∙ ap (λ (z : List Answer). balancing_after c.args.settings.now.balance c.args.board.now.sizes.threads (deletions_in z)) (sym c.requires.shows_none);
   answers = subst (AreAnswers []) (sym c.requires.shows_none) tt;
 }
 
@@ -49,3 +53,9 @@ pub returns-clause-works : goal.returns-clause-works
 returns-clause-works g c =
     let whole : take c.loop-row.row-index c.args.rows.now ≡ c.args.rows.now = take_all _ _ (omega (arith, c.loop-row-test.false)) in
     rw whole at c.loop-row.invariant.answers
+
+pub returns-in-Err-clause-course : goal.returns-in-Err-clause-course
+returns-in-Err-clause-course g c = c.in-Err.ensures.course c.args.settings.now.balance c.loop-row.invariant.course
+
+pub returns-clause-course : goal.returns-clause-course
+returns-clause-course g c = c.loop-row.invariant.course

@@ -44,3 +44,12 @@ returns-in_err-line-clause-refused g c input rows read accepted below =
 pub returns-clause-refused : goal.returns-clause-refused
 returns-clause-refused g c input rows read accepted below =
     put_stands g.R.Read.remaining c.args.board.now.sizes.threads input (g.W.Write.contents c.send_before_wait.new.writer) (g.W.Write.contents c.put.new.writer) c.next_line.new.script c.as_bytes.result.now c.send_before_wait.new.output c.put.new.self c.put.result c.put.ensures
+
+pub returns-in_err-send_before_wait-clause-course : goal.returns-in_err-send_before_wait-clause-course
+returns-in_err-send_before_wait-clause-course g c every on = on
+
+pub returns-in_err-line-clause-course : goal.returns-in_err-line-clause-course
+returns-in_err-line-clause-course g c every on = c.in_err-line.ensures.course every on
+
+pub returns-clause-course : goal.returns-clause-course
+returns-clause-course g c every on = c.in_ok-line.ensures.course every on

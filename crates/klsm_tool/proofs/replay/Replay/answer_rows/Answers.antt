@@ -28,6 +28,7 @@ loop-answered-preserved g c = record {
   of = c.in_default.ensures.of;
   pickers = c.in_default.ensures.pickers;
   few = c.in_default.ensures.few c.loop-answered.answered c.loop-answered.invariant.few;
+  course = c.in_default.ensures.course c.args.settings.now.balance c.loop-answered.invariant.course;
   short = omega (arith, c.in_default.ensures.put, c.loop-answered.invariant.short);
   stands = λ input before stands told.
       let k = c.loop-answered.invariant.stands input before stands told in
@@ -40,6 +41,7 @@ loop-answered-init g c = record {
   of = c.requires.of;
   pickers = c.requires.pickers;
   few = c.requires.few;
+  course = c.requires.course;
   short = omega (arith, c.requires.put);
   stands = λ input before stands told.
       ([], [], refl, subst (λ (z : Sizes). StandsAfter g.R.Read.remaining z.threads z.k (all_lists c.args.all.now) input [] [] c.args.script.now (live_kept c.args.self.now.state) c.args.self.now.state.most) (sym c.requires.sizes) stands, told);
@@ -68,3 +70,9 @@ returns-clause-refused g c input before stands told =
     let accepted = accepted_rows c.args.board.now.sizes.threads k.0 k.1 k.3.answered in
     let threads = ap (λ z. z.threads) c.requires.sizes in
     subst (λ n. StandsAtRefusal g.R.Read.remaining n input c.stop_behind.new.script c.stop_behind.result) threads (c.stop_behind.ensures.refused _ input k.0 k.3.read accepted all)
+
+pub returns-in-Err-clause-course : goal.returns-in-Err-clause-course
+returns-in-Err-clause-course g c = c.in-Err.ensures.course c.args.settings.now.balance c.loop-answered.invariant.course
+
+pub returns-clause-course : goal.returns-clause-course
+returns-clause-course g c = c.loop-answered.invariant.course

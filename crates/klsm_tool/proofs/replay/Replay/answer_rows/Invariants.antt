@@ -1,7 +1,8 @@
 use Rattle.std.proofs.Common.{◌≡◌, ℕ, ◌*◌, ◌≤◌, List, [], length, Option}
 use Rattle.klsm_text.specs.declared.answer.Line.{Line}
-use Rattle.klsm_tool.specs.Answering.{live_kept, picker_count}
+use Rattle.klsm_tool.specs.Answering.{live_kept, picker_count, pickers_kept}
 use Rattle.klsm_board.specs.Together.{AreOf, all_lists}
+use Rattle.klsm_tool.specs.Courses.{AreOnCourse}
 use Rattle.klsm_tool.specs.Crews.{AreFew}
 use Rattle.klsm_rows.specs.Rows.{Row}
 use Rattle.klsm_text.specs.Output.{put_count}
@@ -14,6 +15,7 @@ invariant-loop-answered g l = record {
   of : AreOf l.all l.board;
   pickers : picker_count l.self.state ≡ l.board.sizes.threads;
   few : AreFew l.answered (all_lists l.all);
+  course : AreOnCourse l.settings.balance l.board.sizes.threads (all_lists l.all) (pickers_kept l.self.state);
   short : put_count l.self.output ≤ 160 * l.answered;
   stands : (input before : Option (List ℕ)) → StandsAfter g.R.Read.remaining l.settings.threads l.settings.k (all_lists l.initial.all) input [] [] l.initial.script (live_kept l.initial.self.state) l.initial.self.state.most
       → IsTold before (g.W.Write.contents l.initial.writer) [] l.initial.self.output
