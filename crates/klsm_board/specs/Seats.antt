@@ -27,6 +27,14 @@ victim_in_hand t victim from own = (own_part victim, from) ∷ own_in_hand t own
 abbrev pub three_in_hand : ℕ → ℕ → List Item → List Item → List Item → Hand
 three_in_hand t victim from own shared = (own_part victim, from) ∷ both_in_hand t own shared
 
+-- the items on their way to the part that a seat acquired first
+abbrev pub last_arriving_or : {S : Type 0} → (S → List Item) → List Item → List (ℕ × S) → List Item
+last_arriving_or arriving before [] = before
+last_arriving_or arriving before (x ∷ xs) = last_arriving_or arriving (arriving x.1) xs
+
+abbrev pub last_arriving : {S : Type 0} → (S → List Item) → List (ℕ × S) → List Item
+last_arriving arriving xs = last_arriving_or arriving [] xs
+
 -- the seat is one of this table, for thread t
 abbrev pub IsSeatOf : TableId → TableId → Sizes → ℕ → Type 0
 IsSeatOf seat table m t = (seat ≡ table) × IsSized table m × (t < m.threads)

@@ -3,19 +3,19 @@
 ghost use Rattle.std.specs.Prelude.{◌≡◌, ◌++◌, ℕ, List, [], ◌∷◌, IfOk, IfErr, MatchOption};
 ghost use Rattle.klsm_run.specs.declared.item.Item.{Item};
 ghost use Rattle.klsm_run.specs.Content.{ShareNone};
-ghost use Rattle.klsm_parts.specs.Events.{MayTake, MayFindNothing, own_after_take, shared_after_take};
+ghost use Rattle.klsm_parts.specs.Events.{MayTake, MayFindNothing, MayRefill, own_after_take, shared_after_take, own_after_refill, shared_after_refill, front_of};
 ghost use Rattle.klsm_parts.specs.Refilling.{refill_of};
-ghost use Rattle.klsm_world.specs.declared.step.Event.TheVariants.{Take};
+ghost use Rattle.klsm_world.specs.declared.step.Event.TheVariants.{Take, Refill};
 ghost use Rattle.klsm_world.specs.declared.step.Entry.TheVariants.{Committed};
 ghost use Rattle.klsm_world.specs.OwnSteps.{hand_of};
 ghost use Rattle.klsm_world.specs.OwnListLaws.{SkipsFew, KeepsOwnOrder};
 ghost use Rattle.klsm_board.specs.Rule.{world_limits};
 ghost use Rattle.klsm_board.specs.Steps.{mine, rest_of, AreReached};
-ghost use Rattle.klsm_board.specs.Seats.{Carries, Stands, Has, CarriedOut, QuotaAllows, LeavesShared, SetsFront, IsSeatOf, both_in_hand};
+ghost use Rattle.klsm_board.specs.Seats.{Carries, Stands, Has, CarriedOut, QuotaAllows, LeavesShared, SetsFront, IsSeatOf, own_in_hand, both_in_hand, last_arriving};
 ghost use Rattle.klsm_board.specs.Entries.{both_released};
 ghost use Rattle.klsm_board.specs.Choosing.{Chooses};
 ghost use Rattle.klsm_board.specs.Effects.{MeetsHolder, TakesEffect};
-ghost use Rattle.klsm_board.specs.TakingOut.{RefillsInHand, TakesTo};
+ghost use Rattle.klsm_board.specs.TakingOut.{FetchesInHand, HasFetched, TakesTo};
 ghost use Rattle.klsm_board.specs.Deleting.{AnswersDeletion, Deletes, FindsNothing, MissesDeletion, refilled, refilled_after};
 
 use crate::acquiring::try_acquire;
@@ -26,9 +26,9 @@ use crate::rule::{Locks, MemberSeat};
 use crate::slot::PartSlot;
 use crate::spying::search_victims;
 use crate::steps::{
-    Refilling, commit_by_front, commit_event, commit_moving_by_front, release_both, release_part,
+    commit_by_front, commit_event, commit_refill, release_both, release_part, release_shared,
 };
-use crate::taking::{Fronts, take_and_refill};
+use crate::taking::{Fronts, take_and_fetch};
 use klsm_parts::Picker;
 use klsm_run::Item;
 use klsm_world::Event;
@@ -150,8 +150,8 @@ fn take_both_out<S: PartSlot, P: Picker>(
     Some(item)
 }
 
-// Commits the deletion of a shared item by setting the front, and then, where items moved to the own part, that;
-// and releases both parts. The seat carries what both events leave.
+// Commits the deletion of a shared item by setting the front, and then, where items are on their way to the own part,
+// that they move; and releases both parts. The seat carries what both events leave of the shared part.
 fn release_by_front<S: PartSlot>(
     table: &Locks<S>,
     seat: &mut MemberSeat<S>,
@@ -160,6 +160,7 @@ fn release_by_front<S: PartSlot>(
     fronts: Fronts,
     item: Item,
 )
+    requires sized { S.is_sized }
     requires seat { IsSeatOf seat.old.table_id table.now.table_id table.now.key thread }
     requires threads { threads ≡ table.now.key.threads }
     requires room { QuotaAllows table.now.key.quota (mine seat.old.me.0) (Take item) }
@@ -167,53 +168,73 @@ fn release_by_front<S: PartSlot>(
     requires out { (most : ℕ) × (own : List Item) × (shared : List Item)
         × (hand_of thread (mine seat.old.me.0) ≡ both_in_hand thread own shared)
         × MayTake table.now.key.k thread own shared item
-        × RefillsInHand S.content S.suits table.now.key thread most (own_after_take own item)
-        (shared_after_take own shared item) fronts.refilled seat.old.me }
+        × FetchesInHand S.content S.suits S.arriving table.now.key thread most
+        (own_after_take own item) (shared_after_take own shared item) fronts.refilled seat.old.me }
     ensures same { seat.new.table_id ≡ seat.old.table_id }
     ensures others { rest_of seat.new.me.0 ≡ rest_of seat.old.me.0 }
     ensures has { Has S.content S.suits table.now.key thread [] seat.new.me }
     ensures list { (most : ℕ) (own shared : List Item)
         → hand_of thread (mine seat.old.me.0) ≡ both_in_hand thread own shared
-        → RefillsInHand S.content S.suits table.now.key thread most (own_after_take own item)
-        (shared_after_take own shared item) fronts.refilled seat.old.me
+        → FetchesInHand S.content S.suits S.arriving table.now.key thread most
+        (own_after_take own item) (shared_after_take own shared item) fronts.refilled seat.old.me
         → mine seat.new.me.0 ≡ mine seat.old.me.0 ++ Committed (Take item)
         ∷ (refilled (refill_of most table.now.key.k (own_after_take own item)
         (shared_after_take own shared item)) ++ both_released thread) }
 {
     let Fronts { taken, refilled } = fronts;
     commit_by_front(table, seat, threads, thread, taken, &Event::Take(item));
-    commit_refill(table, seat, threads, thread, refilled);
-    release_both(table, seat, thread);
+    match refilled {
+        Some(front) => release_refilled(table, seat, threads, thread, front),
+        None => release_both(table, seat, thread),
+    }
 }
 
-// Commits a moving of shared items to the own part by setting the front, where some moved. The seat keeps both
-// parts.
-fn commit_refill<S: PartSlot>(
+// Commits that the items on their way to the own part move there, by setting the front, and releases the shared part.
+// Only then, when others may have that, are they merged into the own part, which is released last.
+fn release_refilled<S: PartSlot>(
     table: &Locks<S>,
     seat: &mut MemberSeat<S>,
     threads: usize,
     thread: usize,
-    front: Option<u64>,
+    front: u64,
 )
+    requires sized { S.is_sized }
     requires seat { IsSeatOf seat.old.table_id table.now.table_id table.now.key thread }
     requires threads { threads ≡ table.now.key.threads }
     requires reached { AreReached table.now.key thread seat.old.me.0 }
-    requires out { (most : ℕ) × (own : List Item) × (shared : List Item)
+    requires fetched { (own : List Item) × (shared : List Item)
         × (hand_of thread (mine seat.old.me.0) ≡ both_in_hand thread own shared)
-        × RefillsInHand S.content S.suits table.now.key thread most own shared front seat.old.me }
+        × HasFetched S.content S.suits S.arriving table.now.key thread own shared seat.old.me
+        × (front ≡ front_of (shared_after_refill shared
+        (last_arriving S.arriving seat.old.me.1))) }
     ensures same { seat.new.table_id ≡ seat.old.table_id }
     ensures others { rest_of seat.new.me.0 ≡ rest_of seat.old.me.0 }
-    ensures has { (own : List Item) × (shared : List Item)
-        × Has S.content S.suits table.now.key thread (both_in_hand thread own shared) seat.new.me }
-    ensures list { (most : ℕ) (own shared : List Item)
-        → hand_of thread (mine seat.old.me.0) ≡ both_in_hand thread own shared
-        → RefillsInHand S.content S.suits table.now.key thread most own shared front seat.old.me
-        → mine seat.new.me.0
-        ≡ mine seat.old.me.0 ++ refilled (refill_of most table.now.key.k own shared) }
+    ensures has { Has S.content S.suits table.now.key thread [] seat.new.me }
+    ensures list { mine seat.new.me.0 ≡ mine seat.old.me.0
+        ++ Committed (Refill (last_arriving S.arriving seat.old.me.1)) ∷ both_released thread }
 {
-    if let Some(front) = front {
-        commit_moving_by_front(table, seat, threads, thread, front, &Refilling);
-    }
+    commit_refill(table, seat, threads, thread, front);
+    release_shared(table, seat, thread);
+    take_fetched_in(table, seat, thread);
+    release_part(table, seat, thread + 1, thread);
+}
+
+// Merges the items that are on their way to the own part, which the seat carries, into it.
+fn take_fetched_in<S: PartSlot>(table: &Locks<S>, seat: &mut MemberSeat<S>, thread: usize)
+    requires sized { S.is_sized }
+    requires seat { IsSeatOf seat.old.table_id table.now.table_id table.now.key thread }
+    requires carries { (own : List Item) × (shared : List Item)
+        × Carries S.content S.suits table.now.key thread (own_in_hand thread own) seat.old.me
+        × MayRefill table.now.key.k own shared (last_arriving S.arriving seat.old.me.1)
+        × ShareNone own (last_arriving S.arriving seat.old.me.1) }
+    ensures same { (seat.new.table_id ≡ seat.old.table_id) × (seat.new.id ≡ seat.old.id)
+        × (seat.new.me.0 ≡ seat.old.me.0) }
+    ensures joined { (own : List Item)
+        → Carries S.content S.suits table.now.key thread (own_in_hand thread own) seat.old.me
+        → Carries S.content S.suits table.now.key thread (own_in_hand thread
+        (own_after_refill own (last_arriving S.arriving seat.old.me.1))) seat.new.me }
+{
+    seat.slot_mut(table, thread + 1).take_in();
 }
 
 // Commits an event that inserts nothing, leaves the shared part and was carried out in the two parts in
@@ -240,8 +261,8 @@ fn release_committed<S: PartSlot>(
     release_part(table, seat, thread + 1, thread);
 }
 
-// Takes an item out of the two parts that the seat carries. Where it was a shared one, the least shared items move
-// to the own part, at most `refill`, and it is answered with the fronts that this leaves.
+// Takes an item out of the two parts that the seat carries. Where it was a shared one, the least shared items are then
+// on their way to the own part, at most `refill`, and it is answered with the fronts that this leaves.
 fn take_out<S: PartSlot, P: Picker>(
     table: &Locks<S>,
     seat: &mut MemberSeat<S>,
@@ -267,14 +288,15 @@ fn take_out<S: PartSlot, P: Picker>(
         × (picker.new ≡ picker.old))
         (λ taken. MayTake table.now.key.k thread own shared taken.0
         × Chooses P.may_pick picker.old picker.new table.now.key.k thread own shared taken.0
-        × ((own' : List Item) × (shared' : List Item)
-        × Carries S.content S.suits table.now.key thread (both_in_hand thread own' shared')
-        seat.new.me
-        × TakesTo refill table.now.key.k own shared taken.0 taken.1 own' shared')) }
+        × ((shared' : List Item)
+        × Carries S.content S.suits table.now.key thread
+        (both_in_hand thread (own_after_take own taken.0) shared') seat.new.me
+        × TakesTo refill table.now.key.k own shared taken.0 taken.1 shared'
+        (last_arriving S.arriving seat.new.me.1))) }
 {
     let mut shared = lend_shared(table, seat, thread);
     let own = seat.slot_mut(table, thread + 1);
-    let taken = take_and_refill(own, &mut shared, thread as u32, refill, picker);
+    let taken = take_and_fetch(own, &mut shared, thread as u32, refill, picker);
     return_shared(table, seat, thread, shared);
     taken
 }

@@ -1,9 +1,10 @@
 //! The own part and the shared one at once: the shared part leaves the seat, and the own part is
 //! changed beside it. A slot moves as a tag and a pointer.
-ghost use Rattle.std.specs.Prelude.{◌≡◌, List};
+ghost use Rattle.std.specs.Prelude.{◌≡◌, ◌∷◌, List};
+ghost use Rattle.atomic_table.specs.Table.{rest};
 ghost use Rattle.klsm_run.specs.declared.item.Item.{Item};
-ghost use Rattle.klsm_world.specs.OwnSteps.{shared_part};
-ghost use Rattle.klsm_board.specs.Seats.{Carries, LendsShared, both_in_hand};
+ghost use Rattle.klsm_world.specs.OwnSteps.{own_part, shared_part};
+ghost use Rattle.klsm_board.specs.Seats.{Carries, LendsShared, both_in_hand, last_arriving};
 
 use crate::rule::{Locks, MemberSeat};
 use crate::slot::PartSlot;
@@ -52,6 +53,8 @@ pub(crate) fn return_shared<S: PartSlot>(
         → LendsShared S.content S.suits S.is_vacant table.now.key thread own seat.old.me
         → Carries S.content S.suits table.now.key thread
         (both_in_hand thread own (S.content shared)) seat.new.me }
+    ensures arriving { (own : S) → seat.old.me.1 ≡ (own_part thread, own) ∷ rest seat.old.me.1
+        → last_arriving S.arriving seat.new.me.1 ≡ S.arriving own }
 {
     // For the proof: the contract alone names the thread.
     let _ = thread;

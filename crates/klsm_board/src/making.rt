@@ -1,21 +1,22 @@
 //! How a board is made.
-ghost use Rattle.std.specs.Prelude.{All, ◌≡◌, ◌<◌, ◌≤◌, ◌+◌, ◌∷◌, ◌↔◌, ◌⊎◌, ℕ, [], length, replicate, IfOk, IsErrAnd};
+ghost use Rattle.std.specs.Prelude.{All, ◌≡◌, ◌<◌, ◌≤◌, ◌+◌, ◌∷◌, ◌↔◌, ◌⊎◌, ℕ, [], length, vec_len, IfOk, IsErrAnd};
 ghost use Rattle.klsm_run.specs.declared.limits.TheConstants.{MOST_THREADS};
 ghost use Rattle.klsm_run.specs.Capacity.{IsCapacity};
 ghost use Rattle.klsm_parts.specs.Limit.{IsLevelCount};
 ghost use Rattle.klsm_board.specs.Rule.{view, fresh};
 ghost use Rattle.klsm_board.specs.Members.{AreSizes, most_insertions};
 ghost use Rattle.klsm_board.specs.Boards.{AreNewMembersOf, IsOf, own_steps};
+ghost use Rattle.klsm_board.specs.Slots.{AreEmptySlots};
 
 use crate::board::{Board, Member};
 use crate::boxed::Boxed;
 use crate::errors::MakeError;
 use crate::rule::{STRIDE, View};
 use crate::sizes::Sizes;
-use crate::slot::{BoardSlot, Slot};
+use crate::slot::{BoardSlot, Home, Slot};
 use atomic_table::{Seat, Split, Table};
 use klsm_parts::{Local, Shared};
-use klsm_run::MOST_THREADS;
+use klsm_run::{Item, MOST_THREADS};
 use std::alloc::{AllocError, Global};
 
 /// The most insertions that a board can be made for, of each member: 2^48.
@@ -24,9 +25,9 @@ pub const MOST_INSERTIONS: u64 = 281_474_976_710_656;
 impl<const CAP: usize, const LEVELS: usize> Board<CAP, LEVELS> {
     /// A board of empty parts, and its members in order.
     ///
-    /// It alone takes the memory of the board itself: a part of about `CAP` items for each member,
-    /// the shared part, two lines of the cache for each lock and for the front, and the list of
-    /// members. Later calls take memory for shared blocks alone.
+    /// It alone takes the memory of the board itself: a part of about `CAP` items for each member, and
+    /// k places beside it, the shared part, two lines of the cache for each lock and for the front, and
+    /// the list of members. Later calls take memory for shared blocks alone.
     pub fn new(
         alloc: Global,
         threads: usize,
@@ -164,15 +165,33 @@ fn parts<const CAP: usize, const LEVELS: usize>(
     requires capacity { IsCapacity CAP }
     requires levels { IsLevelCount LEVELS }
     requires k { k ≤ CAP }
-    ensures { IfOk result (λ all. all.items ≡ Slot.Common (record { k = k; blocks = [] })
-        ∷ replicate threads (Slot.Own (record { k = k; blocks = [] }))) }
+    ensures { IfOk result (λ all. (length all.items ≡ threads + 1) × AreEmptySlots k all.items) }
 {
     let mut all = Vec::new(alloc);
     all.push(Slot::Common(Boxed::new(alloc, Shared::new(alloc, k))?))?;
     for _ in 0..threads {
-        all.push(Slot::Own(Boxed::new(alloc, Local::new(k))?))?;
+        all.push(Slot::Own(empty_home(alloc, k)?))?;
     }
     Ok(all)
+}
+
+// An own part without items, and k places beside it.
+fn empty_home<const CAP: usize>(
+    alloc: Global,
+    k: usize,
+) -> Result<Boxed<Home<Local<CAP>>>, AllocError>
+    requires capacity { IsCapacity CAP }
+    requires k { k ≤ CAP }
+    ensures { IfOk result (λ home. (home.part ≡ record { k = k; blocks = [] })
+        × (vec_len home.places ≡ k) × (home.count ≡ 0)) }
+{
+    let places = Vec::from_elem(alloc, Item::default(), k)?;
+    let home = Home {
+        part: Local::new(k),
+        places,
+        count: 0,
+    };
+    Boxed::new(alloc, home)
 }
 
 // The members, whose lists are those that the seat knows.

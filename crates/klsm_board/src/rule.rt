@@ -36,6 +36,10 @@ pub trait Holding {
 
     // It is the part that stands in this slot of a board with this k.
     ghost suits: { ℕ → ℕ → Self → Type 0 };
+
+    // The items on their way to an own part: those that a refill moved out of the shared part and that
+    // are still to be merged into this one. Of no meaning while the part is at home.
+    ghost arriving: { Self → List Item };
 }
 
 /// The rule.

@@ -16,7 +16,7 @@ ghost use Rattle.klsm_board.specs.Choosing.{Chooses};
 use crate::boxed::Boxed;
 use crate::rule::Holding;
 use klsm_parts::{
-    Local, LsmError, Picker, Shared, flush, put, refill, spy, steal, take, take_least,
+    Local, LsmError, Picker, Shared, fetch, flush, put, spy, steal, take, take_least,
 };
 use klsm_run::Item;
 use std::alloc::AllocError;
@@ -162,27 +162,39 @@ pub trait PartSlot: Holding + Drop {
             ((Self.content victim.old ≡ []) × (Self.content self.new ≡ Self.content self.old)
             × (Self.content victim.new ≡ Self.content victim.old)) };
 
-    /// Moves the least items of the shared part to an own one: at most `most`, and as many as there are
-    /// and as the own part has room for. True where some moved.
-    fn refill(&mut self, shared: &mut Self, most: usize) -> bool
+    /// Moves the least items of the shared part to places beside an own one, which stays as it is: at most
+    /// `most`, as many as there are, and as half the room of the own part is for. True where some moved:
+    /// they are on their way to it.
+    fn fetch(&mut self, shared: &mut Self, most: usize) -> bool
         requires sized { is_sized }
         requires parts { (k : ℕ) × (t : ℕ) × Self.suits k (own_part t) self.old
             × Self.suits k shared_part shared.old }
-        requires apart { ShareNone (Self.content self.old) (Self.content shared.old) }
         ensures kind { (k t : ℕ) → Self.suits k (own_part t) self.old
             → Self.suits k (own_part t) self.new }
         ensures shared_kind { (k : ℕ) → Self.suits k shared_part shared.old
             → Self.suits k shared_part shared.new }
+        ensures same { Self.content self.new ≡ Self.content self.old }
         ensures done { (k t : ℕ) → Self.suits k (own_part t) self.old → MatchBool result
             (MayRefill k (Self.content self.old) (Self.content shared.old)
             (refill_of most k (Self.content self.old) (Self.content shared.old))
-            × (Self.content self.new ≡ own_after_refill (Self.content self.old)
-            (refill_of most k (Self.content self.old) (Self.content shared.old)))
+            × (Self.arriving self.new
+            ≡ refill_of most k (Self.content self.old) (Self.content shared.old))
             × (Self.content shared.new ≡ shared_after_refill (Self.content shared.old)
             (refill_of most k (Self.content self.old) (Self.content shared.old))))
             ((refill_of most k (Self.content self.old) (Self.content shared.old) ≡ [])
-            × (Self.content self.new ≡ Self.content self.old)
             × (Self.content shared.new ≡ Self.content shared.old)) };
+
+    /// Merges the items that are on their way to an own part into it.
+    fn take_in(&mut self)
+        requires sized { is_sized }
+        requires own { (k : ℕ) × (t : ℕ) × (shared : List Item)
+            × Self.suits k (own_part t) self.old
+            × MayRefill k (Self.content self.old) shared (Self.arriving self.old) }
+        requires apart { ShareNone (Self.content self.old) (Self.arriving self.old) }
+        ensures kind { (k t : ℕ) → Self.suits k (own_part t) self.old
+            → Self.suits k (own_part t) self.new }
+        ensures joined { Self.content self.new
+            ≡ own_after_refill (Self.content self.old) (Self.arriving self.old) };
 
     /// Moves the least items of a victim's part to an own one: at most `most`, as half of what the victim has, and as many
     /// as the own part has room for. True where some moved.
@@ -207,11 +219,21 @@ pub trait PartSlot: Holding + Drop {
             × (Self.content victim.new ≡ Self.content victim.old)) };
 }
 
+/// The part of one member, and beside it places for items on their way to it.
+#[derive(Drop)]
+pub struct Home<L> {
+    pub part: L,
+    // The first `count` of them have left the shared part and are still to be merged into this one,
+    // between a refill and the release of the own part. At other times what lies here is of no meaning.
+    pub places: Vec<Item>,
+    pub count: usize,
+}
+
 /// A part on the heap, so that a call that acquires it moves a tag and a pointer.
 #[derive(Drop)]
 pub enum Slot<L, S> {
     /// The part of one member.
-    Own(Boxed<L>),
+    Own(Boxed<Home<L>>),
     /// The part that all members share.
     Common(Boxed<S>),
     /// No part.
@@ -222,11 +244,13 @@ pub enum Slot<L, S> {
 pub(crate) type BoardSlot<const CAP: usize, const LEVELS: usize> = Slot<Local<CAP>, Shared<LEVELS>>;
 
 impl<const CAP: usize, const LEVELS: usize> Holding for BoardSlot<CAP, LEVELS> {
-    ghost use Rattle.klsm_board.specs.Slots.{slot_content, IsSlotOf};
+    ghost use Rattle.klsm_board.specs.Slots.{slot_content, slot_arriving, IsSlotOf};
 
     ghost content = { slot_content };
 
     ghost suits = { IsSlotOf };
+
+    ghost arriving = { slot_arriving };
 }
 
 impl<const CAP: usize, const LEVELS: usize> PartSlot for BoardSlot<CAP, LEVELS> {
@@ -252,7 +276,7 @@ impl<const CAP: usize, const LEVELS: usize> PartSlot for BoardSlot<CAP, LEVELS> 
 
     fn len(&self) -> usize {
         match self {
-            Slot::Own(own) => own.get().len(),
+            Slot::Own(own) => own.get().part.len(),
             Slot::Common(shared) => shared.get().len(),
             Slot::Vacant => 0,
         }
@@ -260,7 +284,7 @@ impl<const CAP: usize, const LEVELS: usize> PartSlot for BoardSlot<CAP, LEVELS> 
 
     fn least(&self) -> Option<Item> {
         match self {
-            Slot::Own(own) => own.get().least(),
+            Slot::Own(own) => own.get().part.least(),
             Slot::Common(shared) => shared.get().least(),
             Slot::Vacant => None,
         }
@@ -269,14 +293,14 @@ impl<const CAP: usize, const LEVELS: usize> PartSlot for BoardSlot<CAP, LEVELS> 
     #[inline]
     fn find_least(&mut self) -> Option<Item> {
         match self {
-            Slot::Own(own) => own.get_mut().find_least(),
+            Slot::Own(own) => own.get_mut().part.find_least(),
             _ => unreachable!(),
         }
     }
 
     fn append_to(&self, all: &mut Vec<Item>) -> Result<(), AllocError> {
         match self {
-            Slot::Own(own) => own.get().append_to(all),
+            Slot::Own(own) => own.get().part.append_to(all),
             Slot::Common(shared) => shared.get().append_to(all),
             Slot::Vacant => Ok(()),
         }
@@ -285,7 +309,7 @@ impl<const CAP: usize, const LEVELS: usize> PartSlot for BoardSlot<CAP, LEVELS> 
     #[inline]
     fn put(&mut self, item: Item) -> bool {
         match self {
-            Slot::Own(own) => put_where_room(own.get_mut(), item),
+            Slot::Own(own) => put_where_room(&mut own.get_mut().part, item),
             _ => unreachable!(),
         }
     }
@@ -294,7 +318,7 @@ impl<const CAP: usize, const LEVELS: usize> PartSlot for BoardSlot<CAP, LEVELS> 
     fn flush(&mut self, shared: &mut Self, item: Item) -> Result<(), LsmError> {
         match (self, shared) {
             (Slot::Own(own), Slot::Common(shared)) => {
-                flush(own.get_mut(), shared.get_mut(), item)
+                flush(&mut own.get_mut().part, shared.get_mut(), item)
             }
             _ => unreachable!(),
         }
@@ -311,7 +335,7 @@ impl<const CAP: usize, const LEVELS: usize> PartSlot for BoardSlot<CAP, LEVELS> 
     #[inline]
     fn take_least(&mut self) -> Item {
         match self {
-            Slot::Own(own) => take_least(own.get_mut()),
+            Slot::Own(own) => take_least(&mut own.get_mut().part),
             _ => unreachable!(),
         }
     }
@@ -320,7 +344,7 @@ impl<const CAP: usize, const LEVELS: usize> PartSlot for BoardSlot<CAP, LEVELS> 
     fn take<P: Picker>(&mut self, owner: u32, shared: &mut Self, picker: &mut P) -> Option<Item> {
         match (self, shared) {
             (Slot::Own(own), Slot::Common(shared)) => {
-                take(owner, own.get_mut(), shared.get_mut(), picker)
+                take(owner, &mut own.get_mut().part, shared.get_mut(), picker)
             }
             _ => unreachable!(),
         }
@@ -329,16 +353,36 @@ impl<const CAP: usize, const LEVELS: usize> PartSlot for BoardSlot<CAP, LEVELS> 
     #[inline]
     fn spy(&mut self, victim: &mut Self) -> bool {
         match (self, victim) {
-            (Slot::Own(own), Slot::Own(victim)) => spy(own.get_mut(), victim.get_mut()) != 0,
+            (Slot::Own(own), Slot::Own(victim)) => {
+                spy(&mut own.get_mut().part, &mut victim.get_mut().part) != 0
+            }
             _ => unreachable!(),
         }
     }
 
     #[inline]
-    fn refill(&mut self, shared: &mut Self, most: usize) -> bool {
+    fn fetch(&mut self, shared: &mut Self, most: usize) -> bool {
         match (self, shared) {
             (Slot::Own(own), Slot::Common(shared)) => {
-                refill(own.get_mut(), shared.get_mut(), most) != 0
+                let home = own.get_mut();
+                home.count = fetch(
+                    &home.part,
+                    shared.get_mut(),
+                    most,
+                    home.places.as_mut_slice(),
+                );
+                home.count != 0
+            }
+            _ => unreachable!(),
+        }
+    }
+
+    #[inline]
+    fn take_in(&mut self) {
+        match self {
+            Slot::Own(own) => {
+                let home = own.get_mut();
+                home.part.take_in(&home.places.as_slice()[..home.count]);
             }
             _ => unreachable!(),
         }
@@ -348,7 +392,7 @@ impl<const CAP: usize, const LEVELS: usize> PartSlot for BoardSlot<CAP, LEVELS> 
     fn steal(&mut self, victim: &mut Self, most: usize) -> bool {
         match (self, victim) {
             (Slot::Own(own), Slot::Own(victim)) => {
-                steal(own.get_mut(), victim.get_mut(), most) != 0
+                steal(&mut own.get_mut().part, &mut victim.get_mut().part, most) != 0
             }
             _ => unreachable!(),
         }

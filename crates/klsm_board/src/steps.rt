@@ -4,6 +4,7 @@ ghost use mathlib.Core.Option.{none};
 ghost use Rattle.atomic_table.specs.Table.{rest, step};
 ghost use Rattle.klsm_run.specs.declared.item.Item.{Item};
 ghost use Rattle.klsm_world.specs.declared.step.Event.{Event};
+ghost use Rattle.klsm_world.specs.declared.step.Event.TheVariants.{Refill};
 ghost use Rattle.klsm_world.specs.declared.step.Entry.TheVariants.{Acquired, Committed, Released, Missed, Looked};
 ghost use Rattle.klsm_world.specs.OwnSteps.{Hand, Holds, own_part, found_in, after_event, hand_of, inserted};
 ghost use Rattle.klsm_parts.specs.Least.{IsLeast};
@@ -11,7 +12,7 @@ ghost use Rattle.klsm_board.specs.Rule.{place, view};
 ghost use Rattle.klsm_board.specs.Turning.{turned, HasList};
 ghost use Rattle.klsm_world.specs.LegalSteps.{MayCommit};
 ghost use Rattle.klsm_board.specs.Steps.{mine, rest_of, gain, IsMine, AreReached, HasFront, HasHolder, attempted, released, committed, looked, glanced, set_front, turned_to};
-ghost use Rattle.klsm_board.specs.Seats.{Carries, Stands, Has, CarriedOut, QuotaAllows, LeavesShared, SetsFront, IsSeatOf, own_in_hand, both_in_hand};
+ghost use Rattle.klsm_board.specs.Seats.{Carries, Stands, Has, CarriedOut, QuotaAllows, LeavesShared, SetsFront, IsSeatOf, own_in_hand, both_in_hand, last_arriving};
 ghost use Rattle.klsm_board.specs.Entries.{both_released};
 
 use crate::plays::{Acquire, Commit, Glance, Intent, Look, Release, SetFront, Turn};
@@ -254,6 +255,25 @@ pub(crate) fn release_both<S: Holding>(table: &Locks<S>, seat: &mut MemberSeat<S
     release_part(table, seat, thread + 1, thread);
 }
 
+/// Releases the shared part, which is as the list says, while the own part may be one event behind the list.
+pub(crate) fn release_shared<S: Holding>(table: &Locks<S>, seat: &mut MemberSeat<S>, thread: usize)
+    requires seat { IsSeatOf seat.old.table_id table.now.table_id table.now.key thread }
+    requires carries { (own : List Item) × (due : List Item) × (shared : List Item)
+        × Carries S.content S.suits table.now.key thread (both_in_hand thread own shared)
+        seat.old.me
+        × (hand_of thread (mine seat.old.me.0) ≡ both_in_hand thread due shared) }
+    ensures same { (seat.new.table_id ≡ seat.old.table_id) × (seat.new.id ≡ seat.old.id)
+        × (seat.new.me ≡ (gain seat.old.me.0 (Released 0), rest seat.old.me.1)) }
+    ensures carries { (own due shared : List Item)
+        → Carries S.content S.suits table.now.key thread (both_in_hand thread own shared)
+        seat.old.me
+        → hand_of thread (mine seat.old.me.0) ≡ both_in_hand thread due shared
+        → Carries S.content S.suits table.now.key thread (own_in_hand thread own) seat.new.me
+        × (hand_of thread (mine seat.new.me.0) ≡ own_in_hand thread due) }
+{
+    release::<S, Brand>(table, seat, 0, thread);
+}
+
 /// Commits an event that was carried out in the parts that the seat carries, and releases the one that
 /// was acquired last.
 pub(crate) fn commit_event<S: Holding>(
@@ -298,15 +318,6 @@ impl Moving for Item {
     ghost use Rattle.klsm_world.specs.declared.step.Event.TheVariants.{Flush};
 
     ghost event = { Flush };
-}
-
-/// A moving of shared items to the own part.
-pub(crate) struct Refilling;
-
-impl Moving for Refilling {
-    ghost use Rattle.klsm_world.specs.declared.step.Event.TheVariants.{Refill};
-
-    ghost event = { λ _ moved. Refill moved };
 }
 
 /// A stealing from the member with this number.
@@ -386,6 +397,33 @@ pub(crate) fn commit_by_front<S: Holding>(
     ensures reached { AreReached table.now.key thread seat.new.me.0 }
 {
     store_front::<S, Brand, Event>(table, seat, threads, thread, front, event);
+}
+
+/// Commits the moving of the items that are on their way to the own part, by setting the front to what it leaves it.
+/// They may be merged into that part later.
+pub(crate) fn commit_refill<S: Holding>(
+    table: &Locks<S>,
+    seat: &mut MemberSeat<S>,
+    threads: usize,
+    thread: usize,
+    front: u64,
+)
+    requires seat { IsSeatOf seat.old.table_id table.now.table_id table.now.key thread }
+    requires threads { threads ≡ table.now.key.threads }
+    requires view { IsMine seat.old.me.0 thread }
+    requires sets { SetsFront thread (hand_of thread (mine seat.old.me.0))
+        (Refill (last_arriving S.arriving seat.old.me.1)) front }
+    requires may { MayCommit table.now.key.k thread (hand_of thread (mine seat.old.me.0))
+        (length (inserted (mine seat.old.me.0)))
+        (Refill (last_arriving S.arriving seat.old.me.1)) }
+    ensures same { (seat.new.table_id ≡ seat.old.table_id) × (seat.new.id ≡ seat.old.id)
+        × (seat.new.me ≡ (
+          gain seat.old.me.0
+              (Committed (Refill (last_arriving S.arriving seat.old.me.1))),
+          seat.old.me.1,
+        )) }
+{
+    store_front::<S, Brand, ()>(table, seat, threads, thread, front, &());
 }
 
 /// Commits an event by which items moved, by setting the front to what the event leaves it. The caller

@@ -22,21 +22,21 @@ lsm levels slot = up 8 (up 8 (up 8 (0 + array_vec levels slot) + 8) + 8)
 abbrev run : ℕ → ℕ
 run n = up 8 (up 8 (0 + array_vec n 32) + 16)
 
--- of an own part, of which a run has s bytes, and the places for items on their way p
-abbrev local : ℕ → ℕ → ℕ
-local s p = up 8 (up 8 (up 8 (up 8 (0 + lsm OWN_LEVELS (option s)) + 8) + 16) + p)
+-- of an own part, of which a run has s bytes
+abbrev local : ℕ → ℕ
+local s = up 8 (up 8 (up 8 (0 + lsm OWN_LEVELS (option s)) + 8) + 16)
 
 -- the last field but one, as the shared part of a queue
 pub field_fits : (a b c s n limit : ℕ) → up a (up 8 (up b c + s) + n) < limit → s < limit
 field_fits a b c s n limit whole = omega (arith, whole)
 
 -- the LSM of an own part
-pub first_fits : (a b s n m p limit : ℕ) → up a (up 8 (up 8 (up b (0 + s) + n) + m) + p) < limit → s < limit
-first_fits a b s n m p limit whole = omega (arith, whole)
+pub first_fits : (a b s n m limit : ℕ) → up a (up 8 (up b (0 + s) + n) + m) < limit → s < limit
+first_fits a b s n m limit whole = omega (arith, whole)
 
 -- a run in one of the slots of an own part
-pub run_fits : (s p limit : ℕ) → local s p < limit → s < limit
-run_fits s p limit whole = omega (arith, whole)
+pub run_fits : (s limit : ℕ) → local s < limit → s < limit
+run_fits s limit whole = omega (arith, whole)
 
 -- the own part of a queue
 pub own_fits : (a b s t n limit : ℕ) → up a (up 8 (up b (0 + s) + t) + n) < limit → s < limit
@@ -83,13 +83,10 @@ pub own_lsm_fits : (n : ℕ) → IsCapacity n → lsm OWN_LEVELS (option (run n)
 own_lsm_fits n capacity = small_fits _ (lsm_is_small _ (run_is_small n capacity))
 
 -- the own part
-pub local_fits : (n : ℕ) → IsCapacity n → local (run n) (n * 32) < 9223372036854775808
-local_fits n capacity = part_fits _ _ (lsm_is_small _ (run_is_small n capacity)) (places n capacity) where
-  places : (n : ℕ) → IsCapacity n → n * 32 < 65536
-  places n capacity = omega (arith, capacity.at_most)
-
-  part_fits : (s p : ℕ) → s < 1048576 → p < 65536 → up 8 (up 8 (up 8 (up 8 (0 + s) + 8) + 16) + p) < 9223372036854775808
-  part_fits s p small few = omega (arith, small, few)
+pub local_fits : (n : ℕ) → IsCapacity n → local (run n) < 9223372036854775808
+local_fits n capacity = part_fits _ (lsm_is_small _ (run_is_small n capacity)) where
+  part_fits : (s : ℕ) → s < 1048576 → up 8 (up 8 (up 8 (0 + s) + 8) + 16) < 9223372036854775808
+  part_fits s small = omega (arith, small)
 
 -- the LSM of a shared part of any number of levels
 pub shared_lsm_fits : (n : ℕ) → IsLevelCount n → lsm n 56 < 9223372036854775808

@@ -1,18 +1,16 @@
 -- The least items of a shared part on their way to an own one.
 use Rattle.std.proofs.Common.{◌≡◌, ◌≢◌, ℕ, ◌+◌, ◌-◌, ◌/◌, min, ◌<◌, ◌≤◌, cond, zero, suc, List, [], ◌∷◌, ◌++◌, length, take, drop, refl, sym, ap, ◌∙◌, subst, arith}
-use Rattle.std.specs.List.{AllByRecursion, Contains, count_by}
+use Rattle.std.specs.List.{AllByRecursion, count_by}
 use Rattle.std.proofs.lemmas.List.{drop-drop, drop-take, length-drop, length-take, take-append-drop}
 use Rattle.std.proofs.lemmas.Slice.{take-put_mid}
 use borrow.Rule.Slice.PartMut.{put_mid, same_len_mid}
-use Rattle.std.proofs.lemmas.List.Elements.{Contains-append_left}
 use Rattle.std.proofs.lemmas.List.Sums.{sum_by-append}
 use Rattle.klsm_run.specs.declared.item.Item.{Item}
 use Rattle.klsm_run.specs.ItemOrder.{IsSmaller, is_same}
-use Rattle.klsm_run.specs.Content.{sorted, IsAscending, ShareNone}
+use Rattle.klsm_run.specs.Content.{sorted, IsAscending}
 use Rattle.klsm_run.proofs.AllLemmas.{all_weaker}
 use Rattle.klsm_run.proofs.ApartLemmas.{AreApart}
-use Rattle.klsm_run.proofs.ContainsLemmas.{contains_sorted, contains_unsorted}
-use Rattle.klsm_run.proofs.ContentLemmas.{sorted_itself, sharing_none_if_apart}
+use Rattle.klsm_run.proofs.ContentLemmas.{sorted_itself}
 use Rattle.klsm_run.proofs.HalfLemmas.{ascending_take, ascending_drop}
 use Rattle.klsm_run.proofs.OrderLemmas.{not_smaller_than_itself}
 use Rattle.klsm_run.proofs.SortedLemmas.{length_sorted, sorted_ascending}
@@ -90,24 +88,6 @@ split_apart (suc n) [] up = tt
 split_apart (suc n) (x ∷ s) up = (
   all_drop (λ y. y ≢ x) n s (all_weaker (IsSmaller x) (λ y. y ≢ x) (λ y less same. not_smaller_than_itself x (subst (IsSmaller x) same less)) s up.0),
   split_apart n s up.1,
-)
-
--- so the run and what is left share no item
-pub moved_share_none : (n : ℕ) (shared r d : List Item) → IsAscending shared → AreMoved n shared r (sorted d) → ShareNone r d
-moved_share_none n shared r d up moved x in_run in_d =
-    let still = sharing_none_if_apart (take n shared) (drop n shared) (split_apart n shared up) in
-    still x (subst (λ xs. Contains xs x) moved.run_is in_run) (subst (λ xs. Contains xs x) moved.left_is (contains_sorted x d in_d))
-
--- nor do an own part and the run
-pub run_shares_none : (n : ℕ) (own c r s : List Item) → ShareNone own c → AreMoved n (sorted c) r s → ShareNone own r
-run_shares_none n own c r s apart moved x in_own in_run =
-    apart x in_own (contains_unsorted x c (subst (λ xs. Contains xs x) (take-append-drop n (sorted c)) (Contains-append_left (take n (sorted c)) (drop n (sorted c)) x (subst (λ xs. Contains xs x) moved.run_is in_run))))
-
--- how many there are then
-pub count_moved : (n : ℕ) (shared r d : List Item) → AreMoved n shared r (sorted d) → n ≤ length shared → (length r ≡ n) × (n + length d ≡ length shared)
-count_moved n shared r d moved few = (
-  omega (arith, ap length moved.run_is, length-take n shared, few),
-  omega (arith, length_sorted d, ap length moved.left_is, length-drop n shared, few),
 )
 
 -- the n least items of a content may move, where there is room

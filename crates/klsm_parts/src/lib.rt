@@ -26,16 +26,17 @@
 //! let next = take(member, &mut own, &mut shared, &mut picker);
 //! let least = take_least(&mut own);                     // its key is below the front
 //! let count = spy(&mut own, &mut victim);               // it is empty: items move from another's
-//! let count = refill(&mut own, &mut shared, most);      // it has room: the least shared items move
+//! let count = fetch(&own, &mut shared, most, places);   // it has room: the least shared items leave
+//! own.take_in(&places[..count]);                        // and join it, which needs no shared part
 //! let count = steal(&mut own, &mut victim, most);       // it has room: the least of another's items move
 //! ```
 //!
 //! - **Lawful at all times.** The invariants of `Local` and `Shared` hold of every value: a lawful
 //!   LSM of at most k items, and one within its limit with exact pivots. `Local::len`,
 //!   `Shared::len` and `Shared::pivot` tell it to their callers.
-//! - **Each call is its event.** The clauses `event` of `put`, `flush`, `take`, `take_least`, `spy`, `refill` and `steal`
+//! - **Each call is its event.** The clauses `event` of `put`, `flush`, `take`, `take_least`, `spy` and `steal`
 //!   say that the event may happen, and what it leaves of the contents; the other clauses say which
-//!   blocks move, and which item goes.
+//!   blocks move, and which item goes. A refill is two calls, `fetch` and `Local::take_in`.
 //! - **A deletion skips at most k items** of the two parts: clause `skips` of `take`.
 //!   `laws::takes_skip_few` says the same of the event, however the candidate was picked.
 //! - **A member's own order is kept.** A deletion skips no item of the two parts that the member
@@ -47,7 +48,8 @@
 //! - **A refill makes the next deletions cheap.** A member that has both parts in hand moves the least shared
 //!   items to its own part, into half the room that it has, so that its next insertions do not carry them
 //!   back; what it deletes next then lies below the front, but for equal keys, and needs no shared
-//!   lock. Own parts have at most k items as before, so no bound changes.
+//!   lock. It may give the shared part back before it merges them. Own parts have at most k items as before,
+//!   so no bound changes.
 //! - **A steal keeps own parts alike.** A member that has another's part in hand beside its own moves the least items
 //!   of that part to its own, into the room that it has, and at most half of them. Neither part has then more than k.
 //! - **A `Queue` holds what was inserted and not yet deleted**, each item once: clauses `items` of
@@ -89,7 +91,7 @@ pub use local::{Local, put, take_least};
 pub use part::Part;
 pub use picker::{First, Last, Picker, Random, random_of};
 pub use queue::Queue;
-pub use refilling::refill;
+pub use refilling::fetch;
 pub use shared::Shared;
 pub use spying::spy;
 pub use stealing::steal;

@@ -1,23 +1,21 @@
 //! The part of one member.
-ghost use Rattle.std.specs.Prelude.{ℕ, ◌≡◌, ◌<◌, ◌≤◌, ◌↔◌, ◌∷◌, [], length, take, drop, slice_get, slice_index_or, Some, IsTrue, ◌+◌, ◌++◌, IsOk, OnOk, vec_len, vec_capacity};
+ghost use Rattle.std.specs.Prelude.{ℕ, ◌≡◌, ◌<◌, ◌≤◌, ◌↔◌, ◌∷◌, [], length, slice_get, slice_index_or, Some, IsTrue, ◌+◌, ◌++◌, IsOk, OnOk, vec_len, vec_capacity};
 ghost use Rattle.std.specs.List.{Contains};
 ghost use Rattle.std.specs.Option.{option_to_list};
 ghost use Rattle.klsm_run.specs.Capacity.{IsCapacity};
-ghost use Rattle.klsm_run.specs.Content.{sorted, without, ShareNone};
+ghost use Rattle.klsm_run.specs.Content.{IsAscending, ShareNone};
 ghost use Rattle.klsm_lsm.specs.Lsm.{content, IsLsm};
 ghost use Rattle.klsm_lsm.specs.Adding.{add};
 ghost use Rattle.klsm_lsm.specs.Spying.{spied, left_by_spy};
 ghost use Rattle.klsm_parts.specs.Least.{IsLeast};
 ghost use Rattle.klsm_parts.specs.LeastPlaces.{IsLeastPlace};
 ghost use Rattle.klsm_parts.specs.Parts.{PartState, IsOwn, items_in, least_in};
-ghost use Rattle.klsm_parts.specs.Events.{MayPut, MayTake, MayTakeEarly, plus, own_after_put, own_after_take, own_after_early};
+ghost use Rattle.klsm_parts.specs.Events.{MayPut, MayTake, MayTakeEarly, own_after_put, own_after_take, own_after_early, own_after_refill};
 ghost use Rattle.klsm_parts.specs.Flushing.{kept};
 ghost use Rattle.klsm_parts.specs.Taking.{IsCutFrom};
 
-use crate::Shared;
 use crate::appending::append_blocks;
 use crate::ranks::{Place, first_of, least_place};
-use crate::refilling::move_least;
 use klsm_lsm::Lsm;
 use klsm_run::{FixedRun, Item, OWN_LEVELS};
 use std::alloc::{AllocError, Allocator};
@@ -31,8 +29,6 @@ pub struct Local<const CAP: usize> {
     k: usize,
     // The block of the least item, where a look has found it and nothing has changed since.
     found: Option<usize>,
-    // Where items lie on their way from the shared part. What is in it is of no meaning.
-    places: [Item; CAP],
 }
 
 impl<const CAP: usize> Model for Local<CAP> {
@@ -54,7 +50,6 @@ impl<const CAP: usize> Local<CAP> {
             lsm: Lsm::new(),
             k,
             found: None,
-            places: [Item::default(); CAP],
         }
     }
 
@@ -167,28 +162,21 @@ impl<const CAP: usize> Local<CAP> {
         self.lsm.remove(block, index)
     }
 
-    // Takes the least shared items over, so many, for which there is room.
-    pub(crate) fn take_over<const LEVELS: usize, A: Allocator + Copy>(
-        &mut self,
-        shared: &mut Shared<LEVELS, A>,
-        count: usize,
-    )
+    /// Merges ascending items in, for which there is room. It takes no memory, and costs one merge.
+    ///
+    /// With what `fetch` moved out of the shared part it carries the event Refill out. It asks nothing of the shared
+    /// part, which may be in other hands by then.
+    pub fn take_in(&mut self, items: &[Item])
         requires capacity { IsCapacity CAP }
-        requires some { 0 < count }
-        requires lawful { IsLsm shared.old.blocks }
-        requires apart { ShareNone (content self.old.blocks) (content shared.old.blocks) }
-        requires there { count ≤ length (items_in shared.old) }
-        requires room { length (content self.old.blocks) + count ≤ self.old.k }
+        requires some { 0 < length items.now }
+        requires ascending { IsAscending items.now }
+        requires apart { ShareNone (content self.old.blocks) items.now }
+        requires room { length (content self.old.blocks) + length items.now ≤ self.old.k }
         ensures k { self.new.k ≡ self.old.k }
-        ensures shared_k { shared.new.k ≡ shared.old.k }
-        ensures items { items_in self.new
-            ≡ plus (items_in self.old) (take count (items_in shared.old)) }
-        ensures left { items_in shared.new ≡ drop count (items_in shared.old) }
+        ensures items { items_in self.new ≡ own_after_refill (items_in self.old) items.now }
     {
         self.found = None;
-        let moved = &mut self.places[..count];
-        move_least(shared, moved);
-        let Ok(()) = self.lsm.absorb_items(moved) else {
+        let Ok(()) = self.lsm.absorb_items(items) else {
             unreachable!();
         };
     }

@@ -1,48 +1,46 @@
 //! What a member that has both parts in hand moves to its own one, so that its next deletions do not need
-//! the shared one.
+//! the shared one. It fetches the items while it has both, and takes them in when it has given the shared one back.
 ghost use Rattle.std.specs.Prelude.{◌≡◌, ◌<◌, ◌≤◌, length, take, drop};
-ghost use Rattle.klsm_run.specs.Capacity.{IsCapacity};
-ghost use Rattle.klsm_run.specs.Content.{ShareNone};
-ghost use Rattle.klsm_lsm.specs.Lsm.{content, IsLsm};
+ghost use Rattle.klsm_lsm.specs.Lsm.{IsLsm};
 ghost use Rattle.klsm_parts.specs.Parts.{items_in};
-ghost use Rattle.klsm_parts.specs.Events.{MayRefill, own_after_refill, shared_after_refill};
+ghost use Rattle.klsm_parts.specs.Events.{MayRefill, shared_after_refill};
 ghost use Rattle.klsm_parts.specs.Refilling.{refill_count, refill_of};
 
 use crate::{Local, Shared};
 use klsm_run::Item;
 use std::alloc::Allocator;
 
-/// Moves the least items of the shared part to the own one: at most `most`, as many as there are, and
-/// as half the room of the own part, rounded up, is for. The answer is how many moved.
+/// Moves the least items of the shared part to places, in their order: at most `most`, as many as there are, and
+/// as half the room of the own part, rounded up, is for. The answer is how many moved. `take_in` brings them to the
+/// own part, which is as it was until then.
 ///
-/// It takes no memory. Items leave the shared part at once, at one comparison a block of it for each, and
-/// join the own one by one merge.
-pub fn refill<const CAP: usize, const LEVELS: usize, A: Allocator + Copy>(
-    own: &mut Local<CAP>,
+/// It takes no memory. Items leave the shared part at once, at one comparison a block of it for each.
+pub fn fetch<const CAP: usize, const LEVELS: usize, A: Allocator + Copy>(
+    own: &Local<CAP>,
     shared: &mut Shared<LEVELS, A>,
     most: usize,
+    places: &mut [Item],
 ) -> usize
-    requires capacity { IsCapacity CAP }
-    requires apart { ShareNone (content own.old.blocks) (content shared.old.blocks) }
+    requires enough { own.now.k ≤ length places.old }
     ensures count { result
-        ≡ refill_count most own.old.k (items_in own.old) (items_in shared.old) }
-    ensures own_k { own.new.k ≡ own.old.k }
+        ≡ refill_count most own.now.k (items_in own.now) (items_in shared.old) }
+    ensures within { result ≤ own.now.k }
     ensures shared_k { shared.new.k ≡ shared.old.k }
-    ensures unchanged { result ≡ 0 → (own.new ≡ own.old) × (shared.new ≡ shared.old) }
+    ensures unchanged { result ≡ 0 → shared.new ≡ shared.old }
+    ensures fetched { take result places.new
+        ≡ refill_of most own.now.k (items_in own.now) (items_in shared.old) }
 
-    // What takes effect on the contents.
-    ensures event { 0 < result → MayRefill own.old.k (items_in own.old) (items_in shared.old)
-        (refill_of most own.old.k (items_in own.old) (items_in shared.old))
-        × (items_in own.new ≡ own_after_refill (items_in own.old)
-        (refill_of most own.old.k (items_in own.old) (items_in shared.old)))
+    // What takes effect on the shared content, and on the own one by `take_in`.
+    ensures event { 0 < result → MayRefill own.now.k (items_in own.now) (items_in shared.old)
+        (refill_of most own.now.k (items_in own.now) (items_in shared.old))
         × (items_in shared.new ≡ shared_after_refill (items_in shared.old)
-        (refill_of most own.old.k (items_in own.old) (items_in shared.old))) }
+        (refill_of most own.now.k (items_in own.now) (items_in shared.old))) }
 {
     let count = count_to_move(own, shared, most);
     if count == 0 {
         return 0;
     }
-    own.take_over(shared, count);
+    move_least(shared, &mut places[..count]);
     count
 }
 
@@ -54,7 +52,6 @@ fn count_to_move<const CAP: usize, const LEVELS: usize, A: Allocator + Copy>(
 ) -> usize
     ensures count { result ≡ refill_count most own.now.k (items_in own.now) (items_in shared.now) }
     ensures few { length (items_in own.now) ≤ own.now.k }
-    ensures within { own.now.k ≤ CAP }
     ensures lawful { IsLsm shared.now.blocks }
 {
     let room = own.k() - own.len();
@@ -63,7 +60,7 @@ fn count_to_move<const CAP: usize, const LEVELS: usize, A: Allocator + Copy>(
 
 // Moves the least shared items to places, in their order: as many at a time as are candidates, so that
 // one turn does where the two parts have one k.
-pub(crate) fn move_least<const LEVELS: usize, A: Allocator + Copy>(
+fn move_least<const LEVELS: usize, A: Allocator + Copy>(
     shared: &mut Shared<LEVELS, A>,
     places: &mut [Item],
 )

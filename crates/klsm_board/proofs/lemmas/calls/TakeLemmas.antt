@@ -1,15 +1,12 @@
 -- What is left of two parts, out of which a deletion took an item.
-use Rattle.std.proofs.Common.{◌≡◌, ℕ, ◌+◌, ◌==◌, true, false, List, [], ◌∷◌, length, ap, subst, inl, inr, arith, if◌then◌else◌}
+use Rattle.std.proofs.Common.{◌≡◌, ℕ, ◌+◌, List, [], length, ap, subst, inl, inr, arith, if◌then◌else◌}
 use Rattle.std.proofs.lemmas.Bool.{cases_eq, eq-eqb, ne_eqb}
 use Rattle.std.proofs.Math.Seq.{take-nil}
 use Rattle.std.specs.List.{Contains}
 use Rattle.klsm_run.specs.declared.item.Item.{Item}
-use Rattle.klsm_run.specs.Content.{without, ShareNone}
-use Rattle.klsm_run.specs.ItemOrder.{is_same}
-use Rattle.klsm_run.proofs.LeastLemmas.{Has}
-use Rattle.klsm_run.proofs.ContainsLemmas.{contains_if_has, has_if_contains}
+use Rattle.klsm_run.specs.Content.{without}
 use Rattle.klsm_parts.specs.Least.{IsLeast}
-use Rattle.klsm_parts.specs.Events.{times, IsInReach, MayTake, own_after_take, shared_after_take}
+use Rattle.klsm_parts.specs.Events.{times, IsInReach, MayTake, shared_after_take}
 use Rattle.klsm_world.proofs.lemmas.counts.EventCountLemmas.{length_without, taken_from_shared}
 
 none_within : (x : Item) → Contains [] x → ⊥
@@ -31,23 +28,3 @@ stays_if_as_many k owner own shared x may same = elim (cases_eq (times x own) 0)
       absurd (omega (arith, ap length leaves, same, length_without x shared (taken_from_shared k own shared x may.in_reach none)))
   | inr some ↦ ap (λ b. if b then without x shared else shared) (ne_eqb (times x own) 0 some)
 ]
-
-has_without : (x y : Item) (c : List Item) → Has y (without x c) → Has y c
-has_without x y [] has = absurd has
-has_without x y (z ∷ zs) has = elim (is_same x z) as (λ b. Has y (if b then zs else z ∷ without x zs) → Has y (z ∷ zs)) [
-  | true ↦ λ there. inr there
-  | false ↦ λ either. elim either [ inl here ↦ inl here | inr there ↦ inr (has_without x y zs there) ]
-] has
-
-contains_without : (x y : Item) (c : List Item) → Contains (without x c) y → Contains c y
-contains_without x y c within = contains_if_has y c (has_without x y c (has_if_contains y (without x c) within))
-
-contains_left : (own shared : List Item) (x y : Item) → Contains (shared_after_take own shared x) y → Contains shared y
-contains_left own shared x y within = elim (times x own == 0) as (λ b. Contains (if b then without x shared else shared) y → Contains shared y) [
-  | true ↦ contains_without x y shared
-  | false ↦ λ same. same
-] within
-
--- what is left of two parts that share no item share none
-pub left_apart : (own shared : List Item) (x : Item) → ShareNone own shared → ShareNone (own_after_take own x) (shared_after_take own shared x)
-left_apart own shared x apart y in_own in_shared = apart y (contains_without x y own in_own) (contains_left own shared x y in_shared)

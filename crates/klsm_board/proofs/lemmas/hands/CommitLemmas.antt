@@ -123,38 +123,16 @@ module _ {S : Type 0} (content : S → List Item) (suits : ℕ → ℕ → S →
     fits = may;
   }
 
-  -- what a Refill makes of both parts in hand
-  refill_left : (own shared moved own' shared' : List Item) (v : View) → hand_of t (mine v) ≡ both_in_hand t own shared → own' ≡ own_after_refill own moved → shared' ≡ shared_after_refill shared moved
-      → after_event t (hand_of t (mine v)) (Refill moved) ≡ both_in_hand t own' shared'
-  refill_left own shared moved own' shared' v hand_is own_is shared_is =
-      refill_leaves t (hand_of t (mine v)) own shared hand_is moved ∙ (λ i. both_in_hand t (sym own_is i) (sym shared_is i))
-
-  pub refill_done : (own shared moved own' shared' : List Item) (me : Me S View) → hand_of t (mine me.0) ≡ both_in_hand t own shared → MayRefill m.k own shared moved
-      → own' ≡ own_after_refill own moved → shared' ≡ shared_after_refill shared moved
-      → Carries content suits m t (both_in_hand t own' shared') me
-      → CarriedOut content suits m t (Refill moved) (both_in_hand t own' shared') me
-  refill_done own shared moved own' shared' me hand_is may own_is shared_is carries = record {
-    carries = carries;
-    may = record {
-      own = own;
-      other = shared;
-      holds_own = ap (λ h. found_in h (t + 1)) hand_is ∙ own_in_both t own shared;
-      holds_other = ap (λ h. found_in h 0) hand_is ∙ shared_in_both t own shared;
-      fits = may;
-    };
-    done = refill_left own shared moved own' shared' me.0 hand_is own_is shared_is;
+  -- and so may a Refill
+  pub refill_may : (own shared moved : List Item) (v : View) → hand_of t (mine v) ≡ both_in_hand t own shared → MayRefill m.k own shared moved
+      → MayCommit m.k t (hand_of t (mine v)) (length (inserted (mine v))) (Refill moved)
+  refill_may own shared moved v hand_is may = record {
+    own = own;
+    other = shared;
+    holds_own = ap (λ h. found_in h (t + 1)) hand_is ∙ own_in_both t own shared;
+    holds_other = ap (λ h. found_in h 0) hand_is ∙ shared_in_both t own shared;
+    fits = may;
   }
-
-  -- the items that a Refill names are the ones that the own part gained
-  pub refill_told : (own shared moved named own' shared' : List Item) (me : Me S View) → hand_of t (mine me.0) ≡ both_in_hand t own shared → IsAscending moved → own' ≡ own_after_refill own moved
-      → CarriedOut content suits m t (Refill named) (both_in_hand t own' shared') me
-      → named ≡ moved
-  refill_told own shared moved named own' shared' me hand_is up own_is out =
-      let left : both_in_hand t (own_after_refill own named) (shared_after_refill shared named) ≡ both_in_hand t own' shared' =
-      sym (refill_leaves t (hand_of t (mine me.0)) own shared hand_is named) ∙ out.done in
-      let joined = ap second_content left ∙ own_is in
-      let same_items = sorted_cancel own named moved (sorted_swap own named ∙ (joined ∙ sorted_swap moved own)) in
-      sym (sorted_ascending named out.may.fits.ascending) ∙ (same_items ∙ sorted_ascending moved up)
 
   pub early_done : (own : List Item) (x : Item) (front : ℕ) (me me' : Me S View) → Has content suits m t (own_in_hand t own) me → me'.0 ≡ me.0 → MayTakeEarly own x front
       → Carries content suits m t (own_in_hand t (own_after_early own x)) me'

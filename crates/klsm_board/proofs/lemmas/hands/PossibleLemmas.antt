@@ -1,15 +1,16 @@
 -- What a member knows of the parts in its hand, as its list is that of a possible world.
-use Rattle.std.proofs.Common.{◌≢◌, ℕ, ◌+◌, List, length, ap, ◌∙◌}
+use Rattle.std.proofs.Common.{◌≡◌, ◌≢◌, ℕ, ◌+◌, ◌<◌, List, length, ap, ◌∙◌, arith}
 use Rattle.std.proofs.Math.Logic.{∥∥₁_map}
 use Rattle.std.specs.List.{Contains}
 use Rattle.atomic_table.specs.Table.{Me}
 use Rattle.klsm_run.specs.declared.item.Item.{Item}
 use Rattle.klsm_run.specs.Content.{ShareNone}
-use Rattle.klsm_parts.specs.Events.{MayTake, MayTakeEarly, MayFindNothing}
+use Rattle.klsm_parts.specs.Events.{times, MayTake, MayTakeEarly, MayFindNothing, MayRefill}
 use Rattle.klsm_world.specs.declared.step.Entry.{Entry}
-use Rattle.klsm_world.specs.OwnSteps.{Hand, Holds, found_in, inserted}
+use Rattle.klsm_world.specs.OwnSteps.{Hand, Holds, found_in, hand_of, inserted}
 use Rattle.klsm_world.specs.LegalSteps.{BearsStamp}
 use Rattle.klsm_world.specs.OwnListLaws.{IsPossible, SkipsFew, SkipsFewBy, KeepsOwnOrder, KeepsOwnOrderBy, LeavesFew}
+use Rattle.klsm_world.proofs.lemmas.counts.EventCountLemmas.{times_contained, contained_if_counted}
 use Rattle.klsm_world.proofs.lemmas.theorems.OwnListLemmas.{hands_are_apart, next_is_new_in_hand, lists_skip_few, lists_skip_few_early, lists_keep_order, lists_keep_order_early, lists_leave_few}
 use Rattle.klsm_world.proofs.lemmas.theorems.RunLemmas.{schedules_keep_lawful}
 use Rattle.klsm_board.specs.declared.sizes.Sizes.{Sizes}
@@ -17,7 +18,7 @@ use Rattle.klsm_board.specs.declared.rule.View.{View}
 use Rattle.klsm_board.specs.Rule.{world_limits, IsReached}
 use Rattle.klsm_board.specs.Steps.{mine, AreReached}
 use Rattle.klsm_board.specs.Seats.{Has, own_in_hand, both_in_hand}
-use Rattle.klsm_board.proofs.lemmas.hands.EventLemmas.{own_in_one, own_in_both, shared_in_both}
+use Rattle.klsm_board.proofs.lemmas.hands.EventLemmas.{own_in_one, own_in_both, shared_in_both, not_shared}
 
 -- a world to which a schedule leads is lawful
 pub possible : (m : Sizes) (t : ℕ) (es : List Entry) → IsReached m t es → IsPossible (world_limits m) m.quota t es
@@ -45,13 +46,22 @@ each_reached m t v some = ∥∥₁_map some (λ r. alone_reached m t v r)
 pub possible_of : (m : Sizes) (t : ℕ) (v : View) → AreReached m t v → IsPossible (world_limits m) m.quota t (mine v)
 possible_of m t v reached = possible m t (mine v) (alone_reached m t v reached)
 
+-- two parts in the hand that a list leaves share no item
+pub apart_by_list : (m : Sizes) (t : ℕ) (hand : Hand) (v : View) (p q : ℕ) (c d : List Item) → AreReached m t v → hand_of t (mine v) ≡ hand → p ≢ q → Holds hand p c → Holds hand q d → ShareNone c d
+apart_by_list m t hand v p q c d reached hand_is apart holds holds' =
+    hands_are_apart (world_limits m) m.quota t (mine v) p q c d (possible_of m t v reached) reached.thread apart
+    (ap (λ h. found_in h p) hand_is ∙ holds) (ap (λ h. found_in h q) hand_is ∙ holds')
+
+-- nor does the own part with what may move to it from the shared one
+pub arriving_apart : (m : Sizes) (t : ℕ) (v : View) (own shared moved : List Item) → AreReached m t v → hand_of t (mine v) ≡ both_in_hand t own shared → MayRefill m.k own shared moved → ShareNone own moved
+arriving_apart m t v own shared moved reached hand_is may x in_own in_moved =
+    let some : 0 < times x shared = omega (arith, times_contained x moved in_moved, may.within x) in
+    apart_by_list m t (both_in_hand t own shared) v (t + 1) 0 own shared reached hand_is (not_shared t) (own_in_both t own shared) (shared_in_both t own shared) x in_own (contained_if_counted x shared some)
+
 module _ {S : Type 0} (content : S → List Item) (suits : ℕ → ℕ → S → Type 0) (m : Sizes) (t : ℕ) where
   -- two parts in hand share no item
   pub apart_in_hand : (hand : Hand) (me : Me S View) (p q : ℕ) (c d : List Item) → Has content suits m t hand me → p ≢ q → Holds hand p c → Holds hand q d → ShareNone c d
-  apart_in_hand hand me p q c d has apart holds holds' =
-      let reached = has.reached in
-      hands_are_apart (world_limits m) m.quota t (mine me.0) p q c d (possible_of m t me.0 reached) reached.thread apart
-      (ap (λ h. found_in h p) has.hand_is ∙ holds) (ap (λ h. found_in h q) has.hand_is ∙ holds')
+  apart_in_hand hand me p q c d has = apart_by_list m t hand me.0 p q c d has.reached has.hand_is
 
   -- and the next item is in none of them
   pub new_in_hand : (hand : Hand) (me : Me S View) (p : ℕ) (c : List Item) (x : Item) → Has content suits m t hand me → BearsStamp t (length (inserted (mine me.0))) x → Holds hand p c → Contains c x → ⊥

@@ -6,7 +6,7 @@ use Rattle.klsm_world.specs.OwnSteps.{Hand}
 use Rattle.klsm_board.specs.declared.sizes.Sizes.{Sizes}
 use Rattle.klsm_board.specs.declared.rule.View.{View}
 use Rattle.klsm_board.specs.Steps.{IsMine}
-use Rattle.klsm_board.specs.Seats.{contents, AreSuited, Carries}
+use Rattle.klsm_board.specs.Seats.{contents, AreSuited, Carries, last_arriving}
 
 -- the first part of a hand, its content, and the others
 abbrev first_part : Hand → ℕ
@@ -89,6 +89,21 @@ module _ {S : Type 0} (content : S → List Item) (suits : ℕ → ℕ → S →
         first_suits = f.suits_there;
         second_suits = g.suits_there;
       }
+
+  -- what is on its way to the one acquired first, with the other one released
+  pub two_arriving : (arriving : S → List Item) (p q : ℕ) (c d : List Item) (slots : List (ℕ × S)) → contents content suits m t slots ≡ (p, c) ∷ (q, d) ∷ [] → AreSuited content suits m t slots
+      → last_arriving arriving (rest slots) ≡ last_arriving arriving slots
+  two_arriving arriving p q c d slots is suited =
+      let two = two_of p q c d slots is suited in
+      ap (λ (z : List (ℕ × S)). last_arriving arriving (rest z)) two.slots_are ∙ sym (ap (last_arriving arriving) two.slots_are)
+
+  -- and where it is the only one
+  pub one_arriving : (arriving : S → List Item) (p : ℕ) (c : List Item) (slots : List (ℕ × S)) (y : S) → contents content suits m t slots ≡ (p, c) ∷ [] → AreSuited content suits m t slots → slots ≡ (p, y) ∷ rest slots
+      → last_arriving arriving slots ≡ arriving y
+  one_arriving arriving p c slots y is suited at =
+      let f = first_of p c [] slots is suited in
+      let none : rest slots ≡ [] = ap (λ (z : List (ℕ × S)). rest z) f.slots_are ∙ none_behind f.behind f.behind_are in
+      ap (last_arriving arriving) (at ∙ ap (λ (z : List (ℕ × S)). (p, y) ∷ z) none)
 
   pub two_carried : (p q : ℕ) (c d : List Item) (me me' : Me S View) (y z : S) → IsMine me.0 t → me'.0 ≡ me.0 → me'.1 ≡ (p, y) ∷ (q, z) ∷ [] → content y ≡ c → content z ≡ d → suits m.k p y → suits m.k q z
       → Carries content suits m t ((p, c) ∷ (q, d) ∷ []) me'

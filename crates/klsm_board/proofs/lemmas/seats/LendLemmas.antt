@@ -7,7 +7,7 @@ use Rattle.klsm_world.specs.OwnSteps.{own_part, shared_part}
 use Rattle.klsm_board.specs.declared.sizes.Sizes.{Sizes}
 use Rattle.klsm_board.specs.declared.rule.View.{View}
 use Rattle.klsm_board.specs.Steps.{IsMine}
-use Rattle.klsm_board.specs.Seats.{Carries, LendsShared, both_in_hand}
+use Rattle.klsm_board.specs.Seats.{Carries, LendsShared, both_in_hand, last_arriving}
 use Rattle.klsm_board.proofs.lemmas.seats.CarryLemmas.{two_of, two_carried}
 use Rattle.klsm_board.proofs.lemmas.seats.TurnLemmas.{as_rest, behind}
 
@@ -60,9 +60,18 @@ module _ {S : Type 0} (content : S → List Item) (suits : ℕ → ℕ → S →
     vacant_first after turn =
         as_rest after.1 ((own_part t, k.slot) ∷ []) (shared_part, k.vacant) (turn ∙ ap (λ (z : List (ℕ × S)). turned z) k.slots_are)
 
+    returned_slots : (turned_me after : Me S View) (shared : S) → turned_me.1 ≡ turned me.1 → after.1 ≡ (shared_part, shared) ∷ rest turned_me.1 → after.1 ≡ (shared_part, shared) ∷ (own_part t, k.slot) ∷ []
+    returned_slots turned_me after shared turn exchange =
+        exchange ∙ ap (λ (z : List (ℕ × S)). (shared_part, shared) ∷ rest z) (turn ∙ ap (λ (z : List (ℕ × S)). turned z) k.slots_are)
+
     pub returned : (turned_me after : Me S View) (shared : S) → turned_me.1 ≡ turned me.1 → after.1 ≡ (shared_part, shared) ∷ rest turned_me.1 → after.0 ≡ me.0 → suits m.k shared_part shared
         → Carries content suits m t (both_in_hand t own (content shared)) after
     returned turned_me after shared turn exchange same suit =
-        let slots : after.1 ≡ (shared_part, shared) ∷ (own_part t, k.slot) ∷ [] =
-        exchange ∙ ap (λ (z : List (ℕ × S)). (shared_part, shared) ∷ rest z) (turn ∙ ap (λ (z : List (ℕ × S)). turned z) k.slots_are) in
-        two_carried content suits m t shared_part (own_part t) (content shared) own me after shared k.slot k.acts same slots (λ i. content shared) k.content_is suit k.suits_there
+        two_carried content suits m t shared_part (own_part t) (content shared) own me after shared k.slot k.acts same (returned_slots turned_me after shared turn exchange) (λ i. content shared) k.content_is suit k.suits_there
+
+    -- what is on its way to the own part still is
+    pub returned_arriving : (arriving : S → List Item) (turned_me after : Me S View) (shared lent : S) → turned_me.1 ≡ turned me.1 → after.1 ≡ (shared_part, shared) ∷ rest turned_me.1 → me.1 ≡ (own_part t, lent) ∷ rest me.1
+        → last_arriving arriving after.1 ≡ arriving lent
+    returned_arriving arriving turned_me after shared lent turn exchange value =
+        ap (last_arriving arriving) (returned_slots turned_me after shared turn exchange)
+        ∙ ap arriving (sym (ap (first_slot lent) k.slots_are) ∙ ap (first_slot lent) value)

@@ -30,7 +30,7 @@ content_held lock found hand is = ap (λ h. content_in h lock) is ∙ ap (λ o. 
 
 -- a slot suits in one way at most
 suits-prop : (k p : ℕ) (y : Slot PartState PartState) → IsProp (IsSlotOf k p y)
-suits-prop k p (Own own) = ×_prop le_prop (Coded-set coded_ℕ _ _)
+suits-prop k p (Own home) = hlevel (le_prop, Coded-set coded_ℕ)
 suits-prop k p (Common shared) = ×_prop (Coded-set coded_ℕ _ _) (Coded-set coded_ℕ _ _)
 suits-prop k p Vacant = ⊥_prop
 

@@ -1,10 +1,10 @@
 -- The slots and the members of a new board.
-use Rattle.std.proofs.Common.{◌≢◌, ◌≡◌, ℕ, zero, suc, replicate, ◌+◌, ◌<◌, List, [], ◌∷◌, ◌++◌, length, get_or, slice_index_or, sym, refl, ap, ◌∙◌, subst, arith}
+use Rattle.std.proofs.Common.{◌≢◌, ◌≡◌, ℕ, zero, suc, replicate, ◌+◌, ◌<◌, vec_len, List, [], ◌∷◌, ◌++◌, length, get_or, slice_index_or, sym, refl, ap, ◌∙◌, subst, arith}
 use mathlib.Core.Option.{some, some-injective, some-ne-none}
 use mathlib.Core.Option.{Option as Maybe}
 use lib.ListN.{get_elem?}
 use Rattle.atomic_table.specs.Table.{Me}
-use Rattle.klsm_parts.specs.Parts.{PartState}
+use Rattle.klsm_parts.specs.Parts.{PartState, items_in}
 use Rattle.klsm_world.specs.declared.step.Entry.{Entry}
 use Rattle.klsm_world.specs.OwnSteps.{inserted}
 use Rattle.klsm_world.specs.Worlds.{first_world}
@@ -18,21 +18,15 @@ use Rattle.klsm_board.specs.declared.slot.Slot.TheVariants.{Own, Common}
 use Rattle.klsm_board.specs.Rule.{own, fresh, view, world_limits, IsReached}
 use Rattle.klsm_board.specs.Slots.{slot_content, IsSlotOf}
 use Rattle.klsm_board.specs.Members.{IsResting}
+use Rattle.klsm_board.proofs.lemmas.slots.KindLemmas.{AnyHome}
 
--- a part without items
-abbrev empty : ℕ → PartState
-empty k = record { k = k; blocks = [] }
+-- a slot of a new board has its part, which is empty
+pub empty_common : (k : ℕ) (part : PartState) → part ≡ record { k = k; blocks = [] } → (slot_content (Common part) ≡ []) × IsSlotOf k 0 (Common part)
+empty_common k part is = (ap items_in is, (refl, ap (λ (p : PartState). p.k) is))
 
--- the parts of n members, from slot `from` on
-own_slots : (m : Sizes) (n from i : ℕ) (y : Slot PartState PartState) → 0 < from → get_elem? (replicate n (Own (empty m.k))) i ≡ some y → (slot_content y ≡ []) × IsSlotOf m.k (from + i) y
-own_slots m zero from i y pos e = absurd (some-ne-none y (sym e))
-own_slots m (suc n) from zero y pos e = subst (λ (z : Slot PartState PartState). (slot_content z ≡ []) × IsSlotOf m.k (from + 0) z) (some-injective (Own (empty m.k)) y e) (refl, (omega (arith, pos), refl))
-own_slots m (suc n) from (suc i) y pos e = let h = own_slots m n (suc from) i y (omega arith) e in let a : suc from + i ≡ from + suc i = omega arith in subst (λ z. (slot_content y ≡ []) × IsSlotOf m.k z y) a h
-
--- each slot of a new board has its part, which is empty
-pub first_slots : (m : Sizes) (i : ℕ) (y : Slot PartState PartState) → get_elem? (Common (empty m.k) ∷ replicate m.threads (Own (empty m.k))) i ≡ some y → (slot_content y ≡ []) × IsSlotOf m.k i y
-first_slots m zero y e = subst (λ (z : Slot PartState PartState). (slot_content z ≡ []) × IsSlotOf m.k 0 z) (some-injective (Common (empty m.k)) y e) (refl, (refl, refl))
-first_slots m (suc i) y e = let h = own_slots m m.threads 1 i y (omega arith) e in let a : 1 + i ≡ suc i = omega arith in subst (λ z. (slot_content y ≡ []) × IsSlotOf m.k z y) a h
+pub empty_own : (k i : ℕ) (home : AnyHome) → 0 < i → home.part ≡ record { k = k; blocks = [] } → vec_len home.places ≡ k → home.count ≡ 0 → (slot_content (Own home) ≡ []) × IsSlotOf k i (Own home)
+empty_own k i home pos part places count =
+    (ap (λ (p : PartState). items_in p) part, (pos, ap (λ (p : PartState). p.k) part, omega (arith, places), omega (arith, count)))
 
 -- the first of n + 1 fresh lists, and the others
 pub one_more_fresh : (n from : ℕ) → fresh from (n + 1) ≡ own from [] ∷ fresh (from + 1) n

@@ -116,20 +116,28 @@ module _ {S : Type 0} (content : S → List Item) (suits : ℕ → ℕ → S →
       → (y : S) × (me.1 ≡ (p, y) ∷ rest me.1) × suits m.k p y × (content y ≡ c) × (contents content suits m t (rest me.1) ≡ hand) × AreSuited content suits m t (rest me.1)
   first_carried p c hand me carries = front_slot me.1 p c hand carries.contents_are carries.suited
 
-  -- the part acquired last was released
+  -- the part acquired last was released: the seat carries the others
+  pub released_carries : (p : ℕ) (c : List Item) (hand : Hand) (me me' : Me S View) → Carries content suits m t ((p, c) ∷ hand) me → me' ≡ (gain me.0 (Released p), rest me.1) → Carries content suits m t hand me'
+  released_carries p c hand me me' old is =
+      let first = first_carried p c hand me old in
+      subst (Carries content suits m t hand) (sym is) (record {
+        acts = gain_mine me.0 t (Released p) old.acts;
+        contents_are = first.4;
+        suited = first.5;
+      })
+
+  -- and the hand by the list has the others
+  pub released_hand : (p : ℕ) (c : List Item) (hand : Hand) (me me' : Me S View) → IsMine me.0 t → hand_of t (mine me.0) ≡ (p, c) ∷ hand → found_in hand p ≡ None → me' ≡ (gain me.0 (Released p), rest me.1) → hand_of t (mine me'.0) ≡ hand
+  released_hand p c hand me me' acts hand_is away is =
+      ap (λ (z : Me S View). hand_of t (mine z.0)) is ∙ (hand_gain me.0 (Released p) acts ∙ (ap (λ h. without_part h p) hand_is ∙ first_goes p c hand away))
+
   pub has_released : (p : ℕ) (c : List Item) (hand : Hand) (me me' : Me S View) → Stands content suits m t ((p, c) ∷ hand) me → found_in hand p ≡ None
       → me' ≡ (gain me.0 (Released p), rest me.1) → AreReached m t me'.0 → Has content suits m t hand me'
-  has_released p c hand me me' has away is reached =
-      let old = has.carries in let first = first_carried p c hand me old in
-      subst (Has content suits m t hand) (sym is) (record {
-        carries = record {
-          acts = gain_mine me.0 t (Released p) old.acts;
-          contents_are = first.4;
-          suited = first.5;
-        };
-        hand_is = hand_gain me.0 (Released p) old.acts ∙ (ap (λ h. without_part h p) has.hand_is ∙ first_goes p c hand away);
-        reached = subst (λ (z : Me S View). AreReached m t z.0) is reached;
-      })
+  has_released p c hand me me' has away is reached = let old = has.carries in record {
+    carries = released_carries p c hand me me' old is;
+    hand_is = released_hand p c hand me me' old.acts has.hand_is away is;
+    reached = reached;
+  }
 
   -- an event was committed, and the part acquired last released
   pub has_committed : (p : ℕ) (c : List Item) (event : Event) (hand : Hand) (me me' : Me S View) → CarriedOut content suits m t event ((p, c) ∷ hand) me → found_in hand p ≡ None
@@ -179,12 +187,16 @@ module _ {S : Type 0} (content : S → List Item) (suits : ℕ → ℕ → S →
   pub mine_set : (event : Event) (me me' : Me S View) → IsMine me.0 t → me' ≡ (gain me.0 (Committed event), me.1) → mine me'.0 ≡ mine me.0 ++ Committed event ∷ []
   mine_set event = mine_noted (Committed event)
 
-  -- a part that a seat has can be released
+  -- a part that a seat carries can be released, if that is its content in the hand by the list
+  pub can_let_go : (p : ℕ) (c : List Item) (hand : Hand) (me : Me S View) → Carries content suits m t ((p, c) ∷ hand) me → Holds (hand_of t (mine me.0)) p c
+      → (y : S) × (me.1 ≡ (p, y) ∷ rest me.1) × suits m.k p y × Holds (hand_of t (mine me.0)) p (content y)
+  can_let_go p c hand me carries holds =
+      let k = first_carried p c hand me carries in (k.0, k.1, k.2, holds ∙ ap Some (sym k.3))
+
+  -- so can one that it has
   pub can_release : (p : ℕ) (c : List Item) (hand : Hand) (me : Me S View) → Stands content suits m t ((p, c) ∷ hand) me
       → (y : S) × (me.1 ≡ (p, y) ∷ rest me.1) × suits m.k p y × Holds (hand_of t (mine me.0)) p (content y)
-  can_release p c hand me has =
-      let k = first_carried p c hand me has.carries in
-      (k.0, k.1, k.2, ap (λ h. found_in h p) has.hand_is ∙ (found_first hand p c ∙ ap Some (sym k.3)))
+  can_release p c hand me has = can_let_go p c hand me has.carries (ap (λ h. found_in h p) has.hand_is ∙ found_first hand p c)
 
   -- and after an event, with what the event leaves of it
   pub can_commit : (p : ℕ) (c : List Item) (event : Event) (hand : Hand) (me : Me S View) → CarriedOut content suits m t event ((p, c) ∷ hand) me

@@ -1,27 +1,18 @@
-use Rattle.std.proofs.Common.{arith, ◌≡◌, ℕ, ◌+◌, List, [], ◌∷◌, replicate, length, set, refl, sym, ap, ◌∙◌, subst}
-use lib.ListN.{length-replicate}
+use Rattle.std.proofs.Common.{arith, ◌≡◌, ℕ, ◌+◌, List, length, set, refl, sym, ap, ◌∙◌, subst}
 use Rattle.atomic_table.specs.Table.{opening}
-use Rattle.klsm_parts.specs.Parts.{PartState}
 use Rattle.klsm_parts.proofs.FitLemmas.{local_fits, shared_fits}
 use Rattle.klsm_board.specs.declared.sizes.Sizes.{Sizes}
-use Rattle.klsm_board.specs.declared.slot.Slot.{Slot}
-use Rattle.klsm_board.specs.declared.slot.Slot.TheVariants.{Own, Common}
 use Rattle.klsm_board.specs.Slots.{slot_content, IsSlotOf}
 use Rattle.klsm_board.specs.Rule.{place, everyone, Ruled}
 use Rattle.klsm_board.proofs.lemmas.table.OpeningLemmas.{first_words, length_first, opens}
-use Rattle.klsm_board.proofs.lemmas.table.MakeLemmas.{first_slots}
 use Rattle.klsm_board.proofs.making.table_of.Goals as goal
 
 pub new-requires : goal.new-requires
 new-requires g c =
     let m : Sizes = c.args.sizes in
-    let own : Slot PartState PartState = Own (record { k = m.k; blocks = [] }) in
-    let slots : List (Slot PartState PartState) = Common (record { k = m.k; blocks = [] }) ∷ replicate m.threads own in
     let words_are : c.as_slice.result.now ≡ first_words m = c.as_slice.ensures.value ∙ ap (λ (ws : List ℕ). set ws (place (m.threads + 1)) 18446744073709551615) (c.in_ok-words.ensures.items_if_clones_equal (λ y same. same)) in
-    let slots_are : c.in_ok-slots.slots.items ≡ slots = c.in_ok-slots.ensures in
-    let n = length-replicate m.threads own in
-    subst (λ (z : List ℕ × List (Slot PartState PartState)). Ruled slot_content IsSlotOf m (opening z.0 z.1 (everyone m))) (λ i. (sym words_are i, sym slots_are i))
-    (opens slot_content IsSlotOf m slots (omega (arith, n)) (λ i y e. first_slots m i y e))
+    let slots = c.in_ok-slots.slots.items in
+    subst (λ (ws : List ℕ). Ruled slot_content IsSlotOf m (opening ws slots (everyone m))) (sym words_are) (opens slot_content IsSlotOf m slots c.in_ok-slots.ensures.0 c.in_ok-slots.ensures.1)
 
 pub new-requires-room-P-TableRule : goal.new-requires-room-P-TableRule
 new-requires-room-P-TableRule g c κs = local_fits _ c.requires.capacity
@@ -44,12 +35,10 @@ parts-requires g c = (local_fits _ c.requires.capacity, (shared_fits _ c.require
 pub invariant_of-result : goal.invariant_of-result
 invariant_of-result g c =
     let m : Sizes = c.args.sizes in
-    let own : Slot PartState PartState = Own (record { k = m.k; blocks = [] }) in
     let outcome = c.in-Ok.ensures.ok in
     let words_are : c.as_slice.result.now ≡ first_words m = c.as_slice.ensures.value ∙ ap (λ (ws : List ℕ). set ws (place (m.threads + 1)) 18446744073709551615) (c.in_ok-words.ensures.items_if_clones_equal (λ y same. same)) in
-    let slots_are : c.in_ok-slots.slots.items ≡ Common (record { k = m.k; blocks = [] }) ∷ replicate m.threads own = c.in_ok-slots.ensures in
     let words : length c.as_slice.result.now ≡ place (m.threads + 2) = ap length words_are ∙ length_first m in
-    let slots : length c.in_ok-slots.slots.items ≡ m.threads + 1 = omega (arith, ap length slots_are, length-replicate m.threads own) in
+    let slots : length c.in_ok-slots.slots.items ≡ m.threads + 1 = c.in_ok-slots.ensures.0 in
     record { key = outcome.5; sized = (outcome.0 ∙ words, outcome.1 ∙ slots, c.requires.sizes.threads); in_range = c.requires.sizes; capacity = c.requires.capacity; levels = c.requires.levels }
 
 pub returns : goal.returns

@@ -15,8 +15,5 @@ returns-clause-count g c =
 pub returns-clause-few : goal.returns-clause-few
 returns-clause-few g c = omega (arith, c.len.ensures.few, length_sorted (content c.args.own.now.blocks))
 
-pub returns-clause-within : goal.returns-clause-within
-returns-clause-within g c = c.k.ensures.within
-
 pub returns-clause-lawful : goal.returns-clause-lawful
 returns-clause-lawful g c = c.len-2.ensures.lawful

@@ -7,6 +7,7 @@ use Rattle.klsm_run.specs.Content.{sorted}
 use Rattle.klsm_parts.specs.Parts.{PartState, items_in}
 use Rattle.klsm_parts.proofs.AppendLemmas.{so_many_in}
 use Rattle.klsm_board.specs.Slots.{slot_content}
+use Rattle.klsm_board.proofs.lemmas.slots.KindLemmas.{AnyHome}
 use Rattle.klsm_board.proofs.slot.BoardSlotPartSlot.append_to.Goals as goal
 
 -- the items that were appended are those of a slot where they are its part's
@@ -16,7 +17,7 @@ appended answer all all' items content outcome same = on_ok_weaker answer (λ is
 -- a list that has room for the items of a part has it for those of its blocks
 pub returns-in-Own-clause-succeeds : goal.returns-in-Own-clause-succeeds
 returns-in-Own-clause-succeeds g c =
-    let same = ap (λ s. length (slot_content s)) c.in-Own.is ∙ (ap (λ (p : PartState). length (items_in p)) (sym c.get.ensures) ∙ so_many_in c.get.result.now) in
+    let same = ap (λ s. length (slot_content s)) c.in-Own.is ∙ (ap (λ (home : AnyHome). length (items_in home.part)) (sym c.get.ensures) ∙ so_many_in c.get.result.now.part) in
     λ room. c.append_to.ensures.succeeds (omega (arith, room, same))
 
 pub returns-in-Common-clause-succeeds : goal.returns-in-Common-clause-succeeds
@@ -32,7 +33,7 @@ append_to-requires-in-Common g c = search
 
 pub returns-in-Own-clause-items : goal.returns-in-Own-clause-items
 returns-in-Own-clause-items g c =
-    appended c.append_to.result c.args.all.now.items c.append_to.new.all.items _ _ c.append_to.ensures.items (ap items_in c.get.ensures ∙ sym (ap slot_content c.in-Own.is))
+    appended c.append_to.result c.args.all.now.items c.append_to.new.all.items _ _ c.append_to.ensures.items (ap (λ (home : AnyHome). items_in home.part) c.get.ensures ∙ sym (ap slot_content c.in-Own.is))
 
 pub returns-in-Own-clause-capacity : goal.returns-in-Own-clause-capacity
 returns-in-Own-clause-capacity g c = c.append_to.ensures.capacity

@@ -15,7 +15,7 @@ flush-requires g c =
     let own_is : c.args.self.now ≡ Own own = c.in-Own-Common.is-0 ∙ ap Own (sym c.get_mut.ensures.value) in
     let common_is : c.args.shared.now ≡ Common common = c.in-Own-Common.is-1 ∙ ap Common (sym c.get_mut-in-Own-Common.ensures.value) in
     let parts = c.requires.parts in
-    let full : length (items_in own) ≡ own.k = is_full parts.0 _ c.args.self.now own own_is parts.2 parts.4 in
+    let full : length (items_in own.part) ≡ own.part.k = is_full parts.0 _ c.args.self.now own own_is parts.2 parts.4 in
     let own_same = own_content c.args.self.now own own_is in
     let common_same = shared_content c.args.shared.now common common_is in
     let apart = apart_unsorted _ _ _ _ own_same common_same c.requires.apart in
@@ -56,13 +56,13 @@ pub returns-clause-kind : goal.returns-clause-kind
 returns-clause-kind g c = λ k t.
     let own = c.get_mut.result.now in
     let own_is : c.args.self.now ≡ Own own = c.in-Own-Common.is-0 ∙ ap Own (sym c.get_mut.ensures.value) in
-    keeps_own c.args.self.now own c.flush.new.own own_is (own_keeps_k own c.flush.new.own c.get_mut-in-Own-Common.result.now c.flush.new.shared _ c.flush.result c.flush.ensures.own c.flush.ensures.unchanged) k _
+    keeps_own c.args.self.now own c.flush.new.own own_is (own_keeps_k own.part c.flush.new.own c.get_mut-in-Own-Common.result.now c.flush.new.shared _ c.flush.result c.flush.ensures.own c.flush.ensures.unchanged) k _
 
 pub returns-clause-shared_kind : goal.returns-clause-shared_kind
 returns-clause-shared_kind g c = λ k.
     let common = c.get_mut-in-Own-Common.result.now in
     let common_is : c.args.shared.now ≡ Common common = c.in-Own-Common.is-1 ∙ ap Common (sym c.get_mut-in-Own-Common.ensures.value) in
-    keeps_shared c.args.shared.now common c.flush.new.shared common_is (common_keeps_k c.get_mut.result.now c.flush.new.own common c.flush.new.shared _ c.flush.result c.flush.ensures.shared c.flush.ensures.unchanged) k
+    keeps_shared c.args.shared.now common c.flush.new.shared common_is (common_keeps_k c.get_mut.result.now.part c.flush.new.own common c.flush.new.shared _ c.flush.result c.flush.ensures.shared c.flush.ensures.unchanged) k
 
 pub returns-clause-unchanged : goal.returns-clause-unchanged
 returns-clause-unchanged g c =

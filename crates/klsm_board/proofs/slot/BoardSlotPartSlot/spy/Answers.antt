@@ -14,7 +14,7 @@ spy-requires g c =
     let own_is : c.args.self.now ≡ Own own = c.in-Own-Own.is-0 ∙ ap Own (sym c.get_mut.ensures.value) in
     let victim_is : c.args.victim.now ≡ Own victim = c.in-Own-Own.is-1 ∙ ap Own (sym c.get_mut-in-Own-Own.ensures.value) in
     let parts = c.requires.parts in
-    let same_k : own.k ≡ victim.k = own_k parts.0 _ c.args.self.now own own_is parts.3 ∙ sym (own_k parts.0 _ c.args.victim.now victim victim_is parts.4) in
+    let same_k : own.part.k ≡ victim.part.k = own_k parts.0 _ c.args.self.now own own_is parts.3 ∙ sym (own_k parts.0 _ c.args.victim.now victim victim_is parts.4) in
     (local_fits _ c.requires.sized.0, (same_k, sym (own_content c.args.self.now own own_is) ∙ c.requires.empty))
 
 pub returns-clause-done : goal.returns-clause-done
