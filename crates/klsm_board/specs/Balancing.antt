@@ -11,24 +11,24 @@ use Rattle.klsm_board.specs.Stealing.{Balances}
 
 -- the first balance comes before deletion `every`, with the next member; with 0 none comes
 abbrev pub balancing_each : ℕ → Balancing
-balancing_each every = record { every = every; left = every - 1; step = 1 }
+balancing_each every = record { every = every; left = every - 1; passed = 0 }
 
 -- it is time, and there is another member
 abbrev pub is_due : Balancing → ℕ → Bool
 is_due b threads = (not (nat_eq b.every 0) && nat_eq b.left 0) && ltb 1 threads
 
--- how far behind the member's own place the one is whose turn it is
-abbrev pub step_in : Balancing → ℕ → ℕ
-step_in b threads = if not (nat_eq b.step 0) && ltb b.step threads then b.step else 1
+-- with how many of the others it has balanced in this round; once it has with all, a new one begins
+abbrev pub passed_in : Balancing → ℕ → ℕ
+passed_in b threads = if ltb (b.passed + 1) threads then b.passed else 0
 
 -- with which member t balances now, if with any
 abbrev pub victim_now : Balancing → ℕ → ℕ → Option ℕ
-victim_now b t threads = if is_due b threads then Some (victim_of threads t (step_in b threads)) else None
+victim_now b t threads = if is_due b threads then Some (victim_of threads t (passed_in b threads + 1)) else None
 
 -- and then it is the next one's turn, after so many deletions more
 abbrev pub after_turn : Balancing → ℕ → Balancing
 after_turn b threads =
-    if is_due b threads then record { every = b.every; left = b.every; step = step_in b threads + 1 } else b
+    if is_due b threads then record { every = b.every; left = b.every; passed = passed_in b threads + 1 } else b
 
 -- a deletion was answered
 abbrev pub after_deletion : Balancing → Balancing

@@ -1,8 +1,8 @@
 //! When a member balances, and with which other one.
-ghost use Rattle.std.specs.Prelude.{◌≡◌, ◌≢◌, ◌<◌, ◌≤◌, true, IfSome};
+ghost use Rattle.std.specs.Prelude.{◌≡◌, ◌≢◌, ◌+◌, ◌<◌, ◌≤◌, true, IfSome};
 ghost use Rattle.klsm_run.specs.declared.limits.TheConstants.{MOST_THREADS};
 ghost use Rattle.klsm_board.specs.Deleting.{victim_of};
-ghost use Rattle.klsm_board.specs.Balancing.{after_deletion, after_turn, balancing_each, is_due, step_in, victim_now};
+ghost use Rattle.klsm_board.specs.Balancing.{after_deletion, after_turn, balancing_each, is_due, passed_in, victim_now};
 
 use crate::spying::victim_at;
 
@@ -16,8 +16,8 @@ pub struct Balancing {
     every: u32,
     // How many deletions come before the next balance.
     left: u32,
-    // How many places behind the member's own the next victim is.
-    step: u32,
+    // With how many of the others it has balanced in this round.
+    passed: u32,
 }
 
 impl Balancing {
@@ -28,7 +28,7 @@ impl Balancing {
         Balancing {
             every,
             left: every.saturating_sub(1),
-            step: 1,
+            passed: 0,
         }
     }
 
@@ -52,18 +52,18 @@ impl Balancing {
         requires threads { threads ≤ MOST_THREADS }
         requires number { number < threads }
         requires due { is_due self.old threads ≡ true }
-        ensures victim { result ≡ victim_of threads number (step_in self.old threads) }
+        ensures victim { result ≡ victim_of threads number (passed_in self.old threads + 1) }
         ensures another { (result < threads) × (result ≢ number) }
         ensures turn { self.new ≡ after_turn self.old threads }
     {
-        let step = if self.step > 0 && (self.step as usize) < threads {
-            self.step
+        let passed = if (self.passed as usize) + 1 < threads {
+            self.passed
         } else {
-            1
+            0
         };
         self.left = self.every;
-        self.step = step + 1;
-        victim_at(number as usize, threads, step as usize)
+        self.passed = passed + 1;
+        victim_at(number as usize, threads, passed as usize + 1)
     }
 
     /// Counts a deletion that was answered.
