@@ -1,7 +1,8 @@
-"""Scripts of drawn rows for threads that balance, beside plain lists of what each thread keeps for itself.
+"""Scripts of drawn rows for threads that balance.
 
-No thread inserts more than it can keep, so no item is ever shared, and none deletes while it keeps nothing and others
-do. So each item that a deletion gives is known, and with it when, with whom and by which items its thread balances.
+In some no thread inserts more than it can keep, so no item is ever shared, and none deletes while it keeps nothing and
+others do. By plain lists of what each thread keeps it is known then which item each deletion gives, and so when, with
+whom and by how many items its thread balances. Others have shared items too, or are run by threads.
 """
 
 import bisect
@@ -9,7 +10,7 @@ import functools
 import itertools
 import random
 
-from drawn import drawn_rows, replayed, script_of
+from drawn import Plain, drawn_rows, replayed, script_of
 from process import run
 
 ROWS = 300
@@ -98,6 +99,23 @@ def compare(count, every):
         assert line == wanted, f"line {number + 1} is {line!r}, and not {wanted!r}"
 
 
+def keep_the_bounds(count, k, every):
+    """Threads that balance while items are shared too: what a deletion may pass over, and when it may find nothing."""
+    rows = list(drawn_rows(count, 5))
+    words = ["replay", "--threads", str(count), "--k", str(k), "--pick", "last", "--balance", str(every)]
+    status, answer = run(words, script_of(rows))
+    assert status == 0, f"the status is {status}"
+    *lines, last = answer.decode().splitlines()
+    assert len(lines) == len(rows), f"there are {len(lines)} lines for {len(rows)} rows"
+    plain = Plain(count, k)
+    for (thread, item), line in zip(rows, lines):
+        if item:
+            plain.insert(thread, *item, line)
+        else:
+            plain.delete(thread, line)
+    assert last == f"max skip {plain.most} bound {plain.bound}", last
+
+
 def is_none():
     """A balance of 0 gives the text that no balance gives, and one of 1 another."""
     rows = list(drawn_rows(4, 7))
@@ -120,6 +138,10 @@ def totals(count, every):
 def checks():
     for count, every in itertools.product(range(1, 5), (0, 1, 2, 3, 7)):
         yield f"threads that balance, --threads {count} --balance {every}", functools.partial(compare, count, every)
+    for count, k, every in itertools.product((2, 4), (1, 4, 16), (1, 3)):
+        what = f"the bounds of threads that balance, --threads {count} --k {k} --balance {every}"
+        yield what, functools.partial(keep_the_bounds, count, k, every)
     yield "a balance of 0 is none", is_none
     for count, every in itertools.product((2, 4, 16), (1, 3)):
-        yield f"totals of threads that balance, --threads {count} --balance {every}", functools.partial(totals, count, every)
+        what = f"totals of threads that balance, --threads {count} --balance {every}"
+        yield what, functools.partial(totals, count, every)
