@@ -43,6 +43,7 @@ pub use fixed_run::FixedRun;
 pub use heap_run::HeapRun;
 pub use item::{Item, Stamp};
 pub use limits::{
-    MOST_K, MOST_LEVELS, MOST_SHARED, MOST_THREADS, OWN_LEVELS, PROGRAM_K, PROGRAM_THREADS,
+    MOST_K, MOST_LEVELS, MOST_SHARED, MOST_THREADS, OWN_LEVELS, PROGRAM_K, PROGRAM_LEVELS,
+    PROGRAM_THREADS,
 };
 pub use run::{Run, RunError, level_of};

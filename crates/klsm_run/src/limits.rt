@@ -20,3 +20,7 @@ pub const PROGRAM_K: usize = 64;
 
 /// The most threads of the program `klsm`.
 pub const PROGRAM_THREADS: usize = 16;
+
+/// The levels of a search's board in the program `klsm`, which so has room for some million nodes. Then workers go on
+/// depth first: more would take gigabytes.
+pub const PROGRAM_LEVELS: usize = 21;

@@ -11,6 +11,7 @@ use klsm_knapsack::{
     Best, Instance, Listeners, ReadError, SearchOptions, UnsolvedError, solve_to_the_end,
 };
 use klsm_progress::Progress;
+use klsm_run::PROGRAM_LEVELS;
 use klsm_text::{End, NO_MEMORY, Report, refusal_text, selection_text, write_last};
 use klsm_words::Search;
 use std::alloc::Global;
@@ -18,10 +19,6 @@ use std::io::{Read, Write};
 use std::sync::Wait;
 use std::thread::Threads;
 use std::time::Clock;
-
-// The levels of the board of a search. It has room for a million nodes or so, after which workers go on depth first:
-// more would take gigabytes.
-const LEVELS_OF_SEARCH: usize = 21;
 
 /// Reads an instance, solves it with workers in threads of their own, and writes a best selection.
 ///
@@ -104,7 +101,7 @@ fn solve_heard<P: AllocGlobal + Wait + Clock + Threads + Sync, G: Gate, H: Progr
 {
     listeners.progress.begins(None);
     let options = SearchOptions::new(search.threads, search.k, search.idle);
-    let answer = solve_to_the_end::<G, H, LEVELS_OF_SEARCH>(
+    let answer = solve_to_the_end::<G, H, PROGRAM_LEVELS>(
         rt,
         rt.alloc(),
         instance,
