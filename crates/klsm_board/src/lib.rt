@@ -11,9 +11,9 @@
 //! return a deletion may skip as many as T·k smaller items.
 //!
 //! A board made by `Board::with_refill` lets a deletion that took a shared item move some more of the
-//! least ones to its own part, as long as it has the shared lock. Its member's next deletions then go by
-//! the front, and need no other lock than their own. All bounds are the same, as an own part has at most
-//! k items in any case.
+//! least ones to its own part, as long as it has the shared lock; they are merged there when that is free
+//! again. Its member's next deletions then go by the front, and need no other lock than their own. All
+//! bounds are the same, as an own part has at most k items in any case.
 //!
 //! A member may balance (`Member::try_balance`): it moves the least items of another member's part to its own,
 //! where they are below the front and smaller than its own. No deletion does so by itself; a program that wants

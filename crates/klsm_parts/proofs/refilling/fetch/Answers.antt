@@ -24,7 +24,8 @@ move_least-requires g c =
     let k = c.args.own.now.k in let n = c.count_to_move-count.result in
     let told = c.count_to_move-count.ensures in
     let all = have_room c.args.most k n own shared told.count told.few in
-    (search, omega (arith, length-take n c.args.places.now, all.within))
+    let lent = length-take-le n c.args.places.now (are_enough _ _ _ _ all.room c.requires.enough) in
+    (search, subst (λ i. i ≤ length shared) (sym lent) all.within)
 
 pub slice_bounds-move_least-end-2 : goal.slice_bounds-move_least-end-2
 slice_bounds-move_least-end-2 g c =
