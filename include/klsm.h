@@ -176,7 +176,9 @@ enum klsm_code {
     KLSM_BAD_K = 9,      /* opening: k is above 1024 */
     KLSM_BAD_PICK = 10,  /* opening: no such pick */
     KLSM_SHARED = 11,    /* closing: another owner holds the queue's parts; see klsm_close */
-    KLSM_BAD_REFILL = 12 /* opening: the refill is above k */
+    KLSM_BAD_REFILL = 12, /* opening: the refill is above k */
+    KLSM_STOPPED = 13,    /* klsm_work_next: klsm_work_stop was called */
+    KLSM_MISCOUNTED = 14  /* klsm_work_next: more pieces of work were closed than had been opened */
 };
 
 /* Which of the k + 1 smallest shared items a deletion takes where it takes a shared one. Of those up to
@@ -458,6 +460,8 @@ KLSM_INLINE const char *klsm_text(int32_t code) {
     case KLSM_BAD_PICK: return "no such pick";
     case KLSM_SHARED: return "the queue has another owner";
     case KLSM_BAD_REFILL: return "the refill is above k";
+    case KLSM_STOPPED: return "the work was stopped";
+    case KLSM_MISCOUNTED: return "more work was closed than was opened";
     default: return "unknown code";
     }
 }
@@ -533,37 +537,7 @@ KLSM_INLINE int32_t klsm_delete_min(klsm_member *member, klsm_item *item) {
     return __builtin_expect(code == KLSM_BUSY, 0) ? klsm_delete_min_after_pauses(member, item) : code;
 }
 
-/* A count of open work, by which the threads of a crew see the end: that a deletion finds nothing is none, since
- * another thread may be about to insert what follows from its item. All bytes 0 is a count of none. Each piece of
- * work is opened before its item is inserted, and done once all that follows from it was opened. Any thread, at
- * any time. What a thread wrote before its work was done is seen by those that see the end. */
-typedef struct klsm_work {
-    KLSM_ALIGNED uint64_t open; /* on two cache lines of its own, as a member is */
-    uint64_t room[15];
-} klsm_work;
-
-KLSM_NOT_NULL(1)
-KLSM_INLINE void klsm_work_open(klsm_work *work) { __atomic_fetch_add(&work->open, 1, __ATOMIC_RELAXED); }
-
-KLSM_NOT_NULL(1)
-KLSM_INLINE void klsm_work_done(klsm_work *work) { __atomic_fetch_sub(&work->open, 1, __ATOMIC_ACQ_REL); }
-
-/* How many pieces are open. Where it is 0, all is done. */
-KLSM_NOT_NULL(1)
-KLSM_INLINE uint64_t klsm_work_left(const klsm_work *work) { return __atomic_load_n(&work->open, __ATOMIC_ACQUIRE); }
-
-/* Deletes a small item, and waits for one while work is open: so KLSM_NOTHING means that all is done. The other
- * codes are those of klsm_try_delete_min. */
-KLSM_NOT_NULL(1, 2, 3)
-KLSM_INLINE int32_t klsm_work_next(klsm_work *work, klsm_member *member, klsm_item *item) {
-    klsm_pause pause = klsm_first_pause();
-    for (;;) {
-        int32_t code = klsm_delete_min(member, item);
-        if (code != KLSM_NOTHING || klsm_work_left(work) == 0)
-            return code;
-        klsm_wait(&pause);
-    }
-}
+#include "klsm_work.h"
 
 #ifdef __cplusplus
 }
