@@ -5,7 +5,7 @@
 #define BENCH_PATHS_HPP
 
 #include "graphs.hpp"
-#include "open_items.hpp"
+#include "klsm.h"
 #include "queues/item.hpp"
 #include "threads.hpp"
 
@@ -31,8 +31,7 @@ public:
     static constexpr std::size_t room = std::size_t(1) << 20;
 
     paths(const paths_task &task, typename Queue::setting setting)
-        : threads_(task.threads), given_(*task.given), queue_(task.threads, room, setting), distances_(given_.nodes()),
-          open_(task.threads) {
+        : threads_(task.threads), given_(*task.given), queue_(task.threads, room, setting), distances_(given_.nodes()) {
         for (std::atomic<std::uint64_t> &one : distances_)
             one.store(unreached, std::memory_order_relaxed);
     }
@@ -42,9 +41,9 @@ public:
         std::vector<std::uint64_t> expansions(threads_);
         for (std::size_t t = 0; t < threads_; t++)
             handles.push_back(queue_.handle_of(t));
-        reach(0, handles[0], given_.start, 0);
+        reach(handles[0], given_.start, 0);
         const double seconds = time_of(
-            threads_, where, [](std::size_t) {}, [&](std::size_t t) { expansions[t] = work(t, handles[t]); });
+            threads_, where, [](std::size_t) {}, [&](std::size_t t) { expansions[t] = work(handles[t]); });
         std::vector<std::uint64_t> distances(distances_.begin(), distances_.end());
         return {seconds, std::accumulate(expansions.begin(), expansions.end(), std::uint64_t(0)),
                 std::move(distances)};
@@ -53,33 +52,35 @@ public:
 private:
     // How many nodes this thread has expanded. That no item is found is not the end: another thread may be about to
     // insert some.
-    std::uint64_t work(std::size_t t, handle by) {
+    std::uint64_t work(handle by) {
         std::uint64_t expansions = 0;
+        klsm_pause pause = klsm_first_pause();
         for (item next;;)
             if (by.delete_min(next)) {
                 if (next.key == distances_[next.load].load(std::memory_order_relaxed)) {
                     expansions++;
-                    expand(t, by, std::size_t(next.load), next.key);
+                    expand(by, std::size_t(next.load), next.key);
                 }
-                open_.close(t);
-            } else if (open_.are_none())
+                klsm_work_done(&open_);
+                pause = klsm_first_pause();
+            } else if (klsm_work_left(&open_) == 0)
                 return expansions;
             else
-                pause_for_items();
+                klsm_work_wait(&pause);
     }
 
-    void expand(std::size_t t, handle &by, std::size_t at, std::uint64_t distance) {
+    void expand(handle &by, std::size_t at, std::uint64_t distance) {
         for (std::size_t i = given_.firsts[at]; i < given_.firsts[at + 1]; i++)
-            reach(t, by, given_.edges[i].to, distance + given_.edges[i].length);
+            reach(by, given_.edges[i].to, distance + given_.edges[i].length);
     }
 
     // A node is reached by a way of this length.
-    void reach(std::size_t t, handle &by, std::size_t node, std::uint64_t distance) {
+    void reach(handle &by, std::size_t node, std::uint64_t distance) {
         std::uint64_t known = distances_[node].load(std::memory_order_relaxed);
         do {
             if (distance >= known) return;
         } while (!distances_[node].compare_exchange_weak(known, distance, std::memory_order_relaxed));
-        open_.open(t, 1);
+        klsm_work_open(&open_, 1);
         by.insert({distance, node});
     }
 
@@ -87,7 +88,7 @@ private:
     const graph &given_;
     Queue queue_;
     std::vector<std::atomic<std::uint64_t>> distances_;
-    alignas(128) open_items open_;
+    klsm_work open_ = {};
 };
 
 #endif

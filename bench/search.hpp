@@ -7,7 +7,6 @@
 
 #include "klsm.h"
 #include "knapsack.hpp"
-#include "open_items.hpp"
 #include "queues/item.hpp"
 #include "spin.hpp"
 #include "threads.hpp"
@@ -35,18 +34,17 @@ public:
     static constexpr std::size_t room = std::size_t(1) << 20;
 
     search(const search_task &task, typename Queue::setting setting)
-        : task_(task), given_(*task.given), queue_(task.threads, room, setting), top_(given_.bound(0, {0, 0})),
-          open_(task.threads) {}
+        : task_(task), given_(*task.given), queue_(task.threads, room, setting), top_(given_.bound(0, {0, 0})) {}
 
     search_result run(const placing &where) {
         std::vector<handle> handles;
         std::vector<std::uint64_t> nodes(task_.threads);
         for (std::size_t t = 0; t < task_.threads; t++)
             handles.push_back(queue_.handle_of(t));
-        open_.open(0, 1);
+        klsm_work_open(&open_, 1);
         handles[0].insert({klsm_key_of_node(0, 0, 0), node{0, 0}.load()});
         const double seconds = time_of(
-            task_.threads, where, [](std::size_t) {}, [&](std::size_t t) { nodes[t] = work(t, handles[t]); });
+            task_.threads, where, [](std::size_t) {}, [&](std::size_t t) { nodes[t] = work(handles[t]); });
         return {seconds, std::accumulate(nodes.begin(), nodes.end(), std::uint64_t(0)), best_};
     }
 
@@ -60,28 +58,30 @@ private:
 
     // How many nodes this thread has examined. That no node is found is not the end: another thread may
     // be about to open some.
-    std::uint64_t work(std::size_t t, handle by) {
+    std::uint64_t work(handle by) {
         std::uint64_t examined = 0;
         children opened;
+        klsm_pause pause = klsm_first_pause();
         for (item next;;)
             if (by.delete_min(next)) {
                 if (bound_of(next) > best_.load(std::memory_order_relaxed)) {
                     examined++;
-                    examine(t, by, node::of(next.load), bound_of(next), opened);
+                    examine(by, node::of(next.load), bound_of(next), opened);
                 }
-                open_.close(t);
-            } else if (open_.are_none())
+                klsm_work_done(&open_);
+                pause = klsm_first_pause();
+            } else if (klsm_work_left(&open_) == 0)
                 return examined;
             else
-                pause_for_items();
+                klsm_work_wait(&pause);
     }
 
     // Puts in the children that may still be better than the best.
-    void examine(std::size_t t, handle &by, node at, std::uint64_t bounded, children &opened) {
+    void examine(handle &by, node at, std::uint64_t bounded, children &opened) {
         spin(task_.steps);
         opened.count = 0;
         if (at.level != given_.things.size()) branch(at, bounded, opened);
-        open_.open(t, std::uint64_t(opened.count));
+        klsm_work_open(&open_, std::uint64_t(opened.count));
         for (int i = 0; i < opened.count; i++)
             by.insert(opened.of[i]);
     }
@@ -117,7 +117,7 @@ private:
     Queue queue_;
     const std::uint64_t top_; // the root's bound
     alignas(128) std::atomic<std::uint64_t> best_{0};
-    alignas(128) open_items open_;
+    klsm_work open_ = {};
 };
 
 #endif

@@ -64,7 +64,9 @@ enum class code : std::int32_t {
     bad_k = KLSM_BAD_K,
     bad_pick = KLSM_BAD_PICK,
     shared = KLSM_SHARED,
-    bad_refill = KLSM_BAD_REFILL
+    bad_refill = KLSM_BAD_REFILL,
+    stopped = KLSM_STOPPED,
+    miscounted = KLSM_MISCOUNTED
 };
 
 // A short English text.
@@ -286,36 +288,6 @@ private:
     std::shared_ptr<detail::block> block_; // aligned as klsm_queue is: C++17 sees to that
 };
 
-// A count of open work, by which the threads of a crew see the end: klsm.h says more at klsm_work. A piece is
-// opened before its item is inserted, and done once all that follows from it was opened.
-class work {
-public:
-    work() = default;
-    work(const work &) = delete;
-    work &operator=(const work &) = delete;
-
-    void open() noexcept { klsm_work_open(&count_); }
-    void done() noexcept { klsm_work_done(&count_); }
-    // How many pieces are open.
-    [[nodiscard]] std::uint64_t left() const noexcept { return klsm_work_left(&count_); }
-
-    // Deletes a small item, and waits for one while work is open. None once all is done, and where the member
-    // is not open.
-    [[nodiscard]] std::optional<item> next(member &by) noexcept {
-        item deleted;
-        if (by.at_ == nullptr || klsm_work_next(&count_, by.at_, &deleted) != KLSM_OK) return std::nullopt;
-        return deleted;
-    }
-    template <class Typed> [[nodiscard]] auto next(Typed &by) noexcept -> decltype(by.delete_min()) {
-        std::optional<item> deleted = next(by.member_);
-        if (!deleted) return std::nullopt;
-        return by.opened(*deleted);
-    }
-
-private:
-    klsm_work count_ = {};
-};
-
 // What a typed_queue gives. `number` is how many insertions its owner had made before.
 template <class T> struct typed_item {
     std::uint64_t key;
@@ -481,6 +453,97 @@ public:
 
 private:
     klsm::queue queue_;
+};
+
+// What work::next gives: an item, whose piece of work is this thread's to do. done() closes it. One that goes out of
+// scope before, by a return or an exception, is given up: nobody waits for it, and work::given_up counts it.
+template <class Item> class piece {
+public:
+    piece(piece &&other) noexcept
+        : of_(std::exchange(other.of_, nullptr)), why_(other.why_), item_(std::move(other.item_)) {}
+    piece &operator=(piece &&other) noexcept {
+        piece moved(std::move(other));
+        std::swap(of_, moved.of_);
+        std::swap(why_, moved.why_);
+        std::swap(item_, moved.item_);
+        return *this;
+    }
+    piece(const piece &) = delete;
+    piece &operator=(const piece &) = delete;
+    ~piece() {
+        if (of_ != nullptr) klsm_work_give_up(of_);
+    }
+
+    // Whether there is an item.
+    explicit operator bool() const noexcept { return item_.has_value(); }
+    Item &operator*() noexcept { return *item_; }
+    const Item &operator*() const noexcept { return *item_; }
+    Item *operator->() noexcept { return &*item_; }
+    const Item *operator->() const noexcept { return &*item_; }
+
+    // Why there is none: nothing where all is done, stopped, miscounted or not_open; and ok where there is one.
+    [[nodiscard]] klsm::code why() const noexcept { return why_; }
+
+    // It is done: all that follows from it was opened before. Once is enough.
+    void done() noexcept {
+        if (of_ != nullptr) klsm_work_done(std::exchange(of_, nullptr));
+    }
+
+private:
+    friend class work;
+    explicit piece(klsm::code why) noexcept : why_(why) {}
+    piece(klsm_work *of, Item &&item) noexcept : of_(of), item_(std::move(item)) {}
+
+    klsm_work *of_ = nullptr; // while it is open
+    klsm::code why_ = code::ok;
+    std::optional<Item> item_;
+};
+
+// A count of open work, by which the threads of a crew see the end. klsm_work.h says more.
+class work {
+public:
+    work() = default;
+    work(const work &) = delete;
+    work &operator=(const work &) = delete;
+
+    // Opens a piece and inserts its item by a member or a typed member, whose codes it has. Where that is refused, no
+    // piece is opened, and the payload stays.
+    template <class Member, class Payload>
+    [[nodiscard]] klsm::code insert(Member &by, std::uint64_t key, Payload &&payload) {
+        open();
+        klsm::code answer = by.insert(key, std::forward<Payload>(payload));
+        if (answer != code::ok) done();
+        return answer;
+    }
+
+    // Deletes a small item, and waits for one while work is open.
+    [[nodiscard]] piece<item> next(member &by) noexcept {
+        item deleted;
+        klsm::code answer = by.at_ == nullptr ? code::not_open : code(klsm_work_next(&count_, by.at_, &deleted));
+        return answer == code::ok ? piece<item>(&count_, std::move(deleted)) : piece<item>(answer);
+    }
+    template <class T> [[nodiscard]] piece<typed_item<T>> next(typed_member<T> &by) noexcept {
+        piece<item> deleted = next(by.member_);
+        if (!deleted) return piece<typed_item<T>>(deleted.why());
+        deleted.of_ = nullptr; // the piece of the payload is open in its place
+        return piece<typed_item<T>>(&count_, typed_member<T>::opened(*deleted));
+    }
+
+    // All that ask for work, and all that wait for some, get code::stopped from now on.
+    void stop() noexcept { klsm_work_stop(&count_); }
+    [[nodiscard]] bool is_stopped() const noexcept { return klsm_work_is_stopped(&count_) != 0; }
+
+    // How many pieces are open, and how many were given up.
+    [[nodiscard]] std::uint64_t left() const noexcept { return klsm_work_left(&count_); }
+    [[nodiscard]] std::uint64_t given_up() const noexcept { return klsm_work_given_up(&count_); }
+
+    // For pieces that are no items of the queue: opened before another thread can see them, and closed by hand.
+    void open(std::uint64_t pieces = 1) noexcept { klsm_work_open(&count_, pieces); }
+    void done() noexcept { klsm_work_done(&count_); }
+    void give_up() noexcept { klsm_work_give_up(&count_); }
+
+private:
+    klsm_work count_ = {};
 };
 
 } // namespace v2

@@ -3,7 +3,6 @@
 
 #include "graphs.hpp"
 #include "latency.hpp"
-#include "open_items.hpp"
 #include "paths.hpp"
 #include "queues/heap.hpp"
 #include "queues/skip_list.hpp"
@@ -66,16 +65,6 @@ void finds_paths(const graph &of) {
                 edges);
 }
 
-void counts_open_items() {
-    open_items open(2);
-    check(open.are_none());
-    open.open(0, 2);
-    open.close(1);
-    check(!open.are_none());
-    open.close(0);
-    check(open.are_none());
-}
-
 void repeats_for_a_time() {
     const done all = repeat_for(
         0.02, 2, placing(false), [](std::size_t) {}, [](std::size_t) {},
@@ -94,7 +83,6 @@ int main() {
     finds_paths_by_hand();
     for (const graph &of : {random_graph(20000, 1), grid_graph(150, 2), road_graph(100, 3)})
         finds_paths(of);
-    counts_open_items();
     repeats_for_a_time();
     std::puts("the harness: passed");
 }
