@@ -162,20 +162,20 @@ KLSM_ASSERT(alignof(klsm_member) == 128 && alignof(klsm_queue) == 128);
 KLSM_ASSERT(_Alignof(klsm_member) == 128 && _Alignof(klsm_queue) == 128);
 #endif
 
-/* What the calls answer. A later version may have more. */
+/* What the calls answer; the last two, the calls of klsm_work.h. A later version may have more. */
 enum klsm_code {
-    KLSM_OK = 0,         /* done */
-    KLSM_NOTHING = 1,    /* deletion: no item was found where it looked */
-    KLSM_BUSY = 2,       /* klsm_try_..: another member holds a lock that is needed */
-    KLSM_FULL = 3,       /* insertion: the shared part, of 2^26 items, has no room for what would move */
-    KLSM_NO_MEMORY = 4,  /* malloc gave none */
-    KLSM_SPENT = 5,      /* insertion: the member has made 2^48 insertions */
-    KLSM_NOT_OPEN = 6,   /* the member, or the queue that is to be closed, is not open */
-    KLSM_OPEN = 7,       /* opening: the queue is open already */
-    KLSM_BAD_COUNT = 8,  /* opening: not 1 to 64 threads */
-    KLSM_BAD_K = 9,      /* opening: k is above 1024 */
-    KLSM_BAD_PICK = 10,  /* opening: no such pick */
-    KLSM_SHARED = 11,    /* closing: another owner holds the queue's parts; see klsm_close */
+    KLSM_OK = 0,          /* done */
+    KLSM_NOTHING = 1,     /* deletion: no item was found where it looked; klsm_work_next: and no work is open */
+    KLSM_BUSY = 2,        /* klsm_try_..: another member holds a lock that is needed */
+    KLSM_FULL = 3,        /* insertion: the shared part, of 2^26 items, has no room for what would move */
+    KLSM_NO_MEMORY = 4,   /* malloc gave none */
+    KLSM_SPENT = 5,       /* insertion: the member has made 2^48 insertions */
+    KLSM_NOT_OPEN = 6,    /* the member, or the queue that is to be closed, is not open */
+    KLSM_OPEN = 7,        /* opening: the queue is open already */
+    KLSM_BAD_COUNT = 8,   /* opening: not 1 to 64 threads */
+    KLSM_BAD_K = 9,       /* opening: k is above 1024 */
+    KLSM_BAD_PICK = 10,   /* opening: no such pick */
+    KLSM_SHARED = 11,     /* closing: another owner holds the queue's parts; see klsm_close */
     KLSM_BAD_REFILL = 12, /* opening: the refill is above k */
     KLSM_STOPPED = 13,    /* klsm_work_next: klsm_work_stop was called */
     KLSM_MISCOUNTED = 14  /* klsm_work_next: more pieces of work were closed than had been opened */
@@ -472,7 +472,7 @@ KLSM_INLINE const char *klsm_text(int32_t code) {
  * and klsm_delete_min show how. The lengths are those of the library's own waiting calls in Rattle. */
 typedef struct klsm_pause {
     uint32_t length; /* of the next pause, in nanoseconds */
-    uint32_t misses; /* how many pauses came before, at most 200 */
+    uint32_t misses; /* how many pauses came before, as far as it matters */
 } klsm_pause;
 
 KLSM_INLINE klsm_pause klsm_first_pause(void) {

@@ -9,7 +9,15 @@
 //     klsm::account account = queue.close();               // the totals, and what is left, ascending
 //
 // klsm.h says what a deletion may pass over, and when each code comes. A klsm::typed_queue<T> has payloads
-// of a type in place of loads, and klsm::work counts open work, so that a crew sees the end.
+// of a type in place of loads. Where items lead to more items a klsm::work tells a crew of threads the end:
+//
+//     klsm::work work;
+//     if (work.insert(member, key, load) != klsm::code::ok) ..  // the first one
+//     // in thread t:
+//     while (auto piece = work.next(member)) {             // none once all is done, or after work.stop()
+//         if (work.insert(member, .., piece->load - 1) != klsm::code::ok) ..
+//         piece.done();                                    // one that is left before is given up
+//     }
 //
 // A klsm::queue owns a klsm_queue, which lies in a block of its own on the heap. So a queue may be
 // moved, also while it is open and members of it are out: what the members point to stays where it is.
@@ -22,7 +30,8 @@
 //   call queue::member and queue::threads at once.
 // - No call of a member runs during close(), left(), and the end of its queue, or an assignment to it.
 // Several threads may use one klsm::work at once.
-// No call but the constructors and the close() without an argument throws.
+// No call but the constructors and the close() without an argument throws, and those that copy or make a payload
+// where its own constructor does: then nothing is inserted.
 #ifndef KLSM_HPP
 #define KLSM_HPP
 
@@ -328,6 +337,13 @@ template <class T> struct payload_of_load {
     static void drop(void *, [[maybe_unused]] const klsm_item *left) noexcept {
         if constexpr (!is_small) delete at(left->load);
     }
+
+    static std::uint64_t load_of(const T &small) noexcept {
+        std::uint64_t load = 0;
+        std::memcpy(&load, &small, sizeof(T));
+        return load;
+    }
+    static std::uint64_t load_of(const T *behind) noexcept { return reinterpret_cast<std::uintptr_t>(behind); }
 };
 
 } // namespace detail
@@ -337,12 +353,19 @@ template <class T> class typed_member {
 public:
     // Inserts, and waits while a lock is held: never code::busy. `payload` is moved from exactly with code::ok.
     // code::no_memory comes also where there is none for the payload.
-    [[nodiscard]] klsm::code insert(std::uint64_t key, T &&payload) noexcept {
-        return put(payload, [&](std::uint64_t load) { return member_.insert(key, load); });
+    [[nodiscard]] klsm::code insert(std::uint64_t key, T &&payload) noexcept { return move_in(payload, waiting(key)); }
+    // The same with a copy, and with a payload that is made of these arguments.
+    [[nodiscard]] klsm::code insert(std::uint64_t key, const T &payload) { return make(waiting(key), payload); }
+    template <class... From> [[nodiscard]] klsm::code emplace(std::uint64_t key, From &&...from) {
+        return make(waiting(key), std::forward<From>(from)...);
     }
     // Inserts, and waits for nobody.
     [[nodiscard]] klsm::code try_insert(std::uint64_t key, T &&payload) noexcept {
-        return put(payload, [&](std::uint64_t load) { return member_.try_insert(key, load); });
+        return move_in(payload, trying(key));
+    }
+    [[nodiscard]] klsm::code try_insert(std::uint64_t key, const T &payload) { return make(trying(key), payload); }
+    template <class... From> [[nodiscard]] klsm::code try_emplace(std::uint64_t key, From &&...from) {
+        return make(trying(key), std::forward<From>(from)...);
     }
     // Deletes a small item, and waits while a lock is held. None where it found nothing, and where the queue
     // is closed.
@@ -370,22 +393,39 @@ private:
 
     explicit typed_member(klsm::member &&member) noexcept : member_(std::move(member)) {}
 
-    // Another thread may have the payload as soon as it is inserted, so it lies in its place before.
-    template <class Insert> klsm::code put(T &payload, Insert insert) noexcept {
+    // The two calls, which get the load that stands for the payload.
+    auto waiting(std::uint64_t key) noexcept {
+        return [this, key](std::uint64_t load) { return member_.insert(key, load); };
+    }
+    auto trying(std::uint64_t key) noexcept {
+        return [this, key](std::uint64_t load) { return member_.try_insert(key, load); };
+    }
+
+    template <class Insert> static klsm::code move_in(T &payload, Insert insert) noexcept {
         if constexpr (payload_of_load::is_small) {
-            std::uint64_t load = 0;
-            std::memcpy(&load, &payload, sizeof(T));
-            return insert(load);
+            return insert(payload_of_load::load_of(payload));
         } else {
-            T *moved = new (std::nothrow) T(std::move(payload));
-            if (moved == nullptr) return code::no_memory;
-            klsm::code answer = insert(static_cast<std::uint64_t>(reinterpret_cast<std::uintptr_t>(moved)));
-            if (answer != code::ok) {
-                payload = std::move(*moved);
-                delete moved;
-            }
+            std::unique_ptr<T> moved(new (std::nothrow) T(std::move(payload)));
+            klsm::code answer = put(moved, insert);
+            if (moved != nullptr) payload = std::move(*moved);
             return answer;
         }
+    }
+    template <class Insert, class... From> static klsm::code make(Insert insert, From &&...from) {
+        if constexpr (payload_of_load::is_small) {
+            const T made(std::forward<From>(from)...);
+            return insert(payload_of_load::load_of(made));
+        } else {
+            std::unique_ptr<T> made(new (std::nothrow) T(std::forward<From>(from)...));
+            return put(made, insert);
+        }
+    }
+    // Another thread may have the payload as soon as it is inserted. One that is refused stays.
+    template <class Insert> static klsm::code put(std::unique_ptr<T> &payload, Insert insert) noexcept {
+        if (payload == nullptr) return code::no_memory;
+        klsm::code answer = insert(payload_of_load::load_of(payload.get()));
+        if (answer == code::ok) static_cast<void>(payload.release());
+        return answer;
     }
 
     static typed_item<T> opened(const item &found) noexcept {
@@ -455,12 +495,17 @@ private:
     klsm::queue queue_;
 };
 
-// What work::next gives: an item, whose piece of work is this thread's to do. done() closes it. One that goes out of
-// scope before, by a return or an exception, is given up: nobody waits for it, and work::given_up counts it.
+// What work::next gives: an item, whose piece of work is this thread's to do, or the reason why there is none. done()
+// closes the piece. One that goes out of scope before, by a return or an exception, is given up: nobody waits for it,
+// and work::given_up counts it.
 template <class Item> class piece {
 public:
+    // The other one has no item afterwards.
     piece(piece &&other) noexcept
-        : of_(std::exchange(other.of_, nullptr)), why_(other.why_), item_(std::move(other.item_)) {}
+        : of_(std::exchange(other.of_, nullptr)), why_(other.why_), item_(std::move(other.item_)) {
+        other.item_.reset();
+    }
+    // The piece that this one had is given up, unless it was done.
     piece &operator=(piece &&other) noexcept {
         piece moved(std::move(other));
         std::swap(of_, moved.of_);
@@ -471,6 +516,7 @@ public:
     piece(const piece &) = delete;
     piece &operator=(const piece &) = delete;
     ~piece() {
+        item_.reset(); // who sees the end sees that it is gone
         if (of_ != nullptr) klsm_work_give_up(of_);
     }
 
@@ -481,10 +527,10 @@ public:
     Item *operator->() noexcept { return &*item_; }
     const Item *operator->() const noexcept { return &*item_; }
 
-    // Why there is none: nothing where all is done, stopped, miscounted or not_open; and ok where there is one.
+    // Why there is none: nothing where no work is open, stopped, miscounted or not_open. It is ok where there was one.
     [[nodiscard]] klsm::code why() const noexcept { return why_; }
 
-    // It is done: all that follows from it was opened before. Once is enough.
+    // It is done: all that follows from it was opened before. A second time, and where there is none, nothing happens.
     void done() noexcept {
         if (of_ != nullptr) klsm_work_done(std::exchange(of_, nullptr));
     }
@@ -492,44 +538,48 @@ public:
 private:
     friend class work;
     explicit piece(klsm::code why) noexcept : why_(why) {}
-    piece(klsm_work *of, Item &&item) noexcept : of_(of), item_(std::move(item)) {}
+    piece(klsm_work *of, Item &&item) noexcept : of_(of), why_(code::ok), item_(std::move(item)) {}
 
     klsm_work *of_ = nullptr; // while it is open
-    klsm::code why_ = code::ok;
+    klsm::code why_;
     std::optional<Item> item_;
 };
 
-// A count of open work, by which the threads of a crew see the end. klsm_work.h says more.
+// A count of open work, by which the threads of a crew see the end. klsm_work.h says more, and what stop() promises.
 class work {
 public:
     work() = default;
     work(const work &) = delete;
     work &operator=(const work &) = delete;
 
-    // Opens a piece and inserts its item by a member or a typed member, whose codes it has. Where that is refused, no
-    // piece is opened, and the payload stays.
-    template <class Member, class Payload>
-    [[nodiscard]] klsm::code insert(Member &by, std::uint64_t key, Payload &&payload) {
-        open();
-        klsm::code answer = by.insert(key, std::forward<Payload>(payload));
-        if (answer != code::ok) done();
-        return answer;
+    // Opens a piece and inserts its item by a member or a typed member, whose codes it has. Where that is refused or
+    // throws no piece is opened, and a payload stays where it was.
+    [[nodiscard]] klsm::code insert(member &by, std::uint64_t key, std::uint64_t load) noexcept {
+        return open_for([&] { return by.insert(key, load); });
+    }
+    template <class T, class Payload>
+    [[nodiscard]] klsm::code insert(typed_member<T> &by, std::uint64_t key, Payload &&payload) {
+        return open_for([&] { return by.insert(key, std::forward<Payload>(payload)); });
+    }
+    template <class T, class... From>
+    [[nodiscard]] klsm::code emplace(typed_member<T> &by, std::uint64_t key, From &&...from) {
+        return open_for([&] { return by.emplace(key, std::forward<From>(from)...); });
     }
 
     // Deletes a small item, and waits for one while work is open.
     [[nodiscard]] piece<item> next(member &by) noexcept {
-        item deleted;
-        klsm::code answer = by.at_ == nullptr ? code::not_open : code(klsm_work_next(&count_, by.at_, &deleted));
-        return answer == code::ok ? piece<item>(&count_, std::move(deleted)) : piece<item>(answer);
+        item found;
+        klsm::code answer = next(by, found);
+        return answer == code::ok ? piece<item>(&count_, std::move(found)) : piece<item>(answer);
     }
     template <class T> [[nodiscard]] piece<typed_item<T>> next(typed_member<T> &by) noexcept {
-        piece<item> deleted = next(by.member_);
-        if (!deleted) return piece<typed_item<T>>(deleted.why());
-        deleted.of_ = nullptr; // the piece of the payload is open in its place
-        return piece<typed_item<T>>(&count_, typed_member<T>::opened(*deleted));
+        item found;
+        klsm::code answer = next(by.member_, found);
+        return answer == code::ok ? piece<typed_item<T>>(&count_, typed_member<T>::opened(found))
+                                  : piece<typed_item<T>>(answer);
     }
 
-    // All that ask for work, and all that wait for some, get code::stopped from now on.
+    // All that ask for work, and all that wait for some, get code::stopped from now on. Also from a signal handler.
     void stop() noexcept { klsm_work_stop(&count_); }
     [[nodiscard]] bool is_stopped() const noexcept { return klsm_work_is_stopped(&count_) != 0; }
 
@@ -543,6 +593,24 @@ public:
     void give_up() noexcept { klsm_work_give_up(&count_); }
 
 private:
+    template <class Insert> klsm::code open_for(Insert insert) {
+        struct opening {
+            klsm_work *of;
+            ~opening() {
+                if (of != nullptr) klsm_work_done(of);
+            }
+        };
+        open();
+        opening piece{&count_};
+        klsm::code answer = insert();
+        if (answer == code::ok) piece.of = nullptr; // whoever deletes the item closes it
+        return answer;
+    }
+
+    klsm::code next(member &by, item &found) noexcept {
+        return by.at_ == nullptr ? code::not_open : code(klsm_work_next(&count_, by.at_, &found));
+    }
+
     klsm_work count_ = {};
 };
 

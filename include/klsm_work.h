@@ -1,22 +1,24 @@
 /* klsm_work.h: a count of open work, by which a crew of threads sees the end. klsm.h includes it. C11 and C++.
  *
- *     static klsm_work work;                                         // all bytes 0: none is open
- *     klsm_work_insert(&work, &queue.members[0], key, load);         // the root, before the crew begins
+ *     static klsm_work work;                                          // all bytes 0: none is open
+ *     if (klsm_work_insert(&work, &queue.members[0], key, load) != KLSM_OK) ..   // before the crew begins
  *     // in thread t:
  *     while ((code = klsm_work_next(&work, &queue.members[t], &item)) == KLSM_OK) {
  *         for (each piece that follows from the item)
  *             if (klsm_work_insert(&work, &queue.members[t], ..) != KLSM_OK) klsm_work_stop(&work);
  *         klsm_work_done(&work);
- *     }                                                              // KLSM_NOTHING: all is done
+ *     }                                                               // KLSM_NOTHING: no work is open
  *
  * That a deletion finds nothing is no end, since another thread may be about to insert what follows from the item
  * that it has. So pieces of work are counted: each is opened before its item is inserted, and closed once all that
  * follows from it was opened. It is closed as done, or as given up, where a thread leaves it unfinished; an open
  * piece that no thread closes keeps the crew waiting until klsm_work_stop.
  *
- * Any thread, at any time, but that a klsm_work is not written otherwise while threads use it. What a thread wrote
- * before it closed a piece is seen by those that see the end. Each thread counts in two cache lines of its own, so
- * counting costs a nanosecond or two; only a thread that finds nothing adds them all up. */
+ * A klsm_work is all bytes 0 at first and aligned to 128 bytes, as a klsm_queue is, and is neither copied nor written
+ * otherwise while threads use it. Any thread may make these calls, at any time, but for klsm_work_insert and
+ * klsm_work_next, which are calls of their member too. What a thread wrote before it closed a piece is seen by those
+ * that see the end. Each thread counts in cache lines of its own, so that counting costs a nanosecond or two; only a
+ * thread that finds nothing adds them all up. */
 #ifndef KLSM_WORK_H
 #define KLSM_WORK_H
 
@@ -44,8 +46,9 @@ typedef struct klsm_work {
 
 KLSM_ASSERT(sizeof(klsm_work_share) == 128 && sizeof(klsm_work) == 128 * (KLSM_MAX_THREADS + 2));
 
-/* The share that the calling thread counts in: one that it has taken, which then nobody else writes. A thread that
- * begins where another one ended goes on with that one's share. */
+/* The share that the calling thread counts in: one that it has taken, by the address of a variable that each thread
+ * has. No two threads have one address at once, so nobody else writes that share. A thread that begins where another
+ * one ended goes on with its share; one that finds eight taken counts in the last share. */
 KLSM_INLINE klsm_work_share *klsm_work_mine(klsm_work *work) {
     static KLSM_THREAD_LOCAL char here;
     const size_t first = (size_t)((uint64_t)(uintptr_t)&here * UINT64_C(0x9e3779b97f4a7c15) >> 58);
@@ -61,9 +64,10 @@ KLSM_INLINE klsm_work_share *klsm_work_mine(klsm_work *work) {
     return &work->shares[KLSM_MAX_THREADS];
 }
 
-/* Raises a count of a share. Only that of all threads has more than one who writes it. */
+/* Raises a count of a share, which only in the last one others may write too. The release is for who adds the counts
+ * up: from a piece that it sees closed it sees all that came before. */
 KLSM_INLINE void klsm_work_raise(const klsm_work_share *share, uint64_t *count, uint64_t pieces) {
-    if (share->by != NULL)
+    if (__atomic_load_n(&share->by, __ATOMIC_RELAXED) != NULL)
         __atomic_store_n(count, __atomic_load_n(count, __ATOMIC_RELAXED) + pieces, __ATOMIC_RELEASE);
     else
         __atomic_fetch_add(count, pieces, __ATOMIC_RELEASE);
@@ -91,8 +95,8 @@ KLSM_INLINE void klsm_work_give_up(klsm_work *work) {
     klsm_work_raise(mine, &mine->closed, 1);
 }
 
-/* The crew is to end, whatever is open: each thread that asks for work, or waits for some, gets KLSM_STOPPED. Also from
- * a signal handler. */
+/* The crew is to end, whatever is open: each thread that asks for work, or waits for some, gets KLSM_STOPPED from now
+ * on, and sees what was written before. Also from a signal handler. */
 KLSM_NOT_NULL(1)
 KLSM_INLINE void klsm_work_stop(klsm_work *work) { __atomic_store_n(&work->is_stopped, 1, __ATOMIC_RELEASE); }
 
@@ -101,10 +105,11 @@ KLSM_INLINE int klsm_work_is_stopped(const klsm_work *work) {
     return __atomic_load_n(&work->is_stopped, __ATOMIC_ACQUIRE) != 0;
 }
 
-/* How many pieces were opened less how many were closed; below 0 where more were closed than were open. It is 0 only
- * where all is done: the closed ones are added up first, and whoever closed one had opened all that followed before. */
+/* How many pieces were opened less how many were closed. The closed ones are added up first: whoever closed one had
+ * opened all that follows before, and both is seen here. So where none is closed that was not open, this is never
+ * below 0, and 0 only where all that was opened is closed. */
 KLSM_NOT_NULL(1)
-KLSM_INLINE int64_t klsm_work_balance(const klsm_work *work) {
+KLSM_INLINE int64_t klsm_work_difference(const klsm_work *work) {
     uint64_t closed = 0, opened = 0;
     for (size_t t = 0; t <= KLSM_MAX_THREADS; t++)
         closed += __atomic_load_n(&work->shares[t].closed, __ATOMIC_ACQUIRE);
@@ -113,14 +118,15 @@ KLSM_INLINE int64_t klsm_work_balance(const klsm_work *work) {
     return (int64_t)(opened - closed);
 }
 
-/* How many pieces are open. Where it is 0, none is; while threads count it may be a number of no one moment. */
+/* How many pieces are open, and 0 where more were closed than opened. While threads count it may be the number of no
+ * one moment, but it is 0 only where none is open. */
 KLSM_NOT_NULL(1)
 KLSM_INLINE uint64_t klsm_work_left(const klsm_work *work) {
-    const int64_t balance = klsm_work_balance(work);
-    return balance < 0 ? 0 : (uint64_t)balance;
+    const int64_t difference = klsm_work_difference(work);
+    return difference < 0 ? 0 : (uint64_t)difference;
 }
 
-/* How many pieces were given up. Where it is not 0, not all was done. */
+/* How many pieces were given up. Where none is open and this is 0, all was done. */
 KLSM_NOT_NULL(1)
 KLSM_INLINE uint64_t klsm_work_given_up(const klsm_work *work) {
     uint64_t given_up = 0;
@@ -140,7 +146,8 @@ KLSM_INLINE int32_t klsm_work_insert(klsm_work *work, klsm_member *member, uint6
 }
 
 /* What a thread does that finds no item while work is open: it pauses as after KLSM_BUSY, and after 200 pauses it
- * sleeps, for 50 microseconds at first, twice as long each time, and at last for 400. */
+ * sleeps, for 50 microseconds at first, then twice as long each time, and at last for 400. So waiting costs little,
+ * and who waits hears of work, or of the end, within a millisecond where it has a processor. */
 KLSM_INLINE void klsm_work_wait(klsm_pause *pause) {
     if (pause->misses < 200) {
         klsm_wait(pause);
@@ -155,7 +162,8 @@ KLSM_INLINE void klsm_work_wait(klsm_pause *pause) {
  * KLSM_OK            *item is written; klsm_work_done or klsm_work_give_up closes its piece
  * KLSM_NOTHING       nothing was found, and no work is open: all is done, or given up
  * KLSM_STOPPED       klsm_work_stop was called
- * KLSM_MISCOUNTED    more pieces were closed than had been opened
+ * KLSM_MISCOUNTED    nothing was found, and more pieces were closed than had been opened. Others may have seen
+ *                    KLSM_NOTHING too early; who closes the last piece and asks again sees this
  * KLSM_NOT_OPEN      the member is not open
  * After all but KLSM_OK *item is as it was. */
 KLSM_MUST_USE KLSM_NOT_NULL(1, 2, 3)
@@ -167,9 +175,9 @@ KLSM_INLINE int32_t klsm_work_next(klsm_work *work, klsm_member *member, klsm_it
         const int32_t code = klsm_delete_min(member, item);
         if (code != KLSM_NOTHING)
             return code;
-        const int64_t balance = klsm_work_balance(work);
-        if (balance <= 0)
-            return balance == 0 ? KLSM_NOTHING : KLSM_MISCOUNTED;
+        const int64_t difference = klsm_work_difference(work);
+        if (difference <= 0)
+            return difference == 0 ? KLSM_NOTHING : KLSM_MISCOUNTED;
         klsm_work_wait(&pause);
     }
 }

@@ -57,11 +57,10 @@ int main() {
     };
     // A piece of work is opened, found and done, beside a count that the program keeps.
     auto next = [&](std::uint64_t i) {
-        work.open();
-        must(of_counted.insert(i, i) == klsm::code::ok);
-        std::uint64_t found = work.next(of_counted)->load;
-        work.done();
-        return found;
+        must(work.insert(of_counted, i, i) == klsm::code::ok);
+        klsm::piece<klsm::item> found = work.next(of_counted);
+        found.done();
+        return found->load;
     };
     std::atomic<std::uint64_t> open{0};
     auto by_hand = [&](std::uint64_t i) {

@@ -48,6 +48,7 @@ public:
         for (std::size_t t = 0; t < threads; t++)
             crew.emplace_back([this, member = queue.member(t).value()]() mutable { work(member); });
         for (std::thread &thread : crew) thread.join();
+        if (nodes_.left() != 0 || nodes_.given_up() != 0) std::abort(); // not all was searched
         klsm::account account = queue.close();
         if (!account.left.empty() || account.inserted != account.deleted) std::abort();
         return best_;
@@ -55,9 +56,9 @@ public:
 
 private:
     void work(klsm::member &member) {
-        while (std::optional<klsm::item> item = nodes_.next(member)) {
+        while (klsm::piece<klsm::item> item = nodes_.next(member)) {
             branch(member, node::of(item->load), top_ - klsm::bound_of_node(item->key));
-            nodes_.done();
+            item.done();
         }
     }
 
@@ -72,15 +73,11 @@ private:
         open(member, without, bound(without));
     }
 
-    // Puts a node in. One that finds no room is searched at once, so that none is lost.
+    // Puts a node in. One that finds no room is searched at once, as a part of its parent, so that none is lost.
     void open(klsm::member &member, node at, std::uint64_t bounded) {
         if (bounded <= best_) return;
-        nodes_.open(); // before another thread can take it
         std::uint64_t key = klsm::key_of_node(top_ - bounded, std::uint32_t(at.level), member.inserted());
-        if (member.insert(key, at.load()) != klsm::code::ok) {
-            branch(member, at, bounded);
-            nodes_.done();
-        }
+        if (nodes_.insert(member, key, at.load()) != klsm::code::ok) branch(member, at, bounded);
     }
 
     void raise(std::uint64_t value) {

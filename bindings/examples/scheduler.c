@@ -32,17 +32,16 @@ static void run_task(worker *self, task *it) {
     it->run(self, it);
     free(it);
     self->tasks_run++;
-    klsm_work_done(&open_tasks);
 }
 
-/* Submits a task that is due at a time. Where the queue has no room, the task is run at once. */
+/* Submits a task that is due at a time. Where the queue has no room, the task is run at once, as a part of the one that
+ * submits it. */
 static void submit(worker *self, uint64_t due, task it) {
     task *copy = malloc(sizeof *copy);
     if (copy == NULL)
         abort();
     *copy = it;
-    klsm_work_open(&open_tasks);
-    if (klsm_insert(self->member, due, (uint64_t)(uintptr_t)copy) != KLSM_OK) {
+    if (klsm_work_insert(&open_tasks, self->member, due, (uint64_t)(uintptr_t)copy) != KLSM_OK) {
         self->at_once++;
         run_task(self, copy);
     }
@@ -51,8 +50,10 @@ static void submit(worker *self, uint64_t due, task it) {
 static void *work(void *arg) {
     worker *self = arg;
     klsm_item item;
-    while (klsm_work_next(&open_tasks, self->member, &item) == KLSM_OK)
+    while (klsm_work_next(&open_tasks, self->member, &item) == KLSM_OK) {
         run_task(self, (task *)(uintptr_t)item.load);
+        klsm_work_done(&open_tasks);
+    }
     return NULL;
 }
 

@@ -59,25 +59,24 @@ impl Search<'_> {
         if self.distances[node].fetch_min(length, SeqCst) <= length {
             return Ok(());
         }
-        self.labels.open();
-        let inserted = member.insert(length, node as u64);
-        inserted.inspect_err(|_| self.labels.done())
+        self.labels.insert(member, length, node as u64)
     }
 
-    /// Examines labels until none is open. How many it examined, or why one could not be put in.
+    /// Examines labels until none is open. How many it examined, or why one could not be put in: then the search
+    /// is of no use, so all threads are stopped.
     fn work(&self, mut member: Member<'_>) -> Result<u64, InsertError> {
-        let mut offers = Ok(());
-        while let Some(label) = self.labels.next(&mut member) {
+        while let Ok(label) = self.labels.next(&mut member) {
             let node = label.load as usize;
             if label.key == self.distances[node].load(SeqCst) {
                 for (other, length) in self.grid.neighbours(node) {
-                    offers = offers.and(self.offer(&mut member, other, label.key + length));
+                    let offered = self.offer(&mut member, other, label.key + length);
+                    offered.inspect_err(|_| self.labels.stop())?;
                 }
             }
             // Only now that the labels that this one led to are open.
-            self.labels.done();
+            label.done();
         }
-        offers.map(|()| member.deleted_count())
+        Ok(member.deleted_count())
     }
 }
 

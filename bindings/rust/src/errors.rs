@@ -48,6 +48,18 @@ pub enum TryInsertError {
     NoMemory,
 }
 
+/// Why [`Work::next`](crate::Work::next) gives no piece. (That a member is not open is no cause here: each is.)
+#[derive(Clone, Copy, Debug, PartialEq, Eq)]
+pub enum End {
+    /// Nothing was found, and no work is open: all is done, or was given up.
+    Done,
+    /// The crew was stopped.
+    Stopped,
+    /// Nothing was found, and more pieces were closed than had been opened: a mistake of the program. Others may
+    /// have seen `Done` too early; who closes the last piece and asks again sees this.
+    Miscounted,
+}
+
 /// Why a queue is not finished.
 #[derive(Debug)]
 pub enum FinishError {
@@ -131,6 +143,16 @@ impl fmt::Display for TryInsertError {
     }
 }
 
+impl fmt::Display for End {
+    fn fmt(&self, to: &mut fmt::Formatter<'_>) -> fmt::Result {
+        to.write_str(match self {
+            End::Done => "no work is open",
+            End::Stopped => "the work was stopped",
+            End::Miscounted => "more work was closed than was opened",
+        })
+    }
+}
+
 impl fmt::Display for FinishError {
     fn fmt(&self, to: &mut fmt::Formatter<'_>) -> fmt::Result {
         to.write_str(match self {
@@ -171,6 +193,7 @@ impl Error for Busy {}
 impl Error for OpenError {}
 impl Error for InsertError {}
 impl Error for TryInsertError {}
+impl Error for End {}
 impl Error for FinishError {}
 impl<T> Error for TypedFinishError<T> {}
 impl<T, Why: Error> Error for Refused<T, Why> {}

@@ -36,7 +36,7 @@
 //! A [`Member`] borrows its queue: it is for scoped threads. [`Queue::into_members`] gives members that
 //! own the queue together, for a pool and for threads that borrow nothing. The items of a [`TypedQueue`]
 //! carry payloads of a type, such as a `String` or a `Box`, where those of a [`Queue`] have a number.
-//! [`Work`] tells the threads when all is done. Keys that are no whole numbers of 64 bits are made by
+//! Where items lead to more items, [`Work`] tells a crew of threads when all is done. Keys that are no whole numbers of 64 bits are made by
 //! [`key_of_f64`], [`key_of_i64`], [`key_of_node`] and [`key_of_bound`].
 //!
 //! # What is behind it
@@ -173,7 +173,8 @@
 //!
 //! # What is left to the caller
 //!
-//! No call from a signal handler, and none in a forked child of a process that had several threads.
+//! No call from a signal handler but [`Work::stop`], and none in a forked child of a process that had several
+//! threads.
 //! An answer "nothing" does not say that the queue is empty: see [`Member::delete_min`].
 
 mod builder;
@@ -190,7 +191,7 @@ mod work;
 
 pub use builder::Builder;
 pub use errors::{
-    Busy, FinishError, InsertError, OpenError, Refused, TryInsertError, TypedFinishError,
+    Busy, End, FinishError, InsertError, OpenError, Refused, TryInsertError, TypedFinishError,
 };
 pub use keys::{
     bound_of_key, bound_of_node, f64_of_key, i64_of_key, key_of_bound, key_of_f64, key_of_i64,
@@ -201,4 +202,4 @@ pub use owned::OwnedMember;
 pub use queue::{Account, Pick, Queue};
 pub use sys::Item;
 pub use typed::{OwnedTypedMember, TypedItem, TypedMember, TypedMembers, TypedQueue};
-pub use work::{DeleteMin, Work};
+pub use work::{DeleteMin, Insert, Piece, Work};

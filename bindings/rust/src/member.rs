@@ -3,7 +3,7 @@
 use crate::errors::{Busy, InsertError, TryInsertError};
 use crate::pause::until_free;
 use crate::sys::{self, code, Item, Slot};
-use crate::work::DeleteMin;
+use crate::work::{DeleteMin, Insert};
 use std::fmt;
 use std::iter::{Enumerate, FusedIterator};
 use std::slice::IterMut;
@@ -135,6 +135,15 @@ impl<'queue> Member<'queue> {
     fn deletion(&mut self, item: &mut Item) -> i32 {
         // SAFETY: as in `insertion`; and `item` is a place for an item outside of the queue.
         unsafe { sys::klsm_try_delete_min(self.slot, item) }
+    }
+}
+
+impl Insert for Member<'_> {
+    type Load = u64;
+    type Error = InsertError;
+
+    fn insert(&mut self, key: u64, load: u64) -> Result<(), InsertError> {
+        Member::insert(self, key, load)
     }
 }
 

@@ -4,7 +4,7 @@ use crate::errors::{Busy, InsertError, TryInsertError};
 use crate::member::{deleted_by, inserted_by, Member};
 use crate::queue::Queue;
 use crate::sys::{Item, Slot};
-use crate::work::DeleteMin;
+use crate::work::{DeleteMin, Insert};
 use std::fmt;
 use std::ptr::NonNull;
 use std::sync::Arc;
@@ -174,6 +174,15 @@ impl OwnedMember {
     #[must_use = "the queue is dropped with what is in it"]
     pub fn into_queue(self) -> Option<Queue> {
         self.0.into_whole()
+    }
+}
+
+impl Insert for OwnedMember {
+    type Load = u64;
+    type Error = InsertError;
+
+    fn insert(&mut self, key: u64, load: u64) -> Result<(), InsertError> {
+        OwnedMember::insert(self, key, load)
     }
 }
 

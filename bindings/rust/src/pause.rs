@@ -18,6 +18,8 @@ const MISSES_ALONE: u32 = 7;
 /// After so many the thread sleeps, so that the one that has the lock finds a processor.
 const MISSES_AWAKE: u32 = 200;
 const SLEEP: Duration = Duration::from_micros(50);
+/// How often the sleep of who waits for work is doubled.
+const DOUBLINGS: u32 = 3;
 
 pub(crate) struct Pause {
     length: Duration,
@@ -44,6 +46,16 @@ impl Pause {
         }
         self.misses += 1;
         self.length = (2 * self.length).min(LONGEST_PAUSE);
+    }
+
+    /// What a thread does that waits for work: the same, but where it sleeps, twice as long each time, at last
+    /// for 400 microseconds. So waiting costs little, and who waits soon hears of work, or of the end.
+    pub(crate) fn wait_for_work(&mut self) {
+        let Some(doubled) = self.misses.checked_sub(MISSES_AWAKE) else {
+            return self.wait();
+        };
+        sleep(SLEEP * (1 << doubled));
+        self.misses += u32::from(doubled < DOUBLINGS);
     }
 }
 
@@ -99,6 +111,22 @@ mod tests {
         assert!(lengths[5..].iter().all(|&length| length == 800));
         assert!(misses[..200].iter().copied().eq(0..200));
         assert_eq!(misses[200..], [200, 200]);
+    }
+
+    #[test]
+    fn who_waits_for_work_sleeps_longer_and_longer() {
+        let mut pause = Pause::new();
+        for miss in 0..MISSES_AWAKE {
+            assert_eq!(pause.misses, miss);
+            pause.wait_for_work();
+        }
+        assert_eq!(pause.length, LONGEST_PAUSE);
+        for length in [50, 100, 200, 400, 400, 400] {
+            let begin = Instant::now();
+            pause.wait_for_work();
+            assert!(begin.elapsed() >= Duration::from_micros(length));
+        }
+        assert_eq!(pause.misses, MISSES_AWAKE + DOUBLINGS);
     }
 
     #[test]

@@ -1,6 +1,6 @@
 //! A crew that counts its open work ends when all is done, and not before.
 
-use klsm::{Queue, TypedQueue, Work};
+use klsm::{End, Queue, TypedQueue, Work};
 use std::sync::Arc;
 use std::thread;
 
@@ -10,24 +10,27 @@ const THREADS: usize = 4;
 fn crew(k: usize, levels: u64) -> Vec<u64> {
     let mut queue = Queue::new(THREADS, k).unwrap();
     let work = &Work::new();
-    work.open();
-    queue.members().next().unwrap().insert(0, levels).unwrap();
+    let mut first = queue.members().next().unwrap();
+    work.insert(&mut first, 0, levels).unwrap();
     let found = thread::scope(|scope| {
         let members = queue.members();
         let running = members.map(|mut member| {
             scope.spawn(move || {
                 let mut found = Vec::new();
-                while let Some(item) = work.next(&mut member) {
-                    if item.load > 0 {
-                        work.open_many(2);
-                        for _ in 0..2 {
-                            member.insert(item.key + 1, item.load - 1).unwrap();
+                let end = loop {
+                    match work.next(&mut member) {
+                        Ok(piece) => {
+                            for _ in 0..piece.load.min(1) * 2 {
+                                work.insert(&mut member, piece.key + 1, piece.load - 1)
+                                    .unwrap();
+                            }
+                            found.push(piece.load);
+                            piece.done();
                         }
+                        Err(end) => break end,
                     }
-                    found.push(item.load);
-                    work.done();
-                }
-                assert!(work.is_done());
+                };
+                assert_eq!((end, work.left(), work.given_up()), (End::Done, 0, 0));
                 found
             })
         });
@@ -35,7 +38,7 @@ fn crew(k: usize, levels: u64) -> Vec<u64> {
         let join = |thread: thread::ScopedJoinHandle<Vec<u64>>| thread.join().unwrap();
         running.into_iter().flat_map(join).collect()
     });
-    assert_eq!((work.open_count(), queue.left()), (0, 0));
+    assert_eq!((work.left(), queue.left()), (0, 0));
     found
 }
 
@@ -58,22 +61,23 @@ fn a_crew_of_threads_that_borrow_nothing() {
     let mut members = TypedQueue::<String>::new(THREADS, 8)
         .unwrap()
         .into_members();
-    work.open_many(26);
     for (key, letter) in (0..).zip('a'..='z') {
-        members[0].insert(key, letter.to_string()).unwrap();
+        work.insert(&mut members[0], key, letter.to_string())
+            .unwrap();
     }
     let running = members.into_iter().map(|mut member| {
         let work = Arc::clone(&work);
         thread::spawn(move || {
             let mut ends = Vec::new();
-            while let Some(item) = work.next(&mut member) {
+            while let Ok(piece) = work.next(&mut member) {
+                let (item, piece) = piece.into_parts();
                 if item.payload.len() < 3 {
-                    work.open();
-                    member.insert(item.key, item.payload + ".").unwrap();
+                    work.insert(&mut member, item.key, item.payload + ".")
+                        .unwrap();
                 } else {
                     ends.push(item.payload);
                 }
-                work.done();
+                piece.done();
             }
             ends
         })

@@ -4,7 +4,7 @@ use super::payload::{boxed, load_of};
 use super::{TypedItem, TypedQueue};
 use crate::errors::{Busy, InsertError, Refused, TryInsertError};
 use crate::member::{Member, Members};
-use crate::work::DeleteMin;
+use crate::work::{DeleteMin, Insert};
 use std::fmt;
 use std::iter::FusedIterator;
 use std::marker::PhantomData;
@@ -111,6 +111,15 @@ impl<'queue, T> TypedMember<'queue, T> {
     #[must_use]
     pub fn deleted_count(&self) -> u64 {
         self.member.deleted_count()
+    }
+}
+
+impl<T> Insert for TypedMember<'_, T> {
+    type Load = T;
+    type Error = Refused<T, InsertError>;
+
+    fn insert(&mut self, key: u64, payload: T) -> Result<(), Refused<T, InsertError>> {
+        TypedMember::insert(self, key, payload)
     }
 }
 

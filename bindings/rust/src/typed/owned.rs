@@ -3,7 +3,7 @@
 use super::{TypedItem, TypedMember, TypedQueue};
 use crate::errors::{Busy, InsertError, Refused, TryInsertError};
 use crate::owned::Part;
-use crate::work::DeleteMin;
+use crate::work::{DeleteMin, Insert};
 use std::fmt;
 
 /// One member of a typed queue that its members own together: what [`TypedQueue::into_members`] gives.
@@ -102,6 +102,15 @@ impl<T> OwnedTypedMember<T> {
     #[must_use = "the queue is dropped with what is in it"]
     pub fn into_queue(self) -> Option<TypedQueue<T>> {
         self.0.into_whole()
+    }
+}
+
+impl<T> Insert for OwnedTypedMember<T> {
+    type Load = T;
+    type Error = Refused<T, InsertError>;
+
+    fn insert(&mut self, key: u64, payload: T) -> Result<(), Refused<T, InsertError>> {
+        OwnedTypedMember::insert(self, key, payload)
     }
 }
 

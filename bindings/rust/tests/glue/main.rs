@@ -6,6 +6,7 @@
 mod blocks;
 mod calls;
 mod closing;
+mod counted;
 #[path = "../keys.rs"]
 mod keys;
 mod openings;

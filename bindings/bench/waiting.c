@@ -1,0 +1,88 @@
+/* What it costs to wait for work: the processor time of a crew of which one thread works at one piece and the others
+ * wait, as a share of one processor, and how long after klsm_work_stop the last one has ended, in microseconds.
+ *
+ *     waiting [THREADS] [SECONDS]
+ *
+ * A `steady` crew waits by klsm_wait, which sleeps for 50 microseconds each time; the other one by klsm_work_next. */
+#define _POSIX_C_SOURCE 200809L
+#include <klsm.h>
+#include <pthread.h>
+#include <stdio.h>
+#include <time.h>
+
+static klsm_queue queue = KLSM_QUEUE_CLOSED;
+static klsm_work work;
+static int is_steady;
+
+typedef struct waiter {
+    klsm_member *member;
+    double processor; /* seconds */
+    char apart[112];
+} waiter;
+
+static waiter waiters[KLSM_MAX_THREADS];
+
+static double seconds(clockid_t of) {
+    struct timespec now;
+    clock_gettime(of, &now);
+    return (double)now.tv_sec + (double)now.tv_nsec * 1e-9;
+}
+
+/* klsm_work_next with other pauses. */
+static int32_t next_by_steady_pauses(klsm_member *member, klsm_item *item) {
+    klsm_pause pause = klsm_first_pause();
+    int32_t code;
+    while ((code = klsm_delete_min(member, item)) == KLSM_NOTHING && !klsm_work_is_stopped(&work) &&
+           klsm_work_left(&work) > 0)
+        klsm_wait(&pause);
+    return code;
+}
+
+static void *wait_for_work(void *of) {
+    waiter *mine = of;
+    klsm_item item;
+    int32_t code = is_steady ? next_by_steady_pauses(mine->member, &item) : klsm_work_next(&work, mine->member, &item);
+    mine->processor = seconds(CLOCK_THREAD_CPUTIME_ID);
+    return code == KLSM_OK ? of : NULL;
+}
+
+/* A piece of work of this length, which is open without being in the queue. */
+static void work_for(double length) {
+    for (double end = seconds(CLOCK_MONOTONIC) + length; seconds(CLOCK_MONOTONIC) < end;)
+        klsm_look_away(1000);
+}
+
+static void measure(const char *name, size_t threads, double length) {
+    pthread_t crew[KLSM_MAX_THREADS];
+    if (klsm_open(&queue, threads, 64, KLSM_FIRST, 0) != KLSM_OK)
+        return;
+    work = (klsm_work){0};
+    klsm_work_open(&work, 1);
+    for (size_t t = 1; t < threads; t++) {
+        waiters[t] = (waiter){.member = &queue.members[t]};
+        if (pthread_create(&crew[t], NULL, wait_for_work, &waiters[t]) != 0)
+            abort();
+    }
+    work_for(length);
+    const double stopped = seconds(CLOCK_MONOTONIC);
+    klsm_work_stop(&work);
+    double processor = 0;
+    for (size_t t = 1; t < threads; t++) {
+        pthread_join(crew[t], NULL);
+        processor += waiters[t].processor;
+    }
+    const double ended = seconds(CLOCK_MONOTONIC) - stopped;
+    printf("%s: %zu wait, %.1f%% of a processor, %.0f microseconds to the end\n", name, threads - 1,
+           100 * processor / length, 1e6 * ended);
+    klsm_drop(&queue);
+}
+
+int main(int count, char **words) {
+    const size_t threads = count > 1 ? strtoul(words[1], NULL, 10) : 16;
+    const double length = count > 2 ? strtod(words[2], NULL) : 3;
+    if (threads < 2 || threads > KLSM_MAX_THREADS)
+        return 2;
+    for (is_steady = 1; is_steady >= 0; is_steady--)
+        for (int round = 0; round < 3; round++)
+            measure(is_steady ? "steady" : "klsm_work_next", threads, length);
+}
