@@ -24,7 +24,9 @@ static const struct {
     {KLSM_BAD_PICK, "no such pick"},
     {KLSM_SHARED, "the queue has another owner"},
     {KLSM_BAD_REFILL, "the refill is above k"},
-    {KLSM_BAD_REFILL + 1, "unknown code"},
+    {KLSM_STOPPED, "the work was stopped"},
+    {KLSM_MISCOUNTED, "more work was closed than was opened"},
+    {KLSM_MISCOUNTED + 1, "unknown code"},
     {-1, "unknown code"},
 };
 
@@ -205,20 +207,69 @@ static void drops(void) {
     check("and the queue is dropped, once", stub_asked(STUB_DROP) == 1 && stub_queues() == 0);
 }
 
-static void counts_of_work(void) {
-    static klsm_work work;
+/* Whether so many pieces of work are open, and so many were given up. */
+static klsm_work work;
+static int counts_are(uint64_t left, uint64_t given_up) {
+    return klsm_work_left(&work) == left && klsm_work_given_up(&work) == given_up;
+}
+
+/* What klsm_work_next answers where the queue is empty, and whether it asks once: else it waits as long as it takes. */
+static void next_of_none(const char *name, int32_t expected, int asks_once) {
     stub_begin();
     stub_answer(STUB_TRY_DELETE_MIN, KLSM_NOTHING);
-    check_code("no work is open: the end", klsm_work_next(&work, member(), &item), KLSM_NOTHING);
-    check("is seen at once", stub_asked(STUB_TRY_DELETE_MIN) == 1);
-    klsm_work_open(&work);
-    klsm_work_open(&work);
+    memset(&item, 0, sizeof item);
+    check_code(name, klsm_work_next(&work, member(), &item), expected);
+    check("asked as often as it takes", asks_once ? deletes(1) : stub_asked(STUB_TRY_DELETE_MIN) > 100);
+    check("and writes no item", item.key == 0);
+}
+
+static void ends_of_work(void) {
+    memset(&work, 0, sizeof work);
+    next_of_none("no work is open", KLSM_NOTHING, 1);
+    klsm_work_open(&work, 5);
+    check("five are open", counts_are(5, 0));
     klsm_work_done(&work);
-    check("one of two is open", klsm_work_left(&work) == 1);
-    check_code("it is waited for", klsm_work_next(&work, member(), &item), KLSM_NOT_OPEN);
-    check("as long as it takes", stub_asked(STUB_TRY_DELETE_MIN) > 100);
     klsm_work_done(&work);
-    check("none is open", klsm_work_left(&work) == 0);
+    klsm_work_give_up(&work);
+    check("two are done, and one is given up", counts_are(2, 1));
+    next_of_none("work is open, and is waited for", KLSM_NOT_OPEN, 0);
+    klsm_work_done(&work);
+    next_of_none("one is open", KLSM_NOT_OPEN, 0);
+    klsm_work_done(&work);
+    check("none is open", counts_are(0, 1));
+    next_of_none("it is the end", KLSM_NOTHING, 1);
+    klsm_work_done(&work);
+    check("one too many is closed", counts_are(0, 1));
+    next_of_none("the count is wrong", KLSM_MISCOUNTED, 1);
+    klsm_work_open(&work, 3);
+    check("not stopped so far", !klsm_work_is_stopped(&work));
+    klsm_work_stop(&work);
+    check("a stop leaves the counts", klsm_work_is_stopped(&work) && counts_are(2, 1));
+    stub_begin();
+    check_code("a stop", klsm_work_next(&work, member(), &item), KLSM_STOPPED);
+    check("no item is asked for", stub_asked(STUB_TRY_DELETE_MIN) == 0);
+}
+
+static int32_t insert_work(void) { return klsm_work_insert(&work, member(), 5, 6); }
+static int32_t next_work(void) { return klsm_work_next(&work, member(), &item); }
+
+static void pieces_of_work(void) {
+    memset(&work, 0, sizeof work);
+    for (int i = 0; i < CODES; i++) {
+        int32_t code = codes[i].code;
+        if (code == KLSM_BUSY)
+            continue;
+        check_code("an insertion of work waits for this code", after(insert_work, 2, code), code);
+        check("and opens a piece where it is done", inserts(3) && counts_are(code == KLSM_OK, 0));
+        if (code == KLSM_OK)
+            klsm_work_done(&work);
+        klsm_work_open(&work, 1);
+        if (code != KLSM_NOTHING) {
+            check_code("the next piece waits for this code", after(next_work, 2, code), code);
+            check("and stays open", deletes(3) && has_item(code) && counts_are(1, 0));
+        }
+        klsm_work_done(&work);
+    }
 }
 
 int main(void) {
@@ -231,6 +282,7 @@ int main(void) {
     counts();
     closings();
     drops();
-    counts_of_work();
+    ends_of_work();
+    pieces_of_work();
     return check_status();
 }

@@ -29,7 +29,9 @@ static const struct {
     {klsm::code::bad_pick, KLSM_BAD_PICK},
     {klsm::code::shared, KLSM_SHARED},
     {klsm::code::bad_refill, KLSM_BAD_REFILL},
-    {klsm::code(KLSM_BAD_REFILL + 1), KLSM_BAD_REFILL + 1},
+    {klsm::code::stopped, KLSM_STOPPED},
+    {klsm::code::miscounted, KLSM_MISCOUNTED},
+    {klsm::code(KLSM_MISCOUNTED + 1), KLSM_MISCOUNTED + 1},
 };
 
 // What the stub answers where a lock is held for so many tries.

@@ -1,10 +1,13 @@
-/* The waiting calls of klsm.h over calls that are busy for so many tries: those of stub.c. This program has
- * its own sched_yield and select. */
+/* The waiting calls of klsm.h over calls that are busy, or find nothing, for so many tries: those of stub.c. This
+ * program has its own sched_yield and select. */
 #include "check.h"
 #include "stub.h"
+#include <string.h>
 
 static klsm_queue queue = KLSM_QUEUE_CLOSED;
-static int yields, sleeps;
+static klsm_work work;
+static int yields, sleeps, stopping_sleep;
+static long lengths_of[32];
 
 int sched_yield(void) {
     yields++;
@@ -12,7 +15,11 @@ int sched_yield(void) {
 }
 
 int select(int count, fd_set *reads, fd_set *writes, fd_set *excepts, struct timeval *length) {
-    sleeps += count == 0 && !reads && !writes && !excepts && length->tv_sec == 0 && length->tv_usec == 50;
+    if (count != 0 || reads || writes || excepts || length->tv_sec != 0 || sleeps == 32)
+        return -1;
+    lengths_of[sleeps++] = length->tv_usec;
+    if (sleeps == stopping_sleep)
+        klsm_work_stop(&work);
     return 0;
 }
 
@@ -20,7 +27,7 @@ static void begin(uint32_t call, int count, int32_t last) {
     stub_begin();
     stub_hold(call, (uint64_t)count);
     stub_answer(call, (uint64_t)last);
-    yields = sleeps = 0;
+    yields = sleeps = stopping_sleep = 0;
 }
 
 /* Whether the call was made once more than it was busy, each time by member 3. */
@@ -29,10 +36,26 @@ static int has_tried(uint32_t call, int count) {
            stub_argument(call, 0) == (uintptr_t)&queue.members[3];
 }
 
-/* Of so many pauses, those from the eighth on let other threads run, and those from the 201st on sleep. */
-static int has_waited(int count) {
-    int awake = count < 200 ? count : 200;
-    return yields == (awake > 7 ? awake - 7 : 0) && sleeps == count - awake;
+/* Of so many pauses, those from the eighth on let other threads run, and those from the 201st on sleep, each for so
+ * many microseconds at most: at first for 50, and then for twice as long. */
+static int has_waited(int count, long most) {
+    int awake = count < 200 ? count : 200, as_told = 1;
+    long length = 50;
+    for (int i = 0; i < sleeps; i++, length = length < most ? 2 * length : most)
+        as_told = as_told && lengths_of[i] == length;
+    return as_told && yields == (awake > 7 ? awake - 7 : 0) && sleeps == count - awake;
+}
+
+/* Who waits for work, and is stopped in its sleep, asks so often before. */
+static void is_stopped_in_its_sleep(int sleep) {
+    klsm_item item = {7, 7, 7, 7};
+    begin(STUB_TRY_DELETE_MIN, 0, KLSM_NOTHING);
+    memset(&work, 0, sizeof work);
+    klsm_work_open(&work, 1);
+    stopping_sleep = sleep;
+    check_code("a stop ends the waiting", klsm_work_next(&work, &queue.members[3], &item), KLSM_STOPPED);
+    check("at once", sleeps == sleep && stub_asked(STUB_TRY_DELETE_MIN) == (uint64_t)(200 + sleep) && item.key == 7);
+    check("and each sleep is longer, up to 400 microseconds", has_waited(200 + sleep, 400));
 }
 
 int main(void) {
@@ -41,14 +64,16 @@ int main(void) {
     for (int count = 0; count < 220; count++) {
         begin(STUB_TRY_INSERT, count, KLSM_FULL);
         once = once && klsm_insert(&queue.members[3], 5, 6) == KLSM_FULL && has_tried(STUB_TRY_INSERT, count);
-        waited = waited && has_waited(count);
+        waited = waited && has_waited(count, 50);
         told = told && stub_argument(STUB_TRY_INSERT, 1) == 5 && stub_argument(STUB_TRY_INSERT, 2) == 6;
         begin(STUB_TRY_DELETE_MIN, count, KLSM_OK);
         item.key = 0;
         once = once && klsm_delete_min(&queue.members[3], &item) == KLSM_OK &&
                has_tried(STUB_TRY_DELETE_MIN, count) && item.key == 101;
-        waited = waited && has_waited(count);
+        waited = waited && has_waited(count, 50);
     }
+    for (int sleep = 1; sleep < 10; sleep++)
+        is_stopped_in_its_sleep(sleep);
     check("a try after each pause, until one is not busy", once);
     check("each try has the arguments", told);
     check("other threads run from the eighth pause on, and the caller sleeps from the 201st on", waited);
