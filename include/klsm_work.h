@@ -145,6 +145,17 @@ KLSM_INLINE int32_t klsm_work_insert(klsm_work *work, klsm_member *member, uint6
     return code;
 }
 
+/* What a thread is to do that finds no item: KLSM_OK, wait; else it ends with KLSM_STOPPED, KLSM_NOTHING or
+ * KLSM_MISCOUNTED. The pieces are counted first: where one stops the crew and then closes its piece, nobody who sees
+ * the latter takes it for the end of the work. */
+KLSM_NOT_NULL(1)
+KLSM_INLINE int32_t klsm_work_end(const klsm_work *work) {
+    const int64_t difference = klsm_work_difference(work);
+    if (klsm_work_is_stopped(work))
+        return KLSM_STOPPED;
+    return difference > 0 ? KLSM_OK : difference == 0 ? KLSM_NOTHING : KLSM_MISCOUNTED;
+}
+
 /* What a thread does that finds no item while work is open: it pauses as after KLSM_BUSY, and after 200 pauses it
  * sleeps, for 50 microseconds at first, then twice as long each time, and at last for 400. So waiting costs little,
  * and who waits hears of work, or of the end, within a millisecond where it has a processor. */
@@ -175,9 +186,9 @@ KLSM_INLINE int32_t klsm_work_next(klsm_work *work, klsm_member *member, klsm_it
         const int32_t code = klsm_delete_min(member, item);
         if (code != KLSM_NOTHING)
             return code;
-        const int64_t difference = klsm_work_difference(work);
-        if (difference <= 0)
-            return difference == 0 ? KLSM_NOTHING : KLSM_MISCOUNTED;
+        const int32_t end = klsm_work_end(work);
+        if (end != KLSM_OK)
+            return end;
         klsm_work_wait(&pause);
     }
 }

@@ -243,11 +243,15 @@ static void ends_of_work(void) {
     next_of_none("the count is wrong", KLSM_MISCOUNTED, 1);
     klsm_work_open(&work, 3);
     check("not stopped so far", !klsm_work_is_stopped(&work));
+    check_code("who finds nothing waits", klsm_work_end(&work), KLSM_OK);
     klsm_work_stop(&work);
     check("a stop leaves the counts", klsm_work_is_stopped(&work) && counts_are(2, 1));
     stub_begin();
     check_code("a stop", klsm_work_next(&work, member(), &item), KLSM_STOPPED);
     check("no item is asked for", stub_asked(STUB_TRY_DELETE_MIN) == 0);
+    klsm_work_done(&work);
+    klsm_work_done(&work);
+    check_code("nor is it the end of the work where the last one is closed then", klsm_work_end(&work), KLSM_STOPPED);
 }
 
 static int32_t insert_work(void) { return klsm_work_insert(&work, member(), 5, 6); }

@@ -1,4 +1,5 @@
-// Payloads and counts of work of klsm.hpp over the library of stub.c: what a refusal leaves, and what waits.
+// Payloads and counts of work of klsm.hpp over the library of stub.c: what a refusal leaves, what waits, and when a
+// piece of work is open. This program has its own select.
 #include "klsm.hpp"
 
 #include "check.h"
@@ -19,6 +20,31 @@ struct counted {
     counted &operator=(counted &&other) noexcept = default;
     ~counted() { alive--; }
 };
+
+// One that can be copied.
+struct copied {
+    static inline int alive = 0;
+    std::string text;
+
+    explicit copied(const char *from) : text(from) { alive++; }
+    copied(const copied &other) : text(other.text) { alive++; }
+    copied(copied &&other) noexcept : text(std::move(other.text)) { alive++; }
+    copied &operator=(copied &&other) noexcept = default;
+    ~copied() { alive--; }
+};
+
+// One that cannot be made.
+struct thrower {
+    explicit thrower(int why) { throw why; }
+};
+
+// What is seen of a count of work while a call sleeps.
+static klsm::work *watched = nullptr;
+static std::uint64_t open_in_sleep = 0;
+extern "C" int select(int, fd_set *, fd_set *, fd_set *, timeval *) {
+    if (watched != nullptr) open_in_sleep = watched->left();
+    return 0;
+}
 
 static const char *const words = "longer than what a string keeps in itself, so that it has a block of its own";
 
@@ -73,23 +99,175 @@ static void deletions() {
     check("a member that was moved from is not open", of_plain.delete_min(item) == code::not_open);
 }
 
-static void work() {
-    klsm::queue queue(1);
-    klsm::member member = queue.member(0).value();
+// Whether it was tried so often, with its key. What is inserted is taken out of the stub, which forgets it.
+static bool is_inserted(std::uint64_t times, code why) {
+    bool is_told = stub_asked(STUB_TRY_INSERT) == times && stub_repeats(STUB_TRY_INSERT) != 0 &&
+                   stub_argument(STUB_TRY_INSERT, 1) == 5 && copied::alive == (why == code::ok ? 2 : 1);
+    if (why != code::ok) return is_told;
+    auto *inserted = reinterpret_cast<copied *>(static_cast<std::uintptr_t>(stub_argument(STUB_TRY_INSERT, 2)));
+    is_told = is_told && inserted->text == words;
+    delete inserted;
+    return is_told;
+}
+
+// An insertion of a copy, and of what is made of arguments, with each code: nothing stays of one that is refused.
+static void copies() {
+    const copied payload(words);
+    for (code why : {code::ok, code::full, code::no_memory, code::spent, code::not_open, code::busy}) {
+        klsm::typed_queue<copied> queue(2);
+        auto member = queue.member(1).value();
+        begin(STUB_TRY_INSERT, 0, why);
+        check("try_insert of a copy", member.try_insert(5, payload) == why && is_inserted(1, why));
+        begin(STUB_TRY_INSERT, 0, why);
+        check("try_emplace", member.try_emplace(5, words) == why && is_inserted(1, why));
+        if (why == code::busy) continue;
+        begin(STUB_TRY_INSERT, 2, why);
+        check("insert of a copy", member.insert(5, payload) == why && is_inserted(3, why));
+        begin(STUB_TRY_INSERT, 2, why);
+        check("emplace", member.emplace(5, words) == why && is_inserted(3, why));
+        begin(STUB_TRY_DELETE_MIN, 0, code::nothing); // by which the queue ends
+    }
+    check("the one that was copied is as it was", payload.text == words && copied::alive == 1);
+}
+
+static void copies_in_the_load() {
+    klsm::typed_queue<std::uint32_t> queue(2);
+    auto member = queue.member(1).value();
+    const std::uint32_t payload = 77;
+    begin(STUB_TRY_INSERT, 0, code::ok);
+    check("try_insert", member.try_insert(5, payload) == code::ok && stub_argument(STUB_TRY_INSERT, 2) == 77);
+    check("try_emplace", member.try_emplace(5, 78u) == code::ok && stub_argument(STUB_TRY_INSERT, 2) == 78);
+    begin(STUB_TRY_INSERT, 1, code::ok);
+    check("insert", member.insert(5, payload) == code::ok && stub_argument(STUB_TRY_INSERT, 2) == 77);
+    check("emplace", member.emplace(5, 78u) == code::ok && stub_argument(STUB_TRY_INSERT, 2) == 78);
+    check("none", member.emplace(5) == code::ok && stub_argument(STUB_TRY_INSERT, 2) == 0);
+    begin(STUB_TRY_DELETE_MIN, 0, code::nothing);
+}
+
+// Whether so many pieces of work are open, and so many were given up.
+static bool counts_are(const klsm::work &work, std::uint64_t left, std::uint64_t given_up) {
+    return work.left() == left && work.given_up() == given_up;
+}
+
+// The end is told as the cause has it, and then there is no item.
+template <class Member> static void ends(Member &member) {
     klsm::work work;
     begin(STUB_TRY_DELETE_MIN, 0, code::nothing);
+    auto none = work.next(member);
     check("where no work is open the end is seen at once",
-          !work.next(member) && stub_asked(STUB_TRY_DELETE_MIN) == 1);
+          !none && none.why() == code::nothing && stub_asked(STUB_TRY_DELETE_MIN) == 1);
     work.open();
-    work.open();
+    check("where some is open it is waited for", work.next(member).why() == code::not_open);
+    check("as long as it takes", stub_asked(STUB_TRY_DELETE_MIN) > 100);
     work.done();
-    check("one of two is open", work.left() == 1);
+    work.give_up();
     begin(STUB_TRY_DELETE_MIN, 0, code::nothing);
-    check("where some is open it is waited for", !work.next(member) && stub_asked(STUB_TRY_DELETE_MIN) > 100);
+    check("more was closed than was open", work.next(member).why() == code::miscounted && counts_are(work, 0, 1));
+    work.open(3);
+    check("so many are open", counts_are(work, 2, 1) && !work.is_stopped());
+    work.stop();
     begin(STUB_TRY_DELETE_MIN, 0, code::ok);
-    check("an item ends the waiting", work.next(member)->key == 101);
-    klsm::member gone = std::move(member);
-    check("a member that was moved from has none", !work.next(member) && stub_asked(STUB_TRY_DELETE_MIN) == 1);
+    check("a stop", work.next(member).why() == code::stopped && work.is_stopped());
+    check("asks for no item", stub_asked(STUB_TRY_DELETE_MIN) == 0 && counts_are(work, 2, 1));
+}
+
+// A piece is closed once: as done where it says so, else as given up.
+template <class Member> static void pieces(Member &member) {
+    klsm::work work;
+    work.open(7);
+    begin(STUB_TRY_DELETE_MIN, 2, code::ok);
+    {
+        auto piece = work.next(member);
+        check("an item ends the waiting", piece && piece->key == 101 && (*piece).owner == 104);
+        check("and is open", piece.why() == code::ok && counts_are(work, 7, 0));
+        piece.done();
+        check("it is done", piece && counts_are(work, 6, 0));
+        piece.done();
+    }
+    check("once", counts_are(work, 6, 0));
+    (void)work.next(member);
+    check("what goes out of scope is given up", counts_are(work, 5, 1));
+    try {
+        auto piece = work.next(member);
+        throw piece->key;
+    } catch (std::uint64_t) {
+    }
+    check("also by an exception", counts_are(work, 4, 2));
+    auto moved_from = work.next(member), moved = std::move(moved_from);
+    check("a piece that is moved", !moved_from && moved && counts_are(work, 4, 2));
+    moved_from.done();
+    check("is closed by the new one alone", counts_are(work, 4, 2));
+    moved = work.next(member);
+    check("one that is assigned over is given up", moved && counts_are(work, 3, 3));
+    moved.done();
+    moved = work.next(member);
+    check("but not where it was done", moved && counts_are(work, 2, 3));
+    moved.done();
+    work.done();
+    check("none is open", counts_are(work, 0, 3));
+}
+
+static void work() {
+    klsm::queue queue(2);
+    klsm::member plain = queue.member(1).value();
+    klsm::typed_queue<std::uint32_t> typed(2);
+    auto of_typed = typed.member(1).value();
+    ends(plain);
+    pieces(plain);
+    ends(of_typed);
+    pieces(of_typed);
+    klsm::work work;
+    klsm::member gone = std::move(plain);
+    begin(STUB_TRY_DELETE_MIN, 0, code::ok);
+    check("a member that was moved from is not open", work.next(plain).why() == code::not_open);
+    check("and has none", stub_asked(STUB_TRY_DELETE_MIN) == 0);
+    begin(STUB_TRY_DELETE_MIN, 0, code::nothing);
+}
+
+// An insertion with a lock held for so long that the caller sleeps opens the piece before, whatever its code, and
+// leaves it open with code::ok alone.
+template <class Insert> static void opens(Insert insert) {
+    for (code why : {code::ok, code::full, code::no_memory, code::spent, code::not_open}) {
+        klsm::work work;
+        work.open();
+        begin(STUB_TRY_INSERT, 202, why);
+        watched = &work;
+        open_in_sleep = 0;
+        check("an insertion of work has this code", insert(work) == why && stub_asked(STUB_TRY_INSERT) == 203);
+        check("its piece is opened before", open_in_sleep == 2 && stub_argument(STUB_TRY_INSERT, 1) == 5);
+        check("and open with ok alone", counts_are(work, why == code::ok ? 2 : 1, 0));
+        watched = nullptr;
+    }
+}
+
+static void insertions_of_work() {
+    klsm::queue queue(1);
+    klsm::member plain = queue.member(0).value();
+    klsm::typed_queue<std::uint32_t> numbers(1);
+    auto of_numbers = numbers.member(0).value();
+    const std::uint32_t number = 7;
+    opens([&](klsm::work &work) { return work.insert(plain, 5, 6); });
+    opens([&](klsm::work &work) { return work.insert(of_numbers, 5, 6u); });
+    opens([&](klsm::work &work) { return work.insert(of_numbers, 5, number); });
+    opens([&](klsm::work &work) { return work.emplace(of_numbers, 5, number); });
+    klsm::typed_queue<counted> queue_of_counted(1);
+    auto of_counted = queue_of_counted.member(0).value();
+    klsm::work work;
+    counted payload(words);
+    begin(STUB_TRY_INSERT, 2, code::full);
+    check("refused", work.insert(of_counted, 5, std::move(payload)) == code::full);
+    check("the payload is as it was, and the only one", payload.words == words && alive == 1 && counts_are(work, 0, 0));
+    klsm::typed_queue<thrower> queue_of_throwers(1);
+    auto of_throwers = queue_of_throwers.member(0).value();
+    bool threw = false;
+    try {
+        (void)work.emplace(of_throwers, 5, 1);
+    } catch (int) {
+        threw = true;
+    }
+    check("a payload that cannot be made opens nothing", threw && counts_are(work, 0, 0));
+    check("and is not inserted", stub_asked(STUB_TRY_INSERT) == 3);
+    begin(STUB_TRY_DELETE_MIN, 0, code::nothing);
 }
 
 static void fronts() {
@@ -108,7 +286,10 @@ static void fronts() {
 int main() {
     fronts();
     refusals();
+    copies();
+    copies_in_the_load();
     deletions();
     work();
+    insertions_of_work();
     return check_status();
 }

@@ -4,9 +4,11 @@
 #include "check.h"
 #include <atomic>
 #include <memory>
+#include <stdexcept>
 #include <string>
 #include <thread>
 #include <type_traits>
+#include <utility>
 #include <vector>
 
 static std::atomic<int> alive{0};
@@ -31,6 +33,33 @@ struct counted {
 struct pair {
     std::uint32_t first, second;
     pair(std::uint32_t one, std::uint32_t other) : first(one), second(other) {}
+};
+
+// One that is copied only where there is something to copy.
+struct shared {
+    std::shared_ptr<int> of;
+    explicit shared(std::shared_ptr<int> from) : of(std::move(from)) {}
+    shared(const shared &other) : of(other.of) {
+        if (of == nullptr) throw std::invalid_argument("there is nothing to copy");
+    }
+    shared(shared &&other) noexcept = default;
+    shared &operator=(shared &&other) noexcept = default;
+};
+
+// One that sees, when it is destroyed, how much work is open.
+struct seeing {
+    klsm::work *work;
+    std::uint64_t *seen;
+    seeing(klsm::work *of, std::uint64_t *to) : work(of), seen(to) {}
+    seeing(seeing &&other) noexcept : work(std::exchange(other.work, nullptr)), seen(other.seen) {}
+    seeing &operator=(seeing &&other) noexcept {
+        work = std::exchange(other.work, nullptr);
+        seen = other.seen;
+        return *this;
+    }
+    ~seeing() {
+        if (work != nullptr) *seen += work->left();
+    }
 };
 
 static_assert(!std::is_copy_constructible_v<klsm::typed_queue<int>>);
@@ -113,23 +142,61 @@ static void a_crew() {
     klsm::typed_queue<std::string> queue(klsm::options{4});
     klsm::work work;
     std::atomic<std::uint64_t> done{0};
-    work.open();
-    check_or_stop("insert", queue.member(0)->insert(0, std::string()) == klsm::code::ok);
+    {
+        auto first = queue.member(0).value();
+        check_or_stop("insert", work.emplace(first, 0) == klsm::code::ok);
+    }
     std::vector<std::thread> crew;
     for (std::size_t t = 0; t < 4; t++)
         crew.emplace_back([&, member = queue.member(t).value()]() mutable {
             while (auto item = work.next(member)) {
                 for (char letter : {'a', 'b'}) {
                     if (item->payload.size() == 12) continue;
-                    work.open();
-                    check_or_stop("insert", member.insert(item->key + 1, item->payload + letter) == klsm::code::ok);
+                    check_or_stop("insert",
+                                  work.insert(member, item->key + 1, item->payload + letter) == klsm::code::ok);
                 }
                 done++;
-                work.done();
+                item.done();
             }
         });
     for (std::thread &thread : crew) thread.join();
     check("a crew ends once all is done", done == 8191 && work.left() == 0 && queue.left() == 0);
+    check("and none was given up", work.given_up() == 0);
+}
+
+// Copies: what is copied stays, and where that throws nothing is inserted.
+static void copies() {
+    klsm::typed_queue<shared> queue(1);
+    auto member = queue.member(0).value();
+    const shared payload(std::make_shared<int>(7));
+    check("insert of a copy", member.insert(2, payload) == klsm::code::ok && payload.of.use_count() == 2);
+    check("try_insert of a copy", member.try_insert(1, payload) == klsm::code::ok && payload.of.use_count() == 3);
+    check("emplace", member.emplace(4, payload.of) == klsm::code::ok && payload.of.use_count() == 4);
+    check("try_emplace", member.try_emplace(3, payload.of) == klsm::code::ok && payload.of.use_count() == 5);
+    for (std::uint64_t key = 1; key <= 4; key++) {
+        auto found = member.delete_min();
+        check("it comes back", found && found->key == key && found->payload.of == payload.of);
+    }
+    check("and is ours", payload.of.use_count() == 1 && !member.delete_min());
+    const shared none(nullptr);
+    bool threw = false;
+    try {
+        (void)member.insert(1, none);
+    } catch (const std::invalid_argument &) {
+        threw = true;
+    }
+    check("a copy that throws is not inserted", threw && member.inserted() == 4 && queue.left() == 0);
+}
+
+// Who sees that a piece is closed sees that its item is gone.
+static void items_go_before_their_pieces() {
+    klsm::typed_queue<seeing> queue(1);
+    auto member = queue.member(0).value();
+    klsm::work work;
+    std::uint64_t seen = 0;
+    check_or_stop("insert", work.emplace(member, 1, &work, &seen) == klsm::code::ok);
+    (void)work.next(member);
+    check("an item goes before its piece is closed", seen == 1 && work.left() == 0 && work.given_up() == 1);
 }
 
 int main() {
@@ -137,7 +204,9 @@ int main() {
     ends();
     moves();
     small_payloads();
+    copies();
     a_crew();
+    items_go_before_their_pieces();
     check("none is left over", alive == 0);
     return check_status();
 }

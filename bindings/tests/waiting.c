@@ -18,8 +18,10 @@ int select(int count, fd_set *reads, fd_set *writes, fd_set *excepts, struct tim
     if (count != 0 || reads || writes || excepts || length->tv_sec != 0 || sleeps == 32)
         return -1;
     lengths_of[sleeps++] = length->tv_usec;
-    if (sleeps == stopping_sleep)
+    if (sleeps == stopping_sleep) {
         klsm_work_stop(&work);
+        klsm_work_done(&work);
+    }
     return 0;
 }
 

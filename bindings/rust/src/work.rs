@@ -168,11 +168,8 @@ impl Work {
                 let open = Open(self);
                 return Ok(Piece { item, open });
             }
-            match self.difference().signum() {
-                0 => return Err(End::Done),
-                -1 => return Err(End::Miscounted),
-                _ => pause.wait_for_work(),
-            }
+            self.is_open()?;
+            pause.wait_for_work();
         }
     }
 
@@ -237,6 +234,20 @@ impl Work {
     fn sum(&self, count: impl Fn(&Share) -> &AtomicU64) -> u64 {
         let counts = self.shares.iter().map(|share| count(share).load(Acquire));
         counts.fold(0, u64::wrapping_add)
+    }
+
+    /// Whether who finds no item is to wait, or else why it ends. The pieces are counted first: where one stops
+    /// the crew and then closes its piece, nobody who sees the latter takes it for the end of the work.
+    fn is_open(&self) -> Result<(), End> {
+        let difference = self.difference();
+        if self.is_stopped() {
+            return Err(End::Stopped);
+        }
+        match difference.signum() {
+            1 => Ok(()),
+            0 => Err(End::Done),
+            _ => Err(End::Miscounted),
+        }
     }
 
     /// How many pieces were opened less how many were closed, below 0 only where one was closed that was not

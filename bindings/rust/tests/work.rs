@@ -102,6 +102,15 @@ fn a_stop_ends_who_waits_and_who_asks() {
         let nothing = vec![None; asked];
         assert_eq!(found(&work, &nothing, || work.stop()), Err(End::Stopped));
         assert!(work.is_stopped());
+        // Nor is it taken for the end of the work where the last piece is closed then.
+        let work = Work::new();
+        work.open(1);
+        let last = || {
+            work.stop();
+            work.done();
+        };
+        assert_eq!(found(&work, &nothing, last), Err(End::Stopped));
+        work.open(1);
         // What is there is not asked for any more.
         let mut told = Told {
             answers: vec![Some(7)],
