@@ -4,7 +4,7 @@
 #include <pthread.h>
 #include <string.h>
 
-enum { THREADS = 4 * KLSM_MAX_THREADS, TIMES = 100 };
+enum { THREADS = 4 * KLSM_MAX_THREADS, TIMES = 1000 };
 
 static klsm_work work;
 static uint64_t counted;
@@ -58,6 +58,8 @@ int main(void) {
     run(THREADS);
     check("four times as many threads as shares", counts_are(16 + THREADS));
     check("no share is taken twice", taken() <= KLSM_MAX_THREADS && work.shares[KLSM_MAX_THREADS].by == NULL);
+    check("and many have the last one in common",
+          work.shares[KLSM_MAX_THREADS].opened >= (uint64_t)3 * TIMES * (THREADS - KLSM_MAX_THREADS));
     run(THREADS);
     check("and as many again", counts_are(16 + 2 * THREADS));
     return check_status();

@@ -26,6 +26,7 @@ files() {
 ./include/klsm.h
 ./include/klsm.hpp
 ./include/klsm_tsan.h
+./include/klsm_work.h
 ./lib/cmake/klsm/klsm-config-version.cmake
 ./lib/cmake/klsm/klsm-config.cmake
 ./lib/libklsm.a

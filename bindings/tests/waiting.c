@@ -8,6 +8,7 @@ static klsm_queue queue = KLSM_QUEUE_CLOSED;
 static klsm_work work;
 static int yields, sleeps, stopping_sleep;
 static long lengths_of[32];
+static uint64_t open_in_sleep;
 
 int sched_yield(void) {
     yields++;
@@ -18,6 +19,7 @@ int select(int count, fd_set *reads, fd_set *writes, fd_set *excepts, struct tim
     if (count != 0 || reads || writes || excepts || length->tv_sec != 0 || sleeps == 32)
         return -1;
     lengths_of[sleeps++] = length->tv_usec;
+    open_in_sleep = klsm_work_left(&work);
     if (sleeps == stopping_sleep) {
         klsm_work_stop(&work);
         klsm_work_done(&work);
@@ -60,6 +62,15 @@ static void is_stopped_in_its_sleep(int sleep) {
     check("and each sleep is longer, up to 400 microseconds", has_waited(200 + sleep, 400));
 }
 
+/* An insertion of work that waits for so long that it sleeps. */
+static void opens_before_it_inserts(int32_t code, uint64_t left) {
+    begin(STUB_TRY_INSERT, 202, code);
+    memset(&work, 0, sizeof work);
+    check_code("an insertion of work waits", klsm_work_insert(&work, &queue.members[3], 5, 6), code);
+    check("and has opened its piece before", sleeps == 2 && open_in_sleep == 1 && has_tried(STUB_TRY_INSERT, 202));
+    check("which is open where it was inserted", klsm_work_left(&work) == left && klsm_work_given_up(&work) == 0);
+}
+
 int main(void) {
     klsm_item item = {0, 0, 0, 0};
     int once = 1, waited = 1, told = 1;
@@ -76,6 +87,8 @@ int main(void) {
     }
     for (int sleep = 1; sleep < 10; sleep++)
         is_stopped_in_its_sleep(sleep);
+    opens_before_it_inserts(KLSM_OK, 1);
+    opens_before_it_inserts(KLSM_FULL, 0);
     check("a try after each pause, until one is not busy", once);
     check("each try has the arguments", told);
     check("other threads run from the eighth pause on, and the caller sleeps from the 201st on", waited);

@@ -281,19 +281,19 @@ fn the_count_is_that_of_the_open_pieces() {
 #[test]
 fn as_many_threads_count_as_there_are() {
     let work = Work::new();
-    let counted = &std::sync::Barrier::new(256);
+    let all = &std::sync::Barrier::new(256);
     thread::scope(|scope| {
         for _ in 0..256 {
             scope.spawn(|| {
-                for _ in 0..100 {
-                    work.open(2);
+                all.wait();
+                for _ in 0..10_000 {
+                    work.open(3);
                     work.done();
+                    work.give_up();
                 }
-                work.open(1);
-                work.give_up();
-                counted.wait(); // so that none of them has the address of another one
+                all.wait(); // until then each has an address of its own
             });
         }
     });
-    assert_eq!((work.left(), work.given_up()), (25_600, 256));
+    assert_eq!((work.left(), work.given_up()), (2_560_000, 2_560_000));
 }
