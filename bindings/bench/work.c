@@ -1,9 +1,11 @@
-/* What it costs to wait for work: the processor time of a crew of which one thread works at one piece and the others
- * wait, as a share of one processor, and how long after klsm_work_stop the last one has ended, in microseconds.
+/* What open work costs: to count it, and to wait for it.
  *
- *     waiting [THREADS] [SECONDS]
+ *     work [THREADS] [SECONDS]
  *
- * A `steady` crew waits by klsm_wait, which sleeps for 50 microseconds each time; the other one by klsm_work_next. */
+ * First 1, 2 and 4 threads open and close a piece again and again, in nanoseconds for both: by one atomic number, and
+ * by klsm_work. Then of a crew one thread works at one piece, and the others wait: their processor time as a share of
+ * one processor, and how long after klsm_work_stop the last one has ended. A `steady` crew waits by klsm_wait, which
+ * sleeps for 50 microseconds each time; the other one by klsm_work_next. */
 #define _POSIX_C_SOURCE 200809L
 #include <klsm.h>
 #include <pthread.h>
@@ -13,6 +15,14 @@
 static klsm_queue queue = KLSM_QUEUE_CLOSED;
 static klsm_work work;
 static int is_steady;
+
+enum { PIECES = 10000000 };
+
+/* As a program would count by hand. */
+static struct {
+    KLSM_ALIGNED uint64_t open;
+    uint64_t rest[15];
+} number;
 
 typedef struct waiter {
     klsm_member *member;
@@ -26,6 +36,34 @@ static double seconds(clockid_t of) {
     struct timespec now;
     clock_gettime(of, &now);
     return (double)now.tv_sec + (double)now.tv_nsec * 1e-9;
+}
+
+static void *count_by_number(void *unused) {
+    for (int i = 0; i < PIECES; i++) {
+        __atomic_fetch_add(&number.open, 1, __ATOMIC_RELAXED);
+        __atomic_fetch_sub(&number.open, 1, __ATOMIC_ACQ_REL);
+    }
+    return unused;
+}
+
+static void *count_by_work(void *unused) {
+    for (int i = 0; i < PIECES; i++) {
+        klsm_work_open(&work, 1);
+        klsm_work_done(&work);
+    }
+    return unused;
+}
+
+/* Nanoseconds for a piece, by so many threads at once. */
+static double time_of(void *(*count)(void *), size_t threads) {
+    pthread_t crew[KLSM_MAX_THREADS];
+    const double begin = seconds(CLOCK_MONOTONIC);
+    for (size_t t = 0; t < threads; t++)
+        if (pthread_create(&crew[t], NULL, count, NULL) != 0)
+            abort();
+    for (size_t t = 0; t < threads; t++)
+        pthread_join(crew[t], NULL);
+    return (seconds(CLOCK_MONOTONIC) - begin) * 1e9 / PIECES;
 }
 
 /* klsm_work_next with other pauses. */
@@ -82,6 +120,9 @@ int main(int count, char **words) {
     const double length = count > 2 ? strtod(words[2], NULL) : 3;
     if (threads < 2 || threads > KLSM_MAX_THREADS)
         return 2;
+    for (size_t t = 1; t <= 4; t *= 2)
+        printf("%zu count: %.1f ns by a number, %.1f ns by klsm_work\n", t, time_of(count_by_number, t),
+               time_of(count_by_work, t));
     for (is_steady = 1; is_steady >= 0; is_steady--)
         for (int round = 0; round < 3; round++)
             measure(is_steady ? "steady" : "klsm_work_next", threads, length);
