@@ -45,7 +45,7 @@
  * - No pointer is null, but `left` may be one where `room` is 0. `item`, `account`, `left` and
  *   `options` do not overlap each other or the queue. `left` points to `room` items.
  * - A member is one of a klsm_queue.
- * - No call comes from a signal handler, nor from a forked child about a queue that was open.
+ * - No call comes from a signal handler but klsm_work_stop, nor from a forked child about a queue that was open.
  * - malloc, realloc and free keep the C standard's promises, also if they are the program's own.
  */
 #ifndef KLSM_H
