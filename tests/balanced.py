@@ -10,7 +10,7 @@ import functools
 import itertools
 import random
 
-from drawn import Plain, drawn_rows, replayed, script_of
+from drawn import drawn_rows, followed, replayed, script_of
 from process import run
 
 ROWS = 300
@@ -105,15 +105,7 @@ def keep_the_bounds(count, k, every):
     words = ["replay", "--threads", str(count), "--k", str(k), "--pick", "last", "--balance", str(every)]
     status, answer = run(words, script_of(rows))
     assert status == 0, f"the status is {status}"
-    *lines, last = answer.decode().splitlines()
-    assert len(lines) == len(rows), f"there are {len(lines)} lines for {len(rows)} rows"
-    plain = Plain(count, k)
-    for (thread, item), line in zip(rows, lines):
-        if item:
-            plain.insert(thread, *item, line)
-        else:
-            plain.delete(thread, line)
-    assert last == f"max skip {plain.most} bound {plain.bound}", last
+    followed(rows, answer.decode().splitlines(), count, k)
 
 
 def is_none():

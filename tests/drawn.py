@@ -63,9 +63,9 @@ class Plain:
         assert line == f"{thread} d none" and len(self.live) <= self.kept_from_one, line
 
 
-def compare(pick, threads, k):
-    rows = list(drawn_rows(threads, 11))
-    *lines, last = replayed(rows, threads, k, pick, 11)
+def followed(rows, text, threads, k):
+    """What a plain queue comes to that takes over each answer of a text, where each is within the bounds."""
+    *lines, last = text
     assert len(lines) == len(rows), f"there are {len(lines)} lines for {len(rows)} rows"
     plain = Plain(threads, k)
     for (thread, item), line in zip(rows, lines):
@@ -74,6 +74,12 @@ def compare(pick, threads, k):
         else:
             plain.delete(thread, line)
     assert last == f"max skip {plain.most} bound {plain.bound}", last
+    return plain
+
+
+def compare(pick, threads, k):
+    rows = list(drawn_rows(threads, 11))
+    plain = followed(rows, replayed(rows, threads, k, pick, 11), threads, k)
     assert plain.deleted > 50, f"only {plain.deleted} deletions"
     # One thread keeps its own order, so it skips none.
     assert (plain.most > 0) == (k > 0 and threads > 1), f"the most skipped is {plain.most}"
