@@ -13,8 +13,9 @@ void __tsan_release(void *word);
 void __tsan_ignore_thread_begin(void);
 void __tsan_ignore_thread_end(void);
 
-/* One array for the whole program, also where its parts were compiled apart. */
-__attribute__((weak, visibility("hidden"))) char klsm_tsan_words[4096];
+/* One array for the whole program, also where its parts were compiled apart or are shared objects. A part that
+ * is opened by dlopen finds that of the program where the program was linked with -rdynamic. */
+__attribute__((weak, visibility("default"))) char klsm_tsan_words[4096];
 
 KLSM_INLINE void *klsm_tsan_word(uint64_t key, uint64_t load) {
     return &klsm_tsan_words[(key * UINT64_C(0x9e3779b97f4a7c15) ^ load * UINT64_C(0xbf58476d1ce4e5b9)) >> 52];

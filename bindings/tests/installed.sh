@@ -20,6 +20,23 @@ installs() {
     cd "$work" && (umask 077 && "$here/install" installed) && has_all_files && has_right_modes && names_no_folder
 }
 
+# A copy of what bindings/install reads, with an `rt` that only says that it was called. What is there is installed as
+# long as it is that of the sources, and no longer.
+never_stale() {
+    copy=$work/copy
+    mkdir "$copy" "$work/no_kit" && (cd "$root" && tar --exclude=out --exclude=target -cf - bindings include crates \
+        crates.txt docs NOTICE CHANGELOG.md) | tar -C "$copy" -xf - || return 1
+    printf '#!/bin/sh\ntouch "%s"\nexit 1\n' "$work/asked" >"$work/no_kit/rt"
+    chmod +x "$work/no_kit/rt"
+    export PATH="$work/no_kit:$PATH" CC=none CXX=none CARGO=none
+    KLSM_LIBRARY=$out/libklsm.a "$copy/bindings/install" "$work/fresh" || return 1
+    unset KLSM_LIBRARY
+    "$copy/bindings/install" "$work/fresh" && [ ! -e "$work/asked" ] || return 1
+    echo '// another text' >>"$copy/crates/klsm_run/src/lib.rt"
+    "$copy/bindings/install" "$work/stale" && return 1
+    [ -e "$work/asked" ] && [ ! -e "$work/stale/lib" ]
+}
+
 # All files but the sources of the crate, sorted. There is no shared object where no compiler could link it.
 files() {
     if [ -f "$out/libklsm.so.$version" ]; then cat; else grep -v '/libklsm[.]so'; fi <<END
@@ -212,6 +229,7 @@ unpacks_debian() {
 check_installed() {
     check "bindings/install" installs
     [ -d "$installed" ] || return 0
+    check_with "tar" "bindings/install takes no archive of other sources" never_stale
     check_with "$cc nm readelf" "the shared object" shared_object
     used_from "$installed" "what is installed"
 
