@@ -96,6 +96,8 @@
 #define KLSM_INLINE __attribute__((visibility("hidden"))) inline
 #define KLSM_COLD __attribute__((visibility("hidden"), noinline, cold)) inline
 #define KLSM_QUEUE_CLOSED {}
+#define KLSM_CAST(type, value) static_cast<type>(value)
+#define KLSM_ADDRESS(at) reinterpret_cast<uintptr_t>(at)
 extern "C" {
 #else
 #define KLSM_ASSERT(what) _Static_assert(what, #what)
@@ -103,6 +105,8 @@ extern "C" {
 #define KLSM_INLINE static inline
 #define KLSM_COLD __attribute__((noinline, cold, unused)) static
 #define KLSM_QUEUE_CLOSED {{{0, 0, {0}}}}
+#define KLSM_CAST(type, value) ((type)(value))
+#define KLSM_ADDRESS(at) ((uintptr_t)(at))
 #endif
 
 /* One member: what one thread inserts and deletes by. Its fields belong to the library. It has two
@@ -322,7 +326,7 @@ KLSM_INLINE int32_t klsm_open_with(klsm_queue *queue, const klsm_options *option
     size_t refill = klsm_or_default(options->refill, most);
     size_t balance = klsm_or_default(options->balance, KLSM_DEFAULT_BALANCE);
     return klsm_open_with_balance(queue, options->threads, k, options->pick, options->seed, refill,
-                                  balance < UINT32_MAX ? (uint32_t)balance : UINT32_MAX);
+                                  balance < UINT32_MAX ? KLSM_CAST(uint32_t, balance) : UINT32_MAX);
 }
 
 /* Keys for a search by bounds, of which the smallest is the most promising. Where items share a key, a
@@ -380,7 +384,7 @@ KLSM_INLINE double klsm_double_of_key(uint64_t key) {
     return number;
 }
 
-KLSM_INLINE uint64_t klsm_key_of_int64(int64_t number) { return (uint64_t)number ^ UINT64_C(1) << 63; }
+KLSM_INLINE uint64_t klsm_key_of_int64(int64_t number) { return KLSM_CAST(uint64_t, number) ^ UINT64_C(1) << 63; }
 
 KLSM_INLINE int64_t klsm_int64_of_key(uint64_t key) {
     int64_t number;
@@ -421,8 +425,8 @@ KLSM_INLINE int32_t klsm_close(klsm_queue *queue, klsm_account *account, klsm_it
 KLSM_MUST_USE KLSM_NOT_NULL(1, 2, 3)
 KLSM_INLINE int32_t klsm_close_each(klsm_queue *queue, klsm_account *account,
                                     void (*each)(void *context, const klsm_item *item), void *context) {
-    size_t room = (size_t)klsm_left(queue);
-    klsm_item *left = (klsm_item *)calloc(room + 1, sizeof *left);
+    size_t room = klsm_left(queue);
+    klsm_item *left = KLSM_CAST(klsm_item *, calloc(room + 1, sizeof *left));
     if (left == NULL)
         return KLSM_NO_MEMORY;
     int32_t code = klsm_close_into(queue, account, left, room);

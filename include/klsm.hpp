@@ -38,6 +38,9 @@
 #if __cplusplus < 201703L
 #error "klsm.hpp: it is for C++17 and later"
 #endif
+#ifndef __cpp_exceptions
+#error "klsm.hpp: it is for programs with exceptions; klsm.h is for the others"
+#endif
 
 #include "klsm.h"
 

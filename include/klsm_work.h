@@ -51,14 +51,14 @@ KLSM_ASSERT(sizeof(klsm_work_share) == 128 && sizeof(klsm_work) == 128 * (KLSM_M
  * one ended goes on with its share; one that finds eight taken counts in the last share. */
 KLSM_INLINE klsm_work_share *klsm_work_mine(klsm_work *work) {
     static KLSM_THREAD_LOCAL char here;
-    const size_t first = (size_t)((uint64_t)(uintptr_t)&here * UINT64_C(0x9e3779b97f4a7c15) >> 58);
+    const void *const thread = &here;
+    const size_t first = KLSM_ADDRESS(thread) * UINT64_C(0x9e3779b97f4a7c15) >> 58;
     for (size_t i = 0; i < 8; i++) {
         klsm_work_share *share = &work->shares[(first + i) % KLSM_MAX_THREADS];
         const void *by = __atomic_load_n(&share->by, __ATOMIC_RELAXED);
-        if (by == &here)
+        if (by == thread)
             return share;
-        if (by == NULL && __atomic_compare_exchange_n(&share->by, &by, (const void *)&here, 0, __ATOMIC_RELAXED,
-                                                      __ATOMIC_RELAXED))
+        if (by == NULL && __atomic_compare_exchange_n(&share->by, &by, thread, 0, __ATOMIC_RELAXED, __ATOMIC_RELAXED))
             return share;
     }
     return &work->shares[KLSM_MAX_THREADS];
@@ -115,7 +115,7 @@ KLSM_INLINE int64_t klsm_work_difference(const klsm_work *work) {
         closed += __atomic_load_n(&work->shares[t].closed, __ATOMIC_ACQUIRE);
     for (size_t t = 0; t <= KLSM_MAX_THREADS; t++)
         opened += __atomic_load_n(&work->shares[t].opened, __ATOMIC_ACQUIRE);
-    return (int64_t)(opened - closed);
+    return KLSM_CAST(int64_t, opened - closed);
 }
 
 /* How many pieces are open, and 0 where more were closed than opened. While threads count it may be the number of no
@@ -123,7 +123,7 @@ KLSM_INLINE int64_t klsm_work_difference(const klsm_work *work) {
 KLSM_NOT_NULL(1)
 KLSM_INLINE uint64_t klsm_work_left(const klsm_work *work) {
     const int64_t difference = klsm_work_difference(work);
-    return difference < 0 ? 0 : (uint64_t)difference;
+    return difference < 0 ? 0 : KLSM_CAST(uint64_t, difference);
 }
 
 /* How many pieces were given up. Where none is open and this is 0, all was done. */
