@@ -12,7 +12,7 @@ abi=$("$here/version" --abi)
 installed=$work/installed
 unpacked=$work/elsewhere/klsm-$version
 debian=$work/debian/usr
-deb=$out/libklsm-dev_${version}_amd64.deb
+debs="$out/libklsm${abi}_${version}_amd64.deb $out/libklsm-dev_${version}_amd64.deb"
 
 # From another folder, by a path from there, and in spite of what the user lets others read.
 installs() {
@@ -71,8 +71,7 @@ has_all_files() {
 
 has_right_modes() {
     find "$installed" -type d ! -perm 755 >"$work/modes"
-    find "$installed" -type f -name 'libklsm.so.*' ! -perm 755 >>"$work/modes"
-    find "$installed" -type f ! -name 'libklsm.so.*' ! -perm 644 >>"$work/modes"
+    find "$installed" -type f ! -perm 644 >>"$work/modes"
     cat "$work/modes"
     [ ! -s "$work/modes" ]
 }
@@ -87,7 +86,8 @@ needed() {
     LC_ALL=C readelf -dW "$1" | sed -n 's/.*(NEEDED).*\[\(.*\)\]$/\1/p'
 }
 
-# What the shared object exports, needs and is called, and that nothing in it has to be run that can be written.
+# What the shared object exports, needs and is called, that nothing in it has to be run that can be written, and that it
+# has no other names.
 shared_object() {
     object=$installed/lib/libklsm.so.$version
     nm -D --defined-only "$object" | sed 's/^.* //' | LC_ALL=C sort >"$work/exported"
@@ -96,7 +96,8 @@ shared_object() {
     [ "$(needed "$object")" = libc.so.6 ] || return 1
     LC_ALL=C readelf -dW "$object" | grep -F "soname: [libklsm.so.$abi]" || return 1
     LC_ALL=C readelf -lW "$object" | grep -E 'GNU_STACK .* RW +0x' || return 1
-    ! LC_ALL=C readelf -dW "$object" | grep TEXTREL
+    LC_ALL=C readelf -dW "$object" | grep TEXTREL && return 1
+    ! LC_ALL=C readelf -SW "$object" | grep -F .symtab
 }
 
 # A fresh folder.
@@ -216,14 +217,38 @@ unpacks() {
 
 unpacks_debian() {
     mkdir "$work/debian" || return 1
-    if has dpkg-deb; then
-        dpkg-deb -f "$deb" && dpkg-deb -x "$deb" "$work/debian" || return 1
-    else
-        ar p "$deb" data.tar.gz | tar -xzf - -C "$work/debian" || return 1
-    fi
-    ar p "$deb" control.tar.gz | tar -xzOf - ./md5sums >"$work/md5sums" && (cd "$work/debian" && md5sum -c) \
-        <"$work/md5sums" || return 1
-    diff -r "$installed" "$debian" -x libklsm-dev
+    for deb in $debs; do
+        if has dpkg-deb; then
+            dpkg-deb -f "$deb" && dpkg-deb -x "$deb" "$work/debian" || return 1
+        else
+            ar p "$deb" data.tar.gz | tar -xzf - -C "$work/debian" || return 1
+        fi
+        of_debian "$deb" ./md5sums >"$work/md5sums" && (cd "$work/debian" && md5sum -c) <"$work/md5sums" || return 1
+    done
+    has_debian_files && diff -r "$installed" "$debian" -x "libklsm$abi" -x libklsm-dev
+}
+
+# of_debian PACKAGE FILE: what it says of itself.
+of_debian() {
+    ar p "$1" control.tar.gz | tar -xzOf - "$2"
+}
+
+# The shared object has a package of its own, by which others say what they need, and each has a changelog.
+has_debian_files() {
+    of_debian "${debs%% *}" ./shlibs | grep -Fx "libklsm $abi libklsm$abi (>= $version)" || return 1
+    ar p "${debs%% *}" data.tar.gz | tar -tzf - | grep -F .so | LC_ALL=C sort >"$work/objects"
+    printf './usr/lib/libklsm.so.%s\n' "$abi" "$version" | LC_ALL=C sort | diff - "$work/objects" || return 1
+    for name in "libklsm$abi" libklsm-dev; do
+        gzip -dc "$debian/share/doc/$name/changelog.gz" | grep -F "klsm ($version)" || return 1
+        grep -F /usr/share/common-licenses/Apache-2.0 "$debian/share/doc/$name/copyright" || return 1
+    done
+}
+
+# The address that stands in them otherwise leads nowhere, which the tool sees.
+lintian_is_silent() {
+    export DEBFULLNAME="The maintainer" DEBEMAIL=maintainer@debian.org
+    # shellcheck disable=SC2086 # two names without blanks
+    (unset KLSM_LIBRARY && "$here/package") && lintian --fail-on error --no-cfg $debs
 }
 
 check_installed() {
@@ -237,7 +262,8 @@ check_installed() {
     check_with "$tools" "bindings/package, twice the same bytes" packs
     check_with "$tools" "the .tar.gz has what is installed" unpacks
     [ ! -d "$unpacked" ] || used_from "$unpacked" "the .tar.gz"
-    check_with "$tools" "the .deb has what is installed" unpacks_debian
-    [ ! -d "$debian" ] || used_from "$debian" "the .deb"
+    check_with "$tools" "the .debs have what is installed" unpacks_debian
+    [ ! -d "$debian" ] || used_from "$debian" "the .debs"
+    check_with "$tools lintian" "lintian finds no error in the .debs" lintian_is_silent
     check_with "$tools" "one version everywhere" "$here/tests/versions" "$installed" "$out"
 }
