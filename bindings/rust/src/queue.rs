@@ -37,7 +37,8 @@ pub struct Account<I = Item> {
 /// A relaxed priority queue with a member for each of up to 64 threads.
 ///
 /// Its own memory is 8 KiB and what the library takes for its members and items. Dropping a queue
-/// drops the items that are left; [`finish`](Queue::finish) gives them.
+/// drops the items that are left; [`finish`](Queue::finish) gives them. Its `Debug` does not say how many are
+/// left: to count them takes the queue by `&mut`, as [`left`](Queue::left) does.
 pub struct Queue {
     // The library wants this memory to stay where it is. It is boxed, and no reference to it leaves
     // this crate.
