@@ -267,7 +267,7 @@ int32_t klsm_try_insert(klsm_member *member, uint64_t key, uint64_t load);
  * KLSM_BUSY          the own lock, or the shared one if it is needed, is held by another member
  * KLSM_NOT_OPEN      the member is not open
  * After all but KLSM_OK no part has changed, and *item is as it was. */
-KLSM_NOT_NULL(1, 2)
+KLSM_MUST_USE KLSM_NOT_NULL(1, 2)
 int32_t klsm_try_delete_min(klsm_member *member, klsm_item *item);
 
 /* The front: the key of the smallest shared item, and UINT64_MAX where no item is shared, or the member is not
@@ -395,6 +395,7 @@ KLSM_INLINE int64_t klsm_int64_of_key(uint64_t key) {
 
 /* How many items are in the queue: insertions less deletions, over all members. Has the whole queue
  * for itself, and is exact. 0 where the queue is closed. */
+KLSM_NOT_NULL(1)
 KLSM_INLINE uint64_t klsm_left(klsm_queue *queue) {
     uint64_t left = 0;
     for (size_t t = 0; t < KLSM_MAX_THREADS; t++)
@@ -535,7 +536,7 @@ KLSM_INLINE int32_t klsm_insert(klsm_member *member, uint64_t key, uint64_t load
 }
 
 /* klsm_try_delete_min, again and again while it is KLSM_BUSY. It does not wait for an item. */
-KLSM_NOT_NULL(1, 2)
+KLSM_MUST_USE KLSM_NOT_NULL(1, 2)
 KLSM_INLINE int32_t klsm_delete_min(klsm_member *member, klsm_item *item) {
     int32_t code = klsm_try_delete_min(member, item);
     return __builtin_expect(code == KLSM_BUSY, 0) ? klsm_delete_min_after_pauses(member, item) : code;

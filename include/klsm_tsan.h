@@ -38,11 +38,13 @@ KLSM_INLINE void klsm_tsan_use_all(klsm_queue *queue) {
     call;                                 \
     __tsan_ignore_thread_end()
 
+KLSM_MUST_USE KLSM_NOT_NULL(1)
 KLSM_INLINE int32_t klsm_tsan_open(klsm_queue *queue, size_t threads, size_t k, uint32_t pick, uint64_t seed) {
     KLSM_TSAN(klsm_tsan_use_all(queue), int32_t code = klsm_open(queue, threads, k, pick, seed));
     return code;
 }
 
+KLSM_MUST_USE KLSM_NOT_NULL(1)
 KLSM_INLINE int32_t klsm_tsan_open_with_balance(klsm_queue *queue, size_t threads, size_t k, uint32_t pick,
                                                 uint64_t seed, size_t refill, uint32_t balance) {
     KLSM_TSAN(klsm_tsan_use_all(queue),
@@ -50,12 +52,14 @@ KLSM_INLINE int32_t klsm_tsan_open_with_balance(klsm_queue *queue, size_t thread
     return code;
 }
 
+KLSM_MUST_USE KLSM_NOT_NULL(1)
 KLSM_INLINE int32_t klsm_tsan_try_insert(klsm_member *member, uint64_t key, uint64_t load) {
     __tsan_release(klsm_tsan_word(key, load));
     KLSM_TSAN(klsm_tsan_use(member), int32_t code = klsm_try_insert(member, key, load));
     return code;
 }
 
+KLSM_MUST_USE KLSM_NOT_NULL(1, 2)
 KLSM_INLINE int32_t klsm_tsan_try_delete_min(klsm_member *member, klsm_item *item) {
     klsm_item deleted = {0, 0, 0, 0};
     KLSM_TSAN(klsm_tsan_use(member), int32_t code = klsm_try_delete_min(member, &deleted));
@@ -81,6 +85,7 @@ KLSM_INLINE uint64_t klsm_tsan_deleted(klsm_member *member) {
     return count;
 }
 
+KLSM_MUST_USE KLSM_NOT_NULL(1, 2, 3)
 KLSM_INLINE int32_t klsm_tsan_close_into(klsm_queue *queue, klsm_account *account, klsm_item *left, size_t room) {
     KLSM_TSAN(klsm_tsan_use_all(queue), int32_t code = klsm_close_into(queue, account, left, room));
     return code;

@@ -54,7 +54,7 @@ static void counts(void) {
             check_or_stop("insert", klsm_insert(&queue.members[t], i, t) == KLSM_OK);
     for (uint64_t t = 0; t < 16; t++)
         for (uint64_t i = 0; i < t; i++)
-            klsm_delete_min(&queue.members[t], &item);
+            check_or_stop("delete", klsm_delete_min(&queue.members[t], &item) == KLSM_OK);
     int inserted = 1, deleted = 1;
     for (uint64_t t = 0; t < 16; t++) {
         inserted = inserted && klsm_inserted(&queue.members[t]) == 10 * (t + 1);
@@ -75,7 +75,7 @@ static void counts_below(void) {
     for (uint64_t i = 0; i < 5; i++)
         check_or_stop("insert", klsm_insert(&queue.members[0], i, i) == KLSM_OK);
     for (uint64_t i = 0; i < 3; i++)
-        klsm_delete_min(&queue.members[1], &item);
+        check_or_stop("delete", klsm_delete_min(&queue.members[1], &item) == KLSM_OK);
     check("deletions of what others inserted", klsm_deleted(&queue.members[1]) == 3);
     check("count as none of its insertions", klsm_inserted(&queue.members[1]) == 0);
     check("two are left", klsm_left(&queue) == 2);
