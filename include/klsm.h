@@ -5,7 +5,7 @@
  *     static klsm_queue queue = KLSM_QUEUE_CLOSED;
  *     int main(void) {
  *         klsm_item item;
- *         if (klsm_open(&queue, 4, 64, KLSM_FIRST, 0) != KLSM_OK) return 1;
+ *         if (klsm_open_default(&queue, 4) != KLSM_OK) return 1;                   // four threads
  *         if (klsm_insert(&queue.members[0], 3, 30) != KLSM_OK) return 1;  // thread t: members[t]
  *         if (klsm_delete_min(&queue.members[0], &item) == KLSM_OK)
  *             printf("key %d load %d\n", (int)item.key, (int)item.load);
@@ -40,8 +40,8 @@
  *   comes before another where a thread's start or join, a lock, or a sequentially consistent atomic
  *   orders them; so a member may change threads.
  * - A queue is all bytes 0 (KLSM_QUEUE_CLOSED, static storage, or memset), or as the last call left
- *   it. It is aligned to 128 bytes: malloc does not give that, aligned_alloc(128, ..) does. While it
- *   is open it is not copied, moved, written to or freed.
+ *   it. It is aligned to 128 bytes: malloc does not give that, klsm_new does. While it is open it is not
+ *   copied, moved, written to or freed.
  * - No pointer is null, but `left` may be one where `room` is 0. `item`, `account`, `left` and
  *   `options` do not overlap each other or the queue. `left` points to `room` items.
  * - A member is one of a klsm_queue.
@@ -69,8 +69,7 @@
 #define KLSM_VERSION_PATCH 0
 #define KLSM_VERSION_NUMBER (10000 * KLSM_VERSION_MAJOR + 100 * KLSM_VERSION_MINOR + KLSM_VERSION_PATCH)
 
-/* The binary interface that this header describes. The library's is klsm_abi(); a program that may
- * meet another library than it was compiled for compares the two before any other call. */
+/* The binary interface that this header describes. The library's is klsm_abi(), which klsm_open_with compares. */
 #define KLSM_ABI 2
 
 /* The most threads of a queue, the greatest k, and the insertions that a member can make. */
@@ -78,13 +77,17 @@
 #define KLSM_MAX_K 1024
 #define KLSM_MAX_INSERTIONS (UINT64_C(1) << 48)
 
-/* What klsm_open_with takes where klsm_options has 0. The refill is never above k. */
+/* The numbers of a queue whose opening names none: those of klsm_defaults, of klsm::queue(threads) in C++, and of
+ * Queue::new(threads) in Rust. */
 #define KLSM_DEFAULT_K 64
 #define KLSM_DEFAULT_REFILL 16
 #define KLSM_DEFAULT_BALANCE 0
 
-/* In klsm_options: the number 0, where 0 itself stands for the default. */
-#define KLSM_ZERO SIZE_MAX
+/* What is inline here has the version in its name in C++, so that parts of one program that were compiled with headers
+ * of two versions keep each their own. No program has to name it. */
+#define KLSM_JOINED(name, major, minor, patch) name##major##_##minor##_##patch
+#define KLSM_JOIN(name, major, minor, patch) KLSM_JOINED(name, major, minor, patch)
+#define KLSM_VERSIONED(name) KLSM_JOIN(name, KLSM_VERSION_MAJOR, KLSM_VERSION_MINOR, KLSM_VERSION_PATCH)
 
 /* A compiler warns where the code of such a call is dropped, and where a pointer is plainly null. */
 #define KLSM_MUST_USE __attribute__((warn_unused_result))
@@ -98,6 +101,8 @@
 #define KLSM_QUEUE_CLOSED {}
 #define KLSM_CAST(type, value) static_cast<type>(value)
 #define KLSM_ADDRESS(at) reinterpret_cast<uintptr_t>(at)
+#define KLSM_BEGIN_INLINE extern "C++" { inline namespace KLSM_VERSIONED(klsm_) {
+#define KLSM_END_INLINE }}
 extern "C" {
 #else
 #define KLSM_ASSERT(what) _Static_assert(what, #what)
@@ -107,6 +112,8 @@ extern "C" {
 #define KLSM_QUEUE_CLOSED {{{0, 0, {0}}}}
 #define KLSM_CAST(type, value) ((type)(value))
 #define KLSM_ADDRESS(at) ((uintptr_t)(at))
+#define KLSM_BEGIN_INLINE
+#define KLSM_END_INLINE
 #endif
 
 /* One member: what one thread inserts and deletes by. Its fields belong to the library. It has two
@@ -138,16 +145,14 @@ typedef struct klsm_account {
     uint64_t left; /* how many items were left, however many of them were copied */
 } klsm_account;
 
-/* How klsm_open_with opens a queue. What is 0 stands for the default. */
+/* How klsm_open_with opens a queue: klsm_defaults gives one to begin with. Each number is itself, also 0. */
 typedef struct klsm_options {
-    size_t threads; /* 1 to 64; it has no default */
-    size_t k;       /* 0 to 1024, 0 written as KLSM_ZERO; the default is KLSM_DEFAULT_K */
-    uint32_t pick;  /* one of klsm_pick; the default is KLSM_FIRST */
-    uint64_t seed;  /* the default is 0 */
-    size_t refill;  /* 0 to k, 0 written as KLSM_ZERO; the default is the smaller of
-                     * KLSM_DEFAULT_REFILL and k */
-    size_t balance; /* any number, 0 written as KLSM_ZERO; the default is KLSM_DEFAULT_BALANCE, and
-                     * a number above UINT32_MAX counts as that one */
+    size_t threads;   /* 1 to 64 */
+    size_t k;         /* 0 to 1024 */
+    uint32_t pick;    /* one of klsm_pick */
+    uint64_t seed;    /* for KLSM_RANDOM */
+    size_t refill;    /* any number; one above k counts as k */
+    uint32_t balance; /* any number, 0 for never */
 } klsm_options;
 
 KLSM_ASSERT(sizeof(void *) == 8 && sizeof(size_t) == 8);
@@ -166,7 +171,7 @@ KLSM_ASSERT(alignof(klsm_member) == 128 && alignof(klsm_queue) == 128);
 KLSM_ASSERT(_Alignof(klsm_member) == 128 && _Alignof(klsm_queue) == 128);
 #endif
 
-/* What the calls answer; the last two, the calls of klsm_work.h. A later version may have more. */
+/* What the calls answer; the last four, inline functions alone. A later version may have more. */
 enum klsm_code {
     KLSM_OK = 0,          /* done */
     KLSM_NOTHING = 1,     /* deletion: no item was found where it looked; klsm_work_next: and no work is open */
@@ -182,7 +187,9 @@ enum klsm_code {
     KLSM_SHARED = 11,     /* closing: another owner holds the queue's parts; see klsm_close */
     KLSM_BAD_REFILL = 12, /* opening: the refill is above k */
     KLSM_STOPPED = 13,    /* klsm_work_next: klsm_work_stop was called */
-    KLSM_MISCOUNTED = 14  /* klsm_work_next: more pieces of work were closed than had been opened */
+    KLSM_MISCOUNTED = 14, /* klsm_work_next: more pieces of work were closed than had been opened */
+    KLSM_BAD_VERSION = 15, /* klsm_open_with: the library has another interface than this header, or is older */
+    KLSM_MISALIGNED = 16   /* klsm_open_with: the queue is not aligned to 128 bytes; see klsm_new */
 };
 
 /* Which of the k + 1 smallest shared items a deletion takes where it takes a shared one. Of those up to
@@ -199,11 +206,11 @@ uint32_t klsm_abi(void);
 /* The version of the library, as KLSM_VERSION_NUMBER has that of this header. Any thread, at any time. */
 uint32_t klsm_version(void);
 
-/* Opens a closed queue for `threads` members, all empty, with no refill and no balance: klsm_open_with,
- * klsm_open_with_refill and klsm_open_with_balance have them. A larger k means fewer meetings of threads and
- * less exact answers; 64 is a good one where the answers matter, and up to 1024 where the speed of many
- * threads does. `seed` is used by KLSM_RANDOM alone. Has the whole queue for itself. Takes some 400 KB of
- * memory for each member, which klsm_close and klsm_drop give back.
+/* The form whose answers are as exact as its k allows, and not the fast one, which is klsm_open_default. Opens a
+ * closed queue for `threads` members, all empty, with no refill and no balance. A larger k means fewer meetings of
+ * threads and less exact answers: up to 1024 where the speed of many threads matters most. `seed` is used by
+ * KLSM_RANDOM alone. Has the whole queue for itself. Takes some 400 KB of memory for each member, which klsm_close
+ * and klsm_drop give back. Compares no versions: klsm_open_with does.
  * KLSM_OK, or the first of these that is true:
  *   KLSM_OPEN        it is open already
  *   KLSM_BAD_PICK    `pick` is none of the three
@@ -305,9 +312,7 @@ KLSM_NOT_NULL(1) void klsm_drop(klsm_queue *queue);
 
 /* ---- Inline functions over these ---- */
 
-KLSM_INLINE size_t klsm_or_default(size_t number, size_t standard) {
-    return number == KLSM_ZERO ? 0 : number == 0 ? standard : number;
-}
+KLSM_BEGIN_INLINE
 
 /* Opens a closed queue by klsm_open_with_balance with no balance, and has its codes. */
 KLSM_MUST_USE KLSM_NOT_NULL(1)
@@ -316,82 +321,55 @@ KLSM_INLINE int32_t klsm_open_with_refill(klsm_queue *queue, size_t threads, siz
     return klsm_open_with_balance(queue, threads, k, pick, seed, refill, 0);
 }
 
-/* Opens a closed queue by klsm_open_with_balance, whose codes it has in their order: so `threads` of 0
- * is KLSM_BAD_COUNT, and a refill that is named and above k is KLSM_BAD_REFILL. In C, for the defaults:
- * klsm_open_with(&queue, &(klsm_options){.threads = 4}). */
+/* The options of a queue for so many threads, whose other numbers are the defaults:
+ *
+ *     klsm_options options = klsm_defaults(4);
+ *     options.k = 256;
+ *     if (klsm_open_with(&queue, &options) != KLSM_OK) .. */
+KLSM_INLINE klsm_options klsm_defaults(size_t threads) {
+    klsm_options options = {threads, KLSM_DEFAULT_K, KLSM_FIRST, 0, KLSM_DEFAULT_REFILL, KLSM_DEFAULT_BALANCE};
+    return options;
+}
+
+/* Opens a closed queue by klsm_open_with_balance, whose codes it has in their order, but for KLSM_BAD_REFILL, since a
+ * refill above k counts as k. Before all of them come
+ *   KLSM_BAD_VERSION  the library has another binary interface than this header, or is of an older version
+ *   KLSM_MISALIGNED   the queue is not aligned to 128 bytes
+ * after which the queue is as it was, too. */
 KLSM_MUST_USE KLSM_NOT_NULL(1, 2)
 KLSM_INLINE int32_t klsm_open_with(klsm_queue *queue, const klsm_options *options) {
-    size_t k = klsm_or_default(options->k, KLSM_DEFAULT_K);
-    size_t most = k < KLSM_DEFAULT_REFILL ? k : KLSM_DEFAULT_REFILL;
-    size_t refill = klsm_or_default(options->refill, most);
-    size_t balance = klsm_or_default(options->balance, KLSM_DEFAULT_BALANCE);
-    return klsm_open_with_balance(queue, options->threads, k, options->pick, options->seed, refill,
-                                  balance < UINT32_MAX ? KLSM_CAST(uint32_t, balance) : UINT32_MAX);
+    if (klsm_abi() != KLSM_ABI || klsm_version() < KLSM_VERSION_NUMBER)
+        return KLSM_BAD_VERSION;
+    if (KLSM_ADDRESS(queue) % 128 != 0)
+        return KLSM_MISALIGNED;
+    return klsm_open_with_balance(queue, options->threads, options->k, options->pick, options->seed,
+                                  options->refill < options->k ? options->refill : options->k, options->balance);
 }
 
-/* Keys for a search by bounds, of which the smallest is the most promising. Where items share a key, a
- * deletion takes the shared lock only to find that its member's own item goes first after all, since an own
- * item goes without it only where its key is less than that of each shared item; so it pays to tell items of
- * one bound apart.
- *
- * This key orders items by the bound; those of one bound by the depth, the deepest first, which are the
- * nearest to a solution; and those of one depth too by the turn, the newest first. The turn is a count of the
- * thread's own, as klsm_inserted of its member is: so the items of one thread have different keys, and those
- * of two as a rule. A bound above KLSM_MAX_NODE_BOUND counts as that number, and a depth above
- * KLSM_MAX_NODE_DEPTH as that one; the turn counts modulo 2^16. */
-#define KLSM_MAX_NODE_BOUND ((UINT64_C(1) << 36) - 1)
-#define KLSM_MAX_NODE_DEPTH UINT32_C(4095)
-
-KLSM_INLINE uint64_t klsm_key_of_node(uint64_t bound, uint32_t depth, uint64_t turn) {
-    uint64_t first = bound < KLSM_MAX_NODE_BOUND ? bound : KLSM_MAX_NODE_BOUND;
-    uint64_t then = KLSM_MAX_NODE_DEPTH - (depth < KLSM_MAX_NODE_DEPTH ? depth : KLSM_MAX_NODE_DEPTH);
-    return first << 28 | then << 16 | (~turn & 0xffff);
+/* Opens a closed queue for so many threads with the defaults. Has the codes of klsm_open_with. */
+KLSM_MUST_USE KLSM_NOT_NULL(1)
+KLSM_INLINE int32_t klsm_open_default(klsm_queue *queue, size_t threads) {
+    const klsm_options options = klsm_defaults(threads);
+    return klsm_open_with(queue, &options);
 }
 
-/* The bound of such a key. */
-KLSM_INLINE uint64_t klsm_bound_of_node(uint64_t key) { return key >> 28; }
-
-/* The same for greater bounds and depths, with no turn: for a search where few items share both. */
-#define KLSM_MAX_BOUND ((UINT64_C(1) << 48) - 1)
-#define KLSM_MAX_DEPTH UINT32_C(65535)
-
-KLSM_INLINE uint64_t klsm_key_of_bound(uint64_t bound, uint32_t depth) {
-    uint64_t first = bound < KLSM_MAX_BOUND ? bound : KLSM_MAX_BOUND;
-    uint32_t then = KLSM_MAX_DEPTH - (depth < KLSM_MAX_DEPTH ? depth : KLSM_MAX_DEPTH);
-    return first << 16 | then;
+/* A closed queue on the heap, aligned as it has to be, or NULL where there is no memory. */
+KLSM_MUST_USE
+KLSM_INLINE klsm_queue *klsm_new(void) {
+    klsm_queue *queue = KLSM_CAST(klsm_queue *, aligned_alloc(128, sizeof *queue));
+    if (queue != NULL)
+        memset(KLSM_CAST(void *, queue), 0, sizeof *queue);
+    return queue;
 }
 
-/* The bound of such a key. */
-KLSM_INLINE uint64_t klsm_bound_of_key(uint64_t key) { return key >> 16; }
-
-/* Keys of other numbers, in the order of these. The greatest comes first by ~klsm_key_of_double(number), and so
- * on. Both zeros have one key, and all that is not a number has one, behind that of infinity. */
-KLSM_INLINE uint64_t klsm_key_of_double(double number) {
-    const uint64_t sign = UINT64_C(1) << 63, infinity = UINT64_C(0x7ff) << 52;
-    uint64_t bits;
-    memcpy(&bits, &number, sizeof bits);
-    if ((bits & ~sign) > infinity)
-        return sign | infinity | UINT64_C(1) << 51;
-    if ((bits & ~sign) == 0)
-        return sign;
-    return bits & sign ? ~bits : bits | sign;
+/* Drops a queue of klsm_new with all that is left in it, and gives its memory back. NULL is none. */
+KLSM_INLINE void klsm_free(klsm_queue *queue) {
+    if (queue != NULL)
+        klsm_drop(queue);
+    free(queue);
 }
 
-KLSM_INLINE double klsm_double_of_key(uint64_t key) {
-    const uint64_t sign = UINT64_C(1) << 63, bits = key & sign ? key & ~sign : ~key;
-    double number;
-    memcpy(&number, &bits, sizeof number);
-    return number;
-}
-
-KLSM_INLINE uint64_t klsm_key_of_int64(int64_t number) { return KLSM_CAST(uint64_t, number) ^ UINT64_C(1) << 63; }
-
-KLSM_INLINE int64_t klsm_int64_of_key(uint64_t key) {
-    int64_t number;
-    key ^= UINT64_C(1) << 63;
-    memcpy(&number, &key, sizeof number);
-    return number;
-}
+#include "klsm_keys.h"
 
 /* How many items are in the queue: insertions less deletions, over all members. Has the whole queue
  * for itself, and is exact. 0 where the queue is closed. */
@@ -467,6 +445,8 @@ KLSM_INLINE const char *klsm_text(int32_t code) {
     case KLSM_BAD_REFILL: return "the refill is above k";
     case KLSM_STOPPED: return "the work was stopped";
     case KLSM_MISCOUNTED: return "more work was closed than was opened";
+    case KLSM_BAD_VERSION: return "the library is of another version than klsm.h";
+    case KLSM_MISALIGNED: return "the queue is not aligned to 128 bytes";
     default: return "unknown code";
     }
 }
@@ -543,6 +523,8 @@ KLSM_INLINE int32_t klsm_delete_min(klsm_member *member, klsm_item *item) {
 }
 
 #include "klsm_work.h"
+
+KLSM_END_INLINE
 
 #ifdef __cplusplus
 }

@@ -17,6 +17,8 @@ void __tsan_ignore_thread_end(void);
  * is opened by dlopen finds that of the program where the program was linked with -rdynamic. */
 __attribute__((weak, visibility("default"))) char klsm_tsan_words[4096];
 
+KLSM_BEGIN_INLINE
+
 KLSM_INLINE void *klsm_tsan_word(uint64_t key, uint64_t load) {
     return &klsm_tsan_words[(key * UINT64_C(0x9e3779b97f4a7c15) ^ load * UINT64_C(0xbf58476d1ce4e5b9)) >> 52];
 }
@@ -92,6 +94,8 @@ KLSM_INLINE int32_t klsm_tsan_close_into(klsm_queue *queue, klsm_account *accoun
 }
 
 KLSM_INLINE void klsm_tsan_drop(klsm_queue *queue) { KLSM_TSAN(klsm_tsan_use_all(queue), klsm_drop(queue)); }
+
+KLSM_END_INLINE
 
 #define klsm_open klsm_tsan_open
 #define klsm_open_with_balance klsm_tsan_open_with_balance

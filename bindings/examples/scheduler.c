@@ -82,7 +82,7 @@ int main(void) {
         _Alignas(128) worker of;
     } crew[THREADS];
     pthread_t threads[THREADS];
-    int32_t code = klsm_open(&queue, THREADS, 16, KLSM_FIRST, 0);
+    int32_t code = klsm_open_default(&queue, THREADS);
     if (code != KLSM_OK) {
         fprintf(stderr, "scheduler: %s\n", klsm_text(code));
         return 1;

@@ -46,7 +46,7 @@ static void *run(void *arg) {
 
 static void begin(void) {
     memset(&work, 0, sizeof work);
-    check_or_stop("open", klsm_open_with(&queue, &(klsm_options){.threads = THREADS}) == KLSM_OK);
+    check_or_stop("open", klsm_open_default(&queue, THREADS) == KLSM_OK);
     check_or_stop("insert", klsm_work_insert(&work, &queue.members[0], 1, 1) == KLSM_OK);
 }
 

@@ -26,7 +26,9 @@ static const struct {
     {KLSM_BAD_REFILL, "the refill is above k"},
     {KLSM_STOPPED, "the work was stopped"},
     {KLSM_MISCOUNTED, "more work was closed than was opened"},
-    {KLSM_MISCOUNTED + 1, "unknown code"},
+    {KLSM_BAD_VERSION, "the library is of another version than klsm.h"},
+    {KLSM_MISALIGNED, "the queue is not aligned to 128 bytes"},
+    {KLSM_MISALIGNED + 1, "unknown code"},
     {-1, "unknown code"},
 };
 
@@ -114,14 +116,14 @@ static int has_opened(enum stub_call call, klsm_options numbers) {
 }
 
 static void openings(void) {
-    klsm_options numbers = {3, 40, KLSM_RANDOM, UINT64_C(7) << 40, 30, 20}, none = {.threads = 4};
+    klsm_options numbers = {3, 40, KLSM_RANDOM, UINT64_C(7) << 40, 30, 20};
     stub_begin();
     check_code("open_with", klsm_open_with(&queue, &numbers), KLSM_OK);
     check("all numbers arrive", has_opened(STUB_OPEN_WITH_BALANCE, numbers) && stub_asked(STUB_OPEN) == 0);
     klsm_drop(&queue);
     check("one drop for one opening", stub_asked(STUB_DROP) == 1 && stub_queues() == 0);
     stub_begin();
-    check_code("open_with, with the defaults", klsm_open_with(&queue, &none), KLSM_OK);
+    check_code("open_default", klsm_open_default(&queue, 4), KLSM_OK);
     klsm_options defaults = {4, KLSM_DEFAULT_K, KLSM_FIRST, 0, KLSM_DEFAULT_REFILL, KLSM_DEFAULT_BALANCE};
     check("the defaults arrive", has_opened(STUB_OPEN_WITH_BALANCE, defaults));
     klsm_drop(&queue);
@@ -137,6 +139,56 @@ static void openings(void) {
         check("and opens and drops nothing", stub_asked(STUB_OPEN_WITH_BALANCE) == 1 && stub_queues() == 0 &&
                                                  stub_asked(STUB_DROP) == 0);
     }
+}
+
+/* The openings that compare are refused with this code before the library is asked. */
+static void is_refused(klsm_queue *at, int32_t code) {
+    const klsm_options options = klsm_defaults(4);
+    check_code("open_with", klsm_open_with(at, &options), code);
+    check_code("open_default", klsm_open_default(at, 4), code);
+    check("the library is not asked", stub_asked(STUB_OPEN_WITH_BALANCE) + stub_asked(STUB_OPEN) == 0);
+}
+
+static void versions(void) {
+    const uint32_t others[] = {0, KLSM_ABI - 1, KLSM_ABI + 1, UINT32_MAX};
+    for (int i = 0; i < 4; i++) {
+        stub_begin();
+        stub_answer(STUB_ABI, others[i]);
+        is_refused(&queue, KLSM_BAD_VERSION);
+    }
+    stub_begin();
+    stub_answer(STUB_VERSION, KLSM_VERSION_NUMBER - 1);
+    is_refused(&queue, KLSM_BAD_VERSION);
+    stub_answer(STUB_VERSION, KLSM_VERSION_NUMBER + 1);
+    check_code("a later library will do", klsm_open_default(&queue, 4), KLSM_OK);
+    klsm_drop(&queue);
+}
+
+static void memory_of_queues(void) {
+    static union {
+        _Alignas(128) char bytes[sizeof(klsm_queue) + 128];
+        klsm_queue queue;
+    } room;
+    for (size_t off = 8; off < 128; off *= 2) {
+        stub_begin();
+        is_refused((klsm_queue *)(void *)(room.bytes + off), KLSM_MISALIGNED);
+    }
+    klsm_queue *made[4]; /* so that they begin in different places */
+    for (int i = 0; i < 4; i++) {
+        made[i] = klsm_new();
+        check_or_stop("a new queue", made[i] != NULL);
+        check("is aligned", address(made[i]) % 128 == 0);
+        check("and closed", memcmp(made[i], &room.queue, sizeof room.queue) == 0);
+    }
+    for (int i = 0; i < 4; i++) {
+        stub_begin();
+        check_code("it is opened", klsm_open_default(made[i], 4), KLSM_OK);
+        uint64_t at = address(made[i]);
+        klsm_free(made[i]);
+        check("and dropped where it ends", stub_asked(STUB_DROP) == 1 && stub_argument(STUB_DROP, 0) == at);
+    }
+    klsm_free(NULL);
+    check("none is not dropped", stub_asked(STUB_DROP) == 1);
 }
 
 /* Each member of an open queue has made 9 insertions and 4 deletions. */
@@ -283,6 +335,8 @@ int main(void) {
     waiting_calls();
     calls_that_do_not_wait();
     openings();
+    versions();
+    memory_of_queues();
     counts();
     closings();
     drops();

@@ -73,7 +73,7 @@ int main(int argc, char **argv) {
     check_or_stop("1 to 64 threads", threads >= 1 && threads <= KLSM_MAX_THREADS);
     pthread_t running[KLSM_MAX_THREADS];
     klsm_account account;
-    check_or_stop("open", klsm_open_with(&queue, &(klsm_options){.threads = threads}) == KLSM_OK);
+    check_or_stop("open", klsm_open_default(&queue, threads) == KLSM_OK);
     for (size_t t = 0; t < threads; t++) {
         shares[t] = (share){.member = &queue.members[t], .number = t};
         check_or_stop("a thread", pthread_create(&running[t], NULL, work, &shares[t]) == 0);

@@ -42,6 +42,7 @@ files() {
     if [ -f "$out/libklsm.so.$version" ]; then cat; else grep -v '/libklsm[.]so'; fi <<END
 ./include/klsm.h
 ./include/klsm.hpp
+./include/klsm_keys.h
 ./include/klsm_tsan.h
 ./include/klsm_work.h
 ./lib/cmake/klsm/klsm-config-version.cmake

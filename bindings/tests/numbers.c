@@ -102,6 +102,14 @@ static void limits(void) {
     check("the greatest depth of a node is 2^12 - 1", KLSM_MAX_NODE_DEPTH == 4095);
 }
 
+/* What an opening takes that names no numbers. */
+static void defaults(void) {
+    const char *path = "bindings/rust/src/builder.rs";
+    is_number(path, "const DEFAULT_K: usize = ", KLSM_DEFAULT_K);
+    is_number(path, "const DEFAULT_REFILL: usize = ", KLSM_DEFAULT_REFILL);
+    is_number(path, "const DEFAULT_BALANCE: u32 = ", KLSM_DEFAULT_BALANCE);
+}
+
 static void versions(void) {
     is_number("crates/klsm_c/src/codes.rt", "fn klsm_abi() -> u32\n    ensures { result ≡ ", KLSM_ABI);
     is_number("crates/klsm_c/src/codes.rt", "fn klsm_version() -> u32\n    ensures { result ≡ ", KLSM_VERSION_NUMBER);
@@ -117,6 +125,7 @@ int main(void) {
     library_codes();
     picks();
     limits();
+    defaults();
     versions();
     return check_status();
 }

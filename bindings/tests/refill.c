@@ -86,7 +86,11 @@ static void what_moved_is_left(void) {
 static void refused(const char *name, size_t threads, size_t k, uint32_t pick, size_t refill, int32_t expected) {
     check_code(name, klsm_open_with_refill(&queue, threads, k, pick, 0, refill), expected);
     klsm_options options = {threads, k, pick, 0, refill, 0};
-    check_code("the same by options", klsm_open_with(&queue, &options), expected);
+    int32_t by_options = klsm_open_with(&queue, &options);
+    check_code("the same by options, where it counts as k", by_options,
+               expected == KLSM_BAD_REFILL ? KLSM_OK : expected);
+    if (by_options == KLSM_OK)
+        klsm_drop(&queue);
 }
 
 static void refusals(void) {
@@ -103,7 +107,7 @@ static void refusals(void) {
     refused("being open comes before the refill", 2, 8, KLSM_FIRST, 9, KLSM_OPEN);
     klsm_drop(&queue);
     check_code("k = 0 has no room", klsm_open_with_refill(&queue, 2, 0, KLSM_FIRST, 0, 1), KLSM_BAD_REFILL);
-    klsm_options exact = {.threads = 2, .k = KLSM_ZERO};
+    klsm_options exact = {.threads = 2};
     check_code("k = 0 by options", klsm_open_with(&queue, &exact), KLSM_OK);
     klsm_drop(&queue);
     check_code("the greatest k and refill", klsm_open_with_refill(&queue, 2, 1024, KLSM_FIRST, 0, 1024), KLSM_OK);

@@ -15,7 +15,8 @@ typedef struct record {
     int repeats;
 } record;
 
-static _Thread_local record records[STUB_CALLS];
+static _Thread_local record records[STUB_CALLS] = {
+    [STUB_ABI] = {.answer = KLSM_ABI}, [STUB_VERSION] = {.answer = KLSM_VERSION_NUMBER}};
 static _Thread_local klsm_account leaves;
 static _Thread_local uint64_t queues;
 
@@ -26,6 +27,7 @@ void stub_begin(void) {
     for (int call = 0; call < STUB_CALLS; call++)
         records[call].repeats = 1;
     records[STUB_ABI].answer = KLSM_ABI;
+    records[STUB_VERSION].answer = KLSM_VERSION_NUMBER;
 }
 
 void stub_answer(uint32_t call, uint64_t answer) { records[call].answer = answer; }
@@ -77,7 +79,7 @@ static void close_members(klsm_queue *queue) {
 
 uint32_t klsm_abi(void) { return (uint32_t)answer(STUB_ABI, (arguments){{0}}); }
 
-uint32_t klsm_version(void) { return KLSM_VERSION_NUMBER; }
+uint32_t klsm_version(void) { return (uint32_t)answer(STUB_VERSION, (arguments){{0}}); }
 
 int32_t klsm_open(klsm_queue *queue, size_t threads, size_t k, uint32_t pick, uint64_t seed) {
     int32_t code = answer_code(STUB_OPEN, (arguments){{address(queue), threads, k, pick, seed}});

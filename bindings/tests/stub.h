@@ -21,10 +21,12 @@ enum stub_call {
     STUB_CLOSE,
     STUB_DROP,
     STUB_FRONT,
+    STUB_VERSION,
     STUB_CALLS
 };
 
-/* Forgets all it was told and asked. Its version is then KLSM_ABI, and all other answers are 0. */
+/* Forgets all it was told and asked. Its interface and version are then those of klsm.h, also before the first time,
+ * and all other answers are 0. */
 void stub_begin(void);
 
 /* What a call answers from now on: a code, a count or a version. A count of a closed member stays 0. With

@@ -6,6 +6,7 @@ use klsm::{TypedFinishError, TypedQueue};
 use std::error::Error;
 
 const HEADER: &str = include_str!("../../../../include/klsm.h");
+const KEYS: &str = include_str!("../../../../include/klsm_keys.h");
 
 /// The text of a code in klsm.h.
 fn of_code(name: &str) -> &'static str {
@@ -108,8 +109,8 @@ fn the_version_is_that_of_klsm_h() {
 
 #[test]
 fn the_greatest_bound_and_depth_are_those_of_klsm_h() {
-    assert!(HEADER.contains("#define KLSM_MAX_BOUND ((UINT64_C(1) << 48) - 1)"));
-    assert!(HEADER.contains("#define KLSM_MAX_DEPTH UINT32_C(65535)"));
+    assert!(KEYS.contains("#define KLSM_MAX_BOUND ((UINT64_C(1) << 48) - 1)"));
+    assert!(KEYS.contains("#define KLSM_MAX_DEPTH UINT32_C(65535)"));
     assert_eq!(klsm::key_of_bound(u64::MAX, 0), u64::MAX);
     assert_eq!(klsm::key_of_bound((1 << 48) - 2, 0), u64::MAX - (1 << 16));
     assert_eq!(klsm::key_of_bound(0, 65_534), 1);
@@ -119,8 +120,8 @@ fn the_greatest_bound_and_depth_are_those_of_klsm_h() {
 
 #[test]
 fn the_greatest_parts_of_a_node_are_those_of_klsm_h() {
-    assert!(HEADER.contains("#define KLSM_MAX_NODE_BOUND ((UINT64_C(1) << 36) - 1)"));
-    assert!(HEADER.contains("#define KLSM_MAX_NODE_DEPTH UINT32_C(4095)"));
+    assert!(KEYS.contains("#define KLSM_MAX_NODE_BOUND ((UINT64_C(1) << 36) - 1)"));
+    assert!(KEYS.contains("#define KLSM_MAX_NODE_DEPTH UINT32_C(4095)"));
     assert_eq!(klsm::key_of_node(u64::MAX, 0, 0), u64::MAX);
     assert_eq!(klsm::key_of_node((1 << 36) - 2, 0, 0), u64::MAX - (1 << 28));
     assert_eq!(klsm::key_of_node(0, 4_094, 65_535), 1 << 16);
