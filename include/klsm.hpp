@@ -1,6 +1,6 @@
 // klsm.hpp: the k-LSM relaxed priority queue of klsm.h as C++17 classes. Header only.
 //
-//     klsm::queue queue(threads);                          // throws klsm::error
+//     klsm::queue queue(4);                                // four threads; throws klsm::error
 //     // in thread t:
 //     klsm::member member = queue.member(t).value();
 //     if (member.insert(key, load) != klsm::code::ok) ..
@@ -8,16 +8,9 @@
 //     // once the members are gone:
 //     klsm::account account = queue.close();               // the totals, and what is left, ascending
 //
-// klsm.h says what a deletion may pass over, and when each code comes. A klsm::typed_queue<T> has payloads
-// of a type in place of loads. Where items lead to more items a klsm::work tells a crew of threads the end:
-//
-//     klsm::work work;
-//     if (work.insert(member, key, load) != klsm::code::ok) ..  // the first one
-//     // in thread t:
-//     while (auto piece = work.next(member)) {             // none once all is done, or after work.stop()
-//         if (work.insert(member, .., piece->load - 1) != klsm::code::ok) ..
-//         piece.done();                                    // one that is left before is given up
-//     }
+// klsm.h says what a deletion may pass over, and when each code comes. klsm_typed.hpp has queues whose items carry
+// payloads of a type, and klsm_work.hpp a count of open work, which tells a crew of threads the end; both are
+// included here.
 //
 // A klsm::queue owns a klsm_queue, which lies in a block of its own on the heap. So a queue may be
 // moved, also while it is open and members of it are out: what the members point to stays where it is.
@@ -26,12 +19,13 @@
 // is there after its queue was closed or destroyed answers code::not_open, and counts 0.
 //
 // Nothing checks the following, and what happens otherwise is undefined:
-// - One call at a time for each klsm::member, and for each klsm::queue, but that several threads may
-//   call queue::member and queue::threads at once.
+// - One call at a time for each klsm::member, also of those that are const, and for each klsm::queue, but that
+//   several threads may call queue::member and queue::threads at once.
 // - No call of a member runs during close(), left(), and the end of its queue, or an assignment to it.
 // Several threads may use one klsm::work at once.
 // No call but the constructors and the close() without an argument throws, and those that copy or make a payload
-// where its own constructor does: then nothing is inserted.
+// where its own constructor does: then nothing is inserted. Each call that gives an optional has a form with a code,
+// which says why there is none.
 #ifndef KLSM_HPP
 #define KLSM_HPP
 
@@ -44,23 +38,20 @@
 
 #include "klsm.h"
 
-#include <algorithm>
 #include <atomic>
 #include <cstddef>
 #include <cstdint>
-#include <cstring>
 #include <exception>
 #include <memory>
 #include <new>
 #include <optional>
-#include <type_traits>
 #include <utility>
 #include <vector>
 
-// A linker sees the inline namespace, so parts of a program that were compiled with headers of two versions are
-// not linked where one passes a queue to the other. No program has to name it.
+// A linker sees the inline namespace, such as v2_0_0, so parts of a program that were compiled with headers of two
+// versions fail to link if one passes a queue to the other. No program has to name it.
 namespace klsm {
-inline namespace v2 {
+inline namespace KLSM_VERSIONED(v) {
 
 // The codes of klsm.h.
 enum class code : std::int32_t {
@@ -78,7 +69,9 @@ enum class code : std::int32_t {
     shared = KLSM_SHARED,
     bad_refill = KLSM_BAD_REFILL,
     stopped = KLSM_STOPPED,
-    miscounted = KLSM_MISCOUNTED
+    miscounted = KLSM_MISCOUNTED,
+    bad_version = KLSM_BAD_VERSION,
+    misaligned = KLSM_MISALIGNED
 };
 
 // A short English text.
@@ -114,7 +107,7 @@ struct options {
     std::size_t k = KLSM_DEFAULT_K;
     pick how = pick::first;
     std::uint64_t seed = 0;
-    std::optional<std::size_t> refill = std::nullopt; // none: the smaller of KLSM_DEFAULT_REFILL and k
+    std::size_t refill = KLSM_DEFAULT_REFILL; // one above k counts as k
     std::uint32_t balance = KLSM_DEFAULT_BALANCE;
 };
 
@@ -143,15 +136,16 @@ struct block {
     klsm_queue queue = KLSM_QUEUE_CLOSED;
     std::atomic<bool> is_out[KLSM_MAX_THREADS] = {};
     std::size_t threads = 0;
+    bool is_open = false;
 };
 
 } // namespace detail
 
-template <class T> class typed_queue;
-
 // What one thread inserts and deletes by.
 class member {
 public:
+    using item_type = item;
+
     member(const member &) = delete;
     member &operator=(const member &) = delete;
 
@@ -189,23 +183,28 @@ public:
     [[nodiscard]] klsm::code delete_min(item &deleted) noexcept {
         return at_ == nullptr ? code::not_open : code(klsm_delete_min(at_, &deleted));
     }
+    [[nodiscard]] klsm::code delete_min(std::optional<item> &deleted) noexcept {
+        item found;
+        klsm::code answer = delete_min(found);
+        if (answer == code::ok) deleted = found;
+        return answer;
+    }
     // Deletes a small item, and waits for nobody. `deleted` is written exactly with code::ok.
     [[nodiscard]] klsm::code try_delete_min(item &deleted) noexcept {
         return at_ == nullptr ? code::not_open : code(klsm_try_delete_min(at_, &deleted));
     }
     // The front: the key of the smallest shared item. klsm.h says more at klsm_front.
-    [[nodiscard]] std::uint64_t front() noexcept { return at_ == nullptr ? UINT64_MAX : klsm_front(at_); }
+    [[nodiscard]] std::uint64_t front() const noexcept { return at_ == nullptr ? UINT64_MAX : klsm_front(at_); }
     // How many insertions and deletions were made by this number since the queue was opened.
-    [[nodiscard]] std::uint64_t inserted() noexcept {
-        return at_ == nullptr ? 0 : klsm_inserted(at_);
-    }
-    [[nodiscard]] std::uint64_t deleted() noexcept {
-        return at_ == nullptr ? 0 : klsm_deleted(at_);
+    [[nodiscard]] std::uint64_t inserted() const noexcept { return at_ == nullptr ? 0 : klsm_inserted(at_); }
+    [[nodiscard]] std::uint64_t deleted() const noexcept { return at_ == nullptr ? 0 : klsm_deleted(at_); }
+    // Its number, the owner of what it inserts; UINT32_MAX where it was moved from.
+    [[nodiscard]] std::uint32_t number() const noexcept {
+        return at_ == nullptr ? UINT32_MAX : static_cast<std::uint32_t>(at_ - block_->queue.members);
     }
 
 private:
     friend class queue;
-    friend class work;
     member(klsm_member *at, std::shared_ptr<detail::block> of) noexcept : at_(at), block_(std::move(of)) {}
 
     klsm_member *at_;
@@ -214,26 +213,23 @@ private:
 
 class queue {
 public:
-    // Opens a queue with no refill and no balance. Throws an error with code::bad_pick, bad_count, bad_k or
-    // no_memory, the first of these that is true.
-    explicit queue(std::size_t threads, std::size_t k = 64, pick how = pick::first,
-                   std::uint64_t seed = 0)
-        : queue(options{threads, k, how, seed, 0, 0}) {}
+    // Opens a queue with the defaults of klsm::options, and with k where it is named. Throws an error with
+    // code::bad_version, bad_pick, bad_count, bad_k or no_memory, the first of these that is true.
+    explicit queue(std::size_t threads, std::size_t k = KLSM_DEFAULT_K) : queue(options{threads, k}) {}
 
-    // Opens a queue as the options say. Throws as the other one does, and code::bad_refill, which comes
-    // after bad_k, where the refill is above k.
+    // Opens a queue as the options say, and throws as the other one does.
     explicit queue(const options &by) {
         try {
             block_ = std::make_shared<detail::block>();
         } catch (const std::bad_alloc &) {
             throw error(code::no_memory);
         }
+        const klsm_options numbers = {by.threads, by.k, static_cast<std::uint32_t>(by.how), by.seed, by.refill,
+                                      by.balance};
+        klsm::code answer = code(klsm_open_with(&block_->queue, &numbers));
+        if (answer != code::ok) throw error(answer);
         block_->threads = by.threads;
-        std::size_t refill = by.refill.value_or(std::min<std::size_t>(by.k, KLSM_DEFAULT_REFILL));
-        std::int32_t answer =
-            klsm_open_with_balance(&block_->queue, by.threads, by.k, static_cast<std::uint32_t>(by.how), by.seed,
-                                   refill, by.balance);
-        if (answer != KLSM_OK) throw error(klsm::code(answer));
+        block_->is_open = true;
     }
     queue(const queue &) = delete;
     queue &operator=(const queue &) = delete;
@@ -259,15 +255,22 @@ public:
 
     // The member of this number. None where there is none, and while it is out.
     [[nodiscard]] std::optional<klsm::member> member(std::size_t number) noexcept {
-        if (number >= threads()) return std::nullopt;
-        if (block_->is_out[number].exchange(true, std::memory_order_acquire)) return std::nullopt;
-        return klsm::member(&block_->queue.members[number], block_);
+        std::optional<klsm::member> taken;
+        static_cast<void>(member(number, taken));
+        return taken;
+    }
+    // The same with a code: not_open where the queue was moved from, bad_count where there is none of this number, and
+    // busy while it is out. `taken` has it exactly with code::ok.
+    [[nodiscard]] klsm::code member(std::size_t number, std::optional<klsm::member> &taken) noexcept {
+        if (block_ == nullptr) return code::not_open;
+        if (number >= block_->threads) return code::bad_count;
+        if (block_->is_out[number].exchange(true, std::memory_order_acquire)) return code::busy;
+        taken = klsm::member(&block_->queue.members[number], block_);
+        return code::ok;
     }
 
     // How many items are in it. No call of a member runs meanwhile.
-    [[nodiscard]] std::uint64_t left() noexcept {
-        return block_ == nullptr ? 0 : klsm_left(&block_->queue);
-    }
+    [[nodiscard]] std::uint64_t left() const noexcept { return block_ == nullptr ? 0 : klsm_left(&block_->queue); }
 
     // Closes it. Throws an error with code::no_memory, and then it is open as before and has all its
     // items, or with code::not_open where it is closed. code::shared comes by no sequence of calls.
@@ -282,12 +285,13 @@ public:
         if (block_ == nullptr) return code::not_open;
         std::vector<item> left;
         try {
-            left.resize(static_cast<std::size_t>(this->left()));
+            left.resize(this->left());
         } catch (...) {
             return code::no_memory;
         }
         klsm_account totals;
         std::int32_t closed = klsm_close(&block_->queue, &totals, left.data(), left.size());
+        if (closed == KLSM_OK || closed == KLSM_SHARED) block_->is_open = false;
         if (closed != KLSM_OK) return klsm::code(closed);
         answer.inserted = totals.inserted;
         answer.deleted = totals.deleted;
@@ -297,327 +301,25 @@ public:
 
 private:
     template <class T> friend class typed_queue;
+
+    // How many insertions and deletions all members made, and how many items are left.
+    [[nodiscard]] klsm_account totals() const noexcept {
+        klsm_account all = {0, 0, 0};
+        for (klsm_member &one : block_->queue.members) {
+            all.inserted += klsm_inserted(&one);
+            all.deleted += klsm_deleted(&one);
+        }
+        all.left = all.inserted - all.deleted;
+        return all;
+    }
+
     std::shared_ptr<detail::block> block_; // aligned as klsm_queue is: C++17 sees to that
 };
 
-// What a typed_queue gives. `number` is how many insertions its owner had made before.
-template <class T> struct typed_item {
-    std::uint64_t key;
-    std::uint64_t number;
-    std::uint32_t owner;
-    T payload;
-};
-
-// What a closed typed_queue says of itself: inserted = deleted + left.size().
-template <class T> struct typed_account {
-    std::uint64_t inserted = 0;
-    std::uint64_t deleted = 0;
-    std::vector<typed_item<T>> left; // ascending
-};
-
-namespace detail {
-
-// A payload as a load: the load has its bytes, where they are few, plain, and none of them is padding, and else
-// leads to it.
-template <class T> struct payload_of_load {
-    static constexpr bool is_small =
-        sizeof(T) <= sizeof(std::uint64_t) && std::is_trivially_copyable_v<T> &&
-        (std::has_unique_object_representations_v<T> || std::is_floating_point_v<T>);
-
-    static T *at(std::uint64_t load) noexcept { return reinterpret_cast<T *>(static_cast<std::uintptr_t>(load)); }
-
-    static T take(std::uint64_t load) noexcept {
-        if constexpr (is_small) {
-            alignas(T) unsigned char bytes[sizeof(T)];
-            std::memcpy(bytes, &load, sizeof(T));
-            return *std::launder(reinterpret_cast<T *>(bytes));
-        } else {
-            std::unique_ptr<T> owned(at(load));
-            return std::move(*owned);
-        }
-    }
-
-    static void drop(void *, [[maybe_unused]] const klsm_item *left) noexcept {
-        if constexpr (!is_small) delete at(left->load);
-    }
-
-    static std::uint64_t load_of(const T &small) noexcept {
-        std::uint64_t load = 0;
-        std::memcpy(&load, &small, sizeof(T));
-        return load;
-    }
-    static std::uint64_t load_of(const T *behind) noexcept { return reinterpret_cast<std::uintptr_t>(behind); }
-};
-
-} // namespace detail
-
-// What one thread inserts and deletes by in a typed_queue. It is moved and goes back as a klsm::member does.
-template <class T> class typed_member {
-public:
-    // Inserts, and waits while a lock is held: never code::busy. `payload` is moved from exactly with code::ok.
-    // code::no_memory comes also where there is none for the payload.
-    [[nodiscard]] klsm::code insert(std::uint64_t key, T &&payload) noexcept { return move_in(payload, waiting(key)); }
-    // The same with a copy, and with a payload that is made of these arguments.
-    [[nodiscard]] klsm::code insert(std::uint64_t key, const T &payload) { return make(waiting(key), payload); }
-    template <class... From> [[nodiscard]] klsm::code emplace(std::uint64_t key, From &&...from) {
-        return make(waiting(key), std::forward<From>(from)...);
-    }
-    // Inserts, and waits for nobody.
-    [[nodiscard]] klsm::code try_insert(std::uint64_t key, T &&payload) noexcept {
-        return move_in(payload, trying(key));
-    }
-    [[nodiscard]] klsm::code try_insert(std::uint64_t key, const T &payload) { return make(trying(key), payload); }
-    template <class... From> [[nodiscard]] klsm::code try_emplace(std::uint64_t key, From &&...from) {
-        return make(trying(key), std::forward<From>(from)...);
-    }
-    // Deletes a small item, and waits while a lock is held. None where it found nothing, and where the queue
-    // is closed.
-    [[nodiscard]] std::optional<typed_item<T>> delete_min() noexcept {
-        std::optional<item> deleted = member_.delete_min();
-        if (!deleted) return std::nullopt;
-        return opened(*deleted);
-    }
-    // Deletes a small item, and waits for nobody. `deleted` has it exactly with code::ok, and is else as it was.
-    [[nodiscard]] klsm::code try_delete_min(std::optional<typed_item<T>> &deleted) noexcept {
-        item found;
-        klsm::code answer = member_.try_delete_min(found);
-        if (answer == code::ok) deleted.emplace(opened(found));
-        return answer;
-    }
-    [[nodiscard]] std::uint64_t front() noexcept { return member_.front(); }
-    // How many insertions and deletions were made by this number since the queue was opened.
-    [[nodiscard]] std::uint64_t inserted() noexcept { return member_.inserted(); }
-    [[nodiscard]] std::uint64_t deleted() noexcept { return member_.deleted(); }
-
-private:
-    friend class typed_queue<T>;
-    friend class work;
-    using payload_of_load = detail::payload_of_load<T>;
-
-    explicit typed_member(klsm::member &&member) noexcept : member_(std::move(member)) {}
-
-    // The two calls, which get the load that stands for the payload.
-    auto waiting(std::uint64_t key) noexcept {
-        return [this, key](std::uint64_t load) { return member_.insert(key, load); };
-    }
-    auto trying(std::uint64_t key) noexcept {
-        return [this, key](std::uint64_t load) { return member_.try_insert(key, load); };
-    }
-
-    template <class Insert> static klsm::code move_in(T &payload, Insert insert) noexcept {
-        if constexpr (payload_of_load::is_small) {
-            return insert(payload_of_load::load_of(payload));
-        } else {
-            std::unique_ptr<T> moved(new (std::nothrow) T(std::move(payload)));
-            klsm::code answer = put(moved, insert);
-            if (moved != nullptr) payload = std::move(*moved);
-            return answer;
-        }
-    }
-    template <class Insert, class... From> static klsm::code make(Insert insert, From &&...from) {
-        if constexpr (payload_of_load::is_small) {
-            const T made(std::forward<From>(from)...);
-            return insert(payload_of_load::load_of(made));
-        } else {
-            std::unique_ptr<T> made(new (std::nothrow) T(std::forward<From>(from)...));
-            return put(made, insert);
-        }
-    }
-    // Another thread may have the payload as soon as it is inserted. One that is refused stays.
-    template <class Insert> static klsm::code put(std::unique_ptr<T> &payload, Insert insert) noexcept {
-        if (payload == nullptr) return code::no_memory;
-        klsm::code answer = insert(payload_of_load::load_of(payload.get()));
-        if (answer == code::ok) static_cast<void>(payload.release());
-        return answer;
-    }
-
-    static typed_item<T> opened(const item &found) noexcept {
-        return {found.key, found.number, found.owner, payload_of_load::take(found.load)};
-    }
-
-    klsm::member member_;
-};
-
-// A queue whose items carry payloads of a type in place of loads. They are moved in and out; what is left is
-// handed back by close(), or destroyed with the queue. A payload costs a block of memory, but none where it has
-// at most 8 plain bytes without padding.
-template <class T> class typed_queue {
-    static_assert(std::is_nothrow_move_constructible_v<T> && std::is_nothrow_move_assignable_v<T> &&
-                  std::is_nothrow_destructible_v<T>);
-
-public:
-    // As those of klsm::queue.
-    explicit typed_queue(std::size_t threads, std::size_t k = 64, pick how = pick::first, std::uint64_t seed = 0)
-        : queue_(threads, k, how, seed) {}
-    explicit typed_queue(const options &by) : queue_(by) {}
-    typed_queue(typed_queue &&) noexcept = default;
-    typed_queue &operator=(typed_queue &&other) noexcept {
-        typed_queue moved(std::move(other));
-        std::swap(queue_, moved.queue_);
-        return *this;
-    }
-
-    // Destroys what is left in it. That takes no memory.
-    ~typed_queue() {
-        if (queue_.block_ != nullptr)
-            klsm_drop_each(&queue_.block_->queue, detail::payload_of_load<T>::drop, nullptr);
-    }
-
-    [[nodiscard]] std::size_t threads() const noexcept { return queue_.threads(); }
-    [[nodiscard]] std::uint64_t left() noexcept { return queue_.left(); }
-    [[nodiscard]] std::optional<typed_member<T>> member(std::size_t number) noexcept {
-        std::optional<klsm::member> member = queue_.member(number);
-        if (!member) return std::nullopt;
-        return typed_member<T>(std::move(*member));
-    }
-
-    // Closes it, as klsm::queue::close does.
-    [[nodiscard]] typed_account<T> close() {
-        typed_account<T> answer;
-        if (klsm::code why = close(answer); why != code::ok) throw error(why);
-        return answer;
-    }
-    // The same with a code. `answer` is written exactly with code::ok.
-    [[nodiscard]] klsm::code close(typed_account<T> &answer) noexcept {
-        std::vector<typed_item<T>> left;
-        try {
-            left.reserve(static_cast<std::size_t>(this->left()));
-        } catch (...) {
-            return code::no_memory;
-        }
-        account closed;
-        if (klsm::code why = queue_.close(closed); why != code::ok) return why;
-        for (const item &one : closed.left) left.push_back(typed_member<T>::opened(one));
-        answer.inserted = closed.inserted;
-        answer.deleted = closed.deleted;
-        answer.left = std::move(left);
-        return code::ok;
-    }
-
-private:
-    klsm::queue queue_;
-};
-
-// What work::next gives: an item, whose piece of work is this thread's to do, or the reason why there is none. done()
-// closes the piece. One that goes out of scope before, by a return or an exception, is given up: nobody waits for it,
-// and work::given_up counts it.
-template <class Item> class piece {
-public:
-    // The other one has no item afterwards.
-    piece(piece &&other) noexcept
-        : of_(std::exchange(other.of_, nullptr)), why_(other.why_), item_(std::move(other.item_)) {
-        other.item_.reset();
-    }
-    // The piece that this one had is given up, unless it was done.
-    piece &operator=(piece &&other) noexcept {
-        piece moved(std::move(other));
-        std::swap(of_, moved.of_);
-        std::swap(why_, moved.why_);
-        std::swap(item_, moved.item_);
-        return *this;
-    }
-    piece(const piece &) = delete;
-    piece &operator=(const piece &) = delete;
-    ~piece() {
-        item_.reset(); // who sees the end sees that it is gone
-        if (of_ != nullptr) klsm_work_give_up(of_);
-    }
-
-    // Whether there is an item.
-    explicit operator bool() const noexcept { return item_.has_value(); }
-    Item &operator*() noexcept { return *item_; }
-    const Item &operator*() const noexcept { return *item_; }
-    Item *operator->() noexcept { return &*item_; }
-    const Item *operator->() const noexcept { return &*item_; }
-
-    // Why there is none: nothing where no work is open, stopped, miscounted or not_open. It is ok where there was one.
-    [[nodiscard]] klsm::code why() const noexcept { return why_; }
-
-    // It is done: all that follows from it was opened before. A second time, and where there is none, nothing happens.
-    void done() noexcept {
-        if (of_ != nullptr) klsm_work_done(std::exchange(of_, nullptr));
-    }
-
-private:
-    friend class work;
-    explicit piece(klsm::code why) noexcept : why_(why) {}
-    piece(klsm_work *of, Item &&item) noexcept : of_(of), why_(code::ok), item_(std::move(item)) {}
-
-    klsm_work *of_ = nullptr; // while it is open
-    klsm::code why_;
-    std::optional<Item> item_;
-};
-
-// A count of open work, by which the threads of a crew see the end. klsm_work.h says more, and what stop() promises.
-class work {
-public:
-    work() = default;
-    work(const work &) = delete;
-    work &operator=(const work &) = delete;
-
-    // Opens a piece and inserts its item by a member or a typed member, whose codes it has. Where that is refused or
-    // throws no piece is opened, and a payload stays where it was.
-    [[nodiscard]] klsm::code insert(member &by, std::uint64_t key, std::uint64_t load) noexcept {
-        return open_for([&] { return by.insert(key, load); });
-    }
-    template <class T, class Payload>
-    [[nodiscard]] klsm::code insert(typed_member<T> &by, std::uint64_t key, Payload &&payload) {
-        return open_for([&] { return by.insert(key, std::forward<Payload>(payload)); });
-    }
-    template <class T, class... From>
-    [[nodiscard]] klsm::code emplace(typed_member<T> &by, std::uint64_t key, From &&...from) {
-        return open_for([&] { return by.emplace(key, std::forward<From>(from)...); });
-    }
-
-    // Deletes a small item, and waits for one while work is open.
-    [[nodiscard]] piece<item> next(member &by) noexcept {
-        item found;
-        klsm::code answer = next(by, found);
-        return answer == code::ok ? piece<item>(&count_, std::move(found)) : piece<item>(answer);
-    }
-    template <class T> [[nodiscard]] piece<typed_item<T>> next(typed_member<T> &by) noexcept {
-        item found;
-        klsm::code answer = next(by.member_, found);
-        return answer == code::ok ? piece<typed_item<T>>(&count_, typed_member<T>::opened(found))
-                                  : piece<typed_item<T>>(answer);
-    }
-
-    // All that ask for work, and all that wait for some, get code::stopped from now on. Also from a signal handler.
-    void stop() noexcept { klsm_work_stop(&count_); }
-    [[nodiscard]] bool is_stopped() const noexcept { return klsm_work_is_stopped(&count_) != 0; }
-
-    // How many pieces are open, and how many were given up.
-    [[nodiscard]] std::uint64_t left() const noexcept { return klsm_work_left(&count_); }
-    [[nodiscard]] std::uint64_t given_up() const noexcept { return klsm_work_given_up(&count_); }
-
-    // For pieces that are no items of the queue: opened before another thread can see them, and closed by hand.
-    void open(std::uint64_t pieces = 1) noexcept { klsm_work_open(&count_, pieces); }
-    void done() noexcept { klsm_work_done(&count_); }
-    void give_up() noexcept { klsm_work_give_up(&count_); }
-
-private:
-    template <class Insert> klsm::code open_for(Insert insert) {
-        struct opening {
-            klsm_work *of;
-            ~opening() {
-                if (of != nullptr) klsm_work_done(of);
-            }
-        };
-        open();
-        opening piece{&count_};
-        klsm::code answer = insert();
-        if (answer == code::ok) piece.of = nullptr; // whoever deletes the item closes it
-        return answer;
-    }
-
-    klsm::code next(member &by, item &found) noexcept {
-        return by.at_ == nullptr ? code::not_open : code(klsm_work_next(&count_, by.at_, &found));
-    }
-
-    klsm_work count_ = {};
-};
-
-} // namespace v2
+} // namespace KLSM_VERSIONED(v)
 } // namespace klsm
+
+#include "klsm_typed.hpp"
+#include "klsm_work.hpp"
 
 #endif

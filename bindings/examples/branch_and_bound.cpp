@@ -38,7 +38,7 @@ public:
 
     // The greatest value of all selections.
     std::uint64_t solve(std::size_t threads) {
-        klsm::queue queue(klsm::options{threads}); // with the default refill
+        klsm::queue queue(threads);
         top_ = bound(node{0, 0});
         {
             klsm::member member = queue.member(0).value();

@@ -3,14 +3,17 @@
 
 #include "check.h"
 #include "stub.h"
+#include <algorithm>
 #include <cstring>
 #include <optional>
 #include <type_traits>
 #include <utility>
 
-static_assert(std::is_same_v<klsm::queue, klsm::v2::queue> && std::is_same_v<klsm::member, klsm::v2::member>);
-static_assert(std::is_same_v<klsm::code, klsm::v2::code> && std::is_same_v<klsm::error, klsm::v2::error>);
-static_assert(std::is_same_v<klsm::options, klsm::v2::options>);
+namespace named = klsm::KLSM_VERSIONED(v);
+static_assert(std::is_same_v<klsm::queue, named::queue> && std::is_same_v<klsm::member, named::member>);
+static_assert(std::is_same_v<klsm::code, named::code> && std::is_same_v<klsm::error, named::error>);
+static_assert(std::is_same_v<klsm::options, named::options> && std::is_same_v<klsm::work, named::work>);
+static_assert(std::is_same_v<klsm::typed_queue<int>, named::typed_queue<int>>);
 
 static const struct {
     klsm::code code;
@@ -31,7 +34,9 @@ static const struct {
     {klsm::code::bad_refill, KLSM_BAD_REFILL},
     {klsm::code::stopped, KLSM_STOPPED},
     {klsm::code::miscounted, KLSM_MISCOUNTED},
-    {klsm::code(KLSM_MISCOUNTED + 1), KLSM_MISCOUNTED + 1},
+    {klsm::code::bad_version, KLSM_BAD_VERSION},
+    {klsm::code::misaligned, KLSM_MISALIGNED},
+    {klsm::code(KLSM_MISALIGNED + 1), KLSM_MISALIGNED + 1},
 };
 
 // What the stub answers where a lock is held for so many tries.
@@ -89,17 +94,32 @@ static void asks(const char *name, klsm_options expected, Arguments... arguments
 static void openings() {
     const klsm::pick last = klsm::pick::last, random = klsm::pick::random;
     const std::uint64_t seed = std::uint64_t(7) << 40;
-    asks("threads alone", {3, 64, KLSM_FIRST, 0, 0, 0}, 3u);
-    asks("all numbers", {3, 40, KLSM_RANDOM, seed, 0, 0}, 3u, 40u, random, seed);
-    asks("the last pick", {5, 0, KLSM_LAST, 9, 0, 0}, 5u, 0u, last, 9u);
-    klsm::options options{};
-    options.threads = 4;
-    asks("default options", {4, 64, KLSM_FIRST, 0, 16, 0}, options);
+    const klsm_options defaults = klsm_defaults(3);
+    asks("threads alone", defaults, 3u);
+    asks("default options", defaults, klsm::options{3});
+    klsm_options other = defaults;
+    other.k = 40;
+    other.refill = std::min<std::size_t>(40, KLSM_DEFAULT_REFILL);
+    asks("threads and k", other, 3u, 40u);
+    asks("the same by options", other, klsm::options{3, 40});
     asks("all options", {3, 40, KLSM_RANDOM, seed, 30, UINT32_MAX}, klsm::options{3, 40, random, seed, 30, UINT32_MAX});
-    asks("no refill", {3, 40, KLSM_LAST, 9, 0, 5}, klsm::options{3, 40, last, 9, 0, 5});
-    asks("a refill of k = 15", {3, 15, KLSM_FIRST, 0, 15, 0}, klsm::options{3, 15});
-    asks("a refill of k = 16", {3, 16, KLSM_FIRST, 0, 16, 0}, klsm::options{3, 16});
-    asks("k = 0", {3, 0, KLSM_FIRST, 0, 0, 0}, klsm::options{3, 0});
+    asks("no refill", {5, 40, KLSM_LAST, 9, 0, 5}, klsm::options{5, 40, last, 9, 0, 5});
+    asks("a refill of k", {3, 15, KLSM_FIRST, 0, 15, 0}, klsm::options{3, 15, klsm::pick::first, 0, 15, 0});
+    asks("a refill above k", {3, 15, KLSM_FIRST, 0, 15, 0}, klsm::options{3, 15, klsm::pick::first, 0, 16, 0});
+    asks("k = 0", {3, 0, KLSM_FIRST, 0, 0, KLSM_DEFAULT_BALANCE}, klsm::options{3, 0});
+}
+
+// A library of another version is refused before it is asked.
+static void versions() {
+    stub_begin();
+    stub_answer(STUB_ABI, KLSM_ABI + 1);
+    bool threw = false;
+    try {
+        klsm::queue queue(2);
+    } catch (const klsm::error &why) {
+        threw = why.code() == klsm::code::bad_version;
+    }
+    check("another version throws", threw && stub_asked(STUB_OPEN_WITH_BALANCE) == 0 && stub_asked(STUB_DROP) == 0);
 }
 
 static void refused_openings() {
@@ -161,6 +181,11 @@ static void waiting_calls() {
             check("delete_min waits, and has an item with ok alone",
                   number == KLSM_OK ? item && is_written(*item) : !item);
             check("by as many tries as it takes", opened::asked(STUB_TRY_DELETE_MIN, held + 1));
+            begin(STUB_TRY_DELETE_MIN, held, number);
+            item = klsm::item{1, 2, 3, 4};
+            check("delete_min has this code", opened().member.delete_min(item) == code);
+            check("and writes with ok alone", number == KLSM_OK ? is_written(*item) : item->key == 1);
+            check("by as many tries as it takes", opened::asked(STUB_TRY_DELETE_MIN, held + 1));
         }
     }
 }
@@ -189,9 +214,28 @@ static void counts() {
     stub_answer(STUB_INSERTED, 9);
     stub_answer(STUB_DELETED, 4);
     opened with;
-    check("insertions", with.member.inserted() == 9 && opened::asked(STUB_INSERTED, 1));
-    check("deletions", with.member.deleted() == 4 && opened::asked(STUB_DELETED, 1));
-    check("what is left is that of each member", with.queue.left() == 15);
+    const klsm::member &member = with.member;
+    const klsm::queue &queue = with.queue;
+    check("insertions", member.inserted() == 9 && opened::asked(STUB_INSERTED, 1));
+    check("deletions", member.deleted() == 4 && opened::asked(STUB_DELETED, 1));
+    check("what is left is that of each member", queue.left() == 15);
+    stub_answer(STUB_FRONT, 77);
+    check("the front", member.front() == 77);
+    check("the number", member.number() == 2);
+}
+
+// Why there is no member.
+static void members() {
+    stub_begin();
+    klsm::queue queue(3);
+    std::optional<klsm::member> first, other;
+    check("a member", queue.member(2, first) == klsm::code::ok && first->number() == 2);
+    check("while it is out", queue.member(2, other) == klsm::code::busy && !other);
+    check("there are three", queue.member(3, other) == klsm::code::bad_count && !other);
+    klsm::queue moved = std::move(queue);
+    check("of a queue that was moved from", queue.member(1, other) == klsm::code::not_open && !other);
+    klsm::member last = std::move(*first);
+    check("a member that was moved from has no number", first->number() == UINT32_MAX && last.number() == 2);
 }
 
 // Whether a closing was made once, of the queue that was opened, into an array of so many items.
@@ -249,11 +293,13 @@ static void refused_closings() {
 int main() {
     names();
     openings();
+    versions();
     refused_openings();
     drops();
     waiting_calls();
     calls_that_do_not_wait();
     counts();
+    members();
     closings(5);
     closings(0);
     refused_closings();

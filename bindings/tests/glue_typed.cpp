@@ -4,11 +4,35 @@
 
 #include "check.h"
 #include "stub.h"
+#include <cstdlib>
+#include <memory>
+#include <new>
 #include <optional>
 #include <string>
 #include <utility>
+#include <vector>
 
 using klsm::code;
+
+// How many blocks of memory C++ has.
+static long blocks = 0;
+static void *take(std::size_t size) {
+    void *at = std::malloc(size);
+    blocks += at != nullptr;
+    return at;
+}
+static void give_back(void *at) {
+    blocks -= at != nullptr;
+    std::free(at);
+}
+void *operator new(std::size_t size) {
+    void *at = take(size);
+    if (at == nullptr) throw std::bad_alloc();
+    return at;
+}
+void *operator new(std::size_t size, const std::nothrow_t &) noexcept { return take(size); }
+void operator delete(void *at) noexcept { give_back(at); }
+void operator delete(void *at, std::size_t) noexcept { give_back(at); }
 
 // A payload, and how many of them are there.
 static int alive = 0;
@@ -84,8 +108,16 @@ static void deletions() {
                                       found->payload == 102 && found->number == 103 && found->owner == 104);
     begin(STUB_TRY_DELETE_MIN, 2, code::ok);
     check("delete_min waits", member.delete_min()->payload == 102 && stub_asked(STUB_TRY_DELETE_MIN) == 3);
-    begin(STUB_TRY_DELETE_MIN, 0, code::not_open);
-    check("no item where it is not open", !member.delete_min());
+    for (code why : {code::nothing, code::not_open}) {
+        begin(STUB_TRY_DELETE_MIN, 1, why);
+        check("delete_min tells it by a code", member.delete_min(found) == why && found->key == 101);
+        check("or by no item", !member.delete_min());
+    }
+    begin(STUB_TRY_DELETE_MIN, 1, code::ok);
+    found.reset();
+    check("and has one with ok", member.delete_min(found) == code::ok && found->key == 101 && found->payload == 102);
+    check("front, counts and number are those of the member",
+          std::as_const(member).front() == 0 && std::as_const(member).inserted() == 0 && member.number() == 1);
     klsm::queue plain(1);
     klsm::member of_plain = plain.member(0).value();
     klsm::item item{7, 7, 7, 7};
@@ -129,6 +161,97 @@ static void copies() {
         begin(STUB_TRY_DELETE_MIN, 0, code::nothing); // by which the queue ends
     }
     check("the one that was copied is as it was", payload.text == words && copied::alive == 1);
+}
+
+// All numbers of an opening arrive.
+static void openings() {
+    stub_begin();
+    {
+        klsm::typed_queue<counted> named(klsm::options{3, 40, klsm::pick::random, 9, 30, 20});
+        const std::uint64_t numbers[] = {3, 40, KLSM_RANDOM, 9, 30, 20};
+        for (std::uint32_t i = 0; i < 6; i++)
+            check("a number of the options", stub_argument(STUB_OPEN_WITH_BALANCE, i + 1) == numbers[i]);
+        klsm::typed_queue<counted> defaults(5);
+        const klsm_options expected = klsm_defaults(5);
+        check("threads", stub_argument(STUB_OPEN_WITH_BALANCE, 1) == 5 && defaults.threads() == 5);
+        check("the default k", stub_argument(STUB_OPEN_WITH_BALANCE, 2) == expected.k);
+        check("the default refill", stub_argument(STUB_OPEN_WITH_BALANCE, 5) == expected.refill);
+        klsm::typed_queue<counted> with_k(5, 7);
+        check("a k that is named", stub_argument(STUB_OPEN_WITH_BALANCE, 2) == 7);
+        std::optional<klsm::typed_member<counted>> first, other;
+        check("a member", named.member(2, first) == code::ok && first->number() == 2 && !named.member(2));
+        check("why there is none", named.member(2, other) == code::busy && named.member(3, other) == code::bad_count);
+        stub_answer(STUB_TRY_DELETE_MIN, KLSM_NOTHING); // by which the queues end
+    }
+    check("each is dropped", stub_queues() == 0);
+}
+
+// What is refused leaves its block to the next insertion; a member keeps few, and gives them back where it ends.
+static void blocks_are_kept() {
+    klsm::typed_queue<counted> queue(2);
+    long before = blocks;
+    {
+        auto member = queue.member(1).value();
+        counted payload(words);
+        long with_payload = blocks;
+        begin(STUB_TRY_INSERT, 0, code::full);
+        for (int i = 0; i < 3; i++) check("refused", member.try_insert(5, std::move(payload)) == code::full);
+        check("one block does", blocks == with_payload + 1);
+        auto moved = std::move(member);
+        check("it moves with the member", moved.try_insert(5, std::move(payload)) == code::full &&
+                                              blocks == with_payload + 1);
+    }
+    check("and goes with it", blocks == before);
+    {
+        klsm::detail::pool<counted> pool;
+        std::vector<void *> taken(100);
+        long without = blocks;
+        for (void *&one : taken) one = pool.take();
+        check("a block for each", blocks == without + 100);
+        for (void *one : taken) pool.keep(one);
+        check("few are kept", blocks == without + 64);
+        for (int i = 0; i < 64; i++) taken[static_cast<std::size_t>(i)] = pool.take();
+        check("and taken first", blocks == without + 64);
+        for (int i = 0; i < 64; i++) pool.keep(taken[static_cast<std::size_t>(i)]);
+    }
+    check("none is lost", blocks == before);
+    begin(STUB_TRY_DELETE_MIN, 0, code::nothing); // by which the queue ends
+}
+
+// A std::unique_ptr is in the load itself, and is one's own again where it is refused.
+static void owners() {
+    klsm::typed_queue<std::unique_ptr<counted>> queue(1);
+    auto member = queue.member(0).value();
+    auto owned = std::make_unique<counted>(words);
+    counted *const at = owned.get();
+    const long before = blocks;
+    begin(STUB_TRY_INSERT, 0, code::full);
+    check("refused", member.insert(5, std::move(owned)) == code::full && owned.get() == at && alive == 1);
+    begin(STUB_TRY_INSERT, 0, code::ok);
+    check("inserted", member.insert(5, std::move(owned)) == code::ok && owned == nullptr && alive == 1);
+    check("as its address", stub_argument(STUB_TRY_INSERT, 2) == reinterpret_cast<std::uintptr_t>(at));
+    check("with no block", blocks == before);
+    owned.reset(at); // the stub forgets it
+    check("none", member.emplace(5) == code::ok && stub_argument(STUB_TRY_INSERT, 2) == 0);
+    begin(STUB_TRY_DELETE_MIN, 0, code::nothing); // by which the queue ends
+}
+
+// A lambda has no assignment, and is there all the same where it is refused.
+static void lambdas() {
+    std::size_t sum = 0;
+    auto job = [text = std::string(words), &sum] { sum += text.size(); };
+    klsm::typed_queue<decltype(job)> queue(1);
+    auto member = queue.member(0).value();
+    begin(STUB_TRY_INSERT, 0, code::full);
+    check("a lambda is refused", member.insert(5, std::move(job)) == code::full);
+    job();
+    check("and is as it was", sum == std::string(words).size());
+    klsm::typed_item<decltype(job)> one(1, 2, 3, std::move(job)), other(one);
+    one.payload();
+    other = std::move(one);
+    other.payload();
+    check("an item with one is moved", sum == 3 * std::string(words).size() && other.key == 1 && other.owner == 3);
+    begin(STUB_TRY_DELETE_MIN, 0, code::nothing); // by which the queue ends
 }
 
 static void copies_in_the_load() {
@@ -208,6 +331,19 @@ template <class Member> static void pieces(Member &member) {
     check("none is open", counts_are(work, 0, 3));
 }
 
+// What a program has around a member.
+struct around {
+    using item_type = std::uint64_t;
+    klsm::member &of;
+
+    klsm::code delete_min(std::optional<std::uint64_t> &key) noexcept {
+        klsm::item found;
+        klsm::code answer = of.delete_min(found);
+        if (answer == code::ok) key = found.key;
+        return answer;
+    }
+};
+
 static void work() {
     klsm::queue queue(2);
     klsm::member plain = queue.member(1).value();
@@ -218,6 +354,12 @@ static void work() {
     ends(of_typed);
     pieces(of_typed);
     klsm::work work;
+    work.open();
+    around wrapped{plain};
+    begin(STUB_TRY_DELETE_MIN, 1, code::ok);
+    auto piece = work.next(wrapped);
+    check("a piece by what a program has around a member", piece && *piece == 101);
+    piece.done();
     klsm::member gone = std::move(plain);
     begin(STUB_TRY_DELETE_MIN, 0, code::ok);
     check("a member that was moved from is not open", work.next(plain).why() == code::not_open);
@@ -260,13 +402,17 @@ static void insertions_of_work() {
     check("the payload is as it was, and the only one", payload.words == words && alive == 1 && counts_are(work, 0, 0));
     klsm::typed_queue<thrower> queue_of_throwers(1);
     auto of_throwers = queue_of_throwers.member(0).value();
-    bool threw = false;
-    try {
-        (void)work.emplace(of_throwers, 5, 1);
-    } catch (int) {
-        threw = true;
+    int threw = 0;
+    const long before = blocks;
+    for (int i = 0; i < 3; i++) {
+        try {
+            (void)work.emplace(of_throwers, 5, 1);
+        } catch (int) {
+            threw++;
+        }
     }
-    check("a payload that cannot be made opens nothing", threw && counts_are(work, 0, 0));
+    check("a payload that cannot be made opens nothing", threw == 3 && counts_are(work, 0, 0));
+    check("and leaves its block to the next one", blocks == before + 1);
     check("and is not inserted", stub_asked(STUB_TRY_INSERT) == 3);
     begin(STUB_TRY_DELETE_MIN, 0, code::nothing);
 }
@@ -286,7 +432,11 @@ static void fronts() {
 
 int main() {
     fronts();
+    openings();
     refusals();
+    blocks_are_kept();
+    owners();
+    lambdas();
     copies();
     copies_in_the_load();
     deletions();

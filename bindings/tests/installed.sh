@@ -44,7 +44,9 @@ files() {
 ./include/klsm.hpp
 ./include/klsm_keys.h
 ./include/klsm_tsan.h
+./include/klsm_typed.hpp
 ./include/klsm_work.h
+./include/klsm_work.hpp
 ./lib/cmake/klsm/klsm-config-version.cmake
 ./lib/cmake/klsm/klsm-config.cmake
 ./lib/libklsm.a

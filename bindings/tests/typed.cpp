@@ -7,6 +7,7 @@
 #include <stdexcept>
 #include <string>
 #include <thread>
+#include <tuple>
 #include <type_traits>
 #include <utility>
 #include <vector>
@@ -87,7 +88,7 @@ static void calls() {
 static void ends() {
     check("none is there", alive == 0);
     {
-        klsm::typed_queue<counted> queue(3, 4);
+        klsm::typed_queue<counted> queue(klsm::options{3, 4});
         for (std::size_t t = 0; t < 3; t++) {
             auto member = queue.member(t).value();
             for (std::uint64_t i = 0; i < 50; i++)
@@ -97,7 +98,7 @@ static void ends() {
         check("what is left is there", alive == 149);
     }
     check("and goes with the queue", alive == 0);
-    klsm::typed_queue<counted> queue(3, 4);
+    klsm::typed_queue<counted> queue(klsm::options{3, 4});
     for (std::uint64_t i = 0; i < 50; i++)
         check_or_stop("insert", queue.member(i % 3)->insert(i * 31 % 17, counted(i)) == klsm::code::ok);
     {
@@ -135,6 +136,68 @@ static void small_payloads() {
     check("a double, by its own key", numbers.member(0)->insert(klsm::key_of_double(-2.5), -2.5) == klsm::code::ok);
     auto number = numbers.member(0)->delete_min();
     check("comes back", number && number->payload == -2.5 && klsm::double_of_key(number->key) == -2.5);
+}
+
+// Payloads that have no assignment, or a way of their own to take memory, or a wide alignment.
+struct fixed {
+    const std::uint64_t number;
+    std::string text;
+};
+struct of_its_own {
+    std::string text;
+    static void *operator new(std::size_t) = delete;
+    static void operator delete(void *) = delete;
+};
+struct alignas(64) wide {
+    std::uint64_t numbers[8];
+};
+
+static void any_payloads() {
+    std::uint64_t sum = 0;
+    auto add = [words = std::string(40, 'x'), &sum] { sum += words.size(); };
+    klsm::typed_queue<decltype(add)> jobs(1);
+    auto member = jobs.member(0).value();
+    check("lambdas", member.insert(2, add) == klsm::code::ok && member.insert(1, std::move(add)) == klsm::code::ok);
+    member.delete_min()->payload();
+    check("one is called", sum == 40);
+    auto left = jobs.close().left;
+    check("one is left", left.size() == 1 && left[0].key == 2);
+    left[0].payload();
+    check("and is called", sum == 80);
+    klsm::typed_queue<fixed> fixed_ones(1);
+    check("a const member", fixed_ones.member(0)->insert(1, fixed{7, "seven"}) == klsm::code::ok &&
+                                fixed_ones.member(0)->delete_min()->payload.number == 7);
+    klsm::typed_queue<of_its_own> own(1);
+    check("memory of its own", own.member(0)->insert(1, of_its_own{"seven"}) == klsm::code::ok &&
+                                   own.member(0)->delete_min()->payload.text == "seven");
+    klsm::typed_queue<wide> wides(1);
+    check("a wide one", wides.member(0)->insert(1, wide{{1, 2, 3}}) == klsm::code::ok);
+    auto found = wides.member(0)->delete_min();
+    check("comes back", found && found->payload.numbers[2] == 3);
+    klsm::typed_queue<std::unique_ptr<counted>> owners(1);
+    check("an owner", owners.member(0)->insert(1, std::make_unique<counted>(7)) == klsm::code::ok);
+    check("two", owners.member(0)->emplace(2, new counted(8)) == klsm::code::ok && alive == 2);
+    check("comes back", owners.member(0)->delete_min()->payload->is_whole() && alive == 1);
+}
+
+// What one thread inserts and another one deletes, in a steady flow, and at the end in an order.
+static void ascending_left() {
+    klsm::typed_queue<counted> queue(klsm::options{2, 8});
+    auto one = queue.member(0).value(), other = queue.member(1).value();
+    for (std::uint64_t i = 0; i < 1000; i++) {
+        check_or_stop("insert", one.insert(i * 7919 % 101, counted(i)) == klsm::code::ok);
+        if (i % 3 == 0) check_or_stop("delete", other.delete_min().has_value());
+    }
+    klsm::typed_account<counted> account;
+    check("close", queue.close(account) == klsm::code::ok && queue.close(account) == klsm::code::not_open);
+    check("the account", account.inserted == 1000 && account.deleted == 334 && account.left.size() == 666);
+    bool is_ascending = true;
+    for (std::size_t i = 1; i < account.left.size(); i++) {
+        const auto &before = account.left[i - 1], &after = account.left[i];
+        is_ascending = is_ascending && std::tie(before.key, before.number) < std::tie(after.key, after.number);
+    }
+    check("by key, owner and number", is_ascending && alive == 666);
+    check("the members are closed", one.insert(1, counted(1)) == klsm::code::not_open && !other.delete_min());
 }
 
 // Each piece of work leads to two shorter ones, whose payloads are made by one thread and read by another.
@@ -204,6 +267,8 @@ int main() {
     ends();
     moves();
     small_payloads();
+    any_payloads();
+    ascending_left();
     copies();
     a_crew();
     items_go_before_their_pieces();

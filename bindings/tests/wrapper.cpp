@@ -2,6 +2,7 @@
 #include "klsm.hpp"
 
 #include "check.h"
+#include <atomic>
 #include <cstdlib>
 #include <cstring>
 #include <new>
@@ -40,7 +41,7 @@ static_assert(moves_only<klsm::queue> && moves_only<klsm::member>);
 static void opening_throws(const char *name, std::size_t threads, std::size_t k, klsm::pick how,
                            klsm::code expected) {
     try {
-        klsm::queue queue(threads, k, how);
+        klsm::queue queue(klsm::options{threads, k, how});
         check(name, 0);
     } catch (const klsm::error &why) {
         check(name, why.code() == expected && std::strcmp(why.what(), klsm::text(expected)) == 0);
@@ -70,12 +71,12 @@ static void options_throw(const char *name, const klsm::options &by, klsm::code 
 
 static void options() {
     const klsm::options standard;
-    check("the defaults", standard.threads == 0 && standard.k == 64 && standard.how == klsm::pick::first &&
-                              standard.seed == 0 && !standard.refill && standard.balance == 0);
+    check("the defaults", standard.threads == 0 && standard.k == KLSM_DEFAULT_K && standard.how == klsm::pick::first &&
+                              standard.seed == 0 && standard.refill == KLSM_DEFAULT_REFILL &&
+                              standard.balance == KLSM_DEFAULT_BALANCE);
     options_throw("no threads are named", {}, klsm::code::bad_count);
-    options_throw("a refill above k", {4, 8, klsm::pick::first, 0, 9}, klsm::code::bad_refill);
-    options_throw("above k = 0", {4, 0, klsm::pick::first, 0, 1}, klsm::code::bad_refill);
-    options_throw("k comes before the refill", {4, 1025, klsm::pick::first, 0, 1026}, klsm::code::bad_k);
+    options_throw("k above 1024", {4, 1025, klsm::pick::first, 0, 1026}, klsm::code::bad_k);
+    options_throw("the greatest number as k", {4, SIZE_MAX}, klsm::code::bad_k);
     options_throw("the count comes before k", {65, 1025, klsm::pick::first, 0, 1026}, klsm::code::bad_count);
     options_throw("the pick comes before the count", {65, 1025, klsm::pick(3), 0, 1026}, klsm::code::bad_pick);
     refuses = true;
@@ -98,12 +99,12 @@ static std::uint64_t moved_in(klsm::queue queue) {
 
 static void refills() {
     const klsm::pick first = klsm::pick::first;
-    check("the old constructor has no refill", moved_in(klsm::queue(2)) == 0);
-    check("the default is 16", moved_in(klsm::queue(klsm::options{2})) == 16);
-    check("or k where that is less, into half the room", moved_in(klsm::queue(klsm::options{2, 8})) == 4);
-    check("none with k = 0", moved_in(klsm::queue(klsm::options{2, 0})) == 0);
-    check("a refill that is named", moved_in(klsm::queue(klsm::options{2, 64, first, 0, 5})) == 5);
-    check("0 is none", moved_in(klsm::queue(klsm::options{2, 64, first, 0, 0})) == 0);
+    check("a refill", moved_in(klsm::queue(klsm::options{2, 64, first, 0, 16, 0})) == 16);
+    check("into half the room", moved_in(klsm::queue(klsm::options{2, 8, first, 0, 8, 0})) == 4);
+    check("above k it counts as k", moved_in(klsm::queue(klsm::options{2, 8, first, 0, 9, 0})) == 4);
+    check("none with k = 0", moved_in(klsm::queue(klsm::options{2, 0, first, 0, 16, 0})) == 0);
+    check("a refill of 5", moved_in(klsm::queue(klsm::options{2, 64, first, 0, 5, 0})) == 5);
+    check("0 is none", moved_in(klsm::queue(klsm::options{2, 64, first, 0, 0, 0})) == 0);
 }
 
 // The key of member 1's first deletion, where member 0 keeps the keys from 0 and it has one greater.
@@ -116,8 +117,7 @@ static std::uint64_t first_in(klsm::queue queue) {
 
 static void balances() {
     const klsm::pick first = klsm::pick::first;
-    check("the old constructor has no balance", first_in(klsm::queue(2)) == 100);
-    check("nor has the default", first_in(klsm::queue(klsm::options{2})) == 100);
+    check("no balance", first_in(klsm::queue(klsm::options{2, 64, first, 0, 0, 0})) == 100);
     check("a balance of 1", first_in(klsm::queue(klsm::options{2, 64, first, 0, 0, 1})) == 0);
     check("a balance of 2", first_in(klsm::queue(klsm::options{2, 64, first, 0, 0, 2})) == 100);
 }
@@ -152,7 +152,7 @@ static void members() {
 }
 
 static void calls() {
-    klsm::queue queue(2, 4, klsm::pick::last, 5);
+    klsm::queue queue(klsm::options{2, 4, klsm::pick::last, 5});
     klsm::member member = queue.member(1).value();
     klsm::item item{};
     check("nothing", !member.delete_min() && member.try_delete_min(item) == klsm::code::nothing);
