@@ -1,6 +1,6 @@
 //! Shortest paths from one corner of a grid to all its nodes, by several threads over one queue.
 //!
-//! shortest_paths [SIDE] [THREADS] [K]
+//! shortest_paths [SIDE] [THREADS]
 //!
 //! A label is a node with the length of a path to it: the item's key is the length, its load the node.
 //! The queue is relaxed, so a node may be examined before its shortest path is known. It is then
@@ -8,7 +8,7 @@
 //! open while they wait in the queue or are examined, which `Work` counts. The distances are compared
 //! with those of Dijkstra's algorithm.
 
-use klsm::{InsertError, Member, Pick, Queue, Work};
+use klsm::{InsertError, Member, Queue, Work};
 use std::cmp::Reverse;
 use std::collections::BinaryHeap;
 use std::env;
@@ -81,8 +81,8 @@ impl Search<'_> {
 }
 
 /// The distances, and how many labels were examined.
-fn search(grid: &Grid, threads: usize, k: usize) -> Result<(Vec<u64>, u64), Box<dyn Error>> {
-    let mut queue = Queue::with_pick(threads, k, Pick::Random, 1)?;
+fn search(grid: &Grid, threads: usize) -> Result<(Vec<u64>, u64), Box<dyn Error>> {
+    let mut queue = Queue::new(threads)?;
     let search = Search {
         grid,
         distances: (0..grid.len()).map(|_| AtomicU64::new(u64::MAX)).collect(),
@@ -126,9 +126,9 @@ fn main() -> Result<(), Box<dyn Error>> {
     let numbers: Result<Vec<usize>, _> = env::args().skip(1).map(|word| word.parse()).collect();
     let numbers = numbers?;
     let number = |place: usize, default| numbers.get(place).copied().unwrap_or(default);
-    let (side, threads, k) = (number(0, 300).max(1), number(1, 4), number(2, 64));
+    let (side, threads) = (number(0, 300).max(1), number(1, 4));
     let grid = Grid { side };
-    let (distances, examined) = search(&grid, threads, k)?;
+    let (distances, examined) = search(&grid, threads)?;
     if distances != dijkstra(&grid) {
         return Err("a distance is wrong".into());
     }

@@ -4,11 +4,13 @@ use crate::errors::OpenError;
 use crate::queue::{Pick, Queue};
 use crate::typed::TypedQueue;
 
+// Those of klsm.h, as a test compares.
 const DEFAULT_K: usize = 64;
 const DEFAULT_REFILL: usize = 16;
 const DEFAULT_BALANCE: u32 = 0;
 
-/// The numbers of a queue that is to be opened: what [`Queue::builder`] gives.
+/// The numbers of a queue that is to be opened: what [`Queue::builder`] gives. What is not named is the default, a good
+/// number where many threads share small items: klsm.h has these numbers.
 ///
 /// A deletion that took its item from the shared part moves the smallest shared items to its member's own
 /// part, at most `refill` of them and at most half as many as there is room for, rounded up, so that the
@@ -26,7 +28,7 @@ pub struct Builder {
     k: usize,
     pick: Pick,
     seed: u64,
-    refill: Option<usize>,
+    refill: usize,
     balance: u32,
 }
 
@@ -37,12 +39,12 @@ impl Builder {
             k: DEFAULT_K,
             pick: Pick::First,
             seed: 0,
-            refill: None,
+            refill: DEFAULT_REFILL,
             balance: DEFAULT_BALANCE,
         }
     }
 
-    /// How many items each member keeps for itself at most, 0 to 1,024. It is 64 until it is named.
+    /// How many items each member keeps for itself at most, 0 to 1,024.
     pub fn k(&mut self, k: usize) -> &mut Builder {
         self.k = k;
         self
@@ -60,14 +62,14 @@ impl Builder {
         self
     }
 
-    /// How many items a deletion moves at most, 0 to k. It is the smaller of 16 and k until it is named.
+    /// How many items a deletion moves at most, 0 for none. A number above k counts as k.
     pub fn refill(&mut self, refill: usize) -> &mut Builder {
-        self.refill = Some(refill);
+        self.refill = refill;
         self
     }
 
     /// How often a member balances with another one: before each `balance`-th of its deletions, and never where
-    /// this is 0. It is 0 until it is named.
+    /// this is 0.
     pub fn balance(&mut self, balance: u32) -> &mut Builder {
         self.balance = balance;
         self
@@ -79,7 +81,7 @@ impl Builder {
     ///
     /// A number is out of its range, memory was refused, or the library is of another version.
     pub fn open(&self) -> Result<Queue, OpenError> {
-        let refill = self.refill.unwrap_or(self.k.min(DEFAULT_REFILL));
+        let refill = self.refill.min(self.k);
         let (pick, seed, balance) = (self.pick, self.seed, self.balance);
         Queue::open(self.threads, self.k, pick, seed, refill, balance)
     }

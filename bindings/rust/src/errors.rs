@@ -12,14 +12,17 @@ pub struct Busy;
 /// Why a queue is not made. The causes are tried in this order.
 #[derive(Clone, Copy, Debug, PartialEq, Eq)]
 pub enum OpenError {
-    /// The library is of another version of the interface: its own, then the one of this crate.
-    Version(u32, u32),
+    /// The library has another binary interface than the one that this crate expects.
+    Version {
+        /// That of the library.
+        found: u32,
+        /// That of this crate.
+        expected: u32,
+    },
     /// Not 1 to 64 threads.
     BadThreads,
     /// k is above 1,024.
     BadK,
-    /// The refill is above k.
-    BadRefill,
     /// Memory was refused.
     NoMemory,
 }
@@ -108,15 +111,14 @@ impl fmt::Display for Busy {
 impl fmt::Display for OpenError {
     fn fmt(&self, to: &mut fmt::Formatter<'_>) -> fmt::Result {
         match self {
-            OpenError::Version(has, wanted) => {
+            OpenError::Version { found, expected } => {
                 write!(
                     to,
-                    "the library's interface is of version {has}, not {wanted}"
+                    "the library's interface is of version {found}, not {expected}"
                 )
             }
             OpenError::BadThreads => to.write_str("the number of threads is not 1 to 64"),
             OpenError::BadK => to.write_str("k is above 1024"),
-            OpenError::BadRefill => to.write_str("the refill is above k"),
             OpenError::NoMemory => to.write_str(MEMORY_TEXT),
         }
     }

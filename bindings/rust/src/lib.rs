@@ -4,13 +4,13 @@
 //! queue never reads. A [`Queue`] of T threads and k has T members. Each [`Member`] is used by one
 //! thread at a time, and keeps up to k items for itself; all share the others. A deletion gives one
 //! of the small items: at most T·k smaller ones are in the queue at that moment. With k = 0 it gives
-//! the smallest.
+//! the smallest. [`Queue::new`] takes a k that suits many threads, and [`Queue::builder`] the one that is named.
 //!
 //! ```
 //! use klsm::Queue;
 //!
 //! # fn main() -> Result<(), Box<dyn std::error::Error>> {
-//! let mut queue = Queue::new(4, 64)?;
+//! let mut queue = Queue::new(4)?;
 //! std::thread::scope(|scope| {
 //!     for mut member in queue.members() {
 //!         scope.spawn(move || {
@@ -36,8 +36,8 @@
 //! A [`Member`] borrows its queue: it is for scoped threads. [`Queue::into_members`] gives members that
 //! own the queue together, for a pool and for threads that borrow nothing. The items of a [`TypedQueue`]
 //! carry payloads of a type, such as a `String` or a `Box`, where those of a [`Queue`] have a number.
-//! Where items lead to more items, [`Work`] tells a crew of threads when all is done. Keys that are no whole numbers of 64 bits are made by
-//! [`key_of_f64`], [`key_of_i64`], [`key_of_node`] and [`key_of_bound`].
+//! Where items lead to more items, [`Work`] tells a crew of threads when all is done. Keys that are no whole
+//! numbers of 64 bits are made by [`key_of_f64`], [`key_of_i64`], [`key_of_node`] and [`key_of_bound`].
 //!
 //! # What is behind it
 //!
@@ -58,7 +58,7 @@
 //! A queue cannot be finished while a member is in use:
 //!
 //! ```compile_fail,E0505
-//! let mut queue = klsm::Queue::new(2, 4).unwrap();
+//! let mut queue = klsm::Queue::new(2).unwrap();
 //! let mut member = queue.members().next().unwrap();
 //! queue.finish().unwrap();
 //! member.delete_min();
@@ -67,7 +67,7 @@
 //! nor after it was finished:
 //!
 //! ```compile_fail,E0382
-//! let mut queue = klsm::Queue::new(2, 4).unwrap();
+//! let mut queue = klsm::Queue::new(2).unwrap();
 //! queue.finish().unwrap();
 //! queue.members();
 //! ```
@@ -77,7 +77,7 @@
 //! ```compile_fail,E0597
 //! let mut members = Vec::new();
 //! {
-//!     let mut queue = klsm::Queue::new(2, 4).unwrap();
+//!     let mut queue = klsm::Queue::new(2).unwrap();
 //!     members.extend(queue.members());
 //! }
 //! members[0].delete_min();
@@ -86,7 +86,7 @@
 //! The members of a queue are given once at a time, so no two threads have the same one:
 //!
 //! ```compile_fail,E0499
-//! let mut queue = klsm::Queue::new(2, 4).unwrap();
+//! let mut queue = klsm::Queue::new(2).unwrap();
 //! let mut one = queue.members().next().unwrap();
 //! let mut same = queue.members().next().unwrap();
 //! one.delete_min();
@@ -96,7 +96,7 @@
 //! nor is a member copied:
 //!
 //! ```compile_fail,E0382
-//! let mut queue = klsm::Queue::new(2, 4).unwrap();
+//! let mut queue = klsm::Queue::new(2).unwrap();
 //! let mut member = queue.members().next().unwrap();
 //! let mut same = member;
 //! member.delete_min();
@@ -106,7 +106,7 @@
 //! or shared between threads:
 //!
 //! ```compile_fail,E0277
-//! let mut queue = klsm::Queue::new(2, 4).unwrap();
+//! let mut queue = klsm::Queue::new(2).unwrap();
 //! let member = queue.members().next().unwrap();
 //! std::thread::scope(|scope| {
 //!     scope.spawn(|| member.inserted_count());
@@ -116,7 +116,7 @@
 //! and neither is one that owns its queue with the others:
 //!
 //! ```compile_fail,E0277
-//! let member = klsm::Queue::new(1, 4).unwrap().into_members().remove(0);
+//! let member = klsm::Queue::new(1).unwrap().into_members().remove(0);
 //! std::thread::scope(|scope| {
 //!     scope.spawn(|| member.inserted_count());
 //! });
@@ -125,7 +125,7 @@
 //! A queue may be shared, but what is shared neither lends its members nor counts what is left:
 //!
 //! ```compile_fail,E0596
-//! let queue = std::sync::Arc::new(klsm::Queue::new(2, 4).unwrap());
+//! let queue = std::sync::Arc::new(klsm::Queue::new(2).unwrap());
 //! queue.left();
 //! ```
 //!
@@ -133,16 +133,16 @@
 //! be exchanged:
 //!
 //! ```compile_fail,E0614
-//! let mut one = klsm::Queue::new(1, 4).unwrap();
-//! let mut other = klsm::Queue::new(1, 4).unwrap();
+//! let mut one = klsm::Queue::new(1).unwrap();
+//! let mut other = klsm::Queue::new(1).unwrap();
 //! let mut a = one.members().next().unwrap();
 //! let mut b = other.members().next().unwrap();
 //! std::mem::swap(&mut *a, &mut *b);
 //! ```
 //!
 //! ```compile_fail,E0616
-//! let mut one = klsm::Queue::new(1, 4).unwrap();
-//! let mut other = klsm::Queue::new(1, 4).unwrap();
+//! let mut one = klsm::Queue::new(1).unwrap();
+//! let mut other = klsm::Queue::new(1).unwrap();
 //! let mut a = one.members().next().unwrap();
 //! let mut b = other.members().next().unwrap();
 //! std::mem::swap(a.slot, b.slot);
@@ -153,19 +153,19 @@
 //! A [`TypedQueue`] has payloads that threads may send to each other:
 //!
 //! ```compile_fail,E0277
-//! klsm::TypedQueue::<std::rc::Rc<u32>>::new(2, 4).unwrap();
+//! klsm::TypedQueue::<std::rc::Rc<u32>>::new(2).unwrap();
 //! ```
 //!
 //! and that live as long as it says:
 //!
 //! ```compile_fail,E0597
-//! let mut queue = klsm::TypedQueue::<&'static str>::new(2, 4).unwrap();
+//! let mut queue = klsm::TypedQueue::<&'static str>::new(2).unwrap();
 //! let text = "short".to_string();
 //! queue.members().next().unwrap().insert(1, &text).unwrap();
 //! ```
 //!
 //! ```compile_fail,E0597
-//! let mut members = klsm::TypedQueue::<&'static str>::new(2, 4).unwrap().into_members();
+//! let mut members = klsm::TypedQueue::<&'static str>::new(2).unwrap().into_members();
 //! let text = "short".to_string();
 //! members.remove(0).insert(1, &text).unwrap();
 //! members[0].delete_min();

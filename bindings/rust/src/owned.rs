@@ -82,7 +82,7 @@ impl<Q> Part<Q> {
 /// ```
 /// # fn main() -> Result<(), Box<dyn std::error::Error>> {
 /// let mut threads = Vec::new();
-/// for mut member in klsm::Queue::new(4, 64)?.into_members() {
+/// for mut member in klsm::Queue::new(4)?.into_members() {
 ///     threads.push(std::thread::spawn(move || {
 ///         for i in 0..1_000 {
 ///             member.insert(i, 7).expect("there is room");

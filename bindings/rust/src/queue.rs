@@ -52,25 +52,14 @@ pub struct Queue {
 unsafe impl Sync for Queue {}
 
 impl Queue {
-    /// Opens a queue for `threads` threads, 1 to 64, each of which keeps at most `k` items for itself,
-    /// 0 to 1,024. Where a deletion takes a shared item, it is the smallest, and it moves no others. It takes
-    /// memory, and no lock. [`builder`](Queue::builder) names more.
+    /// Opens a queue for `threads` threads, 1 to 64, with the defaults. It takes memory, and no lock.
+    /// [`builder`](Queue::builder) names other numbers.
     ///
     /// # Errors
     ///
-    /// A number is out of its range, memory was refused, or the library is of another version.
-    pub fn new(threads: usize, k: usize) -> Result<Queue, OpenError> {
-        Queue::with_pick(threads, k, Pick::First, 0)
-    }
-
-    /// Opens a queue as [`new`](Queue::new) does, whose deletions take the shared item that `pick`
-    /// says. Only [`Pick::Random`] has a use for `seed`.
-    ///
-    /// # Errors
-    ///
-    /// Those of [`new`](Queue::new).
-    pub fn with_pick(threads: usize, k: usize, pick: Pick, seed: u64) -> Result<Queue, OpenError> {
-        Queue::open(threads, k, pick, seed, 0, 0)
+    /// The number is out of its range, out of memory, or the library is of another version.
+    pub fn new(threads: usize) -> Result<Queue, OpenError> {
+        Queue::builder(threads).open()
     }
 
     /// Begins a queue for `threads` threads, 1 to 64, whose other numbers are the defaults of a
@@ -99,7 +88,10 @@ impl Queue {
         // SAFETY: the call takes nothing and answers a constant.
         let version = unsafe { sys::klsm_abi() };
         if version != sys::ABI {
-            return Err(OpenError::Version(version, sys::ABI));
+            return Err(OpenError::Version {
+                found: version,
+                expected: sys::ABI,
+            });
         }
         let mut slots = Box::new(Slots::closed());
         let (at, pick): (*mut Slots, _) = (&mut *slots, pick as u32);
@@ -108,7 +100,6 @@ impl Queue {
             code::OK => Ok(Queue { slots, threads }),
             code::BAD_COUNT => Err(OpenError::BadThreads),
             code::BAD_K => Err(OpenError::BadK),
-            code::BAD_REFILL => Err(OpenError::BadRefill),
             code::NO_MEMORY => Err(OpenError::NoMemory),
             other => sys::unexpected("klsm_open_with_balance", other),
         }

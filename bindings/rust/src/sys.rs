@@ -27,7 +27,6 @@ pub(crate) mod code {
     pub(crate) const BAD_COUNT: i32 = 8;
     pub(crate) const BAD_K: i32 = 9;
     pub(crate) const SHARED: i32 = 11;
-    pub(crate) const BAD_REFILL: i32 = 12;
 }
 
 /// One member's slot, on two cache lines, since processors fetch two at once.

@@ -38,7 +38,7 @@ use std::sync::atomic::{AtomicBool, AtomicU64, AtomicUsize};
 /// }
 ///
 /// # fn main() -> Result<(), Box<dyn std::error::Error>> {
-/// let mut queue = Queue::new(4, 8)?;
+/// let mut queue = Queue::new(4)?;
 /// let work = Work::new();
 /// for mut member in queue.members().take(1) {
 ///     work.insert(&mut member, 0, 64)?; // before the crew begins
@@ -299,7 +299,7 @@ impl Drop for Open<'_> {
 /// # fn main() -> Result<(), Box<dyn std::error::Error>> {
 /// use klsm::{End, TypedQueue, Work};
 ///
-/// let mut queue = TypedQueue::new(1, 4)?;
+/// let mut queue = TypedQueue::new(1)?;
 /// let mut member = queue.members().next().ok_or("no member")?;
 /// let work = Work::new();
 /// work.insert(&mut member, 1, "one".to_string())?;

@@ -4,7 +4,7 @@ use klsm::{Builder, InsertError, Item, OpenError, Pick, Queue, TryInsertError};
 
 #[test]
 fn the_counts_of_an_opening_are_judged_in_their_order() {
-    let refusal = |threads, k| Queue::new(threads, k).err();
+    let refusal = |threads, k| Queue::builder(threads).k(k).refill(0).open().err();
     assert_eq!(refusal(0, 4), Some(OpenError::BadThreads));
     assert_eq!(refusal(65, 4), Some(OpenError::BadThreads));
     assert_eq!(refusal(65, 1_025), Some(OpenError::BadThreads));
@@ -16,11 +16,11 @@ fn the_counts_of_an_opening_are_judged_in_their_order() {
 }
 
 #[test]
-fn a_refill_is_judged_after_the_counts() {
+fn a_refill_above_k_counts_as_k() {
     let refusal = |threads, k, refill| Queue::builder(threads).k(k).refill(refill).open().err();
-    assert_eq!(refusal(4, 8, 9), Some(OpenError::BadRefill));
-    assert_eq!(refusal(4, 0, 1), Some(OpenError::BadRefill));
-    assert_eq!(refusal(4, 64, usize::MAX), Some(OpenError::BadRefill));
+    assert_eq!(refusal(4, 8, 9), None);
+    assert_eq!(refusal(4, 0, 1), None);
+    assert_eq!(refusal(4, 64, usize::MAX), None);
     assert_eq!(refusal(4, 1_025, 1_026), Some(OpenError::BadK));
     assert_eq!(refusal(65, 8, 9), Some(OpenError::BadThreads));
     assert_eq!(refusal(0, 1_025, 1_026), Some(OpenError::BadThreads));
@@ -50,22 +50,18 @@ fn moved_in(mut queue: Queue) -> u64 {
 }
 
 #[test]
-fn the_numbers_that_are_not_named_are_the_defaults() {
+fn a_refill_moves_items() {
     let moved_by = |builder: &mut Builder| moved_in(builder.open().unwrap());
-    assert_eq!(moved_in(Queue::new(2, 64).unwrap()), 0);
-    assert_eq!(moved_by(&mut Queue::builder(2)), 16);
-    assert_eq!(moved_by(Queue::builder(2).k(8)), 4);
-    assert_eq!(moved_by(Queue::builder(2).k(0)), 0);
-    assert_eq!(moved_by(Queue::builder(2).refill(5)), 5);
-    assert_eq!(moved_by(Queue::builder(2).refill(0)), 0);
+    let named = |k, refill| moved_by(Queue::builder(2).k(k).refill(refill).balance(0));
+    assert_eq!(named(64, 16), 16);
+    assert_eq!(named(64, 5), 5);
+    assert_eq!(named(64, 0), 0);
+    assert_eq!(named(8, 8), 4);
+    assert_eq!(named(8, 16), 4);
+    assert_eq!(named(0, 16), 0);
     let (one, other) = (
         Queue::builder(2),
-        Queue::builder(2)
-            .seed(0)
-            .pick(Pick::First)
-            .k(64)
-            .balance(0)
-            .clone(),
+        Queue::builder(2).seed(0).pick(Pick::First).clone(),
     );
     assert_eq!(format!("{one:?}"), format!("{other:?}"));
 }
@@ -109,7 +105,7 @@ fn a_pick_and_a_seed_arrive() {
 
 #[test]
 fn an_item_comes_back_as_it_was_given() {
-    let mut queue = Queue::with_pick(5, 3, Pick::Random, 77).unwrap();
+    let mut queue = Queue::builder(5).k(3).pick(Pick::Random).seed(77).refill(0).open().unwrap();
     let (key, load) = (0xfedc_ba98_7654_3210, 0x0123_4567_89ab_cdef);
     let mut member = queue.members().nth(3).unwrap();
     assert_eq!(member.number(), 3);
@@ -130,7 +126,7 @@ fn an_item_comes_back_as_it_was_given() {
 
 #[test]
 fn each_member_is_lent_once_and_again() {
-    let mut queue = Queue::new(64, 0).unwrap();
+    let mut queue = Queue::builder(64).k(0).refill(0).open().unwrap();
     assert_eq!(queue.threads(), 64);
     for round in 0..2 {
         let members: Vec<_> = queue.members().collect();
@@ -148,7 +144,7 @@ fn each_member_is_lent_once_and_again() {
 
 #[test]
 fn what_is_left_is_given_in_ascending_order() {
-    let mut queue = Queue::new(2, 2).unwrap();
+    let mut queue = Queue::builder(2).k(2).refill(0).open().unwrap();
     for mut member in queue.members() {
         for key in [9, 1, 5, 5, 3] {
             member.insert(key, 10 * key).unwrap();
@@ -165,23 +161,22 @@ fn what_is_left_is_given_in_ascending_order() {
 
 #[test]
 fn a_queue_with_items_may_be_dropped() {
-    let mut queue = Queue::new(3, 8).unwrap();
+    let mut queue = Queue::builder(3).k(8).refill(0).open().unwrap();
     for mut member in queue.members() {
         for key in 0..100 {
             member.insert(key, 0).unwrap();
         }
     }
     drop(queue);
-    drop(Queue::new(1, 0).unwrap());
+    drop(Queue::builder(1).k(0).refill(0).open().unwrap());
 }
 
 #[test]
 fn errors_have_a_text_each() {
     let texts = [
-        OpenError::Version(2, 1).to_string(),
+        OpenError::Version { found: 2, expected: 1 }.to_string(),
         OpenError::BadThreads.to_string(),
         OpenError::BadK.to_string(),
-        OpenError::BadRefill.to_string(),
         OpenError::NoMemory.to_string(),
         InsertError::Spent.to_string(),
         InsertError::Full.to_string(),
@@ -193,6 +188,6 @@ fn errors_have_a_text_each() {
     for why in [InsertError::Spent, InsertError::Full, InsertError::NoMemory] {
         assert_eq!(TryInsertError::from(why).to_string(), why.to_string());
     }
-    let boxed: Box<dyn std::error::Error> = Box::new(Queue::new(1, 1_025).unwrap_err());
+    let boxed: Box<dyn std::error::Error> = Box::new(Queue::builder(1).k(1_025).refill(0).open().unwrap_err());
     assert_eq!(boxed.to_string(), "k is above 1024");
 }

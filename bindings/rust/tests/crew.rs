@@ -8,7 +8,7 @@ const THREADS: usize = 4;
 
 /// A piece of so many levels leads to two with a level less. What each thread found, by its load.
 fn crew(k: usize, levels: u64) -> Vec<u64> {
-    let mut queue = Queue::new(THREADS, k).unwrap();
+    let mut queue = Queue::builder(THREADS).k(k).refill(0).open().unwrap();
     let work = &Work::new();
     let mut first = queue.members().next().unwrap();
     work.insert(&mut first, 0, levels).unwrap();
@@ -58,7 +58,7 @@ fn a_crew_ends_when_all_is_done() {
 #[test]
 fn a_crew_of_threads_that_borrow_nothing() {
     let work = Arc::new(Work::new());
-    let mut members = TypedQueue::<String>::new(THREADS, 8)
+    let mut members = klsm::Queue::builder(THREADS).k(8).refill(0).open_typed::<String>()
         .unwrap()
         .into_members();
     for (key, letter) in (0..).zip('a'..='z') {

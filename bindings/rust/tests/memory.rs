@@ -16,7 +16,7 @@ fn without_memory<T>(call: impl FnOnce() -> T) -> T {
 
 #[test]
 fn a_refused_finish_gives_the_queue_back() {
-    let mut queue = Queue::new(2, 4).unwrap();
+    let mut queue = Queue::builder(2).k(4).refill(0).open().unwrap();
     for mut member in queue.members() {
         for key in 0..10_000 {
             member.insert(key, key).unwrap();
@@ -35,7 +35,7 @@ fn a_refused_finish_gives_the_queue_back() {
 
 #[test]
 fn a_refused_finish_gives_the_payloads_back() {
-    let mut queue = TypedQueue::new(2, 4).unwrap();
+    let mut queue = klsm::Queue::builder(2).k(4).refill(0).open_typed().unwrap();
     for mut member in queue.members() {
         for key in 0..10_000 {
             member.insert(key, key.to_string()).unwrap();
@@ -54,7 +54,7 @@ fn a_refused_finish_gives_the_payloads_back() {
 
 #[test]
 fn a_payload_for_which_memory_is_refused_comes_back() {
-    let mut queue = TypedQueue::new(2, 4).unwrap();
+    let mut queue = klsm::Queue::builder(2).k(4).refill(0).open_typed().unwrap();
     let mut member = queue.members().next().unwrap();
     let payload = "payload".to_string();
     let refused = without_memory(|| member.insert(1, payload)).unwrap_err();
@@ -71,7 +71,7 @@ fn a_payload_for_which_memory_is_refused_comes_back() {
 
 #[test]
 fn a_payload_of_no_bytes_takes_no_memory() {
-    let mut queue = TypedQueue::new(1, 4).unwrap();
+    let mut queue = klsm::Queue::builder(1).k(4).refill(0).open_typed().unwrap();
     let mut member = queue.members().next().unwrap();
     without_memory(|| member.insert(1, ())).unwrap();
     assert_eq!(member.delete_min().map(|item| item.key), Some(1));
@@ -80,7 +80,7 @@ fn a_payload_of_no_bytes_takes_no_memory() {
 #[test]
 fn a_queue_of_payloads_is_dropped_without_memory() {
     let payload = Arc::new(7);
-    let mut queue = TypedQueue::new(2, 4).unwrap();
+    let mut queue = klsm::Queue::builder(2).k(4).refill(0).open_typed().unwrap();
     for mut member in queue.members() {
         for key in 0..10_000 {
             member.insert(key, payload.clone()).unwrap();
@@ -100,7 +100,7 @@ fn each_payload_gives_its_block_back() {
     ];
     for end in ends {
         let before = BLOCKS.get();
-        let mut queue = TypedQueue::new(1, 4).unwrap();
+        let mut queue = klsm::Queue::builder(1).k(4).refill(0).open_typed().unwrap();
         let mut member = queue.members().next().unwrap();
         let opened = BLOCKS.get();
         for key in 0..1_000 {

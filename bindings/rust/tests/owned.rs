@@ -62,7 +62,7 @@ fn each_load_is_deleted_or_left_once() {
 
 #[test]
 fn the_last_one_that_is_given_back_gets_the_queue() {
-    let mut members = Queue::new(3, 8).unwrap().into_members();
+    let mut members = Queue::builder(3).k(8).refill(0).open().unwrap().into_members();
     for member in &mut members {
         let number = u64::from(member.number());
         member.insert(9 - number, number).unwrap();
@@ -92,7 +92,7 @@ fn given_back(member: OwnedMember, ready: &AtomicUsize) -> Option<Queue> {
 fn one_gets_the_queue_where_all_are_given_back_at_once() {
     for _ in 0..300 {
         let ready = AtomicUsize::new(0);
-        let members = Queue::new(THREADS, 8).unwrap().into_members();
+        let members = Queue::builder(THREADS).k(8).refill(0).open().unwrap().into_members();
         let queue = thread::scope(|scope| {
             let give = |member| scope.spawn(|| given_back(member, &ready));
             let running: Vec<_> = members.into_iter().map(give).collect();
@@ -104,7 +104,7 @@ fn one_gets_the_queue_where_all_are_given_back_at_once() {
 
 #[test]
 fn a_queue_that_is_given_back_goes_on() {
-    let mut queue = Queue::new(2, 8).unwrap();
+    let mut queue = Queue::builder(2).k(8).refill(0).open().unwrap();
     queue.members().next().unwrap().insert(1, 10).unwrap();
     for round in 0..3 {
         let mut members = queue.into_members();
@@ -118,8 +118,8 @@ fn a_queue_that_is_given_back_goes_on() {
 /// Each keeps the way to its own slot, in its own queue.
 #[test]
 fn members_of_two_queues_may_change_places() {
-    let mut members = Queue::new(2, 8).unwrap().into_members();
-    let mut others = Queue::new(2, 8).unwrap().into_members();
+    let mut members = Queue::builder(2).k(8).refill(0).open().unwrap().into_members();
+    let mut others = Queue::builder(2).k(8).refill(0).open().unwrap().into_members();
     std::mem::swap(&mut members[0], &mut others[1]);
     members[0].insert(1, 10).unwrap();
     others[1].insert(2, 20).unwrap();
@@ -132,7 +132,7 @@ fn members_of_two_queues_may_change_places() {
 
 #[test]
 fn a_member_outlives_the_others() {
-    let mut members = Queue::new(16, 8).unwrap().into_members();
+    let mut members = Queue::builder(16).k(8).refill(0).open().unwrap().into_members();
     for member in &mut members {
         for key in 0..100 {
             member.insert(key, key).unwrap();
@@ -149,7 +149,7 @@ fn a_member_outlives_the_others() {
 
 #[test]
 fn a_member_that_panics_leaves_its_items_to_the_others() {
-    let mut members = Queue::new(2, 8).unwrap().into_members();
+    let mut members = Queue::builder(2).k(8).refill(0).open().unwrap().into_members();
     let mut lost = members.pop().unwrap();
     let panicked = thread::spawn(move || {
         lost.insert(1, 10).unwrap();
@@ -163,7 +163,7 @@ fn a_member_that_panics_leaves_its_items_to_the_others() {
 #[test]
 fn an_owned_member_is_lent_as_one_that_borrows() {
     let insert = |mut member: Member<'_>| member.insert(7, 70).unwrap();
-    let mut members = Queue::new(2, 8).unwrap().into_members();
+    let mut members = Queue::builder(2).k(8).refill(0).open().unwrap().into_members();
     insert(members[1].lend());
     assert_eq!(members[1].lend().number(), 1);
     assert_eq!(members[1].inserted_count(), 1);

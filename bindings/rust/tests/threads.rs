@@ -27,7 +27,7 @@ fn queues_and_their_errors_may_be_shared() {
 
 /// As a program has it whose errors go from thread to thread.
 fn deleted() -> Result<u64, Box<dyn Error + Send + Sync>> {
-    let mut queue = Queue::new(2, 8)?;
+    let mut queue = Queue::builder(2).k(8).refill(0).open()?;
     let mut member = queue.members().next().ok_or("no member")?;
     member.insert(1, 10)?;
     member.try_insert(2, 20)?;
@@ -42,7 +42,7 @@ fn each_error_becomes_one_that_may_be_shared() {
 
 #[test]
 fn a_shared_queue_says_how_many_members_it_has() {
-    let queue = Queue::new(3, 8).unwrap();
+    let queue = Queue::builder(3).k(8).refill(0).open().unwrap();
     thread::scope(|scope| {
         for _ in 0..2 {
             scope.spawn(|| assert_eq!(queue.threads(), 3));
@@ -159,7 +159,7 @@ fn the_account_is_exact_with_the_most_threads() {
 
 #[test]
 fn a_member_changes_threads_between_calls() {
-    let mut queue = Queue::new(2, 8).unwrap();
+    let mut queue = Queue::builder(2).k(8).refill(0).open().unwrap();
     thread::scope(|scope| {
         let (to, from) = mpsc::channel::<Member<'_>>();
         let mut members = queue.members();
@@ -182,7 +182,7 @@ fn a_member_changes_threads_between_calls() {
 
 #[test]
 fn a_queue_changes_threads_with_its_items() {
-    let mut queue = Queue::new(1, 8).unwrap();
+    let mut queue = Queue::builder(1).k(8).refill(0).open().unwrap();
     queue.members().next().unwrap().insert(5, 50).unwrap();
     let account = thread::spawn(move || queue.finish().unwrap())
         .join()

@@ -188,7 +188,7 @@ fn threads_drop_each_payload_once() {
 #[test]
 fn what_a_thread_that_panics_inserted_is_dropped_once() {
     let drops = Drops::of(200);
-    let mut queue = TypedQueue::new(2, 64).unwrap();
+    let mut queue = klsm::Queue::builder(2).k(64).refill(0).open_typed().unwrap();
     let panicked = catch_unwind(AssertUnwindSafe(|| {
         thread::scope(|scope| {
             for mut member in queue.members() {
@@ -222,7 +222,7 @@ impl Drop for Panics {
 #[test]
 fn a_drop_that_panics_keeps_no_other() {
     let drops = Drops::of(100);
-    let mut queue = TypedQueue::new(2, 4).unwrap();
+    let mut queue = klsm::Queue::builder(2).k(4).refill(0).open_typed().unwrap();
     for (number, mut member) in queue.members().enumerate() {
         for i in 50 * number..50 * (number + 1) {
             assert!(member.insert(i as u64, Panics(drops.payload(i))).is_ok());
@@ -271,7 +271,7 @@ fn members_that_own_a_queue_give_it_back() {
 
 /// Payloads come back as they went in: deleted, and left at the end.
 fn come_back<T: Send + Clone + PartialEq + Debug>(payloads: &[T]) {
-    let mut queue = TypedQueue::new(1, 4).unwrap();
+    let mut queue = klsm::Queue::builder(1).k(4).refill(0).open_typed().unwrap();
     let mut member = queue.members().next().unwrap();
     for (key, payload) in (0..).zip(payloads) {
         member.insert(key, payload.clone()).unwrap();
@@ -308,7 +308,7 @@ fn payloads_of_each_size_come_back() {
 #[test]
 fn a_payload_may_borrow() {
     let words = ["one".to_string(), "two".to_string()];
-    let mut queue = TypedQueue::<&str>::new(2, 4).unwrap();
+    let mut queue = klsm::Queue::builder(2).k(4).refill(0).open_typed::<&str>().unwrap();
     for (word, mut member) in words.iter().zip(queue.members()) {
         member.insert(1, word).unwrap();
     }
@@ -332,7 +332,7 @@ fn what_may_be_sent_and_shared() {
 
 #[test]
 fn texts_name_no_payload() {
-    let mut queue = TypedQueue::<Cell<u32>>::new(2, 4).unwrap();
+    let mut queue = klsm::Queue::builder(2).k(4).refill(0).open_typed::<Cell<u32>>().unwrap();
     assert_eq!(format!("{queue:?}"), "TypedQueue { threads: 2, .. }");
     let mut members = queue.members();
     let text = "TypedMembers(Members { remaining: 2 })";

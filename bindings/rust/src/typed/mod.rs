@@ -53,7 +53,7 @@ impl<T> TypedItem<T> {
 ///
 /// ```
 /// # fn main() -> Result<(), Box<dyn std::error::Error>> {
-/// let mut queue = klsm::TypedQueue::new(4, 64)?;
+/// let mut queue = klsm::TypedQueue::new(4)?;
 /// let mut member = queue.members().next().ok_or("no member")?; // to be sent to its thread
 /// member.insert(7, "seven".to_string())?;
 /// member.insert(3, "three".to_string())?;
@@ -79,11 +79,11 @@ impl<T> TypedQueue<T> {
     /// # Errors
     ///
     /// Those of [`Queue::new`].
-    pub fn new(threads: usize, k: usize) -> Result<TypedQueue<T>, OpenError>
+    pub fn new(threads: usize) -> Result<TypedQueue<T>, OpenError>
     where
         T: Send,
     {
-        Queue::new(threads, k).map(TypedQueue::over)
+        Queue::builder(threads).open_typed()
     }
 
     /// The typed queue over one that was just opened.

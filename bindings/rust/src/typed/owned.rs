@@ -15,7 +15,7 @@ use std::fmt;
 /// ```
 /// # fn main() -> Result<(), Box<dyn std::error::Error>> {
 /// type Task = Box<dyn FnOnce() -> u64 + Send>;
-/// let mut members = klsm::TypedQueue::<Task>::new(2, 8)?.into_members();
+/// let mut members = klsm::TypedQueue::<Task>::new(2)?.into_members();
 /// members[0].insert(5, Box::new(|| 50))?;
 /// let threads = members.into_iter().map(|mut member| {
 ///     std::thread::spawn(move || member.delete_min().map(|item| (item.payload)()))

@@ -15,7 +15,7 @@ const WRITTEN: Item = Item {
 
 /// What a call by member 2 says.
 fn said<T: Debug>(call: impl FnOnce(&mut klsm::Member<'_>) -> T) -> String {
-    let mut queue = Queue::new(3, 4).unwrap();
+    let mut queue = Queue::new(3).unwrap();
     let mut member = queue.members().nth(2).unwrap();
     stub::said(|| call(&mut member))
 }
@@ -108,7 +108,7 @@ fn a_held_lock_is_busy() {
 #[test]
 fn each_member_has_its_own_slot() {
     stub::begin();
-    let mut queue = Queue::new(16, 4).unwrap();
+    let mut queue = Queue::new(16).unwrap();
     let first = stub::argument(Call::OpenWithBalance, 0);
     assert_eq!(queue.members().len(), 16);
     for (number, mut member) in (0..).zip(queue.members()) {
@@ -127,7 +127,7 @@ fn counts_are_those_of_the_library() {
     assert_asked(Call::Inserted, 1);
     assert_eq!(said(|member| member.deleted_count()), "4");
     assert_asked(Call::Deleted, 1);
-    assert_eq!(Queue::new(16, 4).unwrap().left(), 16 * 5);
+    assert_eq!(Queue::new(16).unwrap().left(), 16 * 5);
 }
 
 #[test]

@@ -9,7 +9,7 @@ fn queue_of(each: u64) -> Queue {
     stub::answer(Call::Inserted, 4 + each);
     stub::answer(Call::Deleted, 4);
     stub::leave(12 + 3 * each, 12, 3 * each);
-    Queue::new(3, 4).unwrap()
+    Queue::new(3).unwrap()
 }
 
 /// A closing was made once, of the queue that was opened, into an array of so many items.
@@ -79,10 +79,10 @@ fn each_code_is_its_own_error() {
 #[test]
 fn each_queue_is_dropped_once_wherever_it_was_moved() {
     stub::begin();
-    let mut queues = vec![Queue::new(1, 4).unwrap(), Queue::new(2, 4).unwrap()];
+    let mut queues = vec![Queue::new(1).unwrap(), Queue::new(2).unwrap()];
     queues.swap(0, 1);
     assert_eq!(stub::asked(Call::Drop), 0);
-    queues[0] = Queue::new(3, 4).unwrap();
+    queues[0] = Queue::new(3).unwrap();
     assert_eq!((stub::queues(), stub::asked(Call::Drop)), (2, 1));
     drop(queues);
     assert_eq!((stub::queues(), stub::asked(Call::Drop)), (0, 3));

@@ -15,14 +15,14 @@ fn inserted<M: Insert>(member: &mut M, load: M::Load) -> (Result<(), M::Error>, 
 #[test]
 fn an_insertion_opens_a_piece() {
     stub::begin();
-    let mut queue = Queue::new(3, 4).unwrap();
+    let mut queue = Queue::new(3).unwrap();
     let mut member = queue.members().nth(1).unwrap();
     assert_eq!(inserted(&mut member, 6), (Ok(()), 1));
     let arrived = [1, 2].map(|place| stub::argument(Call::TryInsert, place));
     assert_eq!(arrived, [5, 6]);
     let mut owned = queue.into_members().remove(2);
     assert_eq!(inserted(&mut owned, 6), (Ok(()), 1));
-    let mut typed = TypedQueue::new(3, 4).unwrap();
+    let mut typed = TypedQueue::new(3).unwrap();
     let mut member = typed.members().nth(1).unwrap();
     assert_eq!(inserted(&mut member, ()), (Ok(()), 1));
     let mut owned = typed.into_members().remove(2);
@@ -33,7 +33,7 @@ fn an_insertion_opens_a_piece() {
 #[test]
 fn a_refused_insertion_opens_none() {
     stub::answer_code(Call::TryInsert, 2, stub::code("FULL"));
-    let mut queue = Queue::new(3, 4).unwrap();
+    let mut queue = Queue::new(3).unwrap();
     let mut member = queue.members().nth(1).unwrap();
     assert_eq!(inserted(&mut member, 6), (Err(InsertError::Full), 0));
     let mut owned = queue.into_members().remove(2);
@@ -42,7 +42,7 @@ fn a_refused_insertion_opens_none() {
         payload: "payload".to_string(),
         why: InsertError::Full,
     };
-    let mut typed = TypedQueue::new(3, 4).unwrap();
+    let mut typed = TypedQueue::new(3).unwrap();
     let mut member = typed.members().nth(1).unwrap();
     let answer = inserted(&mut member, refused().payload);
     assert_eq!(answer, (Err(refused()), 0));
@@ -71,10 +71,10 @@ where
 #[test]
 fn each_kind_of_member_gives_pieces() {
     stub::begin();
-    let mut queue = Queue::new(3, 4).unwrap();
+    let mut queue = Queue::new(3).unwrap();
     found(&mut queue.members().nth(1).unwrap());
     found(&mut queue.into_members().remove(1));
-    let mut typed = TypedQueue::<()>::new(3, 4).unwrap();
+    let mut typed = TypedQueue::<()>::new(3).unwrap();
     found(&mut typed.members().nth(1).unwrap());
     found(&mut typed.into_members().remove(1));
 }

@@ -31,20 +31,7 @@ const SEED: u64 = 7 << 40;
 
 #[test]
 fn all_numbers_arrive() {
-    let (first, last, random) = (
-        stub::pick("First"),
-        stub::pick("Last"),
-        stub::pick("Random"),
-    );
-    assert_eq!(asked_by(|| Queue::new(3, 40)), [3, 40, first, 0, 0, 0]);
-    assert_eq!(
-        asked_by(|| Queue::with_pick(3, 40, Pick::Random, SEED)),
-        [3, 40, random, SEED, 0, 0]
-    );
-    assert_eq!(
-        asked_by(|| Queue::with_pick(5, 0, Pick::Last, 9)),
-        [5, 0, last, 9, 0, 0]
-    );
+    let (last, random) = (stub::pick("Last"), stub::pick("Random"));
     assert_eq!(
         asked_by(|| {
             let mut builder = Queue::builder(3);
@@ -59,21 +46,30 @@ fn all_numbers_arrive() {
         [3, 40, random, SEED, 30, u32::MAX.into()]
     );
     assert_eq!(
-        asked_by(|| Queue::builder(16).pick(Pick::Last).open()),
-        [16, 64, last, 0, 16, 0]
+        asked_by(|| Queue::builder(5).k(7).pick(Pick::Last).refill(0).balance(0).open()),
+        [5, 7, last, 0, 0, 0]
     );
+}
+
+/// The numbers of klsm.h.
+fn default(name: &str) -> u64 {
+    let words = format!("#define KLSM_DEFAULT_{name} ");
+    let (_, rest) = include_str!("../../../../include/klsm.h")
+        .split_once(&words)
+        .unwrap();
+    rest.lines().next().unwrap().parse().unwrap()
 }
 
 #[test]
 fn what_is_not_named_is_the_default() {
+    let (k, refill, balance) = (default("K"), default("REFILL"), default("BALANCE"));
     let first = stub::pick("First");
     assert_eq!(Pick::default(), Pick::First);
-    assert_eq!(
-        asked_by(|| Queue::builder(4).open()),
-        [4, 64, first, 0, 16, 0]
-    );
-    for k in [0, 1, 15, 16, 17] {
-        let expected = [4, k, first, 0, k.min(16), 0];
+    let expected = [4, k, first, 0, refill, balance];
+    assert_eq!(asked_by(|| Queue::new(4)), expected);
+    assert_eq!(asked_by(|| Queue::builder(4).open()), expected);
+    for k in [0, 1, 15, 16, 17, 1_024] {
+        let expected = [4, k, first, 0, k.min(refill), balance];
         assert_eq!(
             asked_by(|| Queue::builder(4).k(k as usize).open()),
             expected
@@ -81,7 +77,11 @@ fn what_is_not_named_is_the_default() {
     }
     assert_eq!(
         asked_by(|| Queue::builder(4).refill(0).open()),
-        [4, 64, first, 0, 0, 0]
+        [4, k, first, 0, 0, balance]
+    );
+    assert_eq!(
+        asked_by(|| Queue::builder(4).k(8).refill(9).open()),
+        [4, 8, first, 0, 8, balance]
     );
 }
 
@@ -92,12 +92,11 @@ fn each_code_is_its_own_error() {
             "OK" => continue,
             "BAD_COUNT" => "BadThreads".to_string(),
             "BAD_K" => "BadK".to_string(),
-            "BAD_REFILL" => "BadRefill".to_string(),
             "NO_MEMORY" => "NoMemory".to_string(),
             _ => stub::never("klsm_open_with_balance", code),
         };
         stub::answer_code(Call::OpenWithBalance, 0, code);
-        assert_eq!(stub::said(|| Queue::new(2, 4).unwrap_err()), expected);
+        assert_eq!(stub::said(|| Queue::new(2).unwrap_err()), expected);
         assert_eq!((stub::queues(), stub::asked(Call::Drop)), (0, 0));
         stub::answer_code(Call::OpenWithBalance, 0, code);
         assert_eq!(
@@ -113,11 +112,13 @@ fn another_version_is_refused() {
     for version in [0, 1, 3, u32::MAX] {
         stub::begin();
         stub::answer(Call::Abi, version.into());
-        let refused = Some(OpenError::Version(version, stub::abi()));
-        assert_eq!(Queue::new(2, 4).err(), refused);
-        assert_eq!(Queue::with_pick(2, 4, Pick::Last, 1).err(), refused);
+        let refused = Some(OpenError::Version {
+            found: version,
+            expected: stub::abi(),
+        });
+        assert_eq!(Queue::new(2).err(), refused);
         assert_eq!(Queue::builder(2).open().err(), refused);
-        assert_eq!(stub::asked(Call::Abi), 3);
+        assert_eq!(stub::asked(Call::Abi), 2);
         assert_eq!(
             stub::asked(Call::OpenWithBalance) + stub::asked(Call::Drop),
             0
@@ -125,5 +126,5 @@ fn another_version_is_refused() {
     }
     stub::begin();
     stub::answer(Call::Abi, stub::abi().into());
-    assert!(Queue::new(2, 4).is_ok());
+    assert!(Queue::new(2).is_ok());
 }

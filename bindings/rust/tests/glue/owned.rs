@@ -14,7 +14,7 @@ fn open_and_dropped() -> (u64, u64) {
 fn each_owned_member_has_its_own_slot() {
     for threads in [1, 3, 16] {
         stub::begin();
-        let members = Queue::new(threads, 4).unwrap().into_members();
+        let members = Queue::new(threads).unwrap().into_members();
         assert_eq!(members.len(), threads);
         let first = stub::argument(Call::OpenWithBalance, 0);
         for (number, mut member) in (0..).zip(members) {
@@ -29,7 +29,7 @@ fn each_owned_member_has_its_own_slot() {
 
 /// A member of number 2.
 fn member() -> OwnedMember {
-    Queue::new(3, 4).unwrap().into_members().remove(2)
+    Queue::new(3).unwrap().into_members().remove(2)
 }
 
 /// A call was made so often, each time with the slot of member 2.
@@ -81,7 +81,7 @@ fn counts_are_those_of_the_library() {
 #[test]
 fn the_last_member_that_is_dropped_drops_the_queue() {
     stub::begin();
-    let mut members = Queue::new(3, 4).unwrap().into_members();
+    let mut members = Queue::new(3).unwrap().into_members();
     for place in [1, 1] {
         drop(members.remove(place));
         assert_eq!(open_and_dropped(), (1, 0));
@@ -93,7 +93,7 @@ fn the_last_member_that_is_dropped_drops_the_queue() {
 #[test]
 fn the_last_member_that_is_given_back_gets_the_queue() {
     stub::begin();
-    let mut members = Queue::new(3, 4).unwrap().into_members();
+    let mut members = Queue::new(3).unwrap().into_members();
     assert!(members.remove(1).into_queue().is_none());
     drop(members.remove(1));
     let queue = members.remove(0).into_queue().unwrap();
@@ -107,7 +107,7 @@ fn the_last_member_that_is_given_back_gets_the_queue() {
 fn want_of_memory_gives_the_queue_back_to_the_last_member() {
     stub::begin();
     stub::answer(Call::Close, stub::code("NO_MEMORY") as u64);
-    let queue = Queue::new(1, 4).unwrap();
+    let queue = Queue::new(1).unwrap();
     let refused = queue
         .into_members()
         .remove(0)

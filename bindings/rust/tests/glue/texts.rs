@@ -25,11 +25,11 @@ fn refused<Why>(why: Why) -> Refused<Silent, Why> {
 
 fn unfinished() -> TypedFinishError<Silent> {
     stub::begin();
-    TypedFinishError(TypedQueue::new(2, 4).unwrap())
+    TypedFinishError(TypedQueue::new(2).unwrap())
 }
 
 /// Each error, and what it says: the words of klsm.h, or its own.
-fn texts() -> [(Box<dyn Error>, &'static str); 17] {
+fn texts() -> [(Box<dyn Error>, &'static str); 16] {
     let (memory, spent) = (of_code("NO_MEMORY"), of_code("SPENT"));
     let (busy, full) = (
         "a lock is held by another member",
@@ -38,7 +38,10 @@ fn texts() -> [(Box<dyn Error>, &'static str); 17] {
     [
         (Box::new(Busy), busy),
         (
-            Box::new(OpenError::Version(3, 1)),
+            Box::new(OpenError::Version {
+                found: 3,
+                expected: 1,
+            }),
             "the library's interface is of version 3, not 1",
         ),
         (
@@ -46,7 +49,6 @@ fn texts() -> [(Box<dyn Error>, &'static str); 17] {
             "the number of threads is not 1 to 64",
         ),
         (Box::new(OpenError::BadK), of_code("BAD_K")),
-        (Box::new(OpenError::BadRefill), of_code("BAD_REFILL")),
         (Box::new(OpenError::NoMemory), memory),
         (Box::new(InsertError::Spent), spent),
         (Box::new(InsertError::Full), full),
@@ -82,7 +84,7 @@ fn errors_of_other_causes_have_other_texts() {
     let mut all: Vec<_> = texts().iter().map(|(_, text)| *text).collect();
     all.sort_unstable();
     all.dedup();
-    assert_eq!(all.len(), 9);
+    assert_eq!(all.len(), 8);
 }
 
 #[test]

@@ -20,7 +20,7 @@ impl Drop for Counted {
 
 /// What a call by member 2 says.
 fn said(call: impl FnOnce(&mut klsm::TypedMember<'_, String>) -> String) -> String {
-    let mut queue = TypedQueue::new(3, 4).unwrap();
+    let mut queue = TypedQueue::new(3).unwrap();
     let mut member = queue.members().nth(2).unwrap();
     assert_eq!(member.number(), 2);
     stub::said(|| call(&mut member))
@@ -89,7 +89,7 @@ fn a_held_lock_gives_the_payload_back() {
 fn a_refused_payload_is_dropped_once() {
     DROPS.set(0);
     stub::answer_code(Call::TryInsert, 0, stub::code("FULL"));
-    let mut queue = TypedQueue::new(1, 4).unwrap();
+    let mut queue = TypedQueue::new(1).unwrap();
     let mut member = queue.members().next().unwrap();
     let refused = member.insert(1, Counted).unwrap_err();
     assert_eq!(DROPS.get(), 0);
@@ -103,7 +103,7 @@ fn a_refused_payload_is_dropped_once() {
 #[test]
 fn a_refused_payload_gives_its_block_back() {
     stub::answer_code(Call::TryInsert, 0, stub::code("FULL"));
-    let mut queue = TypedQueue::new(1, 4).unwrap();
+    let mut queue = TypedQueue::new(1).unwrap();
     let mut member = queue.members().next().unwrap();
     let before = BLOCKS.get();
     let refused = member.insert(1, payload()).unwrap_err();
@@ -117,7 +117,7 @@ fn a_refused_payload_gives_its_block_back() {
 #[test]
 fn a_payload_arrives() {
     stub::begin();
-    let mut queue = TypedQueue::new(1, 4).unwrap();
+    let mut queue = TypedQueue::new(1).unwrap();
     queue
         .members()
         .next()
@@ -134,7 +134,7 @@ fn a_payload_arrives() {
 #[test]
 fn an_item_comes_with_its_payload() {
     stub::answer_code(Call::TryDeleteMin, 1, stub::code("OK"));
-    let mut queue = TypedQueue::<()>::new(3, 4).unwrap();
+    let mut queue = TypedQueue::<()>::new(3).unwrap();
     let mut member = queue.members().nth(1).unwrap();
     assert_eq!(format!("{:?}", member.try_delete_min()), "Err(Busy)");
     let item = TypedItem {
@@ -158,7 +158,7 @@ fn counts_are_those_of_the_library() {
     stub::answer(Call::Inserted, 9);
     stub::answer(Call::Deleted, 4);
     stub::answer(Call::TryDeleteMin, stub::code("NOTHING") as u64);
-    let mut queue = TypedQueue::<()>::new(3, 4).unwrap();
+    let mut queue = TypedQueue::<()>::new(3).unwrap();
     assert_eq!((queue.threads(), queue.left()), (3, 15));
     let member = queue.members().nth(1).unwrap();
     assert_eq!((member.inserted_count(), member.deleted_count()), (9, 4));
@@ -173,7 +173,7 @@ fn queue_of_15(deletion: &str) -> TypedQueue<Counted> {
     stub::answer(Call::Inserted, 9);
     stub::answer(Call::Deleted, 4);
     stub::answer(Call::TryDeleteMin, stub::code(deletion) as u64);
-    TypedQueue::new(3, 4).unwrap()
+    TypedQueue::new(3).unwrap()
 }
 
 #[test]
@@ -213,12 +213,14 @@ fn all_numbers_of_an_opening_arrive() {
     let opened = [1, 2, 3, 4, 5, 6].map(|place| stub::argument(Call::OpenWithBalance, place));
     assert_eq!(opened, [3, 40, stub::pick("Random"), 9, 30, 20]);
     assert_eq!(queue.threads(), 3);
-    drop(TypedQueue::<String>::new(5, 7).unwrap());
+    drop(TypedQueue::<String>::new(5).unwrap());
     let opened = [1, 2, 3, 4, 5, 6].map(|place| stub::argument(Call::OpenWithBalance, place));
-    assert_eq!(opened, [5, 7, stub::pick("First"), 0, 0, 0]);
+    drop(klsm::Queue::new(5).unwrap());
+    let plain = [1, 2, 3, 4, 5, 6].map(|place| stub::argument(Call::OpenWithBalance, place));
+    assert_eq!((opened[0], opened), (5, plain));
     stub::answer_code(Call::OpenWithBalance, 0, stub::code("BAD_K"));
     assert_eq!(
-        stub::said(|| TypedQueue::<u8>::new(2, 4).unwrap_err()),
+        stub::said(|| TypedQueue::<u8>::new(2).unwrap_err()),
         "BadK"
     );
 }
