@@ -11,6 +11,7 @@ pub struct Busy;
 
 /// Why a queue is not made. The causes are tried in this order.
 #[derive(Clone, Copy, Debug, PartialEq, Eq)]
+#[non_exhaustive]
 pub enum OpenError {
     /// The library has another binary interface than the one that this crate expects.
     Version {
@@ -29,6 +30,7 @@ pub enum OpenError {
 
 /// Why an insertion that may wait is refused. Nothing has changed then.
 #[derive(Clone, Copy, Debug, PartialEq, Eq)]
+#[non_exhaustive]
 pub enum InsertError {
     /// The member has made all its insertions, which are 2^48.
     Spent,
@@ -40,6 +42,7 @@ pub enum InsertError {
 
 /// Why an insertion that waits for nobody is refused. No part of the queue has changed then.
 #[derive(Clone, Copy, Debug, PartialEq, Eq)]
+#[non_exhaustive]
 pub enum TryInsertError {
     /// The member has made all its insertions, which are 2^48.
     Spent,
@@ -53,6 +56,7 @@ pub enum TryInsertError {
 
 /// Why [`Work::next`](crate::Work::next) gives no piece. (That a member is not open is no cause here: each is.)
 #[derive(Clone, Copy, Debug, PartialEq, Eq)]
+#[non_exhaustive]
 pub enum End {
     /// Nothing was found, and no work is open: all is done, or was given up.
     Done,
@@ -65,6 +69,7 @@ pub enum End {
 
 /// Why a queue is not finished.
 #[derive(Debug)]
+#[non_exhaustive]
 pub enum FinishError {
     /// Memory was refused. Nothing has changed: here is the queue, which goes on as it was.
     NoMemory(Queue),

@@ -19,7 +19,7 @@
 //!                 member.insert(i, number).expect("there is room");
 //!             }
 //!             for _ in 0..500 {
-//!                 member.delete_min();
+//!                 let _item = member.delete_min();
 //!             }
 //!         });
 //!     }

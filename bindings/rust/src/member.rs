@@ -2,7 +2,7 @@
 
 use crate::errors::{Busy, InsertError, TryInsertError};
 use crate::pause::until_free;
-use crate::sys::{self, code, Item, Slot};
+use crate::sys::{self, code, Item, Load, RawItem, Slot};
 use crate::work::{DeleteMin, Insert};
 use std::fmt;
 use std::iter::{Enumerate, FusedIterator};
@@ -39,6 +39,10 @@ impl<'queue> Member<'queue> {
     /// The member has made all its insertions, the shared part is full, or memory was refused.
     /// Nothing has changed then.
     pub fn insert(&mut self, key: u64, load: u64) -> Result<(), InsertError> {
+        self.insert_load(key, Load::new(load))
+    }
+
+    pub(crate) fn insert_load(&mut self, key: u64, load: Load) -> Result<(), InsertError> {
         match until_free(|| self.insertion(key, load)) {
             code::OK => Ok(()),
             code::SPENT => Err(InsertError::Spent),
@@ -57,6 +61,10 @@ impl<'queue> Member<'queue> {
     /// Those of [`insert`](Member::insert), and [`TryInsertError::Busy`] where a lock that it needs is
     /// held. No part of the queue has changed then.
     pub fn try_insert(&mut self, key: u64, load: u64) -> Result<(), TryInsertError> {
+        self.try_insert_load(key, Load::new(load))
+    }
+
+    pub(crate) fn try_insert_load(&mut self, key: u64, load: Load) -> Result<(), TryInsertError> {
         match self.insertion(key, load) {
             code::OK => Ok(()),
             code::SPENT => Err(TryInsertError::Spent),
@@ -76,8 +84,15 @@ impl<'queue> Member<'queue> {
     /// were empty. At most (T-1)·k items were in the queue then. They may be more a moment later, and
     /// some may be with a member that inserts right now: count open work apart from the queue, as
     /// [`Work`](crate::Work) does, to tell when all is done.
+    #[must_use = "the item was deleted"]
     pub fn delete_min(&mut self) -> Option<Item> {
-        let mut item = Item::default();
+        // SAFETY: the loads of this queue are numbers: those of one of payloads are deleted by `delete_min_raw`.
+        self.delete_min_raw()
+            .map(|item| unsafe { item.with_number() })
+    }
+
+    pub(crate) fn delete_min_raw(&mut self) -> Option<RawItem> {
+        let mut item = RawItem::new();
         match until_free(|| self.deletion(&mut item)) {
             code::OK => Some(item),
             code::NOTHING => None,
@@ -91,8 +106,15 @@ impl<'queue> Member<'queue> {
     /// # Errors
     ///
     /// [`Busy`] where a lock that it needs is held. No part of the queue has changed then.
+    #[must_use = "the item was deleted"]
     pub fn try_delete_min(&mut self) -> Result<Option<Item>, Busy> {
-        let mut item = Item::default();
+        // SAFETY: as in `delete_min`.
+        let item = self.try_delete_min_raw()?;
+        Ok(item.map(|item| unsafe { item.with_number() }))
+    }
+
+    pub(crate) fn try_delete_min_raw(&mut self) -> Result<Option<RawItem>, Busy> {
+        let mut item = RawItem::new();
         match self.deletion(&mut item) {
             code::OK => Ok(Some(item)),
             code::NOTHING => Ok(None),
@@ -125,14 +147,14 @@ impl<'queue> Member<'queue> {
     }
 
     #[inline]
-    fn insertion(&mut self, key: u64, load: u64) -> i32 {
+    fn insertion(&mut self, key: u64, load: Load) -> i32 {
         // SAFETY: the pointer is that of a slot of an open queue, which is as the library left it and
         // does not move while it is borrowed. `&mut` keeps other calls for this slot out.
         unsafe { sys::klsm_try_insert(self.slot, key, load) }
     }
 
     #[inline]
-    fn deletion(&mut self, item: &mut Item) -> i32 {
+    fn deletion(&mut self, item: &mut RawItem) -> i32 {
         // SAFETY: as in `insertion`; and `item` is a place for an item outside of the queue.
         unsafe { sys::klsm_try_delete_min(self.slot, item) }
     }

@@ -136,6 +136,7 @@ impl OwnedMember {
 
     /// Deletes a small item and answers it, and waits while a lock that it needs is held:
     /// [`Member::delete_min`].
+    #[must_use = "the item was deleted"]
     pub fn delete_min(&mut self) -> Option<Item> {
         self.lend().delete_min()
     }
@@ -145,6 +146,7 @@ impl OwnedMember {
     /// # Errors
     ///
     /// Those of [`Member::try_delete_min`].
+    #[must_use = "the item was deleted"]
     pub fn try_delete_min(&mut self) -> Result<Option<Item>, Busy> {
         self.lend().try_delete_min()
     }

@@ -13,6 +13,7 @@ use std::ptr::NonNull;
 /// the one that is picked, the first that its own member inserted goes before it.
 #[derive(Clone, Copy, Debug, Default, PartialEq, Eq, Hash)]
 #[repr(u32)]
+#[non_exhaustive]
 pub enum Pick {
     /// The smallest of them.
     #[default]

@@ -2,7 +2,7 @@
 
 use crate::member::{Member, Members};
 use crate::queue::Queue;
-use crate::sys::Item;
+use crate::sys::RawItem;
 
 /// What is left in a queue that no one else uses, in no order, each item deleted when it is given.
 ///
@@ -27,11 +27,11 @@ impl<'queue> Rest<'queue> {
 }
 
 impl Iterator for Rest<'_> {
-    type Item = Item;
+    type Item = RawItem;
 
-    fn next(&mut self) -> Option<Item> {
+    fn next(&mut self) -> Option<RawItem> {
         while self.left > 0 {
-            if let Some(item) = self.member.as_mut()?.delete_min() {
+            if let Some(item) = self.member.as_mut()?.delete_min_raw() {
                 self.left -= 1;
                 return Some(item);
             }

@@ -4,7 +4,7 @@ use std::array::from_fn;
 use std::cell::UnsafeCell;
 use std::cmp::Ordering;
 use std::ffi::c_void;
-use std::mem::{align_of, offset_of, size_of};
+use std::mem::{align_of, offset_of, size_of, MaybeUninit};
 use std::ptr::{null_mut, NonNull};
 
 #[cfg(not(all(target_arch = "x86_64", target_os = "linux")))]
@@ -91,6 +91,43 @@ pub struct Item {
     pub owner: u32,
 }
 
+/// A load as the library carries it: eight bytes that it never reads. So they may be those of a payload, some of which
+/// were perhaps never written.
+pub(crate) type Load = MaybeUninit<u64>;
+
+/// What a deletion writes: an [`Item`] whose load may be a payload.
+#[repr(C)]
+pub(crate) struct RawItem {
+    pub(crate) key: u64,
+    pub(crate) load: Load,
+    pub(crate) number: u64,
+    pub(crate) owner: u32,
+}
+
+impl RawItem {
+    pub(crate) const fn new() -> RawItem {
+        RawItem {
+            key: 0,
+            load: Load::new(0),
+            number: 0,
+            owner: 0,
+        }
+    }
+
+    /// # Safety
+    ///
+    /// The item's load was inserted as a number.
+    pub(crate) unsafe fn with_number(self) -> Item {
+        Item {
+            key: self.key,
+            // SAFETY: as the caller says.
+            load: unsafe { self.load.assume_init() },
+            number: self.number,
+            owner: self.owner,
+        }
+    }
+}
+
 impl Ord for Item {
     fn cmp(&self, other: &Self) -> Ordering {
         let of = |item: &Item| (item.key, item.owner, item.number, item.load);
@@ -123,6 +160,9 @@ const _: () = {
     assert!(size_of::<Item>() == 32 && align_of::<Item>() == 8);
     assert!(offset_of!(Item, key) == 0 && offset_of!(Item, load) == 8);
     assert!(offset_of!(Item, number) == 16 && offset_of!(Item, owner) == 24);
+    assert!(size_of::<RawItem>() == 32 && align_of::<RawItem>() == 8);
+    assert!(offset_of!(RawItem, key) == 0 && offset_of!(RawItem, load) == 8);
+    assert!(offset_of!(RawItem, number) == 16 && offset_of!(RawItem, owner) == 24);
     assert!(size_of::<Totals>() == 24 && align_of::<Totals>() == 8);
     assert!(offset_of!(Totals, inserted) == 0 && offset_of!(Totals, deleted) == 8);
     assert!(offset_of!(Totals, left) == 16);
@@ -146,8 +186,8 @@ extern "C" {
         room: usize,
     ) -> i32;
     pub(crate) fn klsm_drop(queue: *mut Slots);
-    pub(crate) fn klsm_try_insert(member: *mut Slot, key: u64, load: u64) -> i32;
-    pub(crate) fn klsm_try_delete_min(member: *mut Slot, item: *mut Item) -> i32;
+    pub(crate) fn klsm_try_insert(member: *mut Slot, key: u64, load: Load) -> i32;
+    pub(crate) fn klsm_try_delete_min(member: *mut Slot, item: *mut RawItem) -> i32;
     pub(crate) fn klsm_front(member: *mut Slot) -> u64;
     pub(crate) fn klsm_inserted(member: *const Slot) -> u64;
     pub(crate) fn klsm_deleted(member: *const Slot) -> u64;

@@ -371,6 +371,7 @@ pub trait DeleteMin {
     type Item;
 
     /// Deletes a small item and answers it. `None`: it found nothing, and there may be more.
+    #[must_use = "the item was deleted"]
     fn delete_min(&mut self) -> Option<Self::Item>;
 }
 

@@ -70,11 +70,11 @@ fn a_payload_for_which_memory_is_refused_comes_back() {
 }
 
 #[test]
-fn a_payload_of_no_bytes_takes_no_memory() {
+fn a_payload_of_eight_bytes_takes_no_memory() {
     let mut queue = klsm::Queue::builder(1).k(4).refill(0).open_typed().unwrap();
     let mut member = queue.members().next().unwrap();
-    without_memory(|| member.insert(1, ())).unwrap();
-    assert_eq!(member.delete_min().map(|item| item.key), Some(1));
+    without_memory(|| member.insert(1, [7u32, 8])).unwrap();
+    assert_eq!(member.delete_min().map(|item| item.payload), Some([7, 8]));
 }
 
 #[test]

@@ -1,9 +1,10 @@
 //! A member of a typed queue.
 
-use super::payload::{boxed, load_of};
+use super::payload::{load_of, payload_of};
 use super::{TypedItem, TypedQueue};
 use crate::errors::{Busy, InsertError, Refused, TryInsertError};
 use crate::member::{Member, Members};
+use crate::sys::Load;
 use crate::work::{DeleteMin, Insert};
 use std::fmt;
 use std::iter::FusedIterator;
@@ -11,7 +12,7 @@ use std::marker::PhantomData;
 
 /// One member of a [`TypedQueue`], which it borrows: a [`Member`] whose items carry payloads.
 pub struct TypedMember<'queue, T> {
-    // A member of a queue whose loads are boxes of `T`.
+    // A member of a queue whose loads stand for payloads of `T`.
     member: Member<'queue>,
     payloads: PhantomData<&'queue mut TypedQueue<T>>,
 }
@@ -32,24 +33,24 @@ impl<'queue, T> TypedMember<'queue, T> {
     }
 
     /// Inserts a key with a payload, and waits while a lock that it needs is held: [`Member::insert`]. It
-    /// takes memory for the payload.
+    /// takes memory for a payload of more than eight bytes.
     ///
     /// # Errors
     ///
     /// Those of [`Member::insert`], each with the payload.
     pub fn insert(&mut self, key: u64, payload: T) -> Result<(), Refused<T, InsertError>> {
-        let insert = |member: &mut Member<'_>, load| member.insert(key, load);
+        let insert = |member: &mut Member<'_>, load| member.insert_load(key, load);
         self.insertion(payload, InsertError::NoMemory, insert)
     }
 
-    /// Inserts a key with a payload, and waits for nobody: [`Member::try_insert`]. It takes memory for the
-    /// payload.
+    /// Inserts a key with a payload, and waits for nobody: [`Member::try_insert`]. It takes memory for a
+    /// payload of more than eight bytes.
     ///
     /// # Errors
     ///
     /// Those of [`Member::try_insert`], each with the payload.
     pub fn try_insert(&mut self, key: u64, payload: T) -> Result<(), Refused<T, TryInsertError>> {
-        let insert = |member: &mut Member<'_>, load| member.try_insert(key, load);
+        let insert = |member: &mut Member<'_>, load| member.try_insert_load(key, load);
         self.insertion(payload, TryInsertError::NoMemory, insert)
     }
 
@@ -58,28 +59,24 @@ impl<'queue, T> TypedMember<'queue, T> {
         &mut self,
         payload: T,
         no_memory: Why,
-        insert: impl FnOnce(&mut Member<'queue>, u64) -> Result<(), Why>,
+        insert: impl FnOnce(&mut Member<'queue>, Load) -> Result<(), Why>,
     ) -> Result<(), Refused<T, Why>> {
-        let payload = match boxed(payload) {
-            Ok(payload) => Box::into_raw(payload),
-            Err(payload) => {
-                return Err(Refused {
-                    payload,
-                    why: no_memory,
-                })
-            }
-        };
-        insert(&mut self.member, load_of(payload)).map_err(|why| {
-            // SAFETY: it comes from a box, and was not inserted, so no one else has it.
-            let payload = *unsafe { Box::from_raw(payload) };
+        let load = load_of(payload).map_err(|payload| Refused {
+            payload,
+            why: no_memory,
+        })?;
+        insert(&mut self.member, load).map_err(|why| {
+            // SAFETY: it was not inserted, so no one else has it.
+            let payload = unsafe { payload_of(load) };
             Refused { payload, why }
         })
     }
 
     /// Deletes a small item and answers it, and waits while a lock that it needs is held:
     /// [`Member::delete_min`], which says what `None` means.
+    #[must_use = "the item was deleted"]
     pub fn delete_min(&mut self) -> Option<TypedItem<T>> {
-        let item = self.member.delete_min()?;
+        let item = self.member.delete_min_raw()?;
         // SAFETY: the member's queue is a typed one of this `T`, and the item is given here alone.
         Some(unsafe { TypedItem::of(item) })
     }
@@ -89,8 +86,9 @@ impl<'queue, T> TypedMember<'queue, T> {
     /// # Errors
     ///
     /// Those of [`Member::try_delete_min`].
+    #[must_use = "the item was deleted"]
     pub fn try_delete_min(&mut self) -> Result<Option<TypedItem<T>>, Busy> {
-        let item = self.member.try_delete_min()?;
+        let item = self.member.try_delete_min_raw()?;
         // SAFETY: as in `delete_min`.
         Ok(item.map(|item| unsafe { TypedItem::of(item) }))
     }

@@ -10,7 +10,8 @@ pub use owned::OwnedTypedMember;
 use crate::errors::{OpenError, TypedFinishError};
 use crate::owned::HasQueue;
 use crate::queue::{Account, Queue};
-use crate::sys::Item;
+use crate::sys::RawItem;
+use std::cmp::Ordering;
 use std::fmt;
 use std::marker::PhantomData;
 use std::sync::Mutex;
@@ -29,14 +30,28 @@ pub struct TypedItem<T> {
     pub owner: u32,
 }
 
+impl<T: Ord> Ord for TypedItem<T> {
+    fn cmp(&self, other: &Self) -> Ordering {
+        let stamp = |item: &Self| (item.key, item.owner, item.number);
+        let order = stamp(self).cmp(&stamp(other));
+        order.then_with(|| self.payload.cmp(&other.payload))
+    }
+}
+
+impl<T: Ord> PartialOrd for TypedItem<T> {
+    fn partial_cmp(&self, other: &Self) -> Option<Ordering> {
+        Some(self.cmp(other))
+    }
+}
+
 impl<T> TypedItem<T> {
     /// # Safety
     ///
     /// The item was deleted from a typed queue of this `T`, and its load is used for nothing else.
-    unsafe fn of(item: Item) -> Self {
+    unsafe fn of(item: RawItem) -> Self {
         TypedItem {
             key: item.key,
-            // SAFETY: each insertion into such a queue leaves a box of a `T`, and each item that was
+            // SAFETY: each insertion into such a queue leaves a load of a `T`, and each item that was
             // inserted is deleted once.
             payload: unsafe { payload::payload_of(item.load) },
             number: item.number,
@@ -47,9 +62,8 @@ impl<T> TypedItem<T> {
 
 /// A [`Queue`] whose items carry a payload each, which moves in by an insertion and out by a deletion.
 ///
-/// A payload is on the heap while it is in the queue, in a block of its own unless it has no bytes. It is
+/// A payload of more than eight bytes is on the heap while it is in the queue, in a block of its own. It is
 /// dropped once: by who deletes it, or else with the queue. An insertion that is refused gives it back.
-/// Where a payload is a number of at most 64 bits, a [`Queue`] has it as a load, and takes no block.
 ///
 /// ```
 /// # fn main() -> Result<(), Box<dyn std::error::Error>> {

@@ -66,6 +66,7 @@ impl<T> OwnedTypedMember<T> {
 
     /// Deletes a small item and answers it, and waits while a lock that it needs is held:
     /// [`TypedMember::delete_min`].
+    #[must_use = "the item was deleted"]
     pub fn delete_min(&mut self) -> Option<TypedItem<T>> {
         self.lend().delete_min()
     }
@@ -75,6 +76,7 @@ impl<T> OwnedTypedMember<T> {
     /// # Errors
     ///
     /// Those of [`TypedMember::try_delete_min`].
+    #[must_use = "the item was deleted"]
     pub fn try_delete_min(&mut self) -> Result<Option<TypedItem<T>>, Busy> {
         self.lend().try_delete_min()
     }

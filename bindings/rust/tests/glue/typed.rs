@@ -131,6 +131,68 @@ fn a_payload_arrives() {
     assert_eq!(*arrived, "payload");
 }
 
+/// What a payload of eight bytes at most is as a load.
+fn load_of<T: Send>(payload: T) -> u64 {
+    stub::begin();
+    stub::answer(Call::TryDeleteMin, stub::code("NOTHING") as u64);
+    let mut queue = TypedQueue::new(1).unwrap();
+    let before = BLOCKS.get();
+    let inserted = queue.members().next().unwrap().insert(1, payload);
+    assert!(inserted.is_ok());
+    assert_eq!(BLOCKS.get(), before);
+    stub::argument(Call::TryInsert, 2)
+}
+
+#[test]
+fn a_payload_of_eight_bytes_is_the_load() {
+    assert_eq!(load_of(7u8), 7);
+    assert_eq!(load_of(u64::MAX - 1), u64::MAX - 1);
+    assert_eq!(load_of(-2.5), f64::to_bits(-2.5));
+    assert_eq!(load_of([1u16, 2, 3, 4]), 0x0004_0003_0002_0001);
+    let number = 7;
+    assert_eq!(load_of(&number), std::ptr::from_ref(&number) as u64);
+    assert_eq!(load_of(()), 0);
+}
+
+#[test]
+fn a_payload_of_eight_bytes_comes_back() {
+    stub::answer_code(Call::TryDeleteMin, 0, stub::code("OK"));
+    let mut queue = TypedQueue::<u32>::new(1).unwrap();
+    let mut member = queue.members().next().unwrap();
+    assert_eq!(member.delete_min().map(|item| item.payload), Some(102));
+    stub::answer_code(Call::TryInsert, 0, stub::code("FULL"));
+    assert_eq!(member.insert(1, 77).map_err(|refused| refused.payload), Err(77));
+    DROPS.set(0);
+    let mut queue = TypedQueue::new(1).unwrap();
+    let mut member = queue.members().next().unwrap();
+    let refused = member.insert(1, (7u32, Counted)).unwrap_err();
+    assert_eq!((refused.payload.0, DROPS.get()), (7, 0));
+    drop(refused);
+    assert_eq!(DROPS.get(), 1);
+}
+
+#[test]
+fn items_with_payloads_are_ordered_as_items_are() {
+    let item = |key, owner, number, payload| TypedItem {
+        key,
+        payload,
+        number,
+        owner,
+    };
+    let ascending = [
+        item(1, 9, 9, "z"),
+        item(2, 0, 5, "y"),
+        item(2, 1, 0, "x"),
+        item(2, 1, 3, "a"),
+        item(2, 1, 3, "b"),
+    ];
+    assert!(ascending.windows(2).all(|pair| pair[0] < pair[1]));
+    let mut other = ascending;
+    other.reverse();
+    other.sort();
+    assert_eq!(other, ascending);
+}
+
 #[test]
 fn an_item_comes_with_its_payload() {
     stub::answer_code(Call::TryDeleteMin, 1, stub::code("OK"));
