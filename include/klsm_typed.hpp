@@ -159,6 +159,8 @@ template <class T> struct typed_account {
     std::vector<typed_item<T>> left; // ascending
 };
 
+template <class T> class typed_queue;
+
 // What one thread inserts and deletes by in a typed_queue. It is moved and goes back as a klsm::member does.
 template <class T> class typed_member {
 public:

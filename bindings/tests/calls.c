@@ -6,11 +6,11 @@ static klsm_queue queue;
 
 static void texts(void) {
     int distinct = 1;
-    for (int32_t a = KLSM_OK; a <= KLSM_MISCOUNTED; a++)
+    for (int32_t a = KLSM_OK; a <= KLSM_MISALIGNED; a++)
         for (int32_t b = KLSM_OK; b < a; b++)
             distinct = distinct && strcmp(klsm_text(a), klsm_text(b)) != 0;
     check("each code has a text of its own", distinct);
-    check("no other code has one", strcmp(klsm_text(KLSM_MISCOUNTED + 1), "unknown code") == 0 &&
+    check("no other code has one", strcmp(klsm_text(KLSM_MISALIGNED + 1), "unknown code") == 0 &&
                                        strcmp(klsm_text(-1), "unknown code") == 0);
     char version[32];
     snprintf(version, sizeof version, "%d.%d.%d", KLSM_VERSION_MAJOR, KLSM_VERSION_MINOR, KLSM_VERSION_PATCH);

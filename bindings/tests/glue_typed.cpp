@@ -4,35 +4,12 @@
 
 #include "check.h"
 #include "stub.h"
-#include <cstdlib>
 #include <memory>
-#include <new>
 #include <optional>
 #include <string>
 #include <utility>
-#include <vector>
 
 using klsm::code;
-
-// How many blocks of memory C++ has.
-static long blocks = 0;
-static void *take(std::size_t size) {
-    void *at = std::malloc(size);
-    blocks += at != nullptr;
-    return at;
-}
-static void give_back(void *at) {
-    blocks -= at != nullptr;
-    std::free(at);
-}
-void *operator new(std::size_t size) {
-    void *at = take(size);
-    if (at == nullptr) throw std::bad_alloc();
-    return at;
-}
-void *operator new(std::size_t size, const std::nothrow_t &) noexcept { return take(size); }
-void operator delete(void *at) noexcept { give_back(at); }
-void operator delete(void *at, std::size_t) noexcept { give_back(at); }
 
 // A payload, and how many of them are there.
 static int alive = 0;
@@ -186,51 +163,17 @@ static void openings() {
     check("each is dropped", stub_queues() == 0);
 }
 
-// What is refused leaves its block to the next insertion; a member keeps few, and gives them back where it ends.
-static void blocks_are_kept() {
-    klsm::typed_queue<counted> queue(2);
-    long before = blocks;
-    {
-        auto member = queue.member(1).value();
-        counted payload(words);
-        long with_payload = blocks;
-        begin(STUB_TRY_INSERT, 0, code::full);
-        for (int i = 0; i < 3; i++) check("refused", member.try_insert(5, std::move(payload)) == code::full);
-        check("one block does", blocks == with_payload + 1);
-        auto moved = std::move(member);
-        check("it moves with the member", moved.try_insert(5, std::move(payload)) == code::full &&
-                                              blocks == with_payload + 1);
-    }
-    check("and goes with it", blocks == before);
-    {
-        klsm::detail::pool<counted> pool;
-        std::vector<void *> taken(100);
-        long without = blocks;
-        for (void *&one : taken) one = pool.take();
-        check("a block for each", blocks == without + 100);
-        for (void *one : taken) pool.keep(one);
-        check("few are kept", blocks == without + 64);
-        for (int i = 0; i < 64; i++) taken[static_cast<std::size_t>(i)] = pool.take();
-        check("and taken first", blocks == without + 64);
-        for (int i = 0; i < 64; i++) pool.keep(taken[static_cast<std::size_t>(i)]);
-    }
-    check("none is lost", blocks == before);
-    begin(STUB_TRY_DELETE_MIN, 0, code::nothing); // by which the queue ends
-}
-
 // A std::unique_ptr is in the load itself, and is one's own again where it is refused.
 static void owners() {
     klsm::typed_queue<std::unique_ptr<counted>> queue(1);
     auto member = queue.member(0).value();
     auto owned = std::make_unique<counted>(words);
     counted *const at = owned.get();
-    const long before = blocks;
     begin(STUB_TRY_INSERT, 0, code::full);
     check("refused", member.insert(5, std::move(owned)) == code::full && owned.get() == at && alive == 1);
     begin(STUB_TRY_INSERT, 0, code::ok);
     check("inserted", member.insert(5, std::move(owned)) == code::ok && owned == nullptr && alive == 1);
     check("as its address", stub_argument(STUB_TRY_INSERT, 2) == reinterpret_cast<std::uintptr_t>(at));
-    check("with no block", blocks == before);
     owned.reset(at); // the stub forgets it
     check("none", member.emplace(5) == code::ok && stub_argument(STUB_TRY_INSERT, 2) == 0);
     begin(STUB_TRY_DELETE_MIN, 0, code::nothing); // by which the queue ends
@@ -402,17 +345,13 @@ static void insertions_of_work() {
     check("the payload is as it was, and the only one", payload.words == words && alive == 1 && counts_are(work, 0, 0));
     klsm::typed_queue<thrower> queue_of_throwers(1);
     auto of_throwers = queue_of_throwers.member(0).value();
-    int threw = 0;
-    const long before = blocks;
-    for (int i = 0; i < 3; i++) {
-        try {
-            (void)work.emplace(of_throwers, 5, 1);
-        } catch (int) {
-            threw++;
-        }
+    bool threw = false;
+    try {
+        (void)work.emplace(of_throwers, 5, 1);
+    } catch (int) {
+        threw = true;
     }
-    check("a payload that cannot be made opens nothing", threw == 3 && counts_are(work, 0, 0));
-    check("and leaves its block to the next one", blocks == before + 1);
+    check("a payload that cannot be made opens nothing", threw && counts_are(work, 0, 0));
     check("and is not inserted", stub_asked(STUB_TRY_INSERT) == 3);
     begin(STUB_TRY_DELETE_MIN, 0, code::nothing);
 }
@@ -434,7 +373,6 @@ int main() {
     fronts();
     openings();
     refusals();
-    blocks_are_kept();
     owners();
     lambdas();
     copies();

@@ -165,11 +165,12 @@ static void any_payloads() {
     left[0].payload();
     check("and is called", sum == 80);
     klsm::typed_queue<fixed> fixed_ones(1);
-    check("a const member", fixed_ones.member(0)->insert(1, fixed{7, "seven"}) == klsm::code::ok &&
-                                fixed_ones.member(0)->delete_min()->payload.number == 7);
+    check("a const member", fixed_ones.member(0)->insert(1, fixed{7, "seven"}) == klsm::code::ok);
+    auto fixed_one = fixed_ones.member(0)->delete_min();
+    check("comes back", fixed_one && fixed_one->payload.number == 7 && fixed_one->payload.text == "seven");
     klsm::typed_queue<of_its_own> own(1);
-    check("memory of its own", own.member(0)->insert(1, of_its_own{"seven"}) == klsm::code::ok &&
-                                   own.member(0)->delete_min()->payload.text == "seven");
+    check("memory of its own", own.member(0)->insert(1, of_its_own{"seven"}) == klsm::code::ok);
+    check("comes back", own.member(0)->delete_min()->payload.text == "seven");
     klsm::typed_queue<wide> wides(1);
     check("a wide one", wides.member(0)->insert(1, wide{{1, 2, 3}}) == klsm::code::ok);
     auto found = wides.member(0)->delete_min();
@@ -177,7 +178,8 @@ static void any_payloads() {
     klsm::typed_queue<std::unique_ptr<counted>> owners(1);
     check("an owner", owners.member(0)->insert(1, std::make_unique<counted>(7)) == klsm::code::ok);
     check("two", owners.member(0)->emplace(2, new counted(8)) == klsm::code::ok && alive == 2);
-    check("comes back", owners.member(0)->delete_min()->payload->is_whole() && alive == 1);
+    check("comes back", owners.member(0)->delete_min()->payload->is_whole());
+    check("and is gone", alive == 1);
 }
 
 // What one thread inserts and another one deletes, in a steady flow, and at the end in an order.
