@@ -25,20 +25,20 @@
  *   that is the smallest item. It passes over none that its own member inserted and that lies in its
  *   own or in the shared part. Such an item may also have moved to another member's part: seldom where the
  *   queue has no refill and no balance, and often where it has a balance.
- * - KLSM_NOTHING is answered only where at most (T-1)*k items live. So with one thread, or k = 0, it
+ * - KLSM_NOTHING is returned only where at most (T-1)*k items live. So with one thread, or k = 0, it
  *   means that the queue is empty; otherwise it does not, and a program that ends by it has to count
  *   what is open: klsm_work does.
- * - Nothing is lost and nothing comes twice: each item whose insertion answered KLSM_OK is given by
- *   one deletion, or is left when the queue is closed. A call with any other code has changed
- *   nothing but what its own lines say.
+ * - No item is lost or duplicated: each one whose insertion returned KLSM_OK is given by one deletion,
+ *   or is left when the queue is closed. A call fails only for the reason that its code names, and has
+ *   changed nothing then but what its own lines say.
  * - What a thread wrote before an insertion is seen by the thread whose deletion gives the item, so
  *   a load may be a pointer. (This is tested; the rest of this list is proved.)
  *
  * Nothing checks the following, and what happens otherwise is undefined:
  * - One call at a time for each member. Different members may be used at the same time. The openings,
- *   the calls klsm_close.. and klsm_drop.., and klsm_left have the whole queue for themselves. One call
- *   comes before another where a thread's start or join, a lock, or a sequentially consistent atomic
- *   orders them; so a member may change threads.
+ *   the calls klsm_close.. and klsm_drop.., and klsm_left need exclusive access to the queue. Calls are
+ *   ordered by happens-before: a thread's start or join, a lock, or a sequentially consistent atomic;
+ *   so a member may change threads.
  * - A queue is all bytes 0 (KLSM_QUEUE_CLOSED, static storage, or memset), or as the last call left
  *   it. It is aligned to 128 bytes: malloc does not give that, klsm_new does. While it is open it is not
  *   copied, moved, written to or freed.
@@ -171,7 +171,7 @@ KLSM_ASSERT(alignof(klsm_member) == 128 && alignof(klsm_queue) == 128);
 KLSM_ASSERT(_Alignof(klsm_member) == 128 && _Alignof(klsm_queue) == 128);
 #endif
 
-/* What the calls answer; the last four, inline functions alone. A later version may have more. */
+/* What the calls return; the last four, inline functions alone. A later version may have more. */
 enum klsm_code {
     KLSM_OK = 0,          /* done */
     KLSM_NOTHING = 1,     /* deletion: no item was found where it looked; klsm_work_next: and no work is open */
@@ -209,8 +209,8 @@ uint32_t klsm_version(void);
 /* The form whose answers are as exact as its k allows, and not the fast one, which is klsm_open_default. Opens a
  * closed queue for `threads` members, all empty, with no refill and no balance. A larger k means fewer meetings of
  * threads and less exact answers: up to 1024 where the speed of many threads matters most. `seed` is used by
- * KLSM_RANDOM alone. Has the whole queue for itself. Takes some 400 KB of memory for each member, which klsm_close
- * and klsm_drop give back. Compares no versions: klsm_open_with does.
+ * KLSM_RANDOM alone. Needs exclusive access to the queue. Allocates some 400 KB for each member, which klsm_close and
+ * klsm_drop free. Compares no versions: klsm_open_with does.
  * KLSM_OK, or the first of these that is true:
  *   KLSM_OPEN        it is open already
  *   KLSM_BAD_PICK    `pick` is none of the three
@@ -248,7 +248,7 @@ KLSM_MUST_USE KLSM_NOT_NULL(1)
 int32_t klsm_open_with_balance(klsm_queue *queue, size_t threads, size_t k, uint32_t pick, uint64_t seed,
                                size_t refill, uint32_t balance);
 
-/* Inserts an item. Waits for nobody. The member's thread, one call at a time.
+/* Inserts an item. Never blocks. The member's thread, one call at a time.
  * Costs no lock but the member's own, which is free unless another member looks for items there
  * just then, and no memory, while the own part has fewer than k items. At k items its largest block
  * moves to the shared part: this takes the shared lock, and a block of memory.
@@ -264,7 +264,7 @@ int32_t klsm_open_with_balance(klsm_queue *queue, size_t threads, size_t k, uint
 KLSM_MUST_USE KLSM_NOT_NULL(1)
 int32_t klsm_try_insert(klsm_member *member, uint64_t key, uint64_t load);
 
-/* Deletes a small item. Waits for nobody and takes no memory. The member's thread, one call at a
+/* Deletes a small item. Never blocks, and allocates nothing. The member's thread, one call at a
  * time. Costs no lock but the member's own where its smallest own key is below all shared ones;
  * otherwise the shared lock too, and where both parts are empty a look at the other members' parts. With a
  * balance each `balance`-th call first tries the lock of one other member, once.
@@ -273,18 +273,18 @@ int32_t klsm_try_insert(klsm_member *member, uint64_t key, uint64_t load);
  *                    were empty; so at most (T-1)*k items live
  * KLSM_BUSY          the own lock, or the shared one if it is needed, is held by another member
  * KLSM_NOT_OPEN      the member is not open
- * After all but KLSM_OK no part has changed, and *item is as it was. */
+ * After all but KLSM_OK no part has changed, and *item is unchanged. */
 KLSM_MUST_USE KLSM_NOT_NULL(1, 2)
 int32_t klsm_try_delete_min(klsm_member *member, klsm_item *item);
 
 /* The front: the key of the smallest shared item, and UINT64_MAX where no item is shared, or the member is not
  * open. Items in members' own parts may have smaller keys, of which others have at most (T-1)*k. So it is a
  * bound of what the shared part may still give. The proof says it of a state of the queue that the member
- * cannot tell from the present one. The member's thread, one call at a time. Takes no lock and waits for
- * nobody. */
+ * cannot tell from the present one. The member's thread, one call at a time. Takes no lock and never
+ * blocks. */
 KLSM_NOT_NULL(1) uint64_t klsm_front(klsm_member *member);
 
-/* How many insertions and deletions of the member answered KLSM_OK since the queue was opened; 0
+/* How many insertions and deletions of the member returned KLSM_OK since the queue was opened; 0
  * where it is not open. The member's thread, one call at a time: this call, too, writes to the member.
  * Costs no lock. */
 KLSM_NOT_NULL(1) uint64_t klsm_inserted(klsm_member *member);
@@ -295,8 +295,8 @@ KLSM_NOT_NULL(1) uint64_t klsm_deleted(klsm_member *member);
 KLSM_MUST_USE KLSM_NOT_NULL(1, 2, 3)
 int32_t klsm_close_into(klsm_queue *queue, klsm_account *account, klsm_item *left, size_t room);
 
-/* Closes a queue, with all that is left in it, and gives all memory back. Takes no memory, waits for
- * nobody, and cannot fail; a closed queue stays closed. Has the whole queue for itself. */
+/* Closes a queue, with all that is left in it, and frees all memory. Allocates nothing, never blocks, and
+ * cannot fail; a closed queue stays closed. Needs exclusive access to the queue. */
 KLSM_NOT_NULL(1) void klsm_drop(klsm_queue *queue);
 
 #if defined(__has_feature)
@@ -371,8 +371,8 @@ KLSM_INLINE void klsm_free(klsm_queue *queue) {
 
 #include "klsm_keys.h"
 
-/* How many items are in the queue: insertions less deletions, over all members. Has the whole queue
- * for itself, and is exact. 0 where the queue is closed. */
+/* How many items are in the queue: insertions less deletions, over all members. Needs exclusive access to
+ * the queue, and is exact. 0 where the queue is closed. */
 KLSM_NOT_NULL(1)
 KLSM_INLINE uint64_t klsm_left(klsm_queue *queue) {
     uint64_t left = 0;
@@ -382,16 +382,16 @@ KLSM_INLINE uint64_t klsm_left(klsm_queue *queue) {
 }
 
 /* Closes a queue: writes the account, copies the smallest `room` of the items that are left to `left`,
- * ascending, and gives all memory back. The rest of that array is as it was. The items that have no
- * room there are gone, so size it by klsm_left first where they matter. Has the whole queue for
- * itself, so no thread is left that uses a member. Waits for nobody. Costs a sort of the items that
- * are left, and 32 bytes of memory for each while it runs.
+ * ascending, and frees all memory. The rest of that array is unchanged. The items that have no room
+ * there are gone, so size it by klsm_left first where they matter. Needs exclusive access to the
+ * queue, so no thread is left that uses a member. Never blocks. Costs a sort of the items that are
+ * left, and 32 bytes of memory for each while it runs.
  * KLSM_OK            done: all members are closed, and the queue may be opened again
  * KLSM_NOT_OPEN      it is not open
  * KLSM_NO_MEMORY     malloc gave none. The queue is open as before, so items can be deleted, and
  *                    the call be made again; klsm_drop needs no memory
- * KLSM_SHARED        comes after no sequence of these calls, but no proof says so: all members are
- *                    closed, the account and the array are as they were
+ * KLSM_SHARED        should not occur; not proved: all members are closed, the account and the array are
+ *                    unchanged
  * After KLSM_NOT_OPEN and KLSM_NO_MEMORY nothing has changed. */
 KLSM_MUST_USE KLSM_NOT_NULL(1, 2)
 KLSM_INLINE int32_t klsm_close(klsm_queue *queue, klsm_account *account, klsm_item *left, size_t room) {
@@ -451,7 +451,7 @@ KLSM_INLINE const char *klsm_text(int32_t code) {
     }
 }
 
-/* What a thread does after KLSM_BUSY: it looks away, longer each time, then lets other threads run too, and
+/* What a thread does after KLSM_BUSY: it backs off, longer each time, then lets other threads run too, and
  * after many misses sleeps, so that the thread that has the lock finds a processor also where there are
  * fewer of these than threads. For a waiting loop of one's own over the calls klsm_try_..; klsm_insert
  * and klsm_delete_min show how. The lengths are those of the library's own waiting calls in Rattle. */

@@ -16,7 +16,7 @@
 // moved, also while it is open and members of it are out: what the members point to stays where it is.
 // A klsm::member is the right to use one member, and no two of one number exist at a time. It may be
 // moved to another thread. It goes back where it is destroyed, and can then be taken again. One that
-// is there after its queue was closed or destroyed answers code::not_open, and counts 0.
+// is there after its queue was closed or destroyed returns code::not_open, and counts 0.
 //
 // Nothing checks the following, and what happens otherwise is undefined:
 // - One call at a time for each klsm::member, also of those that are const, and for each klsm::queue, but that
@@ -149,7 +149,7 @@ public:
     member(const member &) = delete;
     member &operator=(const member &) = delete;
 
-    // The other one answers code::not_open afterwards.
+    // The other one returns code::not_open afterwards.
     member(member &&other) noexcept
         : at_(std::exchange(other.at_, nullptr)), block_(std::move(other.block_)) {}
     // The number that this one had goes back.
@@ -167,7 +167,7 @@ public:
     [[nodiscard]] klsm::code insert(std::uint64_t key, std::uint64_t load) noexcept {
         return at_ == nullptr ? code::not_open : code(klsm_insert(at_, key, load));
     }
-    // Inserts, and waits for nobody.
+    // Inserts, and never blocks.
     [[nodiscard]] klsm::code try_insert(std::uint64_t key, std::uint64_t load) noexcept {
         return at_ == nullptr ? code::not_open : code(klsm_try_insert(at_, key, load));
     }
@@ -189,7 +189,7 @@ public:
         if (answer == code::ok) deleted = found;
         return answer;
     }
-    // Deletes a small item, and waits for nobody. `deleted` is written exactly with code::ok.
+    // Deletes a small item, and never blocks. `deleted` is written exactly with code::ok.
     [[nodiscard]] klsm::code try_delete_min(item &deleted) noexcept {
         return at_ == nullptr ? code::not_open : code(klsm_try_delete_min(at_, &deleted));
     }

@@ -38,7 +38,7 @@ KLSM_INLINE uint64_t klsm_key_of_bound(uint64_t bound, uint32_t depth) {
 KLSM_INLINE uint64_t klsm_bound_of_key(uint64_t key) { return key >> 16; }
 
 /* Keys of other numbers, in the order of these. The greatest comes first by ~klsm_key_of_double(number), and so
- * on. Both zeros have one key, and all that is not a number has one, behind that of infinity. */
+ * on. Both zeros have one key, and every NaN maps to one key above that of +infinity. */
 KLSM_INLINE uint64_t klsm_key_of_double(double number) {
     const uint64_t sign = UINT64_C(1) << 63, infinity = UINT64_C(0x7ff) << 52;
     uint64_t bits;

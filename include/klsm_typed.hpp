@@ -174,7 +174,7 @@ public:
     template <class... From> [[nodiscard]] klsm::code emplace(std::uint64_t key, From &&...from) {
         return make(waiting(key), std::forward<From>(from)...);
     }
-    // Inserts, and waits for nobody.
+    // Inserts, and never blocks.
     [[nodiscard]] klsm::code try_insert(std::uint64_t key, T &&payload) noexcept {
         return move_in(payload, trying(key));
     }
@@ -197,7 +197,7 @@ public:
         if (answer == code::ok) take_out(found, deleted);
         return answer;
     }
-    // Deletes a small item, and waits for nobody. `deleted` has it exactly with code::ok, and is otherwise unchanged.
+    // Deletes a small item, and never blocks. `deleted` has it exactly with code::ok, and is otherwise unchanged.
     [[nodiscard]] klsm::code try_delete_min(std::optional<typed_item<T>> &deleted) noexcept {
         item found;
         klsm::code answer = member_.try_delete_min(found);

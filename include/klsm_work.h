@@ -176,7 +176,7 @@ KLSM_INLINE void klsm_work_wait(klsm_pause *pause) {
  * KLSM_MISCOUNTED    nothing was found, and more pieces were closed than had been opened. Others may have seen
  *                    KLSM_NOTHING too early; who closes the last piece and asks again sees this
  * KLSM_NOT_OPEN      the member is not open
- * After all but KLSM_OK *item is as it was. */
+ * After all but KLSM_OK *item is unchanged. */
 KLSM_MUST_USE KLSM_NOT_NULL(1, 2, 3)
 KLSM_INLINE int32_t klsm_work_next(klsm_work *work, klsm_member *member, klsm_item *item) {
     klsm_pause pause = klsm_first_pause();

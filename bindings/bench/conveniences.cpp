@@ -7,11 +7,12 @@
 #include <chrono>
 #include <cstdio>
 #include <cstdlib>
-#include <memory>
 
 enum { ROUNDS = 9, CALLS = 1000000, LIVE = 16 };
 
 static volatile std::uint64_t result; // keeps the calls from being left out
+
+using large = std::array<std::uint64_t, 8>;
 
 // Calls that insert a number and delete one, made so often.
 template <class Pair> static double time_of(Pair pair) {
@@ -29,7 +30,7 @@ static void must(bool holds) {
 int main() {
     klsm::queue plain(1), counted(1);
     klsm::typed_queue<std::uint64_t> small(1);
-    klsm::typed_queue<std::unique_ptr<std::uint64_t>> behind(1);
+    klsm::typed_queue<large> behind(1);
     klsm::member of_plain = plain.member(0).value(), of_counted = counted.member(0).value();
     auto of_small = small.member(0).value();
     auto of_behind = behind.member(0).value();
@@ -43,17 +44,18 @@ int main() {
         must(of_small.insert(i, std::uint64_t(i)) == klsm::code::ok);
         return of_small.delete_min()->payload;
     };
-    // A block for each item, owned by hand in the one and by the queue in the other.
+    // 64 bytes for each item, in a block that is taken by hand in the one, and that the member keeps in the other.
     auto pointer = [&](std::uint64_t i) {
-        auto *moved = new std::unique_ptr<std::uint64_t>();
+        auto *moved = new large{i};
         must(of_plain.insert(i, reinterpret_cast<std::uintptr_t>(moved)) == klsm::code::ok);
-        std::uint64_t found = of_plain.delete_min()->load;
-        if (found > CALLS) delete reinterpret_cast<std::unique_ptr<std::uint64_t> *>(found);
-        return found;
+        auto *found = reinterpret_cast<large *>(of_plain.delete_min()->load);
+        std::uint64_t number = (*found)[0];
+        delete found;
+        return number;
     };
     auto owned = [&](std::uint64_t i) {
-        must(of_behind.insert(i, std::unique_ptr<std::uint64_t>()) == klsm::code::ok);
-        return std::uint64_t(of_behind.delete_min()->payload == nullptr);
+        must(of_behind.insert(i, large{i}) == klsm::code::ok);
+        return of_behind.delete_min()->payload[0];
     };
     // A piece of work is opened, found and done, beside a count that the program keeps.
     auto next = [&](std::uint64_t i) {
@@ -73,10 +75,10 @@ int main() {
     for (std::uint64_t i = 0; i < LIVE; i++) { // keys that stay behind
         must(of_plain.insert(UINT64_MAX, 0) == klsm::code::ok && of_counted.insert(UINT64_MAX, 0) == klsm::code::ok);
         must(of_small.insert(UINT64_MAX, 0) == klsm::code::ok);
-        must(of_behind.insert(UINT64_MAX, nullptr) == klsm::code::ok);
+        must(of_behind.insert(UINT64_MAX, large{}) == klsm::code::ok);
     }
 
-    const char *const names[] = {"load", "payload-in-the-load", "pointer-by-hand", "payload-behind-a-pointer",
+    const char *const names[] = {"load", "payload-in-the-load", "64-bytes-by-hand", "64-bytes-as-payload",
                                  "count-by-hand", "count-by-klsm-work"};
     std::array<std::array<double, ROUNDS>, 6> times{};
     for (std::size_t round = 0; round < ROUNDS; round++) {

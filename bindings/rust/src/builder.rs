@@ -79,7 +79,7 @@ impl Builder {
     ///
     /// # Errors
     ///
-    /// A number is out of its range, memory was refused, or the library is of another version.
+    /// A number is out of its range, out of memory, or the library is of another version.
     pub fn open(&self) -> Result<Queue, OpenError> {
         let refill = self.refill.min(self.k);
         let (pick, seed, balance) = (self.pick, self.seed, self.balance);

@@ -24,7 +24,7 @@ pub enum OpenError {
     BadThreads,
     /// k is above 1,024.
     BadK,
-    /// Memory was refused.
+    /// Out of memory.
     NoMemory,
 }
 
@@ -36,11 +36,11 @@ pub enum InsertError {
     Spent,
     /// The shared part has no room for what would move there: it has room for 2^26 items.
     Full,
-    /// Memory was refused.
+    /// Out of memory.
     NoMemory,
 }
 
-/// Why an insertion that waits for nobody is refused. No part of the queue has changed then.
+/// Why an insertion that never blocks is refused. No part of the queue has changed then.
 #[derive(Clone, Copy, Debug, PartialEq, Eq)]
 #[non_exhaustive]
 pub enum TryInsertError {
@@ -50,7 +50,7 @@ pub enum TryInsertError {
     Busy,
     /// The shared part has no room for what would move there: it has room for 2^26 items.
     Full,
-    /// Memory was refused.
+    /// Out of memory.
     NoMemory,
 }
 
@@ -71,7 +71,7 @@ pub enum End {
 #[derive(Debug)]
 #[non_exhaustive]
 pub enum FinishError {
-    /// Memory was refused. Nothing has changed: here is the queue, which goes on as it was.
+    /// Out of memory. Nothing has changed: here is the queue, which goes on as it was.
     NoMemory(Queue),
     /// The library found another owner of the queue. No call of this crate leads there, but no proof
     /// says so. The queue is gone with what was in it.

@@ -12,7 +12,7 @@ use std::slice::IterMut;
 ///
 /// An insertion needs the member's own lock, and the shared one where the member already keeps k
 /// items. A deletion needs the own lock, and the shared one unless the smallest key that the member
-/// keeps is below all shared ones. A call that waits for a lock looks away for some pauses between
+/// keeps is below all shared ones. A call that waits for a lock backs off for some pauses between
 /// two tries, and after some tries lets other threads run. How long it waits is not promised.
 pub struct Member<'queue> {
     slot: &'queue mut Slot,
@@ -36,7 +36,7 @@ impl<'queue> Member<'queue> {
     ///
     /// # Errors
     ///
-    /// The member has made all its insertions, the shared part is full, or memory was refused.
+    /// The member has made all its insertions, the shared part is full, or out of memory.
     /// Nothing has changed then.
     pub fn insert(&mut self, key: u64, load: u64) -> Result<(), InsertError> {
         self.insert_load(key, Load::new(load))
@@ -52,7 +52,7 @@ impl<'queue> Member<'queue> {
         }
     }
 
-    /// Inserts a key with a load, and waits for nobody.
+    /// Inserts a key with a load, and never blocks.
     ///
     /// It takes memory only where items move to the shared part.
     ///
@@ -75,7 +75,7 @@ impl<'queue> Member<'queue> {
         }
     }
 
-    /// Deletes a small item and answers it, and waits while a lock that it needs is held.
+    /// Deletes a small item and returns it, and waits while a lock that it needs is held.
     ///
     /// At most T·k smaller items are in the queue at that moment, and none of these was inserted by
     /// this member and lies in its own or the shared part. It takes no memory.
@@ -100,7 +100,7 @@ impl<'queue> Member<'queue> {
         }
     }
 
-    /// Deletes a small item and answers it, as [`delete_min`](Member::delete_min) does, and waits for
+    /// Deletes a small item and returns it, as [`delete_min`](Member::delete_min) does, and waits for
     /// nobody.
     ///
     /// # Errors

@@ -125,7 +125,7 @@ impl OwnedMember {
         self.lend().insert(key, load)
     }
 
-    /// Inserts a key with a load, and waits for nobody: [`Member::try_insert`].
+    /// Inserts a key with a load, and never blocks: [`Member::try_insert`].
     ///
     /// # Errors
     ///
@@ -134,14 +134,14 @@ impl OwnedMember {
         self.lend().try_insert(key, load)
     }
 
-    /// Deletes a small item and answers it, and waits while a lock that it needs is held:
+    /// Deletes a small item and returns it, and waits while a lock that it needs is held:
     /// [`Member::delete_min`].
     #[must_use = "the item was deleted"]
     pub fn delete_min(&mut self) -> Option<Item> {
         self.lend().delete_min()
     }
 
-    /// Deletes a small item and answers it, and waits for nobody: [`Member::try_delete_min`].
+    /// Deletes a small item and returns it, and never blocks: [`Member::try_delete_min`].
     ///
     /// # Errors
     ///

@@ -158,7 +158,7 @@ impl Queue {
     ///
     /// # Errors
     ///
-    /// Where memory is refused, [`FinishError::NoMemory`] gives the queue back as it was.
+    /// Where it is out of memory, [`FinishError::NoMemory`] gives the queue back as it was.
     pub fn finish(mut self) -> Result<Account, FinishError> {
         let mut left = Vec::new();
         // One more, so that the pointer leads to an item also where none is left.

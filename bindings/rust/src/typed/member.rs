@@ -43,7 +43,7 @@ impl<'queue, T> TypedMember<'queue, T> {
         self.insertion(payload, InsertError::NoMemory, insert)
     }
 
-    /// Inserts a key with a payload, and waits for nobody: [`Member::try_insert`]. It takes memory for a
+    /// Inserts a key with a payload, and never blocks: [`Member::try_insert`]. It takes memory for a
     /// payload of more than eight bytes.
     ///
     /// # Errors
@@ -72,7 +72,7 @@ impl<'queue, T> TypedMember<'queue, T> {
         })
     }
 
-    /// Deletes a small item and answers it, and waits while a lock that it needs is held:
+    /// Deletes a small item and returns it, and waits while a lock that it needs is held:
     /// [`Member::delete_min`], which says what `None` means.
     #[must_use = "the item was deleted"]
     pub fn delete_min(&mut self) -> Option<TypedItem<T>> {
@@ -81,7 +81,7 @@ impl<'queue, T> TypedMember<'queue, T> {
         Some(unsafe { TypedItem::of(item) })
     }
 
-    /// Deletes a small item and answers it, and waits for nobody: [`Member::try_delete_min`].
+    /// Deletes a small item and returns it, and never blocks: [`Member::try_delete_min`].
     ///
     /// # Errors
     ///

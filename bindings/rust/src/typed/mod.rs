@@ -141,7 +141,7 @@ impl<T> TypedQueue<T> {
     ///
     /// # Errors
     ///
-    /// Where memory is refused, the error gives the queue back as it was.
+    /// Where it is out of memory, the error gives the queue back as it was.
     pub fn finish(mut self) -> Result<Account<TypedItem<T>>, TypedFinishError<T>> {
         let (inserted, deleted) = self.queue.counts();
         let mut left = Vec::new();

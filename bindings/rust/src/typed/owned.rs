@@ -55,7 +55,7 @@ impl<T> OwnedTypedMember<T> {
         self.lend().insert(key, payload)
     }
 
-    /// Inserts a key with a payload, and waits for nobody: [`TypedMember::try_insert`].
+    /// Inserts a key with a payload, and never blocks: [`TypedMember::try_insert`].
     ///
     /// # Errors
     ///
@@ -64,14 +64,14 @@ impl<T> OwnedTypedMember<T> {
         self.lend().try_insert(key, payload)
     }
 
-    /// Deletes a small item and answers it, and waits while a lock that it needs is held:
+    /// Deletes a small item and returns it, and waits while a lock that it needs is held:
     /// [`TypedMember::delete_min`].
     #[must_use = "the item was deleted"]
     pub fn delete_min(&mut self) -> Option<TypedItem<T>> {
         self.lend().delete_min()
     }
 
-    /// Deletes a small item and answers it, and waits for nobody: [`TypedMember::try_delete_min`].
+    /// Deletes a small item and returns it, and never blocks: [`TypedMember::try_delete_min`].
     ///
     /// # Errors
     ///
