@@ -12,6 +12,7 @@ headers_without_warnings() {
     shift
     printf '#include <%s>\n' "$@" >"$file"
     echo 'extern int none;' >>"$file"
+    case $file in *.cpp) templates >>"$file" ;; esac
     case $file in
     *.cpp) versions="c++17 c++20 c++23" more="-Wold-style-cast -Wuseless-cast -Woverloaded-virtual" ;;
     *) versions="c11 c17 c2x" more=-Wstrict-prototypes ;;
@@ -25,6 +26,32 @@ headers_without_warnings() {
         # shellcheck disable=SC2086 # flags are words without blanks
         compile "$file" "$file.o" -Werror -c "-std=$version" $warnings || return 1
     done
+}
+
+# A payload of each kind, with all that is made of it.
+templates() {
+    cat <<'END'
+#include <array>
+#include <string>
+template class klsm::typed_queue<std::string>;
+template class klsm::typed_queue<unsigned char>;
+template class klsm::typed_queue<std::unique_ptr<int>>;
+template class klsm::typed_member<std::string>;
+template class klsm::typed_member<unsigned char>;
+template class klsm::typed_member<std::uint64_t>;
+template class klsm::typed_member<int *>;
+template class klsm::typed_member<std::array<std::uint64_t, 8>>;
+template class klsm::piece<klsm::typed_item<std::string>>;
+template class klsm::piece<klsm::item>;
+klsm::code use(klsm::work &work, klsm::member &plain, klsm::typed_member<std::unique_ptr<int>> &typed);
+klsm::code use(klsm::work &work, klsm::member &plain, klsm::typed_member<std::unique_ptr<int>> &typed) {
+    if (auto piece = work.next(plain)) piece.done();
+    if (auto piece = work.next(typed)) piece.done();
+    if (klsm::code code = work.insert(plain, 1, 2); code != klsm::code::ok) return code;
+    if (klsm::code code = work.insert(typed, 1, std::make_unique<int>(2)); code != klsm::code::ok) return code;
+    return work.emplace(typed, 1, new int(2));
+}
+END
 }
 
 # accepts SOURCE FLAG: whether the compiler of this source has this flag.
