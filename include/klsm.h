@@ -5,7 +5,7 @@
  *     static klsm_queue queue = KLSM_QUEUE_CLOSED;
  *     int main(void) {
  *         klsm_item item;
- *         if (klsm_open_default(&queue, 4) != KLSM_OK) return 1;                   // four threads
+ *         if (klsm_open_default(&queue, 4) != KLSM_OK) return 1;           // four threads
  *         if (klsm_insert(&queue.members[0], 3, 30) != KLSM_OK) return 1;  // thread t: members[t]
  *         if (klsm_delete_min(&queue.members[0], &item) == KLSM_OK)
  *             printf("key %d load %d\n", (int)item.key, (int)item.load);
@@ -29,8 +29,8 @@
  *   means that the queue is empty; otherwise it does not, and a program that ends by it has to count
  *   what is open: klsm_work does.
  * - No item is lost or duplicated: each one whose insertion returned KLSM_OK is given by one deletion,
- *   or is left when the queue is closed. A call fails only for the reason that its code names, and has
- *   changed nothing then but what its own lines say.
+ *   or is left when the queue is closed. A call that returned any other code has changed nothing but
+ *   what its own lines say.
  * - What a thread wrote before an insertion is seen by the thread whose deletion gives the item, so
  *   a load may be a pointer. (This is tested; the rest of this list is proved.)
  *
