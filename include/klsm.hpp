@@ -273,7 +273,7 @@ public:
     [[nodiscard]] std::uint64_t left() const noexcept { return block_ == nullptr ? 0 : klsm_left(&block_->queue); }
 
     // Closes it. Throws an error with code::no_memory, and then it is open as before and has all its
-    // items, or with code::not_open where it is closed. code::shared comes by no sequence of calls.
+    // items, or with code::not_open where it is closed. code::shared should not occur.
     [[nodiscard]] account close() {
         account answer;
         if (klsm::code why = close(answer); why != code::ok) throw error(why);
