@@ -44,13 +44,14 @@ take_programs_apart() {
 # The page's search from its root to its answer, without a warning.
 solver() {
     compile "$work/programs/solver.cpp" "$work/solver" "$out/libklsm.a" -Werror -Wshadow &&
-        limited "$work/solver" >"$work/said" && cat "$work/said" &&
-        grep -F "It prints \`$(cat "$work/said")\`." "$root/docs/C-INTERFACE.md"
+        limited "$work/solver" >"$work/solved" && cat "$work/solved" &&
+        grep -F "It prints \`$(cat "$work/solved")\`." "$root/docs/C-INTERFACE.md"
 }
 
 # The program in a language that calls the shared object by itself.
 foreign() {
-    python3 "$work/programs/foreign.py" "$out/libklsm.so.$("$here/version")" >"$work/said" && diff - "$work/said" <<END
+    python3 "$work/programs/foreign.py" "$out/libklsm.so.$("$here/version")" >"$work/foreign" &&
+        diff - "$work/foreign" <<END
 key 3 load 30
 END
 }
