@@ -79,9 +79,9 @@
 
 /* The numbers of a queue whose opening names none: those of klsm_defaults, of klsm::queue(threads) in C++, and of
  * Queue::new(threads) in Rust. */
-#define KLSM_DEFAULT_K 64
+#define KLSM_DEFAULT_K 1024
 #define KLSM_DEFAULT_REFILL 16
-#define KLSM_DEFAULT_BALANCE 0
+#define KLSM_DEFAULT_BALANCE 16
 
 /* What is inline here has the version in its name in C++, so that parts of one program that were compiled with headers
  * of two versions keep each their own. No program has to name it. */

@@ -5,9 +5,9 @@ use crate::queue::{Pick, Queue};
 use crate::typed::TypedQueue;
 
 // Those of klsm.h, as a test compares.
-const DEFAULT_K: usize = 64;
+const DEFAULT_K: usize = 1024;
 const DEFAULT_REFILL: usize = 16;
-const DEFAULT_BALANCE: u32 = 0;
+const DEFAULT_BALANCE: u32 = 16;
 
 /// The numbers of a queue that is to be opened: what [`Queue::builder`] gives. What is not named is the default, a good
 /// number where many threads share small items: klsm.h has these numbers.
