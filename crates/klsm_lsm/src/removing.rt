@@ -100,4 +100,12 @@ impl<R: Run, const LEVELS: usize> Lsm<R, LEVELS> {
         close_gap(self.slots.as_mut_slice(), 0, self.count);
         self.count -= 1;
     }
+
+    /// Takes all blocks away. Their stores stay.
+    pub fn clear(&mut self)
+        ensures { self.new ≡ [] }
+    {
+        self.count = 0;
+        self.len = 0;
+    }
 }
