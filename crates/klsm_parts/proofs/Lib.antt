@@ -22,6 +22,7 @@ pub mod RankingLemmas
 pub mod RefillLemmas
 pub mod RefilledLemmas
 pub mod RisingLemmas
+pub mod SharingLemmas
 pub mod SpyLemmas
 pub mod StealLemmas
 pub mod TakeLemmas

@@ -6,6 +6,7 @@ pub mod Events  -- the events: when each may happen, and what it leaves
 pub mod Flushing  -- what moves at a flush
 pub mod Refilling  -- what moves at a refill
 pub mod Stealing  -- the event of a steal, and what moves
+pub mod Sharing  -- the event by which a member shares items
 pub mod Taking  -- how a deletion chooses
 pub mod Generators  -- the generator of random picks
 pub mod Choices  -- how a picker picks that is chosen while a program runs

@@ -29,13 +29,14 @@
 //! let count = fetch(&own, &mut shared, most, places);   // it has room: the least shared items leave
 //! own.take_in(&places[..count]);                        // and join it, which needs no shared part
 //! let count = steal(&mut own, &mut victim, most);       // it has room: the least of another's items move
+//! let count = share(&mut own, &mut shared)?;            // it will be busy: all its items move
 //! ```
 //!
 //! - **Lawful at all times.** The invariants of `Local` and `Shared` hold of every value: a lawful
 //!   LSM of at most k items, and one within its limit with exact pivots. `Local::len`,
 //!   `Shared::len` and `Shared::pivot` tell it to their callers.
-//! - **Each call is its event.** The clauses `event` of `put`, `flush`, `take`, `take_least`, `spy` and `steal`
-//!   say that the event may happen, and what it leaves of the contents; the other clauses say which
+//! - **Each call is its event.** The clauses `event` of `put`, `flush`, `take`, `take_least`, `spy`, `steal` and
+//!   `share` say that the event may happen, and what it leaves of the contents; the other clauses say which
 //!   blocks move, and which item goes. A refill is two calls, `fetch` and `Local::take_in`.
 //! - **A deletion skips at most k items** of the two parts: clause `skips` of `take`.
 //!   `laws::takes_skip_few` says the same of the event, however the candidate was picked.
@@ -52,6 +53,8 @@
 //!   so no bound changes.
 //! - **A steal keeps own parts alike.** A member that has another's part in hand beside its own moves the least items
 //!   of that part to its own, into the room that it has, and at most half of them. Neither part has then more than k.
+//! - **A share lets others find a member's items.** A member that will be busy for long moves all items of its own part
+//!   to the shared one, at one growth, before anything changes. Its own part is empty then, so no bound changes.
 //! - **A `Queue` holds what was inserted and not yet deleted**, each item once: clauses `items` of
 //!   `Queue::insert` and `Queue::delete_min`, and `ascending` of `Queue::len`. It asks nothing of
 //!   its callers.
@@ -80,6 +83,7 @@ mod ranking;
 mod ranks;
 mod refilling;
 mod shared;
+mod sharing;
 mod spying;
 mod stealing;
 mod taking;
@@ -93,6 +97,7 @@ pub use picker::{First, Last, Picker, Random, random_of};
 pub use queue::Queue;
 pub use refilling::fetch;
 pub use shared::Shared;
+pub use sharing::share;
 pub use spying::spy;
 pub use stealing::steal;
 pub use taking::take;

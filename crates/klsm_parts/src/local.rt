@@ -181,6 +181,22 @@ impl<const CAP: usize> Local<CAP> {
         };
     }
 
+    // All items, as one run.
+    pub(crate) fn united(&self) -> FixedRun<CAP>
+        requires { IsCapacity CAP }
+        ensures { result ≡ items_in self.now }
+    {
+        self.lsm.united()
+    }
+
+    // Loses all items.
+    pub(crate) fn clear(&mut self)
+        ensures { self.new ≡ record { k = self.old.k; blocks = [] } }
+    {
+        self.found = None;
+        self.lsm.clear();
+    }
+
     // Takes what goes to a member that spies from a victim.
     pub(crate) fn spy_from(&mut self, victim: &mut Self) -> usize
         requires same_k { self.old.k ≡ victim.old.k }

@@ -1,0 +1,59 @@
+//! What a member that has both parts in hand gives back, so that others find it.
+ghost use Rattle.std.specs.Prelude.{◌≡◌, ◌+◌, ◌<◌, ◌↔◌, [], length, IfOk, OnOk, OnErr, IsErrAnd};
+ghost use Rattle.klsm_run.specs.Capacity.{IsCapacity, heap_room};
+ghost use Rattle.klsm_run.specs.Content.{ShareNone};
+ghost use Rattle.klsm_lsm.specs.Lsm.{content};
+ghost use Rattle.klsm_lsm.specs.Limit.{limit_of};
+ghost use Rattle.klsm_lsm.specs.Adding.{add};
+ghost use Rattle.klsm_parts.specs.Parts.{items_in};
+ghost use Rattle.klsm_parts.specs.Sharing.{MayShare, own_after_share, shared_after_share};
+
+use crate::{Local, Shared};
+use klsm_lsm::LsmError;
+use std::alloc::Allocator;
+
+/// Moves all items of the own part to the shared one. The answer is how many moved.
+///
+/// They leave as one run: it costs one merge of the own blocks, one growth, the merges of the shared part and, whatever
+/// k is, one comparison a block of that. A refusal comes before anything changes, and `Full` before the growth.
+// It is kept apart from the other calls, since a run of all items lies on the stack.
+#[inline(never)]
+pub fn share<const CAP: usize, const LEVELS: usize, A: Allocator + Copy>(
+    own: &mut Local<CAP>,
+    shared: &mut Shared<LEVELS, A>,
+) -> Result<usize, LsmError>
+    requires capacity { IsCapacity CAP }
+    requires apart { ShareNone (content own.old.blocks) (content shared.old.blocks) }
+    ensures count { IfOk result (λ count. count ≡ length (items_in own.old)) }
+    ensures own { OnOk result (own.new ≡ record { k = own.old.k; blocks = [] }) }
+    ensures shared_k { shared.new.k ≡ shared.old.k }
+    ensures none { IfOk result (λ count. count ≡ 0 → shared.new ≡ shared.old) }
+
+    // What takes effect on the contents.
+    ensures event { IfOk result (λ count. 0 < count
+        → MayShare (items_in own.old) (items_in own.old)
+        × (items_in own.new ≡ own_after_share (items_in own.old) (items_in own.old))
+        × (items_in shared.new ≡ shared_after_share (items_in shared.old) (items_in own.old))
+        × (shared.new.blocks ≡ add shared.old.blocks (items_in own.old))) }
+
+    // A refusal changes nothing. It is for want of room exactly where there is none, and else for
+    // want of memory.
+    ensures full { IsErrAnd result (λ why. why ≡ LsmError.Full)
+        ↔ (limit_of LEVELS heap_room
+        < length (content shared.old.blocks) + length (content own.old.blocks)) }
+    ensures unchanged { OnErr result ((own.new ≡ own.old) × (shared.new ≡ shared.old)) }
+{
+    // For the proof: the shared part is within its limit.
+    let _known = shared.len();
+    let count = own.len();
+    if count == 0 {
+        return Ok(0);
+    }
+    match shared.absorb_copy(&own.united()) {
+        Ok(()) => {
+            own.clear();
+            Ok(count)
+        }
+        Err(why) => Err(why),
+    }
+}
