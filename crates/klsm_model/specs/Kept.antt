@@ -7,7 +7,7 @@ use Rattle.klsm_world.specs.declared.step.Event.TheVariants as event
 use Rattle.klsm_world.specs.declared.step.Entry.{Entry}
 use Rattle.klsm_world.specs.declared.step.Entry.TheVariants as entry
 use Rattle.klsm_model.specs.declared.own_steps.KeptStep.{KeptStep}
-use Rattle.klsm_model.specs.declared.own_steps.KeptStep.TheVariants.{Acquired, Put, Flush, Take, Early, Nothing, Spy, Refill, Steal, Released, Missed, Looked}
+use Rattle.klsm_model.specs.declared.own_steps.KeptStep.TheVariants.{Acquired, Put, Flush, Take, Early, Nothing, Spy, Refill, Steal, Share, Released, Missed, Looked}
 use Rattle.klsm_world.specs.Worlds.{Limits, World, word_of, content_of}
 use Rattle.klsm_world.specs.LawfulWorlds.{IsLawful}
 use Rattle.klsm_model.specs.WorldView.{AreLimits}
@@ -23,6 +23,7 @@ entry_of Nothing items = entry.Committed event.Nothing
 entry_of (Spy victim) items = entry.Committed (event.Spy victim items)
 entry_of (Steal victim) items = entry.Committed (event.Steal victim items)
 entry_of Refill items = entry.Committed (event.Refill items)
+entry_of Share items = entry.Committed (event.Share items)
 entry_of (Released p) items = entry.Released p
 entry_of (Missed p by) items = entry.Missed p by
 entry_of (Looked front) items = entry.Looked front

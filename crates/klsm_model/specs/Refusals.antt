@@ -2,7 +2,7 @@
 use Rattle.std.specs.Prelude.{ℕ, ◌≡◌, ◌≢◌, ◌+◌, ◌<◌, ◌≤◌, ◌⊎◌, List, [], ◌∷◌, None}
 use Rattle.std.specs.List.{Contains}
 use Rattle.klsm_world.specs.declared.step.Event.{Event}
-use Rattle.klsm_world.specs.declared.step.Event.TheVariants.{Put, Flush, Take, Early, Nothing, Spy, Refill, Steal}
+use Rattle.klsm_world.specs.declared.step.Event.TheVariants.{Put, Flush, Take, Early, Nothing, Spy, Refill, Steal, Share}
 use Rattle.klsm_world.specs.declared.step.Step.{Step}
 use Rattle.klsm_world.specs.declared.step.Step.TheVariants.{Acquire, Commit, Release, Miss, Look}
 use Rattle.klsm_model.specs.declared.errors.StepError.{StepError}
@@ -22,6 +22,7 @@ NamesNoVictim limits t Nothing = ⊥
 NamesNoVictim limits t (Spy victim moved) = (limits.threads ≤ victim) ⊎ (victim ≡ t)
 NamesNoVictim limits t (Steal victim moved) = (limits.threads ≤ victim) ⊎ (victim ≡ t)
 NamesNoVictim limits t (Refill moved) = ⊥
+NamesNoVictim limits t (Share moved) = ⊥
 
 -- a step names a thread, a part or a victim that is not there, or the thread itself as the victim
 abbrev pub NamesNone : Limits → Step → Type 0
@@ -41,6 +42,7 @@ parts_for t Nothing = own_part t ∷ shared_part ∷ []
 parts_for t (Spy victim moved) = own_part t ∷ own_part victim ∷ []
 parts_for t (Steal victim moved) = own_part t ∷ own_part victim ∷ []
 parts_for t (Refill moved) = own_part t ∷ shared_part ∷ []
+parts_for t (Share moved) = own_part t ∷ shared_part ∷ []
 
 -- thread t does not hold one of these parts
 abbrev pub LacksOne : World → ℕ → List ℕ → Type 0

@@ -6,7 +6,7 @@ use Rattle.klsm_model.specs.declared.world.TheConstants.{WORLD_K, WORLD_THREADS}
 use Rattle.klsm_run.specs.Content.{sorted, skipped}
 use Rattle.klsm_parts.specs.Events.{minus}
 use Rattle.klsm_world.specs.declared.step.Event.{Event}
-use Rattle.klsm_world.specs.declared.step.Event.TheVariants.{Put, Flush, Take, Early, Nothing, Spy, Refill, Steal}
+use Rattle.klsm_world.specs.declared.step.Event.TheVariants.{Put, Flush, Take, Early, Nothing, Spy, Refill, Steal, Share}
 use Rattle.klsm_world.specs.declared.step.Step.{Step}
 use Rattle.klsm_model.specs.declared.errors.StepError.TheVariants as step_error
 use Rattle.klsm_model.specs.declared.errors.WorldError.{WorldError}
@@ -28,6 +28,7 @@ most_skipped (Early x front ∷ before) = max (skipped (queue_of before) x) (mos
 most_skipped (Nothing ∷ before) = most_skipped before
 most_skipped (Spy victim moved ∷ before) = most_skipped before
 most_skipped (Refill moved ∷ before) = most_skipped before
+most_skipped (Share moved ∷ before) = most_skipped before
 most_skipped (Steal victim moved ∷ before) = most_skipped before
 
 -- steps, the latest first, are a schedule whose events are a run of the relaxed queue, and this is

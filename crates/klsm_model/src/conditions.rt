@@ -4,6 +4,7 @@ ghost use Rattle.klsm_model.specs.declared.world.TheConstants.{WORLD_K};
 ghost use Rattle.klsm_run.specs.Content.{sorted, IsAscending};
 ghost use Rattle.klsm_parts.specs.Events.{times, IsWithin, IsInReach, SkipsNoneOf, MayFlush, MayTake, MayTakeEarly, MaySpy, MayRefill};
 ghost use Rattle.klsm_parts.specs.Stealing.{MaySteal};
+ghost use Rattle.klsm_parts.specs.Sharing.{MayShare};
 
 use klsm_run::Item;
 
@@ -138,4 +139,14 @@ pub(crate) fn may_steal(k: usize, own: &[Item], victim: &[Item], moved: &[Item])
 {
     // A refill asks the same of the shared part.
     may_refill(k, own, victim, moved)
+}
+
+/// Whether items may move from an own part to the shared one.
+pub(crate) fn may_share(own: &[Item], moved: &[Item]) -> bool
+    ensures { IsTrue result ↔ MayShare own.now moved.now }
+{
+    if moved.is_empty() || !is_ascending(moved) {
+        return false;
+    }
+    are_within(moved, own)
 }

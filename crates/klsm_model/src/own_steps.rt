@@ -22,6 +22,7 @@ pub(crate) enum KeptStep {
     Spy(u32),
     Refill,
     Steal(u32),
+    Share,
     Released(u32),
     Missed(u32, u32),
     Looked(u64),

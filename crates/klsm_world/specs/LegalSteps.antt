@@ -3,8 +3,9 @@ use Rattle.std.specs.Prelude.{ℕ, ◌≡◌, ◌≢◌, ◌≤◌, List, length
 use Rattle.klsm_run.specs.declared.item.Item.{Item}
 use Rattle.klsm_parts.specs.Events.{MayPut, MayFlush, MayTake, MayTakeEarly, MayFindNothing, MaySpy, MayRefill}
 use Rattle.klsm_parts.specs.Stealing.{MaySteal}
+use Rattle.klsm_parts.specs.Sharing.{MayShare}
 use Rattle.klsm_world.specs.declared.step.Event.{Event}
-use Rattle.klsm_world.specs.declared.step.Event.TheVariants.{Put, Flush, Take, Early, Nothing, Spy, Refill, Steal}
+use Rattle.klsm_world.specs.declared.step.Event.TheVariants.{Put, Flush, Take, Early, Nothing, Spy, Refill, Steal, Share}
 use Rattle.klsm_world.specs.declared.step.Entry.{Entry}
 use Rattle.klsm_world.specs.declared.step.Entry.TheVariants.{Acquired, Committed, Released, Missed, Looked}
 use Rattle.klsm_world.specs.OwnSteps.{Hand, Holds, HoldsSome, found_in, shared_part, own_part, hand_of, inserted}
@@ -53,6 +54,8 @@ MayCommit k t hand n (Refill moved) =
     HoldsBoth t shared_part hand (λ own shared. MayRefill k own shared moved)
 MayCommit k t hand n (Steal victim moved) =
     MaySpyOn t victim (HoldsBoth t (own_part victim) hand (λ own from. MaySteal k own from moved))
+MayCommit k t hand n (Share moved) =
+    HoldsBoth t shared_part hand (λ own shared. MayShare own moved)
 
 -- a part that is not in the hand was found with this content; an own part has at most k items
 pub record MayFind (k : ℕ) (hand : Hand) (p : ℕ) (found : List Item) : Type 0 where

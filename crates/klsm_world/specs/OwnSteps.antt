@@ -6,8 +6,9 @@ use Rattle.std.specs.List.{fold, flat_map}
 use Rattle.klsm_run.specs.declared.item.Item.{Item}
 use Rattle.klsm_parts.specs.Events.{own_after_put, own_after_flush, shared_after_flush, own_after_take, shared_after_take, own_after_early, own_after_spy, victim_after_spy, own_after_refill, shared_after_refill}
 use Rattle.klsm_parts.specs.Stealing.{own_after_steal, victim_after_steal}
+use Rattle.klsm_parts.specs.Sharing.{own_after_share, shared_after_share}
 use Rattle.klsm_world.specs.declared.step.Event.{Event}
-use Rattle.klsm_world.specs.declared.step.Event.TheVariants.{Put, Flush, Take, Early, Nothing, Spy, Refill, Steal}
+use Rattle.klsm_world.specs.declared.step.Event.TheVariants.{Put, Flush, Take, Early, Nothing, Spy, Refill, Steal, Share}
 use Rattle.klsm_world.specs.declared.step.Entry.{Entry}
 use Rattle.klsm_world.specs.declared.step.Entry.TheVariants.{Acquired, Committed, Released, Missed, Looked}
 
@@ -76,6 +77,10 @@ after_event t hand (Steal victim moved) =
     changed
     (changed hand (own_part t) (own_after_steal (content_in hand (own_part t)) moved))
     (own_part victim) (victim_after_steal (content_in hand (own_part victim)) moved)
+after_event t hand (Share moved) =
+    changed
+    (changed hand (own_part t) (own_after_share (content_in hand (own_part t)) moved))
+    shared_part (shared_after_share (content_in hand shared_part) moved)
 
 -- thread t's hand after one more of its own steps
 abbrev pub after_entry : ℕ → Hand → Entry → Hand
@@ -99,6 +104,7 @@ inserted_by Nothing = []
 inserted_by (Spy victim moved) = []
 inserted_by (Refill moved) = []
 inserted_by (Steal victim moved) = []
+inserted_by (Share moved) = []
 
 abbrev pub deleted_by : Event → List Item
 deleted_by (Put x) = []
@@ -109,6 +115,7 @@ deleted_by Nothing = []
 deleted_by (Spy victim moved) = []
 deleted_by (Refill moved) = []
 deleted_by (Steal victim moved) = []
+deleted_by (Share moved) = []
 
 -- the event that an entry commits
 abbrev pub event_at : Entry → List Event

@@ -7,7 +7,7 @@ use Rattle.klsm_run.specs.declared.item.Item.{Item}
 use Rattle.klsm_run.specs.Content.{skipped, without}
 use Rattle.klsm_parts.specs.Events.{plus}
 use Rattle.klsm_world.specs.declared.step.Event.{Event}
-use Rattle.klsm_world.specs.declared.step.Event.TheVariants.{Put, Flush, Take, Early, Nothing, Spy, Refill, Steal}
+use Rattle.klsm_world.specs.declared.step.Event.TheVariants.{Put, Flush, Take, Early, Nothing, Spy, Refill, Steal, Share}
 use Rattle.klsm_world.specs.declared.step.Step.{Step}
 use Rattle.klsm_world.specs.declared.step.Step.TheVariants.{Acquire, Commit, Release, Miss, Look}
 use Rattle.klsm_world.specs.Worlds.{Limits}
@@ -22,6 +22,7 @@ queue_after c Nothing = c
 queue_after c (Spy victim moved) = c
 queue_after c (Steal victim moved) = c
 queue_after c (Refill moved) = c
+queue_after c (Share moved) = c
 
 -- an item inserted is new; a deletion skips at most T·k items; nothing is answered only where at
 -- most (T-1)·k items are left
@@ -34,6 +35,7 @@ MayMove limits c Nothing = length c ≤ (limits.threads - 1) * limits.k
 MayMove limits c (Spy victim moved) = Unit {0}
 MayMove limits c (Steal victim moved) = Unit {0}
 MayMove limits c (Refill moved) = Unit {0}
+MayMove limits c (Share moved) = Unit {0}
 
 -- what is left of the empty multiset after events
 abbrev pub queue_of : List Event → List Item

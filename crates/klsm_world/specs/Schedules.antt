@@ -3,7 +3,7 @@ use Rattle.std.specs.Prelude.{ℕ, ◌≡◌, ◌≢◌, ◌+◌, ◌<◌, ◌�
 use Rattle.klsm_run.specs.declared.item.Item.{Item}
 use Rattle.klsm_parts.specs.Events.{front_of}
 use Rattle.klsm_world.specs.declared.step.Event.{Event}
-use Rattle.klsm_world.specs.declared.step.Event.TheVariants.{Put, Flush, Take, Early, Nothing, Spy, Refill, Steal}
+use Rattle.klsm_world.specs.declared.step.Event.TheVariants.{Put, Flush, Take, Early, Nothing, Spy, Refill, Steal, Share}
 use Rattle.klsm_world.specs.declared.step.Step.{Step}
 use Rattle.klsm_world.specs.declared.step.Step.TheVariants.{Acquire, Commit, Release, Miss, Look}
 use Rattle.klsm_world.specs.declared.step.Entry.{Entry}
@@ -28,6 +28,7 @@ NamesFront word Nothing = Unit {0}
 NamesFront word (Spy victim moved) = Unit {0}
 NamesFront word (Steal victim moved) = Unit {0}
 NamesFront word (Refill moved) = Unit {0}
+NamesFront word (Share moved) = Unit {0}
 
 -- an event may take effect on parts that thread t holds
 pub record MayTakeEffect (limits : Limits) (w : World) (t : ℕ) (event : Event) : Type 0 where
@@ -63,8 +64,8 @@ MayStep limits w (Look t) = MayLook limits w t
 abbrev pub noted : World → ℕ → Entry → List (List Entry)
 noted w t entry = slice_set w.lists t (steps_of w t ++ entry ∷ [])
 
--- the front word after an event of thread t, which had this hand: a Flush, a Take and a Refill set it
--- to the front of what they leave in the shared part
+-- the front word after an event of thread t, which had this hand: a Flush, a Take, a Refill and a
+-- Share set it to the front of what they leave in the shared part
 abbrev pub front_after : ℕ → ℕ → Hand → Event → ℕ
 front_after word t hand (Put x) = word
 front_after word t hand (Flush x moved) =
@@ -77,6 +78,8 @@ front_after word t hand (Spy victim moved) = word
 front_after word t hand (Steal victim moved) = word
 front_after word t hand (Refill moved) =
     front_of (content_in (after_event t hand (Refill moved)) shared_part)
+front_after word t hand (Share moved) =
+    front_of (content_in (after_event t hand (Share moved)) shared_part)
 
 -- the world after thread t acquired part p, of which its list records this content
 abbrev pub acquired : World → ℕ → ℕ → List Item → World

@@ -47,6 +47,11 @@ pub enum Event {
         /// The items that move, ascending without repeats.
         moved: Items,
     },
+    /// Items move from the own part to the shared one.
+    Share {
+        /// The items that move, ascending without repeats.
+        moved: Items,
+    },
 }
 
 /// A step of one thread. Part 0 is the shared one, and part t + 1 is thread t's own.

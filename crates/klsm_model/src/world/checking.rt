@@ -11,7 +11,7 @@ ghost use Rattle.klsm_world.specs.Schedules.{MayStep, NamesFront};
 ghost use Rattle.klsm_world.specs.Worlds.{content_of, hand_in, steps_of, word_of};
 
 use super::World;
-use crate::conditions::{may_flush, may_refill, may_spy, may_steal, may_take, may_take_early};
+use crate::conditions::{may_flush, may_refill, may_share, may_spy, may_steal, may_take, may_take_early};
 use crate::errors::StepError;
 use klsm_run::Item;
 use klsm_world::{Event, Step};
@@ -176,7 +176,8 @@ impl<A: Allocator + Copy> World<A> {
             Event::Flush { item: _, moved: _ }
             | Event::Take(_)
             | Event::Nothing
-            | Event::Refill { moved: _ } => own && self.holds(thread, SHARED),
+            | Event::Refill { moved: _ }
+            | Event::Share { moved: _ } => own && self.holds(thread, SHARED),
             Event::Spy { victim, moved: _ } | Event::Steal { victim, moved: _ } => {
                 own && self.holds(thread, own_part(*victim))
             }
@@ -225,6 +226,7 @@ impl<A: Allocator + Copy> World<A> {
                     moved.as_slice(),
                 )
             }
+            Event::Share { moved } => may_share(own, moved.as_slice()),
         }
     }
 }

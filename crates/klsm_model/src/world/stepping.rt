@@ -1,7 +1,7 @@
 //! The steps of a world that are legal, each by its kind.
 ghost use Rattle.std.specs.Prelude.{◌≡◌, ◌<◌, ◌++◌, ◌∷◌, [], slice_index_or, slice_set, OnOk, OnErr, IfErr};
 ghost use Rattle.std.specs.Vec.{vec_len};
-ghost use Rattle.klsm_world.specs.declared.step.Event.TheVariants.{Put, Flush, Take, Early, Nothing, Spy, Refill, Steal};
+ghost use Rattle.klsm_world.specs.declared.step.Event.TheVariants.{Put, Flush, Take, Early, Nothing, Spy, Refill, Steal, Share};
 ghost use Rattle.klsm_world.specs.declared.step.Step.TheVariants.{Acquire, Commit, Release, Miss, Look};
 ghost use Rattle.klsm_model.specs.Kept.{entry_of};
 ghost use Rattle.klsm_model.specs.WorldView.{IsStepped};
@@ -88,6 +88,7 @@ impl<A: Allocator + Copy> World<A> {
             Event::Spy { victim, moved } => self.spy(thread, *victim, moved.as_slice()),
             Event::Refill { moved } => self.refill(thread, moved.as_slice()),
             Event::Steal { victim, moved } => self.steal(thread, *victim, moved.as_slice()),
+            Event::Share { moved } => self.share(thread, moved.as_slice()),
         }
     }
 
@@ -194,6 +195,20 @@ impl<A: Allocator + Copy> World<A> {
         note(&mut self.lists, thread, KeptStep::Steal(victim), listed)?;
         self.contents[own] = Items::new(own_after);
         self.contents[from] = Items::new(kept);
+        Ok(())
+    }
+
+    fn share(&mut self, thread: u32, moved: &[Item]) -> Result<(), StepError>
+        requires { MayStep self.old.limits self.old.world (Commit thread (Share moved.now)) }
+        ensures { IsStepped self.old (Commit thread (Share moved.now)) result self.new }
+    {
+        let own = own_part(thread);
+        let own_after = without_all(self.alloc, self.contents[own].as_slice(), moved)?;
+        let joined = with_all(self.alloc, self.contents[SHARED].as_slice(), moved)?;
+        let listed = Items::new(copied(self.alloc, moved)?);
+        note(&mut self.lists, thread, KeptStep::Share, listed)?;
+        self.contents[own] = Items::new(own_after);
+        self.contents[SHARED] = Items::new(joined);
         Ok(())
     }
 }

@@ -6,7 +6,7 @@ use Rattle.klsm_run.specs.declared.item.Item.{Item}
 use Rattle.klsm_parts.specs.Events.{times, plus, minus}
 use Rattle.klsm_world.specs.declared.step.Step.TheVariants.{Commit}
 use Rattle.klsm_world.specs.declared.step.Event.{Event}
-use Rattle.klsm_world.specs.declared.step.Event.TheVariants.{Put, Flush, Take, Early, Spy, Refill, Steal}
+use Rattle.klsm_world.specs.declared.step.Event.TheVariants.{Put, Flush, Take, Early, Spy, Refill, Steal, Share}
 use Rattle.klsm_world.specs.declared.step.Entry.{Entry}
 use Rattle.klsm_world.specs.declared.step.Entry.TheVariants.{Committed}
 use Rattle.klsm_model.specs.Kept.{IsKept, world_of}
@@ -141,3 +141,17 @@ module _ (before : WorldView) (limits : Limits) (words : List ℕ) (contents : L
         ∙ (ap (λ i. set (set contents (t + 1) (plus (get_or contents (t + 1) []) moved)) i left) from_is
         ∙ ap (set (set contents (t + 1) (plus (get_or contents (t + 1) []) moved)) (victim + 1))
         (left_is ∙ ap (λ c. minus c moved) (read_part contents (victim + 1) from from_at from_read from_is within from_found from_copied)))))
+
+    -- a Share
+    pub share_taken : (moved listed : List Item) (own : ℕ) (at read own_after shared_at shared_read joined : List Item) → MayStep before.limits before.world (Commit t (Share moved))
+        → lists'' ≡ lists_with lists t (Committed (Share listed)) → listed ≡ moved → own ≡ t + 1
+        → at ≡ get_or contents own at → read ≡ at → own_after ≡ minus read moved
+        → shared_at ≡ get_or contents 0 shared_at → shared_read ≡ shared_at → joined ≡ plus shared_read moved
+        → Took (Share moved) (set (set contents own own_after) 0 joined)
+    share_taken moved listed own at read own_after shared_at shared_read joined may noted listed_is own_is found copied own_after_is shared_found shared_copied joined_is =
+        took (Share moved) (set (set contents own own_after) 0 joined) may (noted ∙ ap (λ xs. lists_with lists t (Committed (Share xs))) listed_is)
+        (ap (λ i. set (set contents i own_after) 0 joined) own_is
+        ∙ (ap (λ c. set (set contents (t + 1) c) 0 joined)
+        (own_after_is ∙ ap (λ c. minus c moved) (read_part contents (t + 1) own at read own_is (own_within (Share moved) may) found copied))
+        ∙ ap (set (set contents (t + 1) (minus (get_or contents (t + 1) []) moved)) 0)
+        (joined_is ∙ ap (λ c. plus c moved) (read_part contents 0 0 shared_at shared_read refl shared_within shared_found shared_copied))))

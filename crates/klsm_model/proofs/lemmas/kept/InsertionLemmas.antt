@@ -8,7 +8,7 @@ use Rattle.klsm_model.specs.declared.own_steps.KeptStep.TheVariants as kept
 use Rattle.klsm_model.specs.Kept.{entry_of}
 use Rattle.klsm_world.specs.declared.step.Entry.{Entry}
 use Rattle.klsm_world.specs.declared.step.Entry.TheVariants.{Acquired, Committed, Released, Missed, Looked}
-use Rattle.klsm_world.specs.declared.step.Event.TheVariants.{Put, Flush, Take, Early, Nothing, Spy, Refill, Steal}
+use Rattle.klsm_world.specs.declared.step.Event.TheVariants.{Put, Flush, Take, Early, Nothing, Spy, Refill, Steal, Share}
 use Rattle.klsm_world.specs.OwnSteps.{inserted_by, event_at, inserted}
 use Rattle.klsm_world.proofs.lemmas.counts.ItemGrowthLemmas.{items_grow}
 
@@ -22,6 +22,7 @@ at_most_one (Committed Nothing) = omega arith
 at_most_one (Committed (Spy victim moved)) = omega arith
 at_most_one (Committed (Steal victim moved)) = omega arith
 at_most_one (Committed (Refill moved)) = omega arith
+at_most_one (Committed (Share moved)) = omega arith
 at_most_one (Released p) = omega arith
 at_most_one (Missed p by) = omega arith
 at_most_one (Looked front) = omega arith
@@ -49,6 +50,7 @@ none_inserted kept.Nothing items put flush = refl
 none_inserted (kept.Spy victim) items put flush = refl
 none_inserted (kept.Steal victim) items put flush = refl
 none_inserted kept.Refill items put flush = refl
+none_inserted kept.Share items put flush = refl
 none_inserted (kept.Released p) items put flush = refl
 none_inserted (kept.Missed p by) items put flush = refl
 none_inserted (kept.Looked front) items put flush = refl

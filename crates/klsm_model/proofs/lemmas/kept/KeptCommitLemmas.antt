@@ -10,7 +10,8 @@ use Rattle.klsm_run.proofs.WithoutLemmas.{sorted_without}
 use Rattle.klsm_parts.specs.Events.{times, plus, minus, own_after_put, own_after_flush, shared_after_flush, own_after_take, shared_after_take, own_after_early, own_after_spy, victim_after_spy, own_after_refill, shared_after_refill, front_of}
 use Rattle.klsm_parts.specs.Stealing.{own_after_steal, victim_after_steal}
 use Rattle.klsm_world.specs.declared.step.Event.{Event}
-use Rattle.klsm_world.specs.declared.step.Event.TheVariants.{Put, Flush, Take, Early, Nothing, Spy, Refill, Steal}
+use Rattle.klsm_world.specs.declared.step.Event.TheVariants.{Put, Flush, Take, Early, Nothing, Spy, Refill, Steal, Share}
+use Rattle.klsm_parts.specs.Sharing.{own_after_share, shared_after_share}
 use Rattle.klsm_world.specs.declared.step.Step.TheVariants.{Commit}
 use Rattle.klsm_world.specs.declared.step.Entry.{Entry}
 use Rattle.klsm_world.specs.declared.step.Entry.TheVariants.{Committed}
@@ -116,6 +117,7 @@ contents_after contents t (Spy victim moved) = set (set contents (t + 1) moved) 
 contents_after contents t (Refill moved) = set (set contents (t + 1) (plus (get_or contents (t + 1) []) moved)) 0 (minus (get_or contents 0 []) moved)
 contents_after contents t (Steal victim moved) =
     set (set contents (t + 1) (plus (get_or contents (t + 1) []) moved)) (victim + 1) (minus (get_or contents (victim + 1) []) moved)
+contents_after contents t (Share moved) = set (set contents (t + 1) (minus (get_or contents (t + 1) []) moved)) 0 (plus (get_or contents 0 []) moved)
 
 module _ (limits : Limits) (words : List ℕ) (contents : List (List Item)) (lists : List (List Entry)) (t : ℕ) (kept : IsKept limits words contents lists) where
   abbrev hand : Hand
@@ -194,6 +196,15 @@ module _ (limits : Limits) (words : List ℕ) (contents : List (List Item)) (lis
       (sym (at_hand (own_part victim) may.thread from.0 from.1))
       (two_parts may.thread (own_part t) (own_part victim) (own_after_steal (content (own_part t)) moved) (victim_after_steal (content (own_part victim)) moved) own.0 own.1 from.0 from.1
       (sorted_itself (moved ++ content (own_part t))) (sorted_minus moved (content (own_part victim)) (kept.ascending (own_part victim) from.0))))
+  by_event (Share moved) may =
+      let own = named (own_part t) may.commit.own may.thread may.commit.holds_own in
+      let shared = named shared_part may.commit.other may.thread may.commit.holds_other in
+      subst (λ c. IsAsHand limits words contents lists t (changed (changed hand (own_part t) (own_after_share c moved)) shared_part (shared_after_share (content_in hand shared_part) moved)) (contents_after contents t (Share moved)))
+      (sym (at_hand (own_part t) may.thread own.0 own.1))
+      (subst (λ c. IsAsHand limits words contents lists t (changed (changed hand (own_part t) (own_after_share (content (own_part t)) moved)) shared_part (shared_after_share c moved)) (contents_after contents t (Share moved)))
+      (sym (at_hand shared_part may.thread shared.0 shared.1))
+      (two_parts may.thread (own_part t) shared_part (own_after_share (content (own_part t)) moved) (shared_after_share (content shared_part) moved) own.0 own.1 shared.0 shared.1
+      (sorted_minus moved (content (own_part t)) (kept.ascending (own_part t) own.0)) (sorted_itself (moved ++ content shared_part))))
 
 -- after a commit
 pub kept_committed : (limits : Limits) (words : List ℕ) (contents : List (List Item)) (lists : List (List Entry)) (t : ℕ) (event : Event)

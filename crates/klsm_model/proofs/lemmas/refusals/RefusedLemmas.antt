@@ -4,7 +4,7 @@ use Rattle.std.specs.List.{Contains}
 use Rattle.std.proofs.lemmas.Option.{none-some}
 use Rattle.klsm_run.specs.declared.item.Item.{Item}
 use Rattle.klsm_world.specs.declared.step.Event.{Event}
-use Rattle.klsm_world.specs.declared.step.Event.TheVariants.{Put, Flush, Take, Early, Nothing, Spy, Refill, Steal}
+use Rattle.klsm_world.specs.declared.step.Event.TheVariants.{Put, Flush, Take, Early, Nothing, Spy, Refill, Steal, Share}
 use Rattle.klsm_world.specs.declared.step.Step.{Step}
 use Rattle.klsm_world.specs.declared.step.Step.TheVariants.{Acquire, Commit, Release, Miss, Look}
 use Rattle.klsm_model.specs.declared.errors.StepError.TheVariants.{NoSuchPart, Held, NotHeld, WrongEvent, NoMemory}
@@ -37,6 +37,7 @@ module _ (hand : Hand) where
   committer_holds k t n (Spy victim moved) may p within lacks = lacks_two p (own_part t) (own_part victim) may.held.own may.held.other may.held.holds_own may.held.holds_other within lacks
   committer_holds k t n (Steal victim moved) may p within lacks = lacks_two p (own_part t) (own_part victim) may.held.own may.held.other may.held.holds_own may.held.holds_other within lacks
   committer_holds k t n (Refill moved) may p within lacks = lacks_two p (own_part t) shared_part may.own may.other may.holds_own may.holds_other within lacks
+  committer_holds k t n (Share moved) may p within lacks = lacks_two p (own_part t) shared_part may.own may.other may.holds_own may.holds_other within lacks
 
 names_none : (limits : Limits) (w : World) (step : Step) → IsLawful limits w → NamesNone limits step → MayStep limits w step → ⊥
 names_none limits w (Acquire t p) lawful (inl many) may = omega (arith, many, may.thread)
@@ -48,6 +49,7 @@ names_none limits w (Commit t (Take x)) lawful (inr none) may = absurd none
 names_none limits w (Commit t (Early x front)) lawful (inr none) may = absurd none
 names_none limits w (Commit t Nothing) lawful (inr none) may = absurd none
 names_none limits w (Commit t (Refill moved)) lawful (inr none) may = absurd none
+names_none limits w (Commit t (Share moved)) lawful (inr none) may = absurd none
 names_none limits w (Commit t (Spy victim moved)) lawful (inr (inl beyond)) may =
     let at = lawful.agreed.named t (own_part victim) may.commit.held.other may.thread may.commit.held.holds_other in
     omega (arith, beyond, at.0)

@@ -15,7 +15,7 @@ use Rattle.klsm_run.proofs.RankLemmas.{count_sorted}
 use Rattle.klsm_parts.specs.Events.{times, minus}
 use Rattle.klsm_parts.proofs.EventLemmas.{minus_moved}
 use Rattle.klsm_world.specs.declared.step.Event.{Event}
-use Rattle.klsm_world.specs.declared.step.Event.TheVariants.{Put, Flush, Take, Early, Nothing, Spy, Refill, Steal}
+use Rattle.klsm_world.specs.declared.step.Event.TheVariants.{Put, Flush, Take, Early, Nothing, Spy, Refill, Steal, Share}
 use Rattle.klsm_world.specs.declared.step.Step.{Step}
 use Rattle.klsm_model.specs.declared.errors.StepError.{StepError}
 use Rattle.klsm_model.specs.declared.errors.StepError.TheVariants as step_error
@@ -46,6 +46,7 @@ most_few limits (Nothing ∷ before) run = most_few limits before run.0
 most_few limits (Spy victim moved ∷ before) run = most_few limits before run.0
 most_few limits (Steal victim moved ∷ before) run = most_few limits before run.0
 most_few limits (Refill moved ∷ before) run = most_few limits before run.0
+most_few limits (Share moved ∷ before) run = most_few limits before run.0
 most_few limits (Take x ∷ before) run = most_of_both (most_few limits before run.0) run.1.1
 most_few limits (Early x front ∷ before) run = most_of_both (most_few limits before run.0) run.1.1
 

@@ -9,7 +9,7 @@ use Rattle.klsm_run.specs.ItemOrder.{is_smaller}
 use Rattle.klsm_run.specs.Content.{skipped}
 use Rattle.klsm_run.proofs.RankLemmas.{count_sorted}
 use Rattle.klsm_world.specs.declared.step.Event.{Event}
-use Rattle.klsm_world.specs.declared.step.Event.TheVariants.{Put, Flush, Take, Early, Nothing, Spy, Refill, Steal}
+use Rattle.klsm_world.specs.declared.step.Event.TheVariants.{Put, Flush, Take, Early, Nothing, Spy, Refill, Steal, Share}
 use Rattle.klsm_world.specs.declared.step.Step.{Step}
 use Rattle.klsm_world.specs.declared.step.Step.TheVariants.{Acquire, Commit, Release, Miss, Look}
 use Rattle.klsm_world.specs.Worlds.{Limits, World, live}
@@ -54,6 +54,7 @@ most_run limits before w (Commit t Nothing) leads = ap most_skipped (commit_adds
 most_run limits before w (Commit t (Spy victim moved)) leads = ap most_skipped (commit_adds before t (Spy victim moved)) ∙ omega arith
 most_run limits before w (Commit t (Steal victim moved)) leads = ap most_skipped (commit_adds before t (Steal victim moved)) ∙ omega arith
 most_run limits before w (Commit t (Refill moved)) leads = ap most_skipped (commit_adds before t (Refill moved)) ∙ omega arith
+most_run limits before w (Commit t (Share moved)) leads = ap most_skipped (commit_adds before t (Share moved)) ∙ omega arith
 most_run limits before w (Commit t (Take x)) leads =
     let same : skipped (queue_of (events_of before)) x ≡ skipped (live w) x =
     ap (λ c. skipped c x) (queue_is_live limits before w leads) ∙ count_sorted (λ y. is_smaller y x) (live w) in

@@ -17,6 +17,7 @@ use Rattle.klsm_run.proofs.WithoutLemmas.{same_not, same_or_other, without_later
 use Rattle.klsm_parts.specs.Least.{least}
 use Rattle.klsm_parts.specs.Events.{times, IsWithin, plus, minus, MayFlush, IsInReach, MayTakeEarly, MaySpy, MayRefill, own_after_put, own_after_flush, shared_after_flush, own_after_take, shared_after_take, own_after_early, own_after_spy, victim_after_spy, own_after_refill, shared_after_refill}
 use Rattle.klsm_parts.specs.Stealing.{MaySteal, own_after_steal, victim_after_steal}
+use Rattle.klsm_parts.specs.Sharing.{MayShare, own_after_share, shared_after_share}
 use Rattle.klsm_parts.proofs.EventLemmas.{is_in}
 
 -- one more item counts where it is the item sought
@@ -205,3 +206,8 @@ refill_counts k own shared y moved may = omega (arith, times_plus y own moved, t
 pub steal_counts : (k : ℕ) (own victim : List Item) (y : Item) (moved : List Item) → MaySteal k own victim moved
     → times y (own_after_steal own moved) + times y (victim_after_steal victim moved) ≡ times y own + times y victim
 steal_counts k own victim y moved may = omega (arith, times_plus y own moved, times_minus y moved victim may.within)
+
+-- and after a Share
+pub share_counts : (own shared : List Item) (y : Item) (moved : List Item) → MayShare own moved
+    → times y (own_after_share own moved) + times y (shared_after_share shared moved) ≡ times y own + times y shared
+share_counts own shared y moved may = omega (arith, times_minus y moved own may.within, times_plus y shared moved)

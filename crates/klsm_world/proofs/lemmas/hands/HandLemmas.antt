@@ -6,7 +6,8 @@ use Rattle.klsm_run.specs.declared.item.Item.{Item}
 use Rattle.klsm_parts.specs.Events.{own_after_put, own_after_flush, shared_after_flush, own_after_take, shared_after_take, own_after_early, own_after_spy, victim_after_spy, own_after_refill, shared_after_refill}
 use Rattle.klsm_parts.specs.Stealing.{own_after_steal, victim_after_steal}
 use Rattle.klsm_world.specs.declared.step.Event.{Event}
-use Rattle.klsm_world.specs.declared.step.Event.TheVariants.{Put, Flush, Take, Early, Nothing, Spy, Refill, Steal}
+use Rattle.klsm_world.specs.declared.step.Event.TheVariants.{Put, Flush, Take, Early, Nothing, Spy, Refill, Steal, Share}
+use Rattle.klsm_parts.specs.Sharing.{own_after_share, shared_after_share}
 use Rattle.klsm_world.specs.OwnSteps.{Hand, Holds, found_in, content_in, changed, without_part, after_event, own_part, shared_part}
 
 -- by cases on whether two parts are one
@@ -133,6 +134,9 @@ held_before_event t hand (Refill moved) q d found =
 held_before_event t hand (Steal victim moved) q d found =
     held_before_two hand (own_part t) (own_part victim) q
     (own_after_steal (content_in hand (own_part t)) moved) (victim_after_steal (content_in hand (own_part victim)) moved) d found
+held_before_event t hand (Share moved) q d found =
+    held_before_two hand (own_part t) shared_part q
+    (own_after_share (content_in hand (own_part t)) moved) (shared_after_share (content_in hand shared_part) moved) d found
 
 -- what is held before an event is held after it
 pub held_after_event : (t : ℕ) (hand : Hand) (e : Event) (q : ℕ) (c : List Item) → Holds hand q c → (d : List Item) × Holds (after_event t hand e) q d
@@ -154,3 +158,6 @@ held_after_event t hand (Refill moved) q c found =
 held_after_event t hand (Steal victim moved) q c found =
     held_after_two hand (own_part t) (own_part victim) q
     (own_after_steal (content_in hand (own_part t)) moved) (victim_after_steal (content_in hand (own_part victim)) moved) c found
+held_after_event t hand (Share moved) q c found =
+    held_after_two hand (own_part t) shared_part q
+    (own_after_share (content_in hand (own_part t)) moved) (shared_after_share (content_in hand shared_part) moved) c found

@@ -4,8 +4,9 @@ use Rattle.std.proofs.lemmas.Bool.{cases_eq}
 use Rattle.klsm_run.specs.declared.item.Item.{Item}
 use Rattle.klsm_parts.specs.Events.{own_after_put, own_after_flush, shared_after_flush, own_after_take, shared_after_take, own_after_early, own_after_spy, victim_after_spy, own_after_refill, shared_after_refill}
 use Rattle.klsm_parts.specs.Stealing.{own_after_steal, victim_after_steal}
+use Rattle.klsm_parts.specs.Sharing.{own_after_share, shared_after_share}
 use Rattle.klsm_world.specs.declared.step.Event.{Event}
-use Rattle.klsm_world.specs.declared.step.Event.TheVariants.{Put, Flush, Take, Early, Nothing, Spy, Refill, Steal}
+use Rattle.klsm_world.specs.declared.step.Event.TheVariants.{Put, Flush, Take, Early, Nothing, Spy, Refill, Steal, Share}
 use Rattle.klsm_world.specs.declared.step.Step.{Step}
 use Rattle.klsm_world.specs.declared.step.Step.TheVariants.{Acquire, Commit, Release, Miss, Look}
 use Rattle.klsm_world.specs.OwnSteps.{Hand, Holds, found_in, content_in, changed, after_event, own_part, shared_part, inserted}
@@ -71,6 +72,14 @@ few_after_event k t n hand (Steal victim moved) may few =
     let at_most = few victim from may.held.holds_other in
     changed_few k (changed hand (own_part t) (own_after_steal own moved)) (own_part victim) (victim_after_steal theirs moved)
     (changed_few k hand (own_part t) (own_after_steal own moved) few (λ u same. omega (arith, length_plus own moved, had_own, may.held.fits.room))) (λ u same. omega (arith, both, at_most, left))
+few_after_event k t n hand (Share moved) may few =
+    let own = content_in hand (own_part t) in
+    let had : own ≡ may.own = ap (λ o. unwrap_or o []) may.holds_own in
+    let left : length (own_after_share own moved) ≡ length (own_after_share may.own moved) = ap (λ z. length (own_after_share z moved)) had in
+    let both = length_minus moved may.own may.fits.within in
+    let at_most = few t may.own may.holds_own in
+    shared_few k (changed hand (own_part t) (own_after_share own moved)) (shared_after_share (content_in hand shared_part) moved)
+    (changed_few k hand (own_part t) (own_after_share own moved) few (λ u same. omega (arith, left, both, at_most)))
 few_after_event k t n hand (Spy victim moved) may few =
     let from = may.held.other in
     let theirs = content_in hand (own_part victim) in

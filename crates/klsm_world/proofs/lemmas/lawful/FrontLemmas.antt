@@ -3,7 +3,7 @@ use Rattle.std.proofs.Common.{◌≡◌, ◌≢◌, ℕ, ◌+◌, refl, sym, ap,
 use Rattle.klsm_parts.specs.Events.{front_of, own_after_put, own_after_early, own_after_spy, victim_after_spy}
 use Rattle.klsm_parts.specs.Stealing.{own_after_steal, victim_after_steal}
 use Rattle.klsm_world.specs.declared.step.Event.{Event}
-use Rattle.klsm_world.specs.declared.step.Event.TheVariants.{Put, Flush, Take, Early, Nothing, Spy, Refill, Steal}
+use Rattle.klsm_world.specs.declared.step.Event.TheVariants.{Put, Flush, Take, Early, Nothing, Spy, Refill, Steal, Share}
 use Rattle.klsm_world.specs.declared.step.Step.{Step}
 use Rattle.klsm_world.specs.declared.step.Step.TheVariants.{Acquire, Commit, Release, Miss, Look}
 use Rattle.klsm_world.specs.OwnSteps.{content_in, changed, own_part, shared_part}
@@ -35,6 +35,8 @@ module _ (limits : Limits) (w : World) (agreed : AreAgreed limits w) (is : IsFro
       ap front_of (sym (content_committed limits w t (Take x) shared_part may.commit.other agreed may.thread may.commit.holds_other))
   front_committed t (Refill moved) may =
       ap front_of (sym (content_committed limits w t (Refill moved) shared_part may.commit.other agreed may.thread may.commit.holds_other))
+  front_committed t (Share moved) may =
+      ap front_of (sym (content_committed limits w t (Share moved) shared_part may.commit.other agreed may.thread may.commit.holds_other))
   front_committed t (Early x front) may =
       stays (next w (Commit t (Early x front))) refl (content_unchanged limits w t (Early x front) shared_part agreed may.thread
       (found_elsewhere (hand_in w t) (own_part t) shared_part (own_after_early (content_in (hand_in w t) (own_part t)) x) (not_own t)))

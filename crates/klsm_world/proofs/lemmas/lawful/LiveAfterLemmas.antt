@@ -4,14 +4,15 @@ use Rattle.klsm_run.specs.declared.item.Item.{Item}
 use Rattle.klsm_parts.specs.Events.{times, own_after_put, own_after_flush, shared_after_flush, own_after_take, shared_after_take, own_after_early, own_after_spy, victim_after_spy, own_after_refill, shared_after_refill}
 use Rattle.klsm_parts.specs.Stealing.{own_after_steal, victim_after_steal}
 use Rattle.klsm_world.specs.declared.step.Event.{Event}
-use Rattle.klsm_world.specs.declared.step.Event.TheVariants.{Put, Flush, Take, Early, Nothing, Spy, Refill, Steal}
+use Rattle.klsm_world.specs.declared.step.Event.TheVariants.{Put, Flush, Take, Early, Nothing, Spy, Refill, Steal, Share}
+use Rattle.klsm_parts.specs.Sharing.{own_after_share, shared_after_share}
 use Rattle.klsm_world.specs.declared.step.Step.TheVariants.{Commit}
 use Rattle.klsm_world.specs.OwnSteps.{Hand, Holds, found_in, content_in, changed, after_event, own_part, shared_part}
 use Rattle.klsm_world.specs.LegalSteps.{MayCommit}
 use Rattle.klsm_world.specs.Worlds.{Limits, World, hand_in, content_of, live}
 use Rattle.klsm_world.specs.LawfulWorlds.{AreAgreed}
 use Rattle.klsm_world.specs.Schedules.{next}
-use Rattle.klsm_world.proofs.lemmas.counts.EventCountLemmas.{put_counts, flush_counts, take_counts, early_counts, spy_counts, refill_counts, steal_counts}
+use Rattle.klsm_world.proofs.lemmas.counts.EventCountLemmas.{put_counts, flush_counts, take_counts, early_counts, spy_counts, refill_counts, steal_counts, share_counts}
 use Rattle.klsm_world.proofs.lemmas.hands.HandLemmas.{found_changed, found_elsewhere}
 use Rattle.klsm_world.proofs.lemmas.counts.LiveCountLemmas.{live_same, live_changed, live_changed_two}
 use Rattle.klsm_world.proofs.lemmas.hands.PartContentLemmas.{content_held, held_away, content_unchanged, content_committed}
@@ -206,6 +207,29 @@ module _ (limits : Limits) (w : World) (agreed : AreAgreed limits w) (t : ℕ) (
         live_after_two (Steal victim moved) (own_part t) (own_part victim) own from left_own left apart has_own has_from
             (first_of_two hand (own_part t) (own_part victim) own left_own left apart has_own) (second_of_two hand (own_part t) (own_part victim) from left_own left apart has_from)
             (neither_of_two hand (own_part t) (own_part victim) left_own left),
+      )
+
+  -- so does a Share
+  pub live_after_share : (n : ℕ) (moved : List Item) → MayCommit limits.k t (hand_in w t) n (Share moved) → times x (live (next w (Commit t (Share moved)))) ≡ times x (live w)
+  live_after_share n moved may =
+      let hand = hand_in w t in
+      let own = may.own in
+      let shared = may.other in
+      let has_own = may.holds_own in
+      let has_shared = may.holds_other in
+      let left_own : List Item = own_after_share (content_in hand (own_part t)) moved in
+      let left_shared : List Item = shared_after_share (content_in hand shared_part) moved in
+      let own_is : times x left_own ≡ times x (own_after_share own moved) = ap (λ o. times x (own_after_share (unwrap_or o []) moved)) has_own in
+      let shared_is : times x left_shared ≡ times x (shared_after_share shared moved) = ap (λ o. times x (shared_after_share (unwrap_or o []) moved)) has_shared in
+      let apart : own_part t ≢ shared_part = λ same. let bad : t + 1 ≡ 0 = same in absurd (omega (arith, bad)) in
+      omega (
+        arith,
+        own_is,
+        shared_is,
+        share_counts own shared x moved may.fits,
+        live_after_two (Share moved) (own_part t) shared_part own shared left_own left_shared apart has_own has_shared
+            (first_of_two hand (own_part t) shared_part own left_own left_shared apart has_own) (second_of_two hand (own_part t) shared_part shared left_own left_shared apart has_shared)
+            (neither_of_two hand (own_part t) shared_part left_own left_shared),
       )
 
   -- so does an answer of nothing

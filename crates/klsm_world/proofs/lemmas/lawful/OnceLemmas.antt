@@ -5,7 +5,7 @@ use Rattle.std.proofs.lemmas.List.{length-set}
 use Rattle.klsm_run.specs.declared.item.Item.{Item}
 use Rattle.klsm_parts.specs.Events.{times}
 use Rattle.klsm_world.specs.declared.step.Event.{Event}
-use Rattle.klsm_world.specs.declared.step.Event.TheVariants.{Put, Flush, Take, Early, Nothing, Spy, Refill, Steal}
+use Rattle.klsm_world.specs.declared.step.Event.TheVariants.{Put, Flush, Take, Early, Nothing, Spy, Refill, Steal, Share}
 use Rattle.klsm_world.specs.declared.step.Step.{Step}
 use Rattle.klsm_world.specs.declared.step.Step.TheVariants.{Acquire, Commit, Release, Miss, Look}
 use Rattle.klsm_world.specs.declared.step.Entry.{Entry}
@@ -15,7 +15,7 @@ use Rattle.klsm_world.specs.LegalSteps.{MayCommit}
 use Rattle.klsm_world.specs.Worlds.{Limits, World, home_of, steps_of, hand_in, content_of, live_below, live, holder_of}
 use Rattle.klsm_world.specs.LawfulWorlds.{AreAgreed}
 use Rattle.klsm_world.specs.Schedules.{MayStep, noted, next}
-use Rattle.klsm_world.proofs.lemmas.lawful.LiveAfterLemmas.{live_after_put, live_after_flush, live_after_take, live_after_early, live_after_spy, live_after_refill, live_after_steal, live_after_nothing}
+use Rattle.klsm_world.proofs.lemmas.lawful.LiveAfterLemmas.{live_after_put, live_after_flush, live_after_take, live_after_early, live_after_spy, live_after_refill, live_after_steal, live_after_share, live_after_nothing}
 use Rattle.klsm_world.proofs.lemmas.counts.LiveCountLemmas.{inserted_noted, deleted_noted, live_same}
 use Rattle.klsm_world.proofs.lemmas.hands.PartContentLemmas.{listed, content_acquired, content_released, content_missed, content_looked}
 
@@ -52,6 +52,7 @@ live_committed limits w t n Nothing x agreed inside may = let none : times x [] 
 live_committed limits w t n (Spy victim moved) x agreed inside may = let none : times x [] ≡ 0 = refl in omega (arith, none, live_after_spy limits w agreed t inside x n victim moved may)
 live_committed limits w t n (Steal victim moved) x agreed inside may = let none : times x [] ≡ 0 = refl in omega (arith, none, live_after_steal limits w agreed t inside x n victim moved may)
 live_committed limits w t n (Refill moved) x agreed inside may = let none : times x [] ≡ 0 = refl in omega (arith, none, live_after_refill limits w agreed t inside x n moved may)
+live_committed limits w t n (Share moved) x agreed inside may = let none : times x [] ≡ 0 = refl in omega (arith, none, live_after_share limits w agreed t inside x n moved may)
 
 -- a legal step keeps each item inserted as often as it is deleted and live
 pub once_kept : (limits : Limits) (w : World) (step : Step) → AreAgreed limits w → ((x : Item) → times x (flat_map inserted w.lists) ≡ times x (flat_map deleted w.lists) + times x (live w)) → MayStep limits w step

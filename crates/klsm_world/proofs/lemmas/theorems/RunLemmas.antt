@@ -17,7 +17,7 @@ use Rattle.klsm_parts.specs.Events.{times, IsInReach}
 use Rattle.klsm_parts.specs.Least.{least}
 use Rattle.klsm_parts.proofs.EventLemmas.{is_in}
 use Rattle.klsm_world.specs.declared.step.Event.{Event}
-use Rattle.klsm_world.specs.declared.step.Event.TheVariants.{Put, Flush, Take, Early, Nothing, Spy, Refill, Steal}
+use Rattle.klsm_world.specs.declared.step.Event.TheVariants.{Put, Flush, Take, Early, Nothing, Spy, Refill, Steal, Share}
 use Rattle.klsm_world.specs.declared.step.Step.{Step}
 use Rattle.klsm_world.specs.declared.step.Step.TheVariants.{Acquire, Commit, Release, Miss, Look}
 use Rattle.klsm_world.specs.declared.step.Entry.{Entry}
@@ -106,6 +106,7 @@ live_may_move limits w t Nothing lawful may =
 live_may_move limits w t (Spy victim moved) lawful may = tt
 live_may_move limits w t (Steal victim moved) lawful may = tt
 live_may_move limits w t (Refill moved) lawful may = tt
+live_may_move limits w t (Share moved) lawful may = tt
 
 -- what an entry inserts or deletes, done to the queue of live items, gives those of the next world
 module _ (limits : Limits) (v w : World) (t : ℕ) (lawful : IsLawful limits v) (after : IsLawful limits w) (within : t < limits.threads) where
@@ -145,6 +146,7 @@ module _ (limits : Limits) (v w : World) (t : ℕ) (lawful : IsLawful limits v) 
   committed (Spy victim moved) lists = quiet (Committed (Spy victim moved)) lists refl refl
   committed (Steal victim moved) lists = quiet (Committed (Steal victim moved)) lists refl refl
   committed (Refill moved) lists = quiet (Committed (Refill moved)) lists refl refl
+  committed (Share moved) lists = quiet (Committed (Share moved)) lists refl refl
 
 -- the events of a schedule with one step more
 module _ (before : List Step) where
@@ -227,3 +229,4 @@ queue_counts_insertions limits (event ∷ before) run x =
     one_event c (Spy victim moved) may = omega arith
     one_event c (Steal victim moved) may = omega arith
     one_event c (Refill moved) may = omega arith
+    one_event c (Share moved) may = omega arith

@@ -7,7 +7,7 @@ use Rattle.std.proofs.lemmas.Option.{slice_get-get_or}
 use Rattle.std.proofs.lemmas.List.Elements.{Contains-append_cases}
 use Rattle.std.proofs.lemmas.List.Concat.{flat_map-cons}
 use Rattle.klsm_run.specs.declared.item.Item.{Item}
-use Rattle.klsm_world.specs.declared.step.Event.TheVariants.{Put, Flush, Take, Early, Nothing, Spy, Refill, Steal}
+use Rattle.klsm_world.specs.declared.step.Event.TheVariants.{Put, Flush, Take, Early, Nothing, Spy, Refill, Steal, Share}
 use Rattle.klsm_world.specs.declared.step.Entry.{Entry}
 use Rattle.klsm_world.specs.declared.step.Entry.TheVariants.{Acquired, Committed, Released, Missed, Looked}
 use Rattle.klsm_world.specs.OwnSteps.{inserted_by, event_at, inserted}
@@ -41,6 +41,7 @@ stamp_at k t before (Committed Nothing) x may within = absurd (contains_none x w
 stamp_at k t before (Committed (Spy victim moved)) x may within = absurd (contains_none x within)
 stamp_at k t before (Committed (Steal victim moved)) x may within = absurd (contains_none x within)
 stamp_at k t before (Committed (Refill moved)) x may within = absurd (contains_none x within)
+stamp_at k t before (Committed (Share moved)) x may within = absurd (contains_none x within)
 stamp_at k t before (Released p) x may within = absurd (contains_none x within)
 stamp_at k t before (Missed p by) x may within = absurd (contains_none x within)
 stamp_at k t before (Looked front) x may within = absurd (contains_none x within)

@@ -1,5 +1,5 @@
 use Rattle.std.proofs.Common.{◌∙◌, sym, subst, ap}
-use Rattle.klsm_world.specs.declared.step.Event.TheVariants.{Flush, Spy, Refill, Steal}
+use Rattle.klsm_world.specs.declared.step.Event.TheVariants.{Flush, Spy, Refill, Steal, Share}
 use Rattle.klsm_world.specs.declared.step.Step.TheVariants.{Commit}
 use Rattle.klsm_world.specs.Schedules.{MayStep}
 use Rattle.klsm_model.specs.WorldView.{IsStepped}
@@ -52,3 +52,9 @@ steal-requires g c = subst (λ event. MayStep c.args.self.now.limits c.args.self
 
 pub returns-in-Steal : goal.returns-in-Steal
 returns-in-Steal g c = subst (λ event. IsStepped c.args.self.now (Commit c.args.thread event) c.steal.result c.steal.new.self) (sym (c.in-Steal.is ∙ ap (Steal c.in-Steal.victim) (sym c.as_slice-in-Steal.ensures))) c.steal.ensures
+
+pub share-requires : goal.share-requires
+share-requires g c = subst (λ event. MayStep c.args.self.now.limits c.args.self.now.world (Commit c.args.thread event)) (c.in-Share.is ∙ ap Share (sym c.as_slice-in-Share.ensures)) c.requires
+
+pub returns-in-Share : goal.returns-in-Share
+returns-in-Share g c = subst (λ event. IsStepped c.args.self.now (Commit c.args.thread event) c.share.result c.share.new.self) (sym (c.in-Share.is ∙ ap Share (sym c.as_slice-in-Share.ensures))) c.share.ensures

@@ -2,7 +2,8 @@ use Rattle.std.proofs.Common.{◌≡◌, ◌==◌, ◌↔◌, [], IsTrue, List, 
 use Rattle.std.proofs.lemmas.Bool.{ltb-true}
 use Rattle.klsm_parts.specs.Events.{MayPut, MayFlush, MayTake, MayTakeEarly, MayFindNothing, MaySpy, MayRefill}
 use Rattle.klsm_parts.specs.Stealing.{MaySteal}
-use Rattle.klsm_world.specs.declared.step.Event.TheVariants.{Put, Flush, Take, Early, Nothing, Spy, Refill, Steal}
+use Rattle.klsm_parts.specs.Sharing.{MayShare}
+use Rattle.klsm_world.specs.declared.step.Event.TheVariants.{Put, Flush, Take, Early, Nothing, Spy, Refill, Steal, Share}
 use Rattle.klsm_model.specs.Kept.{HoldsAll}
 use Rattle.klsm_world.specs.LawfulWorlds.{IsLawful}
 use Rattle.klsm_world.specs.LegalSteps.{MayCommit}
@@ -186,4 +187,19 @@ returns-in-Steal g c =
         another = λ same. subst (λ event. NamesNoVictim r.limits c.args.thread event → ⊥) c.in-Steal.is c.requires.victim (inr same);
       },
       λ may. c.may_steal.ensures.1 (subst (MaySteal c.self.inside.k own from) (sym c.as_slice-in-Steal.ensures) (subst (λ z. MaySteal z own from moved) (sym k) (both.1 may.held))),
+    )
+
+pub returns-in-Share : goal.returns-in-Share
+returns-in-Share g c =
+    let r : WorldView = c.args.self.now in
+    let own = c.items_of-own.result.now in
+    let n = length (inserted (steps_of r.world c.args.thread)) in
+    let moved = c.in-Share.moved in let shared = content_of r.world shared_part in
+    let lawful : IsLawful r.limits r.world = subst (λ (z : WorldView). IsLawful z.limits z.world) c.self.view_is c.self.invariant.lawful in
+    let held : HoldsAll r.world c.args.thread (parts_for c.args.thread (Share moved)) = subst (λ event. HoldsAll r.world c.args.thread (parts_for c.args.thread event)) c.in-Share.is c.requires.held in
+    let both = holds_both r.limits r.world c.args.thread lawful.agreed c.requires.thread shared_part (λ own shared. MayShare own moved) own shared
+    (subst (λ p. own ≡ content_of r.world p) c.own_part.ensures c.items_of-own.ensures.content) refl held.0 held.1.0 in
+    subst (λ event. IsTrue c.may_share.result ↔ MayCommit r.limits.k c.args.thread (hand_in r.world c.args.thread) n event) (sym c.in-Share.is) (
+      λ goes. both.0 (subst (MayShare own) c.as_slice-in-Share.ensures (c.may_share.ensures.0 goes)),
+      λ may. c.may_share.ensures.1 (subst (MayShare own) (sym c.as_slice-in-Share.ensures) (both.1 may)),
     )
