@@ -114,6 +114,10 @@ Deletes may_pick before after m t own shared acquired es' x =
     (TakesOut m t own shared acquired es' x × Chooses may_pick before after m.k t own shared x)
     ⊎ (TakesSpied m t own shared acquired es' x × (after ≡ before))
 
+-- the sizes of a board but for the number of items that a deletion moves, at most
+abbrev pub with_refill : ℕ → Sizes → Sizes
+with_refill refill m = record { threads = m.threads; k = m.k; quota = m.quota; refill = refill }
+
 -- A deletion answered. It deleted the least own item by the front, with the own part in hand alone, and
 -- did not ask the picker. Or it looked there in vain, and acquired both parts.
 abbrev pub AnswersDeletion : {P : Type 0} → (P → ℕ → ℕ → P → Type 0) → P → P → Sizes → ℕ → List Entry → List Entry → Option Item → Type 0

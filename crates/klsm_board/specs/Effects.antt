@@ -5,7 +5,7 @@ use Rattle.std.specs.Option.{option_to_list}
 use Rattle.klsm_run.specs.declared.item.Item.{Item}
 use Rattle.klsm_run.specs.Content.{skipped}
 use Rattle.klsm_world.specs.declared.step.Event.{Event}
-use Rattle.klsm_world.specs.declared.step.Event.TheVariants.{Put, Flush, Take, Early, Nothing, Spy, Refill, Steal}
+use Rattle.klsm_world.specs.declared.step.Event.TheVariants.{Put, Flush, Take, Early, Nothing, Spy, Refill, Steal, Share}
 use Rattle.klsm_world.specs.declared.step.Entry.{Entry}
 use Rattle.klsm_world.specs.declared.step.Entry.TheVariants.{Committed, Missed}
 use Rattle.klsm_world.specs.OwnSteps.{event_at, inserted, deleted, deleted_by}
@@ -33,6 +33,7 @@ PassesFew m Nothing items = length items ≤ (m.threads - 1) * m.k
 PassesFew m (Spy victim moved) items = ⊥
 PassesFew m (Steal victim moved) items = ⊥
 PassesFew m (Refill moved) items = ⊥
+PassesFew m (Share moved) items = ⊥
 
 -- Thread t's list went from es to es', and its call took effect where the list was `at`: that list, and
 -- those of the other threads that the seat knows, were then those of one world to which a schedule

@@ -6,6 +6,7 @@ pub mod Pausing  -- what comes between two tries of a call that may wait
 pub mod Choosing  -- how a deletion chooses
 pub mod Deleting  -- what a deletion adds
 pub mod Stealing  -- what a steal adds
+pub mod Sharing  -- what the sharing of all own items adds
 pub mod Balancing  -- when a member balances, and with which other one
 pub mod Effects  -- where a deletion takes effect, and in which world
 pub mod Boards  -- boards, their members, and what a member holds

@@ -5,7 +5,7 @@ use Rattle.atomic_table.specs.Seated.{TableId}
 use Rattle.klsm_run.specs.declared.item.Item.{Item}
 use Rattle.klsm_parts.specs.Events.{front_of}
 use Rattle.klsm_world.specs.declared.step.Event.{Event}
-use Rattle.klsm_world.specs.declared.step.Event.TheVariants.{Put, Flush, Take, Early, Nothing, Spy, Refill, Steal}
+use Rattle.klsm_world.specs.declared.step.Event.TheVariants.{Put, Flush, Take, Early, Nothing, Spy, Refill, Steal, Share}
 use Rattle.klsm_world.specs.declared.step.Entry.{Entry}
 use Rattle.klsm_world.specs.OwnSteps.{Hand, own_part, shared_part, content_in, hand_of, after_event, inserted, inserted_by}
 use Rattle.klsm_world.specs.LegalSteps.{MayCommit}
@@ -96,8 +96,9 @@ LeavesShared t hand Nothing = ⊤
 LeavesShared t hand (Spy victim moved) = ⊤
 LeavesShared t hand (Steal victim moved) = ⊤
 LeavesShared t hand (Refill moved) = ⊥
+LeavesShared t hand (Share moved) = ⊥
 
--- an event that a store of the front commits, and the front that it leaves: a Flush, a Refill, and a
+-- an event that a store of the front commits, and the front that it leaves: a Flush, a Refill, a Share, and a
 -- Take of a shared item
 abbrev pub SetsFront : ℕ → Hand → Event → ℕ → Type 0
 SetsFront t hand (Put x) front = ⊥
@@ -112,6 +113,8 @@ SetsFront t hand (Spy victim moved) front = ⊥
 SetsFront t hand (Steal victim moved) front = ⊥
 SetsFront t hand (Refill moved) front =
     front ≡ front_of (content_in (after_event t hand (Refill moved)) shared_part)
+SetsFront t hand (Share moved) front =
+    front ≡ front_of (content_in (after_event t hand (Share moved)) shared_part)
 
 -- where an event inserts an item, the quota has room for it
 abbrev pub QuotaAllows : ℕ → List Entry → Event → Type 0

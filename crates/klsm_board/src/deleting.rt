@@ -16,7 +16,7 @@ ghost use Rattle.klsm_board.specs.Entries.{both_released};
 ghost use Rattle.klsm_board.specs.Choosing.{Chooses};
 ghost use Rattle.klsm_board.specs.Effects.{MeetsHolder, TakesEffect};
 ghost use Rattle.klsm_board.specs.TakingOut.{FetchesInHand, HasFetched, TakesTo};
-ghost use Rattle.klsm_board.specs.Deleting.{AnswersDeletion, Deletes, FindsNothing, MissesDeletion, refilled, refilled_after};
+ghost use Rattle.klsm_board.specs.Deleting.{AnswersDeletion, Deletes, FindsNothing, MissesDeletion, refilled, refilled_after, with_refill};
 
 use crate::acquiring::try_acquire;
 use crate::early::delete_early;
@@ -33,7 +33,8 @@ use klsm_parts::Picker;
 use klsm_run::Item;
 use klsm_world::Event;
 
-/// Deletes an item, if the locks that it needs are free.
+/// Deletes an item, if the locks that it needs are free. Where it was a shared one, at most `refill` others move to
+/// the own part.
 pub(crate) fn delete_now<S: PartSlot, P: Picker>(
     table: &Locks<S>,
     seat: &mut MemberSeat<S>,
@@ -45,13 +46,13 @@ pub(crate) fn delete_now<S: PartSlot, P: Picker>(
     requires sized { S.is_sized }
     requires seat { IsSeatOf seat.old.table_id table.now.table_id table.now.key thread }
     requires threads { threads ≡ table.now.key.threads }
-    requires refill { refill ≡ table.now.key.refill }
     requires stands { Stands S.content S.suits table.now.key thread [] seat.old.me }
     ensures same { seat.new.table_id ≡ seat.old.table_id }
     ensures others { rest_of seat.new.me.0 ≡ rest_of seat.old.me.0 }
     ensures has { Has S.content S.suits table.now.key thread [] seat.new.me }
     ensures ok { IfOk result (λ answer. AnswersDeletion P.may_pick picker.old picker.new
-        table.now.key thread (mine seat.old.me.0) (mine seat.new.me.0) answer) }
+        (with_refill refill table.now.key) thread (mine seat.old.me.0) (mine seat.new.me.0)
+        answer) }
     ensures effect { IfOk result (TakesEffect table.now.key thread (rest_of seat.old.me.0)
         (mine seat.old.me.0) (mine seat.new.me.0)) }
     ensures busy { IfErr result (λ busy. (picker.new ≡ picker.old)
@@ -83,7 +84,6 @@ fn delete_under_both<S: PartSlot, P: Picker>(
     requires sized { S.is_sized }
     requires seat { IsSeatOf seat.old.table_id table.now.table_id table.now.key thread }
     requires threads { threads ≡ table.now.key.threads }
-    requires refill { refill ≡ table.now.key.refill }
     requires has { (own : List Item) × (shared : List Item)
         × Has S.content S.suits table.now.key thread (both_in_hand thread own shared) seat.old.me }
     ensures same { seat.new.table_id ≡ seat.old.table_id }
@@ -92,10 +92,11 @@ fn delete_under_both<S: PartSlot, P: Picker>(
     ensures done { (own : List Item) → (shared : List Item)
         → Has S.content S.suits table.now.key thread (both_in_hand thread own shared) seat.old.me
         → MatchOption result
-        (FindsNothing table.now.key thread own shared (mine seat.old.me.0) (mine seat.new.me.0)
+        (FindsNothing (with_refill refill table.now.key) thread own shared (mine seat.old.me.0)
+        (mine seat.new.me.0)
         × (picker.new ≡ picker.old))
-        (Deletes P.may_pick picker.old picker.new table.now.key thread own shared
-        (mine seat.old.me.0) (mine seat.new.me.0)) }
+        (Deletes P.may_pick picker.old picker.new (with_refill refill table.now.key) thread own
+        shared (mine seat.old.me.0) (mine seat.new.me.0)) }
     ensures effect { TakesEffect table.now.key thread (rest_of seat.old.me.0)
         (mine seat.old.me.0) (mine seat.new.me.0) result }
 {
@@ -122,7 +123,6 @@ fn take_both_out<S: PartSlot, P: Picker>(
     requires sized { S.is_sized }
     requires seat { IsSeatOf seat.old.table_id table.now.table_id table.now.key thread }
     requires threads { threads ≡ table.now.key.threads }
-    requires refill { refill ≡ table.now.key.refill }
     requires has { (own : List Item) × (shared : List Item)
         × Has S.content S.suits table.now.key thread (both_in_hand thread own shared) seat.old.me }
     ensures same { seat.new.table_id ≡ seat.old.table_id }

@@ -63,6 +63,31 @@ pub enum InsertError {
     NoMemory,
 }
 
+/// Why items are not shared by a call that waits for nobody. The causes are tried in this order.
+#[derive(Clone, Copy, Debug, PartialEq, Eq, Error)]
+pub enum TryShareError {
+    /// A lock was not free.
+    #[error("{0}")]
+    Busy(Busy),
+    /// The shared part has no room for the items.
+    #[error("the shared part is full")]
+    Full,
+    /// A growth was refused.
+    #[error("out of memory")]
+    NoMemory,
+}
+
+/// Why items are not shared by a call that may wait. The causes are tried in this order.
+#[derive(Clone, Copy, Debug, PartialEq, Eq, Error)]
+pub enum ShareError {
+    /// The shared part has no room for the items.
+    #[error("the shared part is full")]
+    Full,
+    /// A growth was refused.
+    #[error("out of memory")]
+    NoMemory,
+}
+
 /// Why a part is not held. The causes are tried in this order.
 #[derive(Clone, Copy, Debug, PartialEq, Eq, Error)]
 pub enum HoldError {

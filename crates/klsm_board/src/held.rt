@@ -161,7 +161,7 @@ impl<const CAP: usize, const LEVELS: usize> Held<CAP, LEVELS> {
 }
 
 // How many items a part has that the seat acquired, and the least of them.
-fn look<S: PartSlot>(
+pub(crate) fn look<S: PartSlot>(
     table: &Locks<S>,
     seat: &mut MemberSeat<S>,
     lock: usize,

@@ -19,6 +19,10 @@
 //! where they are below the front and smaller than its own. No deletion does so by itself; a program that wants
 //! small items to be found sooner makes this call now and then. All bounds are the same here too.
 //!
+//! A member that will be busy for long shares its items (`Member::share`): all items of its own part move to the shared
+//! one, where others find them. And a deletion that is alone (`Member::delete_min_alone`) moves no items to the own part
+//! whatever the board's refill is, so that a member which shares after it has none to give back.
+//!
 //! ```text
 //! let (board, mut members) = StandardBoard::new(alloc, 4, 16, 1 << 40)?;
 //! // each member in a thread of its own, all with the one board and the number of open nodes
@@ -35,8 +39,8 @@
 //! An answer `None` is no sign of the end, since another member may be about to insert. So the threads end
 //! when no node is open.
 //!
-//! `try_insert`, `try_delete_min` and `try_balance` wait for nobody: where a lock is held they release what they
-//! acquired, and say who held it. `try_hold` acquires one part in order to look at it.
+//! `try_insert`, `try_delete_min`, `try_share` and `try_balance` wait for nobody: where a lock is held they release what
+//! they acquired, and say who held it. `try_hold` acquires one part in order to look at it.
 //!
 //! **What a member promises** is said by its list of own steps, which is for the proof alone: which
 //! parts it acquired and what it found there, what it committed, what it released. The contract of each
@@ -57,12 +61,15 @@
 //!   member may have moved an item elsewhere.
 //! - **What a balance moves is exact**, and so is where it moves none: clause `ok` of `Member::try_balance`, by
 //!   `Balances`.
+//! - **A sharing moves all own items or none**, by one event: clauses `ok` and `refused` of `Member::try_share` and
+//!   `Member::share`. Full or without memory it has changed nothing.
 //! - **All members in one hand** (`Board::gather`, `AllMembers`) are of one world: `AllMembers::threads`, clause
 //!   `rule`. What is left is then what the calls made it, and no deletion skips more than T·k of that, nor more
 //!   than (T-1)·k where it went by the front, nor any where T is 1: clauses `left` and `few` of
 //!   `AllMembers::delete_min`. An insertion is full only where all inserted as many as the shared part has room
-//!   for: clause `full` of `AllMembers::insert`. No call meets a lock that is held, so none waits: clauses `ok`
-//!   and `refused`. `spread` gives the members back, as they were.
+//!   for: clause `full` of `AllMembers::insert`. A sharing changes nothing that is left: clause `left` of
+//!   `AllMembers::share`. No call meets a lock that is held, so none waits: clauses `ok` and `refused`. `spread` gives
+//!   the members back, as they were.
 //! - **Nothing is lost.** Once all members are back, `finish` tells how many items were inserted and
 //!   deleted, and which are left: each item inserted is one of these two, once (`each_once`).
 //! - **Each answer is an event.** An item is answered where its `Take` or `Early` was committed, and a
@@ -71,7 +78,7 @@
 //! - **A call that may wait** promises the same, less the refusal for a lock that is held. Nothing is
 //!   promised of how long it waits.
 //! - **Deletions take no memory**, and are refused for want of none. An insertion takes some only where
-//!   items move to the shared part.
+//!   items move to the shared part, and so does a sharing.
 //!
 //! How the locks are acquired, what commits and why a stale look does no harm is said in
 //! docs/ARCHITECTURE.md, "How a locked call becomes steps of a schedule".
@@ -79,7 +86,7 @@
 //! The files, from the atomic steps up: `rule` and `plays` (what always holds, and what a step tells), `steps`
 //! (acquire, release, the two commits, the look at the front), `slot` (what is done to the parts), `lending`,
 //! `acquiring` (one try, or as many as it needs), `inserting`, `spying`, `early` (deletions by the front),
-//! `taking`, `deleting`, `stealing` (balances), and the public calls in `making`, `member`, `held`, `together` and
+//! `taking`, `deleting`, `stealing` (balances), `sharing`, and the public calls in `making`, `member`, `held`, `together` and
 //! `finishing`. `tally` has the counts of members that are in one hand. `gate` is for programs that run members in
 //! threads.
 #![tactic(auto)]
@@ -102,6 +109,7 @@ mod member;
 mod pausing;
 mod plays;
 mod rule;
+mod sharing;
 mod sizes;
 mod slot;
 mod spying;
@@ -116,7 +124,9 @@ pub use balancing::{Balancing, MOST_BALANCED};
 pub use board::{
     Board, Held, HoldRefused, Member, StandardBoard, StandardMember, WideBoard, WideMember,
 };
-pub use errors::{Busy, FinishError, HoldError, InsertError, MakeError, TryInsertError};
+pub use errors::{
+    Busy, FinishError, HoldError, InsertError, MakeError, ShareError, TryInsertError, TryShareError,
+};
 pub use finishing::{Account, FinishRefused};
 pub use gate::{Gate, Open};
 pub use making::MOST_INSERTIONS;

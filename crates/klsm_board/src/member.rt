@@ -10,14 +10,16 @@ ghost use Rattle.klsm_board.specs.Members.{most_deletions};
 ghost use Rattle.klsm_board.specs.Boards.{Adds, IsOf, IsSame, known_of_others, own_steps};
 ghost use Rattle.klsm_board.specs.Effects.{MeetsHolder, TakesEffect};
 ghost use Rattle.klsm_board.specs.Inserting.{Inserts, InsertsWaiting, MissesOwn, RefusesInsert, RefusesInsertWaiting, stamp_of, stamped};
-ghost use Rattle.klsm_board.specs.Deleting.{AnswersDeletion, AnswersWaiting, MissesDeletion};
+ghost use Rattle.klsm_board.specs.Deleting.{AnswersDeletion, AnswersWaiting, MissesDeletion, with_refill};
+ghost use Rattle.klsm_board.specs.Sharing.{Shares, SharesWaiting, RefusesShare, RefusesShareWaiting};
 ghost use Rattle.klsm_board.specs.Stealing.{Balances};
 
 use crate::board::{Board, Member};
 use crate::deleting::delete_now;
-use crate::errors::{Busy, InsertError, TryInsertError};
+use crate::errors::{Busy, InsertError, ShareError, TryInsertError, TryShareError};
 use crate::inserting::insert_now;
 use crate::pausing::Pause;
+use crate::sharing::share_now;
 use crate::stealing::balance_now;
 use crate::steps::see_front;
 use klsm_parts::Picker;
@@ -201,9 +203,60 @@ impl<const CAP: usize, const LEVELS: usize> Member<CAP, LEVELS> {
         ensures holder { IfErr result (MeetsHolder self.old.sizes self.old.number
             (known_of_others self.old) (own_steps self.new)) }
     {
+        let refill = self.sizes.refill;
+        self.try_delete(board, refill, picker)
+    }
+
+    /// Deletes a small item and answers it, as `try_delete_min` does, but no items move to the own part behind it, whatever
+    /// the board was made for. So a member that then shares its items (`try_share`) gives none back that has just come.
+    pub fn try_delete_min_alone<P: Picker>(
+        &mut self,
+        board: &Board<CAP, LEVELS>,
+        picker: &mut P,
+    ) -> Result<Option<Item>, Busy>
+        requires { IsOf self.old board.now }
+        ensures same { IsSame self.old self.new }
+        ensures others { known_of_others self.new ≡ known_of_others self.old }
+        ensures ok { IfOk result (λ answer. AnswersDeletion P.may_pick picker.old picker.new
+            (with_refill 0 self.old.sizes) self.old.number (own_steps self.old)
+            (own_steps self.new) answer) }
+        ensures effect { IfOk result (TakesEffect self.old.sizes self.old.number
+            (known_of_others self.old) (own_steps self.old) (own_steps self.new)) }
+        ensures adds { IfOk result (λ answer. Adds self.old self.new [] (option_to_list answer)) }
+        ensures busy { IfErr result (λ busy. Adds self.old self.new [] []
+            × (picker.new ≡ picker.old)
+            × MissesDeletion self.old.number (own_steps self.old) (own_steps self.new) busy) }
+        ensures holder { IfErr result (MeetsHolder self.old.sizes self.old.number
+            (known_of_others self.old) (own_steps self.new)) }
+    {
+        self.try_delete(board, 0, picker)
+    }
+
+    // A deletion by which at most `refill` items move to the own part.
+    #[inline]
+    fn try_delete<P: Picker>(
+        &mut self,
+        board: &Board<CAP, LEVELS>,
+        refill: usize,
+        picker: &mut P,
+    ) -> Result<Option<Item>, Busy>
+        requires { IsOf self.old board.now }
+        ensures same { IsSame self.old self.new }
+        ensures others { known_of_others self.new ≡ known_of_others self.old }
+        ensures ok { IfOk result (λ answer. AnswersDeletion P.may_pick picker.old picker.new
+            (with_refill refill self.old.sizes) self.old.number (own_steps self.old)
+            (own_steps self.new) answer) }
+        ensures effect { IfOk result (TakesEffect self.old.sizes self.old.number
+            (known_of_others self.old) (own_steps self.old) (own_steps self.new)) }
+        ensures adds { IfOk result (λ answer. Adds self.old self.new [] (option_to_list answer)) }
+        ensures busy { IfErr result (λ busy. Adds self.old self.new [] []
+            × (picker.new ≡ picker.old)
+            × MissesDeletion self.old.number (own_steps self.old) (own_steps self.new) busy) }
+        ensures holder { IfErr result (MeetsHolder self.old.sizes self.old.number
+            (known_of_others self.old) (own_steps self.new)) }
+    {
         let thread = self.number as usize;
         let threads = self.sizes.threads;
-        let refill = self.sizes.refill;
         let table = &board.table.shared;
         let answer = delete_now(table, &mut self.seat, thread, threads, refill, picker)?;
         if answer.is_some() {
@@ -229,11 +282,108 @@ impl<const CAP: usize, const LEVELS: usize> Member<CAP, LEVELS> {
             (own_steps self.old) (own_steps self.new) result }
         ensures adds { Adds self.old self.new [] (option_to_list result) }
     {
+        let refill = self.sizes.refill;
+        self.delete(rt, board, refill, picker)
+    }
+
+    /// Deletes a small item and answers it, and no items move to the own part behind it. It is `try_delete_min_alone`,
+    /// again and again, as long as that meets a lock that is held, and it waits between two tries as `insert` does.
+    pub fn delete_min_alone<P: Picker>(
+        &mut self,
+        rt: &(impl Wait + Clock),
+        board: &Board<CAP, LEVELS>,
+        picker: &mut P,
+    ) -> Option<Item>
+        requires { IsOf self.old board.now }
+        ensures same { IsSame self.old self.new }
+        ensures others { known_of_others self.new ≡ known_of_others self.old }
+        ensures ok { AnswersWaiting P.may_pick picker.old picker.new
+            (with_refill 0 self.old.sizes) self.old.number (own_steps self.old)
+            (own_steps self.new) result }
+        ensures effect { TakesEffect self.old.sizes self.old.number (known_of_others self.old)
+            (own_steps self.old) (own_steps self.new) result }
+        ensures adds { Adds self.old self.new [] (option_to_list result) }
+    {
+        self.delete(rt, board, 0, picker)
+    }
+
+    // A deletion by which at most `refill` items move to the own part, and which may wait.
+    #[inline]
+    fn delete<P: Picker>(
+        &mut self,
+        rt: &(impl Wait + Clock),
+        board: &Board<CAP, LEVELS>,
+        refill: usize,
+        picker: &mut P,
+    ) -> Option<Item>
+        requires { IsOf self.old board.now }
+        ensures same { IsSame self.old self.new }
+        ensures others { known_of_others self.new ≡ known_of_others self.old }
+        ensures ok { AnswersWaiting P.may_pick picker.old picker.new
+            (with_refill refill self.old.sizes) self.old.number (own_steps self.old)
+            (own_steps self.new) result }
+        ensures effect { TakesEffect self.old.sizes self.old.number (known_of_others self.old)
+            (own_steps self.old) (own_steps self.new) result }
+        ensures adds { Adds self.old self.new [] (option_to_list result) }
+    {
         let mut pause = Pause::new();
         for _ in rt.forever() {
-            match self.try_delete_min(board, picker) {
+            match self.try_delete(board, refill, picker) {
                 Ok(answer) => return answer,
                 Err(busy) => pause.wait(rt, &board.table.shared, busy),
+            }
+        }
+        unreachable!()
+    }
+
+    /// Moves all items of the own part to the shared one, where others find them, and answers how many moved. It waits
+    /// for nobody.
+    ///
+    /// It acquires the own lock and, where the own part has an item, the shared one. It costs one growth, one merge of the
+    /// own items, and what a flush of them costs. Where it is refused no item has moved and no block has changed: `Busy`
+    /// for a lock, `Full` where the shared part has no room for all of them, and else `NoMemory`. No bound changes: own
+    /// parts have at most k items as before.
+    pub fn try_share(&mut self, board: &Board<CAP, LEVELS>) -> Result<usize, TryShareError>
+        requires { IsOf self.old board.now }
+        ensures same { IsSame self.old self.new }
+        ensures others { known_of_others self.new ≡ known_of_others self.old }
+        ensures ok { IfOk result (Shares LEVELS self.old.number (own_steps self.old)
+            (own_steps self.new)) }
+        ensures adds { Adds self.old self.new [] [] }
+        ensures refused { IfErr result (RefusesShare LEVELS self.old.number (own_steps self.old)
+            (own_steps self.new)) }
+        ensures holder { (busy : Busy) → IsErrAnd result (λ why. why ≡ TryShareError.Busy busy)
+            → MeetsHolder self.old.sizes self.old.number (known_of_others self.old)
+            (own_steps self.new) busy }
+    {
+        let thread = self.number as usize;
+        let threads = self.sizes.threads;
+        share_now(&board.table.shared, &mut self.seat, thread, threads)
+    }
+
+    /// Moves all items of the own part to the shared one. It is `try_share`, again and again, as long as that meets a lock
+    /// that is held, and it waits between two tries as `insert` does.
+    pub fn share(
+        &mut self,
+        rt: &(impl Wait + Clock),
+        board: &Board<CAP, LEVELS>,
+    ) -> Result<usize, ShareError>
+        requires { IsOf self.old board.now }
+        ensures same { IsSame self.old self.new }
+        ensures others { known_of_others self.new ≡ known_of_others self.old }
+        ensures ok { IfOk result (SharesWaiting LEVELS self.old.number (own_steps self.old)
+            (own_steps self.new)) }
+        ensures adds { Adds self.old self.new [] [] }
+        ensures refused { IfErr result (RefusesShareWaiting LEVELS self.old.number
+            (own_steps self.old) (own_steps self.new)) }
+    {
+        let mut pause = Pause::new();
+        for _ in rt.forever() {
+            match self.try_share(board) {
+                Ok(count) => return Ok(count),
+                Err(TryShareError::Busy(busy)) => pause.wait(rt, &board.table.shared, busy),
+                Err(TryShareError::Full) => return Err(ShareError::Full),
+                Err(TryShareError::NoMemory) => return Err(ShareError::NoMemory),
             }
         }
         unreachable!()

@@ -1,5 +1,5 @@
 //! The parts as the slots of a board have them.
-ghost use Rattle.std.specs.Prelude.{◌≡◌, ℕ, ◌<◌, ◌≤◌, ◌+◌, List, [], length, max, slice_get, ◌++◌, IsOk, IfErr, OnOk, vec_len, vec_capacity, OnErr, MatchBool, MatchOption, IfSome};
+ghost use Rattle.std.specs.Prelude.{◌≡◌, ℕ, ◌<◌, ◌≤◌, ◌+◌, ◌↔◌, List, [], length, max, slice_get, ◌++◌, IsOk, IfErr, IfOk, OnOk, vec_len, vec_capacity, OnErr, IsErrAnd, MatchBool, MatchOption, IfSome};
 ghost use Rattle.std.specs.List.{Contains};
 ghost use Rattle.klsm_run.specs.declared.item.Item.{Item};
 ghost use Rattle.klsm_run.specs.Capacity.{IsCapacity, heap_room};
@@ -10,13 +10,14 @@ ghost use Rattle.klsm_parts.specs.Least.{IsLeast};
 ghost use Rattle.klsm_parts.specs.Events.{MayPut, MayFlush, MayTake, MayFindNothing, MaySpy, MayRefill, own_after_put, own_after_flush, shared_after_flush, own_after_take, shared_after_take, own_after_early, own_after_spy, victim_after_spy, own_after_refill, shared_after_refill, front_of};
 ghost use Rattle.klsm_parts.specs.Refilling.{refill_of};
 ghost use Rattle.klsm_parts.specs.Stealing.{MaySteal, own_after_steal, victim_after_steal, steal_of};
+ghost use Rattle.klsm_parts.specs.Sharing.{MayShare, own_after_share, shared_after_share};
 ghost use Rattle.klsm_world.specs.OwnSteps.{own_part, shared_part};
 ghost use Rattle.klsm_board.specs.Choosing.{Chooses};
 
 use crate::boxed::Boxed;
 use crate::rule::Holding;
 use klsm_parts::{
-    Local, LsmError, Picker, Shared, fetch, flush, put, spy, steal, take, take_least,
+    Local, LsmError, Picker, Shared, fetch, flush, put, share, spy, steal, take, take_least,
 };
 use klsm_run::Item;
 use std::alloc::AllocError;
@@ -217,6 +218,29 @@ pub trait PartSlot: Holding + Drop {
             ((steal_of most k (Self.content self.old) (Self.content victim.old) ≡ [])
             × (Self.content self.new ≡ Self.content self.old)
             × (Self.content victim.new ≡ Self.content victim.old)) };
+
+    /// Moves all items of an own part that has some to the shared part. It answers how many moved.
+    fn share(&mut self, shared: &mut Self) -> Result<usize, LsmError>
+        requires sized { is_sized }
+        requires parts { (k : ℕ) × (t : ℕ) × Self.suits k (own_part t) self.old
+            × Self.suits k shared_part shared.old }
+        requires apart { ShareNone (Self.content self.old) (Self.content shared.old) }
+        requires some { 0 < length (Self.content self.old) }
+        ensures kind { (k t : ℕ) → Self.suits k (own_part t) self.old
+            → Self.suits k (own_part t) self.new }
+        ensures shared_kind { (k : ℕ) → Self.suits k shared_part shared.old
+            → Self.suits k shared_part shared.new }
+        ensures count { IfOk result (λ count. count ≡ length (Self.content self.old)) }
+        ensures done { OnOk result (MayShare (Self.content self.old) (Self.content self.old)
+            × (Self.content self.new
+            ≡ own_after_share (Self.content self.old) (Self.content self.old))
+            × (Self.content shared.new
+            ≡ shared_after_share (Self.content shared.old) (Self.content self.old))) }
+        ensures unchanged { OnErr result ((Self.content self.new ≡ Self.content self.old)
+            × (Self.content shared.new ≡ Self.content shared.old)) }
+        ensures full { IsErrAnd result (λ why. why ≡ LsmError.Full)
+            ↔ (limit_of levels heap_room
+            < length (Self.content shared.old) + length (Self.content self.old)) };
 }
 
 /// The part of one member, and beside it places for items on their way to it.
@@ -393,6 +417,16 @@ impl<const CAP: usize, const LEVELS: usize> PartSlot for BoardSlot<CAP, LEVELS> 
         match (self, victim) {
             (Slot::Own(own), Slot::Own(victim)) => {
                 steal(&mut own.get_mut().part, &mut victim.get_mut().part, most) != 0
+            }
+            _ => unreachable!(),
+        }
+    }
+
+    #[inline]
+    fn share(&mut self, shared: &mut Self) -> Result<usize, LsmError> {
+        match (self, shared) {
+            (Slot::Own(own), Slot::Common(shared)) => {
+                share(&mut own.get_mut().part, shared.get_mut())
             }
             _ => unreachable!(),
         }

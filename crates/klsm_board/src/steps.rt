@@ -332,6 +332,15 @@ impl Moving for Stealing {
     ghost event = { λ about moved. Steal about.victim moved };
 }
 
+/// A sharing of own items.
+pub(crate) struct Sharing;
+
+impl Moving for Sharing {
+    ghost use Rattle.klsm_world.specs.declared.step.Event.TheVariants.{Share};
+
+    ghost event = { λ _ moved. Share moved };
+}
+
 /// A spying on the member with this number.
 impl Moving for u32 {
     ghost use Rattle.klsm_world.specs.declared.step.Event.TheVariants.{Spy};

@@ -14,6 +14,7 @@ ghost use Rattle.klsm_board.specs.Boards.{AreMembersOf, Gains, IsOf, own_steps};
 ghost use Rattle.klsm_board.specs.Inserting.{Inserts, RefusesInsert, as_tried, stamp_of, stamped};
 ghost use Rattle.klsm_board.specs.Deleting.{AnswersDeletion};
 ghost use Rattle.klsm_board.specs.Stealing.{Balances};
+ghost use Rattle.klsm_board.specs.Sharing.{RefusesShare, Shares, as_tried_share};
 ghost use Rattle.klsm_board.specs.Finishing.{AreAll, AreListsAtEnd, IsLeastAbsent, lists_of};
 ghost use Rattle.klsm_board.specs.Knowing.{AreCounted, IsAtRest};
 ghost use Rattle.klsm_board.specs.Rule.{view};
@@ -22,7 +23,7 @@ ghost use Rattle.klsm_board.specs.Turning.{HasList, left_behind, steps_known, tu
 
 use crate::all_members::{AllMembers, GatherRefused};
 use crate::board::{Board, Member};
-use crate::errors::{Busy, InsertError, TryInsertError};
+use crate::errors::{Busy, InsertError, ShareError, TryInsertError, TryShareError};
 use crate::finishing::{counts_of, join_all};
 use crate::making::First;
 use crate::rule::MemberSeat;
@@ -181,6 +182,33 @@ impl<const CAP: usize, const LEVELS: usize> AllMembers<CAP, LEVELS> {
         moved
     }
 
+    /// Moves all items of an own part to the shared one, as the member of this number does (`Member::try_share`), and answers
+    /// how many moved. It is never refused for a lock, as no other member is within a call.
+    pub fn share(
+        &mut self,
+        board: &Board<CAP, LEVELS>,
+        number: u32,
+    ) -> Result<usize, ShareError>
+        requires of { AreOf self.old board.now }
+        requires number { number < (sizes_of_all self.old).threads }
+        ensures same { ActsFor number self.old self.new }
+        ensures turn { turn_of self.new ≡ number }
+        ensures ok { IfOk result (λ count. Shares LEVELS number (steps_for self.old number)
+            (steps_for self.new number) count) }
+        ensures adds { Gains (steps_for self.old number) (steps_for self.new number) [] [] }
+        ensures left { left_of self.new ≡ left_of self.old }
+        ensures counts { (account (all_lists self.new)).inserted
+            ≡ (account (all_lists self.old)).inserted }
+        ensures refused { IfErr result (λ why. RefusesShare LEVELS number
+            (steps_for self.old number) (steps_for self.new number) (as_tried_share why)) }
+    {
+        self.call(board, number);
+        match self.acting.try_share(board) {
+            Ok(count) => Ok(count),
+            Err(why) => Err(share_refusal_of(why)),
+        }
+    }
+
     /// The front that a member's own `front` would see now: the key of the least shared item, or the greatest number
     /// where no item is shared. The list of the member whose turn it is notes the look, and nothing else changes. It
     /// is the turn of the member that acted last, and at first of member 0.
@@ -269,6 +297,18 @@ fn refusal_of(why: TryInsertError) -> InsertError
         TryInsertError::Busy(_) => unreachable!(),
         TryInsertError::Full => InsertError::Full,
         TryInsertError::NoMemory => InsertError::NoMemory,
+    }
+}
+
+// Why items are not shared, where no lock was held.
+fn share_refusal_of(why: TryShareError) -> ShareError
+    requires free { (busy : Busy) → why ≢ TryShareError.Busy busy }
+    ensures { as_tried_share result ≡ why }
+{
+    match why {
+        TryShareError::Busy(_) => unreachable!(),
+        TryShareError::Full => ShareError::Full,
+        TryShareError::NoMemory => ShareError::NoMemory,
     }
 }
 

@@ -8,6 +8,7 @@ pub mod AddLemmas  -- what the calls insert and delete
 pub mod AddedLemmas  -- the events of each call
 pub mod RefillLemmas  -- what a refill adds
 pub mod StealLemmas  -- when a steal moves items
+pub mod SharingLemmas  -- what the sharing of all own items adds
 pub mod DeletedLemmas  -- those of a deletion
 pub mod LoneLemmas  -- with one thread a deletion skips nothing
 pub mod EffectLemmas  -- where a deletion takes effect

@@ -5,3 +5,4 @@ pub mod SpyLemmas  -- a spy, by its answer
 pub mod TakeLemmas  -- a take, by its answer
 pub mod RefillLemmas  -- a refill, by its answer
 pub mod StealLemmas  -- a steal, by its answer
+pub mod SharingLemmas  -- a sharing, by its answer

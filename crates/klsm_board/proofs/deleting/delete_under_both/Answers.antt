@@ -99,7 +99,7 @@ returns-in-Some-clause-done g c own shared has_both =
         may = took.1;
         skips = took.3;
         keeps = took.4;
-        steps = took.5 ∙ ap (λ n. mine me.0 ++ Committed (Take item) ∷ (refilled_after n m.k own shared item ++ both_released t)) c.requires.refill;
+        steps = took.5;
       },
       took.2,
     )

@@ -18,7 +18,7 @@ use Rattle.klsm_run.proofs.SortedLemmas.{length_sorted}
 use Rattle.klsm_parts.specs.Events.{minus}
 use Rattle.klsm_parts.specs.Parts.{PartState}
 use Rattle.klsm_world.specs.declared.step.Event.{Event}
-use Rattle.klsm_world.specs.declared.step.Event.TheVariants.{Put, Flush, Take, Early, Nothing, Spy, Refill, Steal}
+use Rattle.klsm_world.specs.declared.step.Event.TheVariants.{Put, Flush, Take, Early, Nothing, Spy, Refill, Steal, Share}
 use Rattle.klsm_world.specs.declared.step.Entry.{Entry}
 use Rattle.klsm_world.specs.OwnSteps.{found_in, hand_of, inserted, deleted}
 use Rattle.klsm_world.specs.Worlds.{live, steps_of}
@@ -110,6 +110,7 @@ in_order m Nothing items few = let n : ℕ = (m.threads - 1) * m.k in let same :
 in_order m (Spy victim moved) items few = few
 in_order m (Steal victim moved) items few = few
 in_order m (Refill moved) items few = few
+in_order m (Share moved) items few = few
 
 -- a thread's list in place of another one of its own
 known_changed : (f : List Entry → List Item) (t : ℕ) (es fs : List Entry) (behind : List Own) → f es ≡ f fs → (u : ℕ) → f (steps_known (own t es ∷ behind) u) ≡ f (steps_known (own t fs ∷ behind) u)

@@ -8,7 +8,8 @@ use Rattle.klsm_run.proofs.SortedLemmas.{sorted_ascending}
 use Rattle.klsm_run.proofs.WithoutLemmas.{sorted_cancel}
 use Rattle.klsm_parts.specs.Events.{MayPut, MayFlush, MayTake, MayTakeEarly, MaySpy, MayRefill, own_after_put, own_after_flush, shared_after_flush, own_after_take, shared_after_take, own_after_early, own_after_spy, victim_after_spy, own_after_refill, shared_after_refill, front_of}
 use Rattle.klsm_parts.specs.Stealing.{MaySteal, own_after_steal, victim_after_steal}
-use Rattle.klsm_world.specs.declared.step.Event.TheVariants.{Put, Flush, Take, Early, Spy, Refill, Steal}
+use Rattle.klsm_parts.specs.Sharing.{MayShare, own_after_share, shared_after_share}
+use Rattle.klsm_world.specs.declared.step.Event.TheVariants.{Put, Flush, Take, Early, Spy, Refill, Steal, Share}
 use Rattle.klsm_world.specs.OwnSteps.{Hand, Holds, found_in, hand_of, inserted, content_in, after_event, shared_part}
 use Rattle.klsm_world.specs.LegalSteps.{BearsStamp, MayCommit}
 use Rattle.klsm_world.proofs.lemmas.counts.EventCountLemmas.{length_plus}
@@ -18,7 +19,7 @@ use Rattle.klsm_board.specs.declared.sizes.Sizes.{Sizes}
 use Rattle.klsm_board.specs.declared.rule.View.{View}
 use Rattle.klsm_board.specs.Steps.{mine, AreReached}
 use Rattle.klsm_board.specs.Seats.{Carries, Has, CarriedOut, LeavesShared, SetsFront, own_in_hand, both_in_hand, three_in_hand, victim_in_hand}
-use Rattle.klsm_board.proofs.lemmas.hands.EventLemmas.{own_in_one, own_in_both, shared_in_both, own_in_three, victim_in_three, put_leaves, flush_leaves, take_leaves, early_leaves, spy_leaves, refill_leaves, own_beside_victim, victim_beside_own, steal_leaves}
+use Rattle.klsm_board.proofs.lemmas.hands.EventLemmas.{own_in_one, own_in_both, shared_in_both, own_in_three, victim_in_three, put_leaves, flush_leaves, take_leaves, early_leaves, spy_leaves, refill_leaves, share_leaves, own_beside_victim, victim_beside_own, steal_leaves}
 
 -- the content of the part that was acquired last
 abbrev first_content : Hand → List Item
@@ -134,6 +135,32 @@ module _ {S : Type 0} (content : S → List Item) (suits : ℕ → ℕ → S →
     fits = may;
   }
 
+  pub share_done : (own shared moved : List Item) (me me' : Me S View) → Has content suits m t (both_in_hand t own shared) me → me'.0 ≡ me.0 → MayShare own moved
+      → Carries content suits m t (both_in_hand t (own_after_share own moved) (shared_after_share shared moved)) me'
+      → CarriedOut content suits m t (Share moved) (both_in_hand t (own_after_share own moved) (shared_after_share shared moved)) me'
+  share_done own shared moved me me' has same may carries = record {
+    carries = carries;
+    may = record {
+      own = own;
+      other = shared;
+      holds_own = holds_still (both_in_hand t own shared) me me' (t + 1) own has same (own_in_both t own shared);
+      holds_other = holds_still (both_in_hand t own shared) me me' 0 shared has same (shared_in_both t own shared);
+      fits = may;
+    };
+    done = share_leaves t (hand_of t (mine me'.0)) own shared (still (both_in_hand t own shared) me me' has same) moved;
+  }
+
+  -- the items that a Share names are the ones that the shared part gained
+  pub share_told : (own shared moved named : List Item) (me me' : Me S View) → Has content suits m t (both_in_hand t own shared) me → me'.0 ≡ me.0 → IsAscending moved
+      → CarriedOut content suits m t (Share named) (both_in_hand t (own_after_share own moved) (shared_after_share shared moved)) me'
+      → named ≡ moved
+  share_told own shared moved named me me' has same up out =
+      let left : both_in_hand t (own_after_share own named) (shared_after_share shared named) ≡ both_in_hand t (own_after_share own moved) (shared_after_share shared moved) =
+      sym (share_leaves t (hand_of t (mine me'.0)) own shared (still (both_in_hand t own shared) me me' has same) named) ∙ out.done in
+      let joined = ap first_content left in
+      let same_items = sorted_cancel shared named moved (sorted_swap shared named ∙ (joined ∙ sorted_swap moved shared)) in
+      sym (sorted_ascending named out.may.fits.ascending) ∙ (same_items ∙ sorted_ascending moved up)
+
   pub early_done : (own : List Item) (x : Item) (front : ℕ) (me me' : Me S View) → Has content suits m t (own_in_hand t own) me → me'.0 ≡ me.0 → MayTakeEarly own x front
       → Carries content suits m t (own_in_hand t (own_after_early own x)) me'
       → CarriedOut content suits m t (Early x front) (own_in_hand t (own_after_early own x)) me'
@@ -176,6 +203,14 @@ module _ {S : Type 0} (content : S → List Item) (suits : ℕ → ℕ → S →
   refill_sets_front own shared moved front v hand_is is =
       is ∙ sym (ap (λ h. front_of (unwrap_or (found_in h 0) [])) (refill_leaves t (hand_of t (mine v)) own shared hand_is moved)
       ∙ ap (λ o. front_of (unwrap_or o [])) (shared_in_both t (own_after_refill own moved) (shared_after_refill shared moved)))
+
+  -- and so does a Share
+  pub share_sets_front : (own shared moved : List Item) (front : ℕ) (me me' : Me S View) → Has content suits m t (both_in_hand t own shared) me → me'.0 ≡ me.0 → front ≡ front_of (shared_after_share shared moved)
+      → SetsFront t (hand_of t (mine me'.0)) (Share moved) front
+  share_sets_front own shared moved front me me' has same is =
+      let hand_is = still (both_in_hand t own shared) me me' has same in
+      is ∙ sym (ap (λ h. front_of (unwrap_or (found_in h 0) [])) (share_leaves t (hand_of t (mine me'.0)) own shared hand_is moved)
+      ∙ ap (λ o. front_of (unwrap_or o [])) (shared_in_both t (own_after_share own moved) (shared_after_share shared moved)))
 
   pub spy_done : (v : ℕ) (found own shared moved : List Item) (me me' : Me S View) → v ≢ t → Has content suits m t (three_in_hand t v found own shared) me → me'.0 ≡ me.0 → MaySpy own found moved
       → Carries content suits m t (three_in_hand t v (victim_after_spy found moved) (own_after_spy moved) shared) me'

@@ -3,7 +3,8 @@ use Rattle.std.proofs.Common.{◌≡◌, ◌≢◌, ℕ, ◌+◌, List, [], ◌�
 use Rattle.klsm_run.specs.declared.item.Item.{Item}
 use Rattle.klsm_parts.specs.Events.{own_after_put, own_after_flush, shared_after_flush, own_after_take, shared_after_take, own_after_early, own_after_spy, victim_after_spy, own_after_refill, shared_after_refill}
 use Rattle.klsm_parts.specs.Stealing.{own_after_steal, victim_after_steal}
-use Rattle.klsm_world.specs.declared.step.Event.TheVariants.{Put, Flush, Take, Early, Spy, Refill, Steal}
+use Rattle.klsm_parts.specs.Sharing.{own_after_share, shared_after_share}
+use Rattle.klsm_world.specs.declared.step.Event.TheVariants.{Put, Flush, Take, Early, Spy, Refill, Steal, Share}
 use Rattle.klsm_world.specs.OwnSteps.{Hand, found_in, content_in, changed, after_event}
 use Rattle.klsm_world.proofs.lemmas.hands.HandLemmas.{choice_hit, choice_miss, found_first, found_behind}
 use Rattle.klsm_board.specs.Seats.{own_in_hand, both_in_hand, three_in_hand, victim_in_hand}
@@ -67,7 +68,7 @@ change_both t own shared own' shared' =
     ap (λ h. changed h 0 shared') (change_behind (t + 1) 0 shared own' (own_in_hand t own) (not_own t) ∙ ap (λ (h : Hand). (0, shared) ∷ h) (change_first (t + 1) own own' []))
     ∙ change_first 0 shared shared' (own_in_hand t own')
 
--- a Flush, a Take and a Refill
+-- a Flush, a Take, a Refill and a Share
 module _ (t : ℕ) (h : Hand) (own shared : List Item) (is : h ≡ both_in_hand t own shared) where
   own_is : content_in h (t + 1) ≡ own
   own_is = ap (λ z. unwrap_or z []) (ap (λ z. found_in z (t + 1)) is ∙ own_in_both t own shared)
@@ -89,6 +90,11 @@ module _ (t : ℕ) (h : Hand) (own shared : List Item) (is : h ≡ both_in_hand 
   refill_leaves moved =
       (λ i. changed (changed (is i) (t + 1) (own_after_refill (own_is i) moved)) 0 (shared_after_refill (shared_is i) moved))
       ∙ change_both t own shared (own_after_refill own moved) (shared_after_refill shared moved)
+
+  pub share_leaves : (moved : List Item) → after_event t h (Share moved) ≡ both_in_hand t (own_after_share own moved) (shared_after_share shared moved)
+  share_leaves moved =
+      (λ i. changed (changed (is i) (t + 1) (own_after_share (own_is i) moved)) 0 (shared_after_share (shared_is i) moved))
+      ∙ change_both t own shared (own_after_share own moved) (shared_after_share shared moved)
 
 -- a Spy
 pub spy_leaves : (t v : ℕ) (h : Hand) (found own shared : List Item) → v ≢ t → h ≡ three_in_hand t v found own shared → (moved : List Item)

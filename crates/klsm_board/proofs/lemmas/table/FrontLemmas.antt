@@ -11,7 +11,7 @@ use Rattle.klsm_run.specs.declared.item.Item.{Item}
 use Rattle.klsm_parts.specs.Least.{IsLeast}
 use Rattle.klsm_parts.specs.Events.{front_of}
 use Rattle.klsm_world.specs.declared.step.Event.{Event}
-use Rattle.klsm_world.specs.declared.step.Event.TheVariants.{Put, Flush, Take, Early, Nothing, Spy, Refill, Steal}
+use Rattle.klsm_world.specs.declared.step.Event.TheVariants.{Put, Flush, Take, Early, Nothing, Spy, Refill, Steal, Share}
 use Rattle.klsm_world.specs.declared.step.Entry.{Entry}
 use Rattle.klsm_world.specs.declared.step.Entry.TheVariants.{Committed, Looked}
 use Rattle.klsm_world.specs.declared.step.Step.{Step as WorldStep}
@@ -42,6 +42,7 @@ no_front word t hand Nothing leaves = tt
 no_front word t hand (Spy victim moved) leaves = tt
 no_front word t hand (Steal victim moved) leaves = tt
 no_front word t hand (Refill moved) leaves = absurd leaves
+no_front word t hand (Share moved) leaves = absurd leaves
 
 -- and leaves the front as it was
 pub front_left : (limits : Limits) (w : World) (t : ℕ) (event : Event) → IsLawful limits w → MayStep limits w (Commit t event) → LeavesShared t (hand_in w t) event
@@ -57,6 +58,7 @@ front_left limits w t Nothing lawful may leaves = refl
 front_left limits w t (Spy victim moved) lawful may leaves = refl
 front_left limits w t (Steal victim moved) lawful may leaves = refl
 front_left limits w t (Refill moved) lawful may leaves = absurd leaves
+front_left limits w t (Share moved) lawful may leaves = absurd leaves
 
 -- an event that sets the front names none, and sets it to what it leaves
 pub front_named : (word t : ℕ) (hand : Hand) (event : Event) (front : ℕ) → SetsFront t hand event front → NamesFront word event
@@ -68,6 +70,7 @@ front_named word t hand Nothing front sets = absurd sets
 front_named word t hand (Spy victim moved) front sets = absurd sets
 front_named word t hand (Steal victim moved) front sets = absurd sets
 front_named word t hand (Refill moved) front sets = tt
+front_named word t hand (Share moved) front sets = tt
 
 front_is_set : (word t : ℕ) (hand : Hand) (event : Event) (front : ℕ) → SetsFront t hand event front → front ≡ front_after word t hand event
 front_is_set word t hand (Put x) front sets = absurd sets
@@ -78,6 +81,7 @@ front_is_set word t hand Nothing front sets = absurd sets
 front_is_set word t hand (Spy victim moved) front sets = absurd sets
 front_is_set word t hand (Steal victim moved) front sets = absurd sets
 front_is_set word t hand (Refill moved) front sets = sets
+front_is_set word t hand (Share moved) front sets = sets
 
 module _ {S : Type 0} (content : S → List Item) (suits : ℕ → ℕ → S → Type 0) (m : Sizes) where
   module _ (s : State S View) (r : Ruled content suits m s) (id t : ℕ) (xs : List Entry) (behind : List Own) (at : get_elem? s.views id ≡ some (acting content suits m t xs behind)) (lt : t < m.threads)

@@ -12,7 +12,7 @@ use Rattle.std.proofs.lemmas.List.{length-append}
 use Rattle.atomic_table.specs.Table.{State, Me, Act, Valid, stepped, carried_after}
 use Rattle.klsm_run.specs.declared.item.Item.{Item}
 use Rattle.klsm_world.specs.declared.step.Event.{Event}
-use Rattle.klsm_world.specs.declared.step.Event.TheVariants.{Put, Flush, Take, Early, Nothing, Spy, Refill, Steal}
+use Rattle.klsm_world.specs.declared.step.Event.TheVariants.{Put, Flush, Take, Early, Nothing, Spy, Refill, Steal, Share}
 use Rattle.klsm_world.specs.declared.step.Entry.{Entry}
 use Rattle.klsm_world.specs.declared.step.Entry.TheVariants.{Committed}
 use Rattle.klsm_world.specs.declared.step.Step.{Step as WorldStep}
@@ -57,6 +57,7 @@ room_for quota es Nothing room few = let a : length (inserted (es ++ Committed N
 room_for quota es (Spy victim moved) room few = let a : length (inserted (es ++ Committed (Spy victim moved) ∷ [])) ≡ length (inserted es) + 0 = insertions_more es (Committed (Spy victim moved)) in omega (arith, a, few)
 room_for quota es (Steal victim moved) room few = let a : length (inserted (es ++ Committed (Steal victim moved) ∷ [])) ≡ length (inserted es) + 0 = insertions_more es (Committed (Steal victim moved)) in omega (arith, a, few)
 room_for quota es (Refill moved) room few = let a : length (inserted (es ++ Committed (Refill moved) ∷ [])) ≡ length (inserted es) + 0 = insertions_more es (Committed (Refill moved)) in omega (arith, a, few)
+room_for quota es (Share moved) room few = let a : length (inserted (es ++ Committed (Share moved) ∷ [])) ≡ length (inserted es) + 0 = insertions_more es (Committed (Share moved)) in omega (arith, a, few)
 
 module _ {S : Type 0} (content : S → List Item) (suits : ℕ → ℕ → S → Type 0) (m : Sizes) where
   abbrev pub St : Type 0

@@ -1,48 +1,11 @@
-use Rattle.std.proofs.Common.{ℕ, List, ◌∙◌, [], subst}
-use Rattle.std.specs.Option.{option_to_list}
-use Rattle.klsm_parts.proofs.FitLemmas.{local_fits}
-use Rattle.klsm_board.specs.declared.rule.Own.{Own}
+use Rattle.std.proofs.Common.{subst}
 use Rattle.klsm_board.specs.declared.sizes.Sizes.{Sizes}
-use Rattle.klsm_board.specs.Boards.{known_of_others, own_steps}
-use Rattle.klsm_board.specs.Deleting.{AnswersDeletion, LooksInVain, MissesDeletion}
-use Rattle.klsm_board.specs.Effects.{TakesEffect}
-use Rattle.klsm_board.proofs.lemmas.calls.EffectLemmas.{effect_since}
-use Rattle.klsm_board.proofs.lemmas.calls.MissLemmas.{waits_quiet, waits_more}
-use Rattle.klsm_board.proofs.lemmas.calls.WaitLemmas.{same_then, adds_then}
+use Rattle.klsm_board.specs.Boards.{own_steps}
+use Rattle.klsm_board.specs.Deleting.{AnswersWaiting}
+use Rattle.klsm_board.proofs.lemmas.calls.DeletedLemmas.{own_refill}
 use Rattle.klsm_board.proofs.board.Member.delete_min.Goals as goal
 
-pub unreachable-unreachable : goal.unreachable-unreachable
-unreachable-unreachable g c = c.unreachable.type_inv
-
-pub returns-in-Ok-clause-ok : goal.returns-in-Ok-clause-ok
-returns-in-Ok-clause-ok g c =
-    let now = c.loop.self in let inv = c.loop.invariant in let new = c.try_delete_min.new in (
-      own_steps now,
-      inv.waits,
-      subst (λ p. AnswersDeletion g.P.Picker.may_pick p new.picker c.args.self.now.sizes c.args.self.now.number (own_steps now) (own_steps new.self) c.in-Ok.answer) inv.picker
-          (subst (λ (z : Sizes × ℕ). AnswersDeletion g.P.Picker.may_pick c.loop.picker new.picker z.0 z.1 (own_steps now) (own_steps new.self) c.in-Ok.answer) (λ i. (inv.same.1 i, inv.same.0 i)) c.in-Ok.ensures.ok),
-    )
-
-pub returns-in-Ok-clause-effect : goal.returns-in-Ok-clause-effect
-returns-in-Ok-clause-effect g c =
-    let me = c.args.self.now in let now = c.loop.self in let inv = c.loop.invariant in let es' = own_steps c.try_delete_min.new.self in
-    effect_since me.sizes me.number (known_of_others me) (own_steps me) (own_steps now) es' c.in-Ok.answer (waits_quiet me.number _ (own_steps me) (own_steps now) inv.waits)
-    (subst (λ (z : Sizes × ℕ × List Own). TakesEffect z.0 z.1 z.2 (own_steps now) es' c.in-Ok.answer) (λ i. (inv.same.1 i, inv.same.0 i, inv.others i)) c.in-Ok.ensures.effect)
-
-pub returns-in-Ok-clause-adds : goal.returns-in-Ok-clause-adds
-returns-in-Ok-clause-adds g c =
-    let me = c.args.self.now in let now = c.loop.self in let inv = c.loop.invariant in
-    adds_then me now c.try_delete_min.new.self [] (option_to_list c.in-Ok.answer) (waits_quiet me.number _ (own_steps me) (own_steps now) inv.waits) c.in-Ok.ensures.adds
-
-pub wait-requires-room-S-Holding : goal.wait-requires-room-S-Holding
-wait-requires-room-S-Holding g c κs within = local_fits _ c.args.self.now.capacity
-
-pub loop-preserved : goal.loop-preserved
-loop-preserved g c =
-    let me = c.args.self.now in let now = c.loop.self in let inv = c.loop.invariant in let new = c.try_delete_min.new.self in let busy = c.in-Err.ensures.busy in
-    record {
-      same = same_then me now new inv.same c.in-Err.ensures.same;
-      others = c.in-Err.ensures.others ∙ inv.others;
-      waits = waits_more me.number LooksInVain (own_steps me) (own_steps now) (own_steps new) c.in-Err.busy inv.waits (subst (λ n. MissesDeletion n (own_steps now) (own_steps new) c.in-Err.busy) inv.same.0 busy.2);
-      picker = busy.1 ∙ inv.picker;
-    }
+pub returns-clause-ok : goal.returns-clause-ok
+returns-clause-ok g c =
+    let me = c.args.self.now in let did = c.delete in
+    subst (λ (m : Sizes). AnswersWaiting g.P.Picker.may_pick c.args.picker.now did.new.picker m me.number (own_steps me) (own_steps did.new.self) did.result) (own_refill me.sizes) did.ensures.ok

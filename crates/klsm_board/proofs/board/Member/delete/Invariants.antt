@@ -2,7 +2,7 @@ use Rattle.std.specs.Prelude.{◌≡◌}
 use Rattle.klsm_board.specs.Boards.{IsSame, known_of_others, own_steps}
 use Rattle.klsm_board.specs.Deleting.{LooksInVain}
 use Rattle.klsm_board.specs.Inserting.{Waits}
-use Rattle.klsm_board.proofs.board.Member.delete_min.Given as goal
+use Rattle.klsm_board.proofs.board.Member.delete.Given as goal
 
 abbrev pub invariant-loop : goal.invariant-loop
 invariant-loop g l = record {

@@ -1,0 +1,12 @@
+use Rattle.std.specs.Prelude.{◌≡◌}
+use Rattle.klsm_board.specs.Boards.{IsSame, known_of_others, own_steps}
+use Rattle.klsm_board.specs.Inserting.{Waits}
+use Rattle.klsm_board.specs.Sharing.{FindsSome}
+use Rattle.klsm_board.proofs.board.Member.share.Given as goal
+
+abbrev pub invariant-loop : goal.invariant-loop
+invariant-loop g l = record {
+  same : IsSame l.initial.self l.self;
+  others : known_of_others l.self ≡ known_of_others l.initial.self;
+  waits : Waits l.initial.self.number FindsSome (own_steps l.initial.self) (own_steps l.self);
+}
