@@ -14,7 +14,7 @@ use Rattle.klsm_owned.specs.Owned.{IsSameOwned, AreAllOfTheirBoard, member_of, m
 use Rattle.klsm_owned.proofs.ListLemmas.{unmapped}
 use Rattle.klsm_c.specs.declared.item.PlainItem.{PlainItem}
 use Rattle.klsm_c.specs.declared.slot.Slot.{Slot}
-use Rattle.klsm_c.specs.Calls.{DeletesBySlot, InsertsBySlot, LooksAt}
+use Rattle.klsm_c.specs.Calls.{DeletesAloneBySlot, DeletesBySlot, InsertsBySlot, LooksAt, SharesBySlot}
 use Rattle.klsm_c.specs.Slots.{owned_in}
 use Rattle.klsm_c.proofs.ListLemmas.{map_behind}
 
@@ -57,6 +57,14 @@ kept_by_insert (x ∷ xs) new key load code told = (told.0, told.1, told.2)
 pub kept_by_delete : (old new : List OwnedMember) (item item' : PlainItem) (code : ℤ) → DeletesBySlot old new item item' code → IsKept old new
 kept_by_delete [] new item item' code told = told.1
 kept_by_delete (x ∷ xs) new item item' code told = (told.0, told.1, told.2)
+
+pub kept_by_delete_alone : (old new : List OwnedMember) (item item' : PlainItem) (code : ℤ) → DeletesAloneBySlot old new item item' code → IsKept old new
+kept_by_delete_alone [] new item item' code told = told.1
+kept_by_delete_alone (x ∷ xs) new item item' code told = (told.0, told.1, told.2)
+
+pub kept_by_share : (old new : List OwnedMember) (moved moved' : ℕ) (code : ℤ) → SharesBySlot old new moved moved' code → IsKept old new
+kept_by_share [] new moved moved' code told = told.1
+kept_by_share (x ∷ xs) new moved moved' code told = (told.0, told.1, told.2)
 
 pub kept_by_look : (old new : List OwnedMember) (front : ℕ) → LooksAt old new front → IsKept old new
 kept_by_look [] new front told = told.1

@@ -11,9 +11,11 @@ use Rattle.klsm_board.specs.Boards.{own_steps}
 use Rattle.klsm_board.specs.declared.errors.Busy.{Busy as IsBusy}
 use Rattle.klsm_board.specs.declared.errors.TryInsertError.{TryInsertError}
 use Rattle.klsm_board.specs.declared.errors.TryInsertError.TheVariants.{Spent, Busy, Full, NoMemory}
+use Rattle.klsm_board.specs.declared.errors.TryShareError.{TryShareError}
+use Rattle.klsm_board.specs.declared.errors.TryShareError.TheVariants as try_share
 use Rattle.klsm_owned.specs.declared.owned.OwnedMember.{OwnedMember}
 use Rattle.klsm_owned.specs.Owned.{IsSameOwned, member_of}
-use Rattle.klsm_owned.specs.Trying.{LooksAtFront, TriesInsert, TriesDelete}
+use Rattle.klsm_owned.specs.Trying.{LooksAtFront, TriesInsert, TriesDelete, TriesDeleteAlone, TriesShare}
 use Rattle.klsm_c.specs.declared.item.PlainItem.{PlainItem}
 use Rattle.klsm_c.specs.declared.slot.Slot.{Slot}
 use Rattle.klsm_c.specs.Items.{plain_of}
@@ -63,6 +65,31 @@ DeletesBySlot [] new item item' code = (code ≡ codes.not_open) × (new ≡ [])
 DeletesBySlot (x ∷ xs) new item item' code = (y : OwnedMember) × (new ≡ y ∷ []) × IsSameOwned x y
     × (answer : Result (Option Item) IsBusy) × (code ≡ delete_code answer) × (item' ≡ written item answer)
     × TriesDelete x y answer
+
+-- A deletion by which no items move to the member's part, as a deletion.
+abbrev pub DeletesAloneBySlot : List OwnedMember → List OwnedMember → PlainItem → PlainItem → ℤ → Type 0
+DeletesAloneBySlot [] new item item' code = (code ≡ codes.not_open) × (new ≡ []) × (item' ≡ item)
+DeletesAloneBySlot (x ∷ xs) new item item' code = (y : OwnedMember) × (new ≡ y ∷ []) × IsSameOwned x y
+    × (answer : Result (Option Item) IsBusy) × (code ≡ delete_code answer) × (item' ≡ written item answer)
+    × TriesDeleteAlone x y answer
+
+-- the code of a sharing's answer, and the number that is written for it
+abbrev pub share_code : Result ℕ TryShareError → ℤ
+share_code (Ok count) = codes.ok
+share_code (Err (try_share.Busy busy)) = codes.busy
+share_code (Err try_share.Full) = codes.full
+share_code (Err try_share.NoMemory) = codes.no_memory
+
+abbrev pub count_written : ℕ → Result ℕ TryShareError → ℕ
+count_written old (Ok count) = count
+count_written old (Err why) = old
+
+-- A sharing, as an insertion. How many items moved is written exactly where the code is `ok`.
+abbrev pub SharesBySlot : List OwnedMember → List OwnedMember → ℕ → ℕ → ℤ → Type 0
+SharesBySlot [] new moved moved' code = (code ≡ codes.not_open) × (new ≡ []) × (moved' ≡ moved)
+SharesBySlot (x ∷ xs) new moved moved' code = (y : OwnedMember) × (new ≡ y ∷ []) × IsSameOwned x y
+    × (answer : Result ℕ TryShareError) × (code ≡ share_code answer) × (moved' ≡ count_written moved answer)
+    × TriesShare x y answer
 
 -- A look at the front: the greatest number where there is no member.
 abbrev pub LooksAt : List OwnedMember → List OwnedMember → ℕ → Type 0

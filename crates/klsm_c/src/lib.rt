@@ -3,14 +3,14 @@
 //! A queue is memory of the caller's: 64 slots of two cache lines each. A slot that is open has one
 //! member of a board, behind a pointer; a slot of zeros is closed. `klsm_open` makes a board and puts its
 //! members into the first slots; so does `klsm_open_with_balance`. From then on each thread uses one slot
-//! (`klsm_try_insert`, `klsm_try_delete_min`), and once they are done, `klsm_close_into` ends the board with the
+//! (`klsm_try_insert`, `klsm_try_delete_min`, `klsm_try_share`), and once they are done, `klsm_close_into` ends the board with the
 //! account of all members and what is left. `klsm_drop` lets a queue go without an account.
 //!
 //! What C gets is what `klsm_board` promises:
 //!
-//! - **A call of a slot is a call of the member behind it**, with all that `Member::try_insert` and
-//!   `Member::try_delete_min` promise, and its code says which answer it was (`InsertsBySlot` and `DeletesBySlot` of
-//!   `specs/Calls.antt`).
+//! - **A call of a slot is a call of the member behind it**, with all that `Member::try_insert`,
+//!   `Member::try_delete_min` and `Member::try_share` promise, and its code says which answer it was (`InsertsBySlot`,
+//!   `DeletesBySlot` and `SharesBySlot` of `specs/Calls.antt`).
 //! - **A code comes exactly where its cause holds**; memory is refused only where `malloc` gives none. After
 //!   a refusal nothing has changed.
 //! - **The members of an open queue are all those of one board.** That is part of the type `Queue`, each
@@ -30,6 +30,7 @@ mod opening;
 mod queue;
 mod queue_calls;
 mod raw_box;
+mod sharing;
 mod slot;
 
 pub use calls::{klsm_deleted, klsm_front, klsm_inserted, klsm_try_delete_min, klsm_try_insert};
@@ -40,4 +41,5 @@ pub use item::PlainItem;
 pub use opening::{klsm_open, klsm_open_with_balance};
 pub use queue::Queue;
 pub use raw_box::RawBox;
+pub use sharing::{klsm_try_delete_min_alone, klsm_try_share};
 pub use slot::Slot;

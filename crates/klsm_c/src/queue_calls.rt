@@ -1,11 +1,12 @@
 //! The calls of one member of a queue, for a caller that has the whole queue.
 ghost use Rattle.std.specs.Prelude.{◌≡◌, ◌<◌};
 ghost use Rattle.klsm_run.specs.declared.limits.TheConstants.{MOST_THREADS};
-ghost use Rattle.klsm_c.specs.Calls.{CallsSlot, DeletesBySlot, InsertsBySlot, LooksAt, deleted_in, inserted_in};
+ghost use Rattle.klsm_c.specs.Calls.{CallsSlot, DeletesAloneBySlot, DeletesBySlot, InsertsBySlot, LooksAt, SharesBySlot, deleted_in, inserted_in};
 
 use crate::calls::{klsm_deleted, klsm_front, klsm_inserted, klsm_try_delete_min, klsm_try_insert};
 use crate::item::PlainItem;
 use crate::queue::Queue;
+use crate::sharing::{klsm_try_delete_min_alone, klsm_try_share};
 
 impl Queue {
     /// Inserts by the member of this number, as C does by a pointer to its slot. The members stay those of
@@ -26,6 +27,26 @@ impl Queue {
             (λ before after. DeletesBySlot before after item.old item.new result) }
     {
         klsm_try_delete_min(&mut self.slots[number], item)
+    }
+
+    /// Deletes a small item by the member of this number, and no items move to its own part behind it, as C does by a
+    /// pointer to its slot. The members stay those of one board.
+    pub fn try_delete_min_alone(&mut self, number: usize, item: &mut PlainItem) -> i32
+        requires { number < MOST_THREADS }
+        ensures { CallsSlot number self.old.slots self.new.slots
+            (λ before after. DeletesAloneBySlot before after item.old item.new result) }
+    {
+        klsm_try_delete_min_alone(&mut self.slots[number], item)
+    }
+
+    /// Moves all items of the own part of the member of this number to the part that all share, as C does by a pointer to
+    /// its slot. The members stay those of one board.
+    pub fn try_share(&mut self, number: usize, moved: &mut u64) -> i32
+        requires { number < MOST_THREADS }
+        ensures { CallsSlot number self.old.slots self.new.slots
+            (λ before after. SharesBySlot before after moved.old moved.new result) }
+    {
+        klsm_try_share(&mut self.slots[number], moved)
     }
 
     /// The front, as C asks for it by a pointer to this slot. The members stay those of one board.

@@ -8,6 +8,8 @@ use Rattle.klsm_world.specs.OwnSteps.{inserted}
 use Rattle.klsm_board.specs.declared.errors.Busy.{Busy}
 use Rattle.klsm_board.specs.declared.errors.TryInsertError.{TryInsertError}
 use Rattle.klsm_board.specs.declared.errors.TryInsertError.TheVariants.{Spent}
+use Rattle.klsm_board.specs.declared.errors.TryShareError.{TryShareError}
+use Rattle.klsm_board.specs.declared.sizes.Sizes.{Sizes}
 use Rattle.klsm_world.specs.declared.step.Entry.{Entry}
 use Rattle.klsm_world.specs.declared.step.Entry.TheVariants.{Looked}
 use Rattle.klsm_board.specs.declared.balancing.Balancing.{Balancing}
@@ -16,7 +18,8 @@ use Rattle.klsm_board.specs.Boards.{Adds, known_of_others, own_steps}
 use Rattle.klsm_board.specs.Rule.{own, view}
 use Rattle.klsm_board.specs.Steps.{HasFront}
 use Rattle.klsm_board.specs.Inserting.{Inserts, RefusesInsert, stamp_of, stamped}
-use Rattle.klsm_board.specs.Deleting.{AnswersDeletion, MissesDeletion}
+use Rattle.klsm_board.specs.Deleting.{AnswersDeletion, MissesDeletion, with_refill}
+use Rattle.klsm_board.specs.Sharing.{RefusesShare, Shares}
 use Rattle.klsm_owned.specs.declared.owned.OwnedMember.{OwnedMember}
 use Rattle.klsm_parts.specs.Choices.{may_choose}
 use Rattle.klsm_owned.specs.Owned.{balancing_of, choice_of, member_of}
@@ -55,13 +58,14 @@ pub record BalancesFirst (before after : OwnedMember) : Type 0 where
   pub choice : choice_of after ≡ choice_of before
   pub balancing : balancing_of after ≡ next_turn before
 
--- A deletion, and before it a balance where it is time: what it took skips at most T·k items, and where there was
--- nothing at most (T-1)·k live. The picker is asked, and picks, as it may. Deletions that were answered count.
-pub record TriesDelete (before after : OwnedMember) (result : Result (Option Item) Busy) : Type 0 where
+-- A deletion on a board of these sizes, and before it a balance where it is time: what it took skips at most T·k items,
+-- and where there was nothing at most (T-1)·k live. The picker is asked, and picks, as it may. Deletions that were
+-- answered count.
+pub record TriesDeletion (sizes : Sizes) (before after : OwnedMember) (result : Result (Option Item) Busy) : Type 0 where
   pub balanced : List Entry
   pub first : HasBalancedFirst before balanced
   pub ok : IfOk result (λ answer. AnswersDeletion may_choose (choice_of before) (choice_of after)
-      (member_of before).sizes (member_of before).number
+      sizes (member_of before).number
       balanced (own_steps (member_of after)) answer)
   pub counted : IfOk result (λ answer. balancing_of after ≡ after_deletion (next_turn before))
   pub adds : IfOk result (λ answer.
@@ -70,6 +74,24 @@ pub record TriesDelete (before after : OwnedMember) (result : Result (Option Ite
       × (choice_of after ≡ choice_of before)
       × (balancing_of after ≡ next_turn before)
       × MissesDeletion (member_of before).number balanced (own_steps (member_of after)) busy)
+
+-- a deletion as the board was made for, and one by which no items move to the own part
+abbrev pub TriesDelete : OwnedMember → OwnedMember → Result (Option Item) Busy → Type 0
+TriesDelete before after result = TriesDeletion (member_of before).sizes before after result
+
+abbrev pub TriesDeleteAlone : OwnedMember → OwnedMember → Result (Option Item) Busy → Type 0
+TriesDeleteAlone before after result = TriesDeletion (with_refill 0 (member_of before).sizes) before after result
+
+-- A sharing of all items of the own part: all of them moved to the shared part, or none, and a refusal has its cause.
+-- The picker stays.
+pub record TriesShare (before after : OwnedMember) (result : Result ℕ TryShareError) : Type 0 where
+  pub ok : IfOk result (Shares MOST_LEVELS (member_of before).number
+      (own_steps (member_of before)) (own_steps (member_of after)))
+  pub adds : Adds (member_of before) (member_of after) [] []
+  pub refused : IfErr result (RefusesShare MOST_LEVELS (member_of before).number
+      (own_steps (member_of before)) (own_steps (member_of after)))
+  pub choice : choice_of after ≡ choice_of before
+  pub balancing : balancing_of after ≡ balancing_of before
 
 -- A look at the front, which the member's list notes: the front of a world of the lists that the member knew.
 pub record LooksAtFront (before after : OwnedMember) (front : ℕ) : Type 0 where

@@ -5,10 +5,10 @@ ghost use Rattle.klsm_world.specs.OwnSteps.{inserted, deleted};
 ghost use Rattle.klsm_board.specs.Boards.{IsOf, own_steps};
 ghost use Rattle.klsm_board.specs.Members.{most_deletions, most_insertions};
 ghost use Rattle.klsm_owned.specs.Owned.{IsSameOwned, board_of, member_of};
-ghost use Rattle.klsm_owned.specs.Trying.{BalancesFirst, LooksAtFront, TriesInsert, TriesDelete};
+ghost use Rattle.klsm_owned.specs.Trying.{BalancesFirst, LooksAtFront, TriesInsert, TriesDelete, TriesDeleteAlone, TriesShare};
 
 use crate::owned::OwnedMember;
-use klsm_board::{Busy, MOST_BALANCED, TryInsertError, WideBoard, WideMember};
+use klsm_board::{Busy, MOST_BALANCED, TryInsertError, TryShareError, WideBoard, WideMember};
 use klsm_run::{Item, Stamp};
 use std::alloc::Global;
 use std::sync::Arc;
@@ -35,6 +35,29 @@ impl OwnedMember {
         let answer = self.member.try_delete_min(&self.board, choice)?;
         self.balancing.count_deletion();
         Ok(answer)
+    }
+
+    /// Deletes a small item, as `try_delete_min`, but no items move to the own part behind it, whatever the board was made
+    /// for (`Member::try_delete_min_alone`).
+    #[inline]
+    pub fn try_delete_min_alone(&mut self) -> Result<Option<Item>, Busy>
+        ensures same { IsSameOwned self.old self.new }
+        ensures tries { TriesDeleteAlone self.old self.new result }
+    {
+        self.balance();
+        let picker = &mut self.choice;
+        let answer = self.member.try_delete_min_alone(&self.board, picker)?;
+        self.balancing.count_deletion();
+        Ok(answer)
+    }
+
+    /// Moves all items of the own part to the shared one, as `Member::try_share`, and answers how many moved.
+    #[inline]
+    pub fn try_share(&mut self) -> Result<usize, TryShareError>
+        ensures same { IsSameOwned self.old self.new }
+        ensures tries { TriesShare self.old self.new result }
+    {
+        self.member.try_share(&self.board)
     }
 
     // Balances with the member whose turn it is, where it is time. One whose lock is held is passed over.

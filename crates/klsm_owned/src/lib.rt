@@ -9,6 +9,7 @@
 //! let members = open_board(alloc, 4, 64, Pick::First, 0, 16)?;  // one for each thread, in a box of its own
 //! member.try_insert(key, load)?;                                // as the member's own calls
 //! let item = member.try_delete_min()?;
+//! let count = member.try_share()?;                              // it will be busy: others find its items
 //! ```
 //!
 //! The calls promise of the member inside all that `klsm_board` promises of it. A member that is dropped
