@@ -6,7 +6,7 @@ ghost use Rattle.klsm_board.specs.Boards.{IsOf, IsHeldOf};
 
 use klsm_board::{
     Account, Board, Busy, FinishError, FinishRefused, Held, HoldError, HoldRefused, InsertError,
-    MakeError, Member, TryInsertError,
+    MakeError, Member, ShareError, TryInsertError, TryShareError,
 };
 use klsm_parts::{First, Picker};
 use klsm_run::{Item, Stamp};
@@ -114,6 +114,42 @@ impl<const LEVELS: usize> Crew<LEVELS> {
     pub fn delete_min(&mut self, rt: &(impl Wait + Clock), member: usize) -> Option<Option<Item>> {
         let member = self.members.get_mut(member)?;
         Some(member.delete_min(rt, &self.board, &mut First))
+    }
+
+    /// How a member's deletion ends that waits for nobody, and behind which no items move.
+    pub fn try_delete_min_alone<P: Picker>(
+        &mut self,
+        member: usize,
+        picker: &mut P,
+    ) -> Option<Result<Option<Item>, Busy>> {
+        let member = self.members.get_mut(member)?;
+        Some(member.try_delete_min_alone(&self.board, picker))
+    }
+
+    /// How one of the first candidate ends that may wait, and behind which no items move.
+    pub fn delete_min_alone(
+        &mut self,
+        rt: &(impl Wait + Clock),
+        member: usize,
+    ) -> Option<Option<Item>> {
+        let member = self.members.get_mut(member)?;
+        Some(member.delete_min_alone(rt, &self.board, &mut First))
+    }
+
+    /// How a member's sharing of its items ends that waits for nobody.
+    pub fn try_share(&mut self, member: usize) -> Option<Result<usize, TryShareError>> {
+        let member = self.members.get_mut(member)?;
+        Some(member.try_share(&self.board))
+    }
+
+    /// How one ends that may wait.
+    pub fn share(
+        &mut self,
+        rt: &(impl Wait + Clock),
+        member: usize,
+    ) -> Option<Result<usize, ShareError>> {
+        let member = self.members.get_mut(member)?;
+        Some(member.share(rt, &self.board))
     }
 
     /// How a member's balance with a victim ends, where that is another member of the board.

@@ -10,6 +10,7 @@ mod most_members;
 mod plain;
 mod refused;
 mod script;
+mod shared;
 mod skips;
 mod threads;
 mod together;

@@ -109,6 +109,7 @@ few_answered m lists es' x passes = by_event passes.event passes.answers passes.
     by_event (event.Spy victim moved) is few = absurd few
     by_event (event.Steal victim moved) is few = absurd few
     by_event (event.Refill moved) is few = absurd few
+    by_event (event.Share moved) is few = absurd few
 
 -- and none where nothing is
 pub few_none : (threads k : ℕ) → IsFew threads k 0

@@ -48,6 +48,7 @@ inserted_within es = by_events (committed_in es)
     one (event.Spy victim moved) = omega arith
     one (event.Steal victim moved) = omega arith
     one (event.Refill moved) = omega arith
+    one (event.Share moved) = omega arith
 
     by_events : (all : List Event) → length (flat_map inserted_by all) ≤ length (flat_map shown all)
     by_events [] = omega arith

@@ -53,6 +53,7 @@ inserted_shown es = by_events (flat_map event_at es)
     more (event.Spy victim moved) answers = omega arith
     more (event.Steal victim moved) answers = omega arith
     more (event.Refill moved) answers = omega arith
+    more (event.Share moved) answers = omega arith
 
     by_events : (all : List Event) → length (flat_map inserted_by all) ≡ insertion_answers (flat_map shown all)
     by_events [] = refl

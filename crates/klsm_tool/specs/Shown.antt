@@ -12,7 +12,7 @@ use Rattle.klsm_text.specs.declared.answer.Answer.{Answer}
 use Rattle.klsm_text.specs.declared.answer.Answer.TheVariants.{Inserted, Deleted, Nothing}
 use Rattle.klsm_text.specs.declared.answer.Line.{Line}
 
--- the answer that an event is; spying is none, and neither is a refill or a steal
+-- the answer that an event is; spying is none, and neither is a refill, a steal or a sharing
 abbrev pub shown : Event → List Answer
 shown (event.Put x) = Inserted x ∷ []
 shown (event.Flush x moved) = Inserted x ∷ []
@@ -22,6 +22,7 @@ shown event.Nothing = Nothing ∷ []
 shown (event.Spy victim moved) = []
 shown (event.Steal victim moved) = []
 shown (event.Refill moved) = []
+shown (event.Share moved) = []
 
 -- the answers that a list of own steps has, the first one first
 abbrev pub shown_in : List Entry → List Answer

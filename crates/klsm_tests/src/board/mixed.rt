@@ -3,8 +3,8 @@
 
 use super::plain::Plain;
 use crate::rules::Pick;
-use klsm_board::{Busy, TryInsertError};
-use klsm_parts::{First, Last, Random};
+use klsm_board::{Busy, TryInsertError, TryShareError};
+use klsm_parts::{First, Last, Picker, Random};
 use klsm_run::{Item, Stamp};
 use klsm_test_support::Crew;
 use rand_core::{Rng, SeedableRng};
@@ -65,6 +65,20 @@ fn as_tried(answer: Result<Stamp, Busy>) -> Result<Stamp, TryInsertError> {
     }
 }
 
+// How a member's deletion ends, or one behind which no items move.
+fn try_delete<P: Picker>(
+    crew: &mut Crew<21>,
+    member: usize,
+    is_alone: bool,
+    picker: &mut P,
+) -> Option<Result<Option<Item>, Busy>> {
+    if is_alone {
+        crew.try_delete_min_alone(member, picker)
+    } else {
+        crew.try_delete_min(member, picker)
+    }
+}
+
 // A number below `bound`, or 0.
 fn below(mix: &mut Pcg32, bound: usize) -> usize {
     mix.next_u32() as usize % bound.max(1)
@@ -88,30 +102,43 @@ impl Both {
         })
     }
 
-    // Whether a deletion ends alike.
-    fn delete(&mut self, member: usize) -> Option<bool> {
+    // Whether a deletion ends alike, or one behind which no items move.
+    fn delete(&mut self, member: usize, is_alone: bool) -> Option<bool> {
         let pick = self.next_pick()?;
-        let want = self.plain.delete(number_of(member)?, pick)?;
-        Some(self.try_delete(member)? == want)
+        let want = if is_alone {
+            self.plain.delete_alone(number_of(member)?, pick)?
+        } else {
+            self.plain.delete(number_of(member)?, pick)?
+        };
+        Some(self.try_delete(member, is_alone)? == want)
     }
 
     // How it ends on the board.
-    fn try_delete(&mut self, member: usize) -> Option<Result<Option<Item>, Busy>> {
+    fn try_delete(&mut self, member: usize, is_alone: bool) -> Option<Result<Option<Item>, Busy>> {
         match self.picks {
-            Picks::First => self.crew.try_delete_min(member, &mut First),
-            Picks::Last => self.crew.try_delete_min(member, &mut Last),
+            Picks::First => try_delete(&mut self.crew, member, is_alone, &mut First),
+            Picks::Last => try_delete(&mut self.crew, member, is_alone, &mut Last),
             Picks::Random => {
                 let mut random = Random::new(&mut self.mix);
-                self.crew.try_delete_min(member, &mut random)
+                try_delete(&mut self.crew, member, is_alone, &mut random)
             }
         }
+    }
+
+    // Whether a sharing ends alike.
+    fn share(&mut self, member: usize) -> Option<bool> {
+        let want = match self.plain.share(number_of(member)?)? {
+            Ok(count) => Ok(count),
+            Err(busy) => Err(TryShareError::Busy(busy)),
+        };
+        Some(self.crew.try_share(member)? == want)
     }
 
     // Whether a balance with some other member ends alike, and without others a deletion.
     fn balance(&mut self, member: usize) -> Option<bool> {
         let threads = self.crew.board.threads();
         if threads < 2 {
-            return self.delete(member);
+            return self.delete(member, false);
         }
         let steps = below(&mut self.mix, threads.saturating_sub(1)).saturating_add(1);
         let victim = number_of(member.saturating_add(steps) % threads)?;
@@ -168,19 +195,21 @@ impl Both {
         }
     }
 
-    // Whether a call of some kind ends alike. Of 17 numbers those from 2 up to a bound are insertions, and the last one
-    // is a balance.
+    // Whether a call of some kind ends alike. Of 19 numbers those from 2 up to a bound are insertions, and the last three
+    // are a balance, a sharing and a deletion behind which no items move.
     fn step(&mut self, bound: u32) -> Option<bool> {
         let free = self.crew.members.len();
         if free == 0 {
             return Some(self.put_back());
         }
         let member = below(&mut self.mix, free);
-        match self.mix.next_u32() % 17 {
+        match self.mix.next_u32() % 19 {
             0 | 1 => self.hold_or_put_back(),
             16 => self.balance(member),
+            17 => self.share(member),
+            18 => self.delete(member, true),
             kind if kind < bound => self.insert(member),
-            _ => self.delete(member),
+            _ => self.delete(member, false),
         }
     }
 
@@ -207,7 +236,7 @@ impl Both {
 
 // Whether all goes alike. Where there are others and own parts, some deletions have to go by the
 // front while the shared part is held, some have to spy, and some balances have to steal. With a refill some have to
-// move items.
+// move items. Where there are own parts some sharings have to move items.
 fn goes_alike(alloc: Global, kind: Kind, picks: Picks) -> Option<bool> {
     let mut both = both_of(alloc, kind, picks)?;
     let steps = both.steps(kind.turn)?;
@@ -215,7 +244,8 @@ fn goes_alike(alloc: Global, kind: Kind, picks: Picks) -> Option<bool> {
     let ways = (both.plain.early > 4) == others && (both.plain.spied > 4) == others;
     let moves = (both.plain.refilled > 0) == (kind.refill > 0);
     let steals = (both.plain.stolen > 0) == others;
-    Some(steps && ways && moves && steals && both.ends_alike(alloc)?)
+    let shares = (both.plain.given > 0) == (kind.k > 0);
+    Some(steps && ways && moves && steals && shares && both.ends_alike(alloc)?)
 }
 
 // Whether they do for one to four members and each way to pick.

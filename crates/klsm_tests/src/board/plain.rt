@@ -34,6 +34,8 @@ pub(super) struct Plain {
     pub refilled: u64,
     /// How often they moved from another member's part at a balance.
     pub stolen: u64,
+    /// How often they moved to the shared part at a sharing.
+    pub given: u64,
 }
 
 impl Plain {
@@ -60,6 +62,7 @@ impl Plain {
             spied: 0,
             refilled: 0,
             stolen: 0,
+            given: 0,
         })
     }
 
@@ -121,6 +124,19 @@ impl Plain {
             Some(busy) => Some(Err(busy)),
             None => Some(Ok(self.take_any(member, least, pick)?)),
         }
+    }
+
+    /// The same by a deletion behind which no items move.
+    pub(super) fn delete_alone(
+        &mut self,
+        member: u32,
+        pick: Pick,
+    ) -> Option<Result<Option<Item>, Busy>> {
+        let refill = self.refill;
+        self.refill = 0;
+        let answer = self.delete(member, pick);
+        self.refill = refill;
+        answer
     }
 
     // The least item of a member's own part.
@@ -213,6 +229,24 @@ impl Plain {
         self.owns.get_mut(member as usize)?.blocks.push(moved).ok()?;
         self.spied = self.spied.saturating_add(1);
         Some(true)
+    }
+
+    /// How a member's sharing of its items ends.
+    pub(super) fn share(&mut self, member: u32) -> Option<Result<usize, Busy>> {
+        if let Some(busy) = self.busy(own_lock(member)) {
+            return Some(Err(busy));
+        }
+        let items = self.own_items(member)?;
+        if items.is_empty() {
+            return Some(Ok(0));
+        }
+        if let Some(busy) = self.busy(0) {
+            return Some(Err(busy));
+        }
+        self.owns.get_mut(member as usize)?.blocks.clear();
+        share(&mut self.shared, items.as_slice())?;
+        self.given = self.given.saturating_add(1);
+        Some(Ok(items.len()))
     }
 
     /// How a member's balance with a victim ends that may move so many items.

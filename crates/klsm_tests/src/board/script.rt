@@ -1,7 +1,7 @@
 //! Scripts of steps on a board, with what each has to answer.
 ghost use Rattle.klsm_parts.specs.Limit.{IsLevelCount};
 
-use klsm_board::{Busy, HoldError, InsertError, TryInsertError};
+use klsm_board::{Busy, HoldError, InsertError, ShareError, TryInsertError, TryShareError};
 use klsm_parts::First;
 use klsm_run::{Item, Stamp};
 use klsm_test_support::Crew;
@@ -30,8 +30,14 @@ pub(super) enum Step {
     IsRefused(u32, u64, TryInsertError),
     /// A member deletes an item, or finds none.
     Deletes(u32, Option<Name>),
+    /// The same by a deletion behind which no items move.
+    DeletesAlone(u32, Option<Name>),
     /// A member that deletes misses a lock.
     Misses(u32, Busy),
+    /// A member shares so many items.
+    Shares(u32, usize),
+    /// A member that shares is refused.
+    KeepsAll(u32, TryShareError),
     /// A member balances with a victim, and at most so many items may move: whether some did.
     Balances(u32, u32, usize, bool),
     /// A member that balances misses a lock.
@@ -123,6 +129,47 @@ fn deletes<const LEVELS: usize>(
     delete(rt, crew, waits, member) == Some(want)
 }
 
+// How a member's deletion ends behind which no items move, by either call likewise.
+fn delete_alone<const LEVELS: usize>(
+    rt: &(impl Wait + Clock),
+    crew: &mut Crew<LEVELS>,
+    waits: bool,
+    member: u32,
+) -> Option<Option<Item>> {
+    let index = member as usize;
+    if waits {
+        return crew.delete_min_alone(rt, index);
+    }
+    crew.try_delete_min_alone(index, &mut First)?.ok()
+}
+
+// A sharing that may wait, as one that does not.
+fn as_tried_share(answer: Result<usize, ShareError>) -> Result<usize, TryShareError> {
+    match answer {
+        Ok(count) => Ok(count),
+        Err(ShareError::Full) => Err(TryShareError::Full),
+        Err(ShareError::NoMemory) => Err(TryShareError::NoMemory),
+    }
+}
+
+// Whether a member's sharing ends so, by either call likewise. What meets a lock that is held would wait for ever.
+fn shares<const LEVELS: usize>(
+    rt: &(impl Wait + Clock),
+    crew: &mut Crew<LEVELS>,
+    waits: bool,
+    member: u32,
+    want: Result<usize, TryShareError>,
+) -> bool {
+    let index = member as usize;
+    if waits && !matches!(&want, Err(TryShareError::Busy(_))) {
+        return match crew.share(rt, index) {
+            Some(answer) => as_tried_share(answer) == want,
+            None => false,
+        };
+    }
+    crew.try_share(index) == Some(want)
+}
+
 // Whether a member's balance with a victim ends so.
 fn balances<const LEVELS: usize>(
     crew: &mut Crew<LEVELS>,
@@ -168,7 +215,12 @@ fn goes<const LEVELS: usize>(
         }
         Step::IsRefused(member, key, why) => inserts(rt, crew, waits, (member, key), Err(why)),
         Step::Deletes(member, name) => deletes(rt, crew, waits, member, Ok(named(name))),
+        Step::DeletesAlone(member, name) => {
+            delete_alone(rt, crew, waits, member) == Some(named(name))
+        }
         Step::Misses(member, busy) => deletes(rt, crew, waits, member, Err(busy)),
+        Step::Shares(member, count) => shares(rt, crew, waits, member, Ok(count)),
+        Step::KeepsAll(member, why) => shares(rt, crew, waits, member, Err(why)),
         Step::Balances(member, victim, most, moves) => {
             balances(crew, (member, victim), most, Ok(moves))
         }

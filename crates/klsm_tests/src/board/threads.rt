@@ -150,6 +150,33 @@ impl Worker {
         self.note_deleted(item);
     }
 
+    // Deletes an item likewise, and no items move behind it.
+    fn delete_alone(&mut self, rt: &(impl Wait + Clock), board: &StandardBoard, waits: bool)
+        requires { IsOf self.old.member board.now }
+        ensures { IsOf self.new.member board.now }
+    {
+        let item = if waits {
+            self.member.delete_min_alone(rt, board, &mut Last)
+        } else {
+            self.member
+                .try_delete_min_alone(board, &mut Last)
+                .unwrap_or(None)
+        };
+        self.note_deleted(item);
+    }
+
+    // Shares its items likewise.
+    fn give_back(&mut self, rt: &(impl Wait + Clock), board: &StandardBoard, waits: bool)
+        requires { IsOf self.old.member board.now }
+        ensures { IsOf self.new.member board.now }
+    {
+        let _count = if waits {
+            self.member.share(rt, board).ok()
+        } else {
+            self.member.try_share(board).ok()
+        };
+    }
+
     // Holds a part, if it is free, and puts it back.
     fn hold(self, board: &StandardBoard, lock: usize) -> Self
         requires { IsOf self.member board.now }
@@ -180,12 +207,14 @@ impl Worker {
         requires { IsOf self.member board.now }
         ensures { IsOf result.member board.now }
     {
-        match self.mix.next_u32() % 16 {
+        match self.mix.next_u32() % 20 {
             kind @ 0..=5 => {
                 let key = self.mix.next_u64() % 1000;
                 self.insert(rt, board, kind < 3, key);
             }
             kind @ 6..=13 => self.delete(rt, board, kind < 10),
+            kind @ 14..=15 => self.delete_alone(rt, board, kind < 15),
+            kind @ 16..=17 => self.give_back(rt, board, kind < 17),
             _ => {
                 let lock = self.mix.next_u32() as usize % (board.threads() + 1);
                 return self.hold(board, lock);

@@ -81,7 +81,7 @@ fn run_same(alloc: Global, both: &Both) -> Option<bool> {
 }
 
 // Whether there are many steps, and many deletions of each kind. With k = 0 no item is an own one,
-// so that none goes by the front, and none moves to an own part.
+// so that none goes by the front, and none moves to an own part or back.
 fn are_many(both: &Both) -> bool {
     let deleted = both.plain.deleted.len();
     let early = both.plain.early;
@@ -89,6 +89,7 @@ fn are_many(both: &Both) -> bool {
         && deleted.saturating_sub(early) > 20
         && (early > 3) == (both.plain.k > 0)
         && (both.plain.refilled > 0) == (both.plain.k > 0)
+        && (both.plain.given > 0) == (both.plain.k > 0)
 }
 
 fn tells_same(trace: &Trace, plain: &Plain) -> bool {

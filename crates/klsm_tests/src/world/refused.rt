@@ -39,6 +39,7 @@ const ALL_KINDS: &[Row] = &[
     Row::Release(1, 2),
     Row::Acquire(0, 2),
     Row::Steal(0, 1, Moved::One(THREE)),
+    Row::Share(0, Moved::One(NINE)),
     Row::Take(0, THREE),
     Row::Take(0, NINE),
 ];

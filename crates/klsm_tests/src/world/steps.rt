@@ -19,7 +19,7 @@ pub(super) fn item(name: Name) -> Item {
     }
 }
 
-/// The items that move at a flush, a spy or a refill.
+/// The items that move at a flush, a spy, a refill, a steal or a sharing.
 #[derive(Clone, Copy)]
 pub(super) enum Moved {
     None,
@@ -42,6 +42,7 @@ pub(super) enum Row {
     Spy(u32, u32, Moved),
     Refill(u32, Moved),
     Steal(u32, u32, Moved),
+    Share(u32, Moved),
 }
 
 /// The step of a row.
@@ -59,6 +60,7 @@ pub(super) fn step_of(alloc: Global, row: Row) -> Option<Step> {
         Row::Spy(thread, victim, moved) => spy(thread, victim, moved_items(alloc, moved)?),
         Row::Refill(thread, moved) => refill(thread, moved_items(alloc, moved)?),
         Row::Steal(thread, victim, moved) => steal(thread, victim, moved_items(alloc, moved)?),
+        Row::Share(thread, moved) => share(thread, moved_items(alloc, moved)?),
     })
 }
 
@@ -90,6 +92,11 @@ pub(super) fn refill(thread: u32, moved: Items) -> Step {
 /// A steal from the victim.
 pub(super) fn steal(thread: u32, victim: u32, moved: Items) -> Step {
     commit(thread, Event::Steal { victim, moved })
+}
+
+/// A sharing.
+pub(super) fn share(thread: u32, moved: Items) -> Step {
+    commit(thread, Event::Share { moved })
 }
 
 fn moved_items(alloc: Global, moved: Moved) -> Option<Items> {

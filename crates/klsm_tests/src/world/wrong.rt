@@ -94,6 +94,12 @@ const STEPS: &[(Row, Option<StepError>)] = &[
         Row::Refill(0, Moved::Two(TWO, FOUR)),
         Some(StepError::WrongEvent),
     ),
+    (Row::Share(3, Moved::One(TWO)), Some(StepError::NoSuchPart)),
+    (Row::Share(2, Moved::One(TWO)), Some(StepError::NotHeld)),
+    (Row::Share(1, Moved::One(SEVEN)), Some(StepError::NotHeld)),
+    (Row::Share(0, Moved::None), Some(StepError::WrongEvent)),
+    (Row::Share(0, Moved::One(TWO)), Some(StepError::WrongEvent)),
+    (Row::Share(0, Moved::One(SEVEN)), Some(StepError::WrongEvent)),
     (Row::Nothing(3), Some(StepError::NoSuchPart)),
     (Row::Nothing(2), Some(StepError::NotHeld)),
     (Row::Nothing(1), Some(StepError::NotHeld)),
@@ -150,6 +156,10 @@ const STEPS: &[(Row, Option<StepError>)] = &[
         Some(StepError::WrongEvent),
     ),
     (Row::Spy(0, 1, Moved::One(SEVEN)), None),
+    (
+        Row::Share(0, Moved::Two(SEVEN, SEVEN)),
+        Some(StepError::WrongEvent),
+    ),
     (
         Row::Spy(0, 1, Moved::One(SEVEN)),
         Some(StepError::WrongEvent),

@@ -25,8 +25,9 @@ pub(super) struct Plain {
     pub deleted: Vec<Item>,
     // How many of them by the front.
     pub early: usize,
-    // How often items moved from the shared part to an own one.
+    // How often items moved from the shared part to an own one, and back.
     pub refilled: usize,
+    pub given: usize,
     pub most: usize,
 }
 
@@ -43,6 +44,7 @@ impl Plain {
             deleted: Vec::new(alloc),
             early: 0,
             refilled: 0,
+            given: 0,
             most: 0,
         })
     }
@@ -225,6 +227,9 @@ impl Plain {
                     && self.has_all(own(*victim), moved.as_slice())
             }
             Event::Refill { moved } => self.may_refill(part, moved.as_slice()),
+            Event::Share { moved } => {
+                !moved.as_slice().is_empty() && self.has_all(part, moved.as_slice())
+            }
             Event::Steal { victim, moved } => {
                 !moved.as_slice().is_empty()
                     && self.has_all(own(*victim), moved.as_slice())
@@ -320,6 +325,10 @@ impl Plain {
             Event::Refill { moved } => {
                 self.refilled = self.refilled.saturating_add(1);
                 self.move_all(own(thread), moved.as_slice());
+            }
+            Event::Share { moved } => {
+                self.given = self.given.saturating_add(1);
+                self.move_all(0, moved.as_slice());
             }
         }
         Some(())

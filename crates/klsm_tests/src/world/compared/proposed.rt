@@ -1,6 +1,6 @@
 //! Random steps, legal ones and others.
 
-use super::super::steps::{Moved, Row, commit, early, flush, refill, spy, steal, step_of};
+use super::super::steps::{Moved, Row, commit, early, flush, refill, share, spy, steal, step_of};
 use super::plain::Plain;
 use klsm_run::Item;
 use klsm_world::{Event, Items, Step};
@@ -65,7 +65,7 @@ fn proposed_event(alloc: Global, mix: &mut Pcg32, plain: &Plain, thread: u32) ->
         stamp: plain.next_stamp(thread),
         load: 0,
     };
-    match below(mix, 17) {
+    match below(mix, 18) {
         0..=2 => Some(commit(thread, Event::Put(item))),
         3..=5 => proposed_flush(alloc, mix, plain, thread, item),
         6 => Some(commit(thread, Event::Nothing)),
@@ -73,6 +73,7 @@ fn proposed_event(alloc: Global, mix: &mut Pcg32, plain: &Plain, thread: u32) ->
         8 | 9 => Some(proposed_early(mix, plain, thread, item)),
         10 | 11 => proposed_refill(alloc, mix, plain, thread),
         12 => proposed_steal(alloc, mix, plain, thread),
+        13 => proposed_share(alloc, mix, plain, thread),
         _ => {
             let item = proposed_take(mix, plain, thread, item);
             Some(commit(thread, Event::Take(item)))
@@ -128,6 +129,12 @@ fn proposed_steal(alloc: Global, mix: &mut Pcg32, plain: &Plain, thread: u32) ->
     Some(steal(thread, victim, Items::new(moved)))
 }
 
+// A sharing that moves some of the own items.
+fn proposed_share(alloc: Global, mix: &mut Pcg32, plain: &Plain, thread: u32) -> Option<Step> {
+    let moved = some_of(alloc, mix, plain, thread.saturating_add(1))?;
+    Some(share(thread, Items::new(moved)))
+}
+
 // Some items of a part, ascending: each or none of them more often than not.
 fn some_of(alloc: Global, mix: &mut Pcg32, plain: &Plain, part: u32) -> Option<Vec<Item>> {
     let eighths = below(mix, 9);
@@ -179,7 +186,7 @@ fn proposed_early(mix: &mut Pcg32, plain: &Plain, thread: u32, item: Item) -> St
 fn spoilt(alloc: Global, mix: &mut Pcg32, threads: u32) -> Option<Step> {
     let wrong = (3, 0, 99);
     let moved = Moved::One(wrong);
-    let row = match below(mix, 12) {
+    let row = match below(mix, 13) {
         0 => Row::Acquire(threads, 0),
         1 => Row::Release(0, threads.saturating_add(1)),
         2 => Row::Put(0, wrong),
@@ -191,6 +198,7 @@ fn spoilt(alloc: Global, mix: &mut Pcg32, threads: u32) -> Option<Step> {
         8 => Row::Steal(0, 0, moved),
         9 => Row::Steal(0, threads, moved),
         10 => Row::Look(threads),
+        11 => Row::Share(0, moved),
         _ => Row::Nothing(threads),
     };
     step_of(alloc, row)
