@@ -6,8 +6,9 @@ ghost use Rattle.klsm_parts.specs.Events.{front_of};
 ghost use Rattle.klsm_parts.specs.Sharing.{MayShare, own_after_share, shared_after_share};
 ghost use Rattle.klsm_world.specs.declared.step.Event.TheVariants.{Share};
 ghost use Rattle.klsm_world.specs.declared.step.Entry.TheVariants.{Committed};
+ghost use Rattle.klsm_world.specs.OwnSteps.{Hand, hand_of};
 ghost use Rattle.klsm_board.specs.Steps.{mine, rest_of};
-ghost use Rattle.klsm_board.specs.Seats.{Carries, Stands, Has, IsSeatOf, own_in_hand, both_in_hand};
+ghost use Rattle.klsm_board.specs.Seats.{Carries, CarriedOut, Stands, Has, IsSeatOf, SetsFront, own_in_hand, both_in_hand};
 ghost use Rattle.klsm_board.specs.Effects.{MeetsHolder};
 ghost use Rattle.klsm_board.specs.Entries.{both_released};
 ghost use Rattle.klsm_board.specs.Sharing.{Shares, LacksRoomFor, HasRoomFor, RefusesShare};
@@ -109,7 +110,7 @@ fn share_both<S: PartSlot>(
 {
     match share_in(table, seat, thread) {
         Ok(front) => {
-            commit_moving_by_front(table, seat, threads, thread, front, &Sharing);
+            commit_sharing(table, seat, threads, thread, front);
             release_both(table, seat, thread);
             Ok(())
         }
@@ -118,6 +119,32 @@ fn share_both<S: PartSlot>(
             Err(why)
         }
     }
+}
+
+// Commits that all own items moved, by setting the front to what that leaves it. The caller learns of the items that its
+// list names that their moving leaves what the seat carried.
+fn commit_sharing<S: PartSlot>(
+    table: &Locks<S>,
+    seat: &mut MemberSeat<S>,
+    threads: usize,
+    thread: usize,
+    front: u64,
+)
+    requires seat { IsSeatOf seat.old.table_id table.now.table_id table.now.key thread }
+    requires threads { threads ≡ table.now.key.threads }
+    requires out { (moved : List Item) × (hand : Hand)
+        × CarriedOut S.content S.suits table.now.key thread (Share moved) hand seat.old.me
+        × SetsFront thread (hand_of thread (mine seat.old.me.0)) (Share moved) front }
+    ensures same { (seat.new.table_id ≡ seat.old.table_id) × (seat.new.id ≡ seat.old.id) }
+    ensures others { rest_of seat.new.me.0 ≡ rest_of seat.old.me.0 }
+    ensures has { (hand : Hand) → Carries S.content S.suits table.now.key thread hand seat.old.me
+        → Has S.content S.suits table.now.key thread hand seat.new.me }
+    ensures list { (hand : Hand) → Carries S.content S.suits table.now.key thread hand seat.old.me
+        → (moved : List Item)
+        × CarriedOut S.content S.suits table.now.key thread (Share moved) hand seat.old.me
+        × (mine seat.new.me.0 ≡ mine seat.old.me.0 ++ Committed (Share moved) ∷ []) }
+{
+    commit_moving_by_front(table, seat, threads, thread, front, &Sharing);
 }
 
 // Moves all own items, of which there are some, to the shared part. The seat carries both. It answers the front of

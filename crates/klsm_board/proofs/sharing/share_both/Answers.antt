@@ -21,8 +21,8 @@ share_in-requires g c =
       carries = (k.0, k.1, k.2.carries, apart_in_hand content suits m t (both_in_hand t k.0 k.1) c.args.seat.now.me (t + 1) 0 k.0 k.1 k.2 (not_shared t) (own_in_both t k.0 k.1) (shared_in_both t k.0 k.1), k.3);
     }
 
-pub commit_moving_by_front-requires-clause-out : goal.commit_moving_by_front-requires-clause-out
-commit_moving_by_front-requires-clause-out g c =
+pub commit_sharing-requires-clause-out : goal.commit_sharing-requires-clause-out
+commit_sharing-requires-clause-out g c =
     let content = g.S.Holding.content in let suits = g.S.Holding.suits in
     let m = c.args.table.now.key in let t = c.args.thread in let k = c.requires.has in
     let me = c.args.seat.now.me in let me' = c.share_in.new.seat.me in let same = c.share_in.ensures.same.2 in
@@ -39,7 +39,7 @@ release_both-requires-clause-stands g c =
     let did = c.in-Ok.ensures.done k.0 k.1 k.2.carries in
     let left = own_after_share k.0 k.0 in
     let common = shared_after_share k.1 k.0 in
-    (left, common, stands (c.commit_moving_by_front.ensures.has (both_in_hand t left common) did.1))
+    (left, common, stands (c.commit_sharing.ensures.has (both_in_hand t left common) did.1))
 
 pub release_both-requires-in-Err-clause-stands : goal.release_both-requires-in-Err-clause-stands
 release_both-requires-in-Err-clause-stands g c =
@@ -52,7 +52,7 @@ returns-in-Ok-clause-done g c own shared has =
     let content = g.S.Holding.content in let suits = g.S.Holding.suits in
     let m = c.args.table.now.key in let t = c.args.thread in let me = c.args.seat.now.me in let same = c.share_in.ensures.same.2 in
     let did = c.in-Ok.ensures.done own shared has.carries in
-    let named = c.commit_moving_by_front.ensures.list (both_in_hand t (own_after_share own own) (shared_after_share shared own)) did.1 in
+    let named = c.commit_sharing.ensures.list (both_in_hand t (own_after_share own own) (shared_after_share shared own)) did.1 in
     let outcome = share_told content suits m t own shared own named.0 me c.share_in.new.seat.me has same did.0.ascending named.1 in (
       did.0,
       did.2,

@@ -1,0 +1,4 @@
+use Rattle.klsm_board.proofs.board.Member.try_delete_min_alone.Goals as goal
+
+pub returns-clause-ok : goal.returns-clause-ok
+returns-clause-ok g c = c.try_delete.ensures.ok
