@@ -114,9 +114,9 @@ Deletes may_pick before after m t own shared acquired es' x =
     (TakesOut m t own shared acquired es' x × Chooses may_pick before after m.k t own shared x)
     ⊎ (TakesSpied m t own shared acquired es' x × (after ≡ before))
 
--- the sizes of a board but for the number of items that a deletion moves, at most
-abbrev pub with_refill : ℕ → Sizes → Sizes
-with_refill refill m = record { threads = m.threads; k = m.k; quota = m.quota; refill = refill }
+-- these sizes, but for how many items a deletion moves at most
+abbrev pub moving_at_most : ℕ → Sizes → Sizes
+moving_at_most refill m = record { threads = m.threads; k = m.k; quota = m.quota; refill = refill }
 
 -- A deletion answered. It deleted the least own item by the front, with the own part in hand alone, and
 -- did not ask the picker. Or it looked there in vain, and acquired both parts.

@@ -16,7 +16,7 @@ ghost use Rattle.klsm_board.specs.Entries.{both_released};
 ghost use Rattle.klsm_board.specs.Choosing.{Chooses};
 ghost use Rattle.klsm_board.specs.Effects.{MeetsHolder, TakesEffect};
 ghost use Rattle.klsm_board.specs.TakingOut.{FetchesInHand, HasFetched, TakesTo};
-ghost use Rattle.klsm_board.specs.Deleting.{AnswersDeletion, Deletes, FindsNothing, MissesDeletion, refilled, refilled_after, with_refill};
+ghost use Rattle.klsm_board.specs.Deleting.{AnswersDeletion, Deletes, FindsNothing, MissesDeletion, refilled, refilled_after, moving_at_most};
 
 use crate::acquiring::try_acquire;
 use crate::early::delete_early;
@@ -51,7 +51,7 @@ pub(crate) fn delete_now<S: PartSlot, P: Picker>(
     ensures others { rest_of seat.new.me.0 ≡ rest_of seat.old.me.0 }
     ensures has { Has S.content S.suits table.now.key thread [] seat.new.me }
     ensures ok { IfOk result (λ answer. AnswersDeletion P.may_pick picker.old picker.new
-        (with_refill refill table.now.key) thread (mine seat.old.me.0) (mine seat.new.me.0)
+        (moving_at_most refill table.now.key) thread (mine seat.old.me.0) (mine seat.new.me.0)
         answer) }
     ensures effect { IfOk result (TakesEffect table.now.key thread (rest_of seat.old.me.0)
         (mine seat.old.me.0) (mine seat.new.me.0)) }
@@ -92,10 +92,10 @@ fn delete_under_both<S: PartSlot, P: Picker>(
     ensures done { (own : List Item) → (shared : List Item)
         → Has S.content S.suits table.now.key thread (both_in_hand thread own shared) seat.old.me
         → MatchOption result
-        (FindsNothing (with_refill refill table.now.key) thread own shared (mine seat.old.me.0)
+        (FindsNothing (moving_at_most refill table.now.key) thread own shared (mine seat.old.me.0)
         (mine seat.new.me.0)
         × (picker.new ≡ picker.old))
-        (Deletes P.may_pick picker.old picker.new (with_refill refill table.now.key) thread own
+        (Deletes P.may_pick picker.old picker.new (moving_at_most refill table.now.key) thread own
         shared (mine seat.old.me.0) (mine seat.new.me.0)) }
     ensures effect { TakesEffect table.now.key thread (rest_of seat.old.me.0)
         (mine seat.old.me.0) (mine seat.new.me.0) result }

@@ -10,7 +10,7 @@ ghost use Rattle.klsm_board.specs.Members.{most_deletions};
 ghost use Rattle.klsm_board.specs.Boards.{Adds, IsOf, IsSame, known_of_others, own_steps};
 ghost use Rattle.klsm_board.specs.Effects.{MeetsHolder, TakesEffect};
 ghost use Rattle.klsm_board.specs.Inserting.{Inserts, InsertsWaiting, MissesOwn, RefusesInsert, RefusesInsertWaiting, stamp_of, stamped};
-ghost use Rattle.klsm_board.specs.Deleting.{AnswersDeletion, AnswersWaiting, MissesDeletion, with_refill};
+ghost use Rattle.klsm_board.specs.Deleting.{AnswersDeletion, AnswersWaiting, MissesDeletion, moving_at_most};
 ghost use Rattle.klsm_board.specs.Sharing.{Shares, SharesWaiting, RefusesShare, RefusesShareWaiting};
 ghost use Rattle.klsm_board.specs.Stealing.{Balances};
 
@@ -218,7 +218,7 @@ impl<const CAP: usize, const LEVELS: usize> Member<CAP, LEVELS> {
         ensures same { IsSame self.old self.new }
         ensures others { known_of_others self.new ≡ known_of_others self.old }
         ensures ok { IfOk result (λ answer. AnswersDeletion P.may_pick picker.old picker.new
-            (with_refill 0 self.old.sizes) self.old.number (own_steps self.old)
+            (moving_at_most 0 self.old.sizes) self.old.number (own_steps self.old)
             (own_steps self.new) answer) }
         ensures effect { IfOk result (TakesEffect self.old.sizes self.old.number
             (known_of_others self.old) (own_steps self.old) (own_steps self.new)) }
@@ -244,7 +244,7 @@ impl<const CAP: usize, const LEVELS: usize> Member<CAP, LEVELS> {
         ensures same { IsSame self.old self.new }
         ensures others { known_of_others self.new ≡ known_of_others self.old }
         ensures ok { IfOk result (λ answer. AnswersDeletion P.may_pick picker.old picker.new
-            (with_refill refill self.old.sizes) self.old.number (own_steps self.old)
+            (moving_at_most refill self.old.sizes) self.old.number (own_steps self.old)
             (own_steps self.new) answer) }
         ensures effect { IfOk result (TakesEffect self.old.sizes self.old.number
             (known_of_others self.old) (own_steps self.old) (own_steps self.new)) }
@@ -298,7 +298,7 @@ impl<const CAP: usize, const LEVELS: usize> Member<CAP, LEVELS> {
         ensures same { IsSame self.old self.new }
         ensures others { known_of_others self.new ≡ known_of_others self.old }
         ensures ok { AnswersWaiting P.may_pick picker.old picker.new
-            (with_refill 0 self.old.sizes) self.old.number (own_steps self.old)
+            (moving_at_most 0 self.old.sizes) self.old.number (own_steps self.old)
             (own_steps self.new) result }
         ensures effect { TakesEffect self.old.sizes self.old.number (known_of_others self.old)
             (own_steps self.old) (own_steps self.new) result }
@@ -320,7 +320,7 @@ impl<const CAP: usize, const LEVELS: usize> Member<CAP, LEVELS> {
         ensures same { IsSame self.old self.new }
         ensures others { known_of_others self.new ≡ known_of_others self.old }
         ensures ok { AnswersWaiting P.may_pick picker.old picker.new
-            (with_refill refill self.old.sizes) self.old.number (own_steps self.old)
+            (moving_at_most refill self.old.sizes) self.old.number (own_steps self.old)
             (own_steps self.new) result }
         ensures effect { TakesEffect self.old.sizes self.old.number (known_of_others self.old)
             (own_steps self.old) (own_steps self.new) result }

@@ -18,7 +18,7 @@ use Rattle.klsm_board.specs.Boards.{Adds, known_of_others, own_steps}
 use Rattle.klsm_board.specs.Rule.{own, view}
 use Rattle.klsm_board.specs.Steps.{HasFront}
 use Rattle.klsm_board.specs.Inserting.{Inserts, RefusesInsert, stamp_of, stamped}
-use Rattle.klsm_board.specs.Deleting.{AnswersDeletion, MissesDeletion, with_refill}
+use Rattle.klsm_board.specs.Deleting.{AnswersDeletion, MissesDeletion, moving_at_most}
 use Rattle.klsm_board.specs.Sharing.{RefusesShare, Shares}
 use Rattle.klsm_owned.specs.declared.owned.OwnedMember.{OwnedMember}
 use Rattle.klsm_parts.specs.Choices.{may_choose}
@@ -80,7 +80,7 @@ abbrev pub TriesDelete : OwnedMember → OwnedMember → Result (Option Item) Bu
 TriesDelete before after result = TriesDeletion (member_of before).sizes before after result
 
 abbrev pub TriesDeleteAlone : OwnedMember → OwnedMember → Result (Option Item) Busy → Type 0
-TriesDeleteAlone before after result = TriesDeletion (with_refill 0 (member_of before).sizes) before after result
+TriesDeleteAlone before after result = TriesDeletion (moving_at_most 0 (member_of before).sizes) before after result
 
 -- A sharing of all items of the own part: all of them moved to the shared part, or none, and a refusal has its cause.
 -- The picker stays.

@@ -4,7 +4,7 @@ use Rattle.klsm_world.specs.declared.step.Entry.TheVariants.{Acquired, Released,
 use Rattle.klsm_board.specs.Steps.{mine, rest_of}
 use Rattle.klsm_board.specs.Seats.{own_in_hand}
 use Rattle.klsm_board.specs.Entries.{both_looked, own_looked, with_look}
-use Rattle.klsm_board.specs.Deleting.{Deletes, FindsNothing, TakesEarly, with_refill}
+use Rattle.klsm_board.specs.Deleting.{Deletes, FindsNothing, TakesEarly, moving_at_most}
 use Rattle.klsm_board.specs.Effects.{committed_in, MeetsHolder, TakesEffect}
 use Rattle.klsm_board.proofs.lemmas.calls.AddLemmas.{own_quiet, both_look_quiet}
 use Rattle.klsm_board.proofs.lemmas.calls.EffectLemmas.{effect_since}
@@ -64,7 +64,7 @@ delete_under_both-requires-clause-has g c =
 
 pub returns-clause-ok : goal.returns-clause-ok
 returns-clause-ok g c =
-    let m = with_refill c.args.refill c.args.table.now.key in let t = c.args.thread in let es = mine c.args.seat.now.me.0 in
+    let m = moving_at_most c.args.refill c.args.table.now.key in let t = c.args.thread in let es = mine c.args.seat.now.me.0 in
     let own = c.in_ok-try_acquire.ensures.ok [] c.requires.stands in let kept = c.in_default.ensures.done own.0 own.1 in
     let shared = c.in_default-try_acquire.ensures.ok (own_in_hand t own.0) (stands kept.2) in
     let acquired : mine c.try_acquire-2.new.seat.me.0 ≡ both_looked t own.0 kept.0 shared.0 es = shared.2 ∙ ap (λ z. z ++ Acquired 0 shared.0 ∷ []) (kept.3 ∙ ap (with_look kept.0) own.2) in

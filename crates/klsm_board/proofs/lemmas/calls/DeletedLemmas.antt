@@ -15,7 +15,7 @@ use Rattle.klsm_board.specs.Effects.{committed_in}
 use Rattle.klsm_board.specs.declared.sizes.Sizes.{Sizes}
 use Rattle.klsm_board.specs.declared.errors.Busy.{Busy}
 use Rattle.klsm_board.specs.Entries.{own_acquired, both_released, both_looked}
-use Rattle.klsm_board.specs.Deleting.{Passes, PassesBy, SpiesAfter, TakesOut, TakesEarly, TakesSpied, FindsNothing, Deletes, AnswersDeletion, MissesDeletion, victim_of, refilled, refilled_after, with_refill}
+use Rattle.klsm_board.specs.Deleting.{Passes, PassesBy, SpiesAfter, TakesOut, TakesEarly, TakesSpied, FindsNothing, Deletes, AnswersDeletion, MissesDeletion, victim_of, refilled, refilled_after, moving_at_most}
 use Rattle.klsm_board.proofs.lemmas.calls.EventLemmas.{IsQuiet, events_append, quiet_append, same_events}
 use Rattle.klsm_board.proofs.lemmas.calls.AddLemmas.{goes_on, inserts, deletes, own_quiet, both_look_quiet}
 use Rattle.klsm_board.specs.Boards.{Gains}
@@ -24,7 +24,7 @@ use Rattle.klsm_board.proofs.lemmas.calls.AddedLemmas.{quiet_gains}
 use Rattle.klsm_board.proofs.lemmas.calls.RefillLemmas.{is_refilled}
 
 -- a board's own sizes
-pub own_refill : (m : Sizes) → with_refill m.refill m ≡ m
+pub own_refill : (m : Sizes) → moving_at_most m.refill m ≡ m
 own_refill m = refl
 
 -- victims that were passed by

@@ -4,7 +4,7 @@ use Rattle.klsm_parts.proofs.FitLemmas.{local_fits}
 use Rattle.klsm_board.specs.declared.rule.Own.{Own}
 use Rattle.klsm_board.specs.declared.sizes.Sizes.{Sizes}
 use Rattle.klsm_board.specs.Boards.{known_of_others, own_steps}
-use Rattle.klsm_board.specs.Deleting.{AnswersDeletion, LooksInVain, MissesDeletion, with_refill}
+use Rattle.klsm_board.specs.Deleting.{AnswersDeletion, LooksInVain, MissesDeletion, moving_at_most}
 use Rattle.klsm_board.specs.Effects.{TakesEffect}
 use Rattle.klsm_board.proofs.lemmas.calls.EffectLemmas.{effect_since}
 use Rattle.klsm_board.proofs.lemmas.calls.MissLemmas.{waits_quiet, waits_more}
@@ -19,8 +19,8 @@ returns-in-Ok-clause-ok g c =
     let now = c.loop.self in let inv = c.loop.invariant in let new = c.try_delete.new in (
       own_steps now,
       inv.waits,
-      subst (λ p. AnswersDeletion g.P.Picker.may_pick p new.picker (with_refill c.args.refill c.args.self.now.sizes) c.args.self.now.number (own_steps now) (own_steps new.self) c.in-Ok.answer) inv.picker
-          (subst (λ (z : Sizes × ℕ). AnswersDeletion g.P.Picker.may_pick c.loop.picker new.picker (with_refill c.args.refill z.0) z.1 (own_steps now) (own_steps new.self) c.in-Ok.answer) (λ i. (inv.same.1 i, inv.same.0 i)) c.in-Ok.ensures.ok),
+      subst (λ p. AnswersDeletion g.P.Picker.may_pick p new.picker (moving_at_most c.args.refill c.args.self.now.sizes) c.args.self.now.number (own_steps now) (own_steps new.self) c.in-Ok.answer) inv.picker
+          (subst (λ (z : Sizes × ℕ). AnswersDeletion g.P.Picker.may_pick c.loop.picker new.picker (moving_at_most c.args.refill z.0) z.1 (own_steps now) (own_steps new.self) c.in-Ok.answer) (λ i. (inv.same.1 i, inv.same.0 i)) c.in-Ok.ensures.ok),
     )
 
 pub returns-in-Ok-clause-effect : goal.returns-in-Ok-clause-effect

@@ -2,7 +2,7 @@ use Rattle.std.proofs.Common.{◌≡◌, ◌+◌, ◌∙◌, [], length, sym, su
 use Rattle.std.specs.Option.{option_to_list}
 use Rattle.klsm_world.specs.OwnSteps.{inserted, deleted}
 use Rattle.klsm_parts.proofs.FitLemmas.{local_fits, shared_fits}
-use Rattle.klsm_board.specs.Deleting.{AnswersDeletion, MissesDeletion, with_refill}
+use Rattle.klsm_board.specs.Deleting.{AnswersDeletion, MissesDeletion, moving_at_most}
 use Rattle.klsm_board.specs.Effects.{MeetsHolder}
 use Rattle.klsm_board.specs.Steps.{mine, rest_of}
 use Rattle.klsm_board.specs.declared.errors.Busy.{Busy}
@@ -20,7 +20,7 @@ invariant_of-self-then-is_some g c =
     let me = c.args.self.now in let t = me.number in let es = mine me.seat.me.0 in let did = c.delete_now in let es' = mine did.new.seat.me.0 in
     let rests = me.rests in let board = c.args.board.now in let same = board.key ∙ sym c.requires.1 in
     let ok = c.in_ok-answer.ensures.ok in let answer = c.in_ok-answer.answer in
-    let gains : Gains es es' [] (option_to_list answer) = answers_gain g.P.Picker.may_pick c.args.picker.now did.new.picker (with_refill c.args.refill board.table.shared.key) t es es' answer ok in
+    let gains : Gains es es' [] (option_to_list answer) = answers_gain g.P.Picker.may_pick c.args.picker.now did.new.picker (moving_at_most c.args.refill board.table.shared.key) t es es' answer ok in
     let counts = gained_counts es es' [] (option_to_list answer) me.inserted me.deleted gains rests.insertions_are rests.deletions_are in
     let many = some_is_one answer (sym c.is_some.ensures ∙ c.if-is_some.true) in
     let first : length (inserted es') ≡ me.inserted = omega (arith, counts.0) in let second : length (deleted es') ≡ me.deleted + 1 = omega (arith, counts.1, many) in
@@ -31,7 +31,7 @@ invariant_of-self-else-is_some g c =
     let me = c.args.self.now in let t = me.number in let es = mine me.seat.me.0 in let did = c.delete_now in let es' = mine did.new.seat.me.0 in
     let rests = me.rests in let board = c.args.board.now in let same = board.key ∙ sym c.requires.1 in
     let ok = c.in_ok-answer.ensures.ok in let answer = c.in_ok-answer.answer in
-    let gains : Gains es es' [] (option_to_list answer) = answers_gain g.P.Picker.may_pick c.args.picker.now did.new.picker (with_refill c.args.refill board.table.shared.key) t es es' answer ok in
+    let gains : Gains es es' [] (option_to_list answer) = answers_gain g.P.Picker.may_pick c.args.picker.now did.new.picker (moving_at_most c.args.refill board.table.shared.key) t es es' answer ok in
     let counts = gained_counts es es' [] (option_to_list answer) me.inserted me.deleted gains rests.insertions_are rests.deletions_are in
     let many = none_is_zero answer (sym c.is_some.ensures ∙ c.if-is_some.false) in
     let first : length (inserted es') ≡ me.inserted = omega (arith, counts.0) in let second : length (deleted es') ≡ me.deleted = omega (arith, counts.1, many) in
@@ -42,7 +42,7 @@ returns-then-is_some-clause-adds g c =
     let me = c.args.self.now in let t = me.number in let es = mine me.seat.me.0 in let did = c.delete_now in let es' = mine did.new.seat.me.0 in
     let rests = me.rests in let board = c.args.board.now in let same = board.key ∙ sym c.requires.1 in
     let ok = c.in_ok-answer.ensures.ok in let answer = c.in_ok-answer.answer in
-    let gains : Gains es es' [] (option_to_list answer) = answers_gain g.P.Picker.may_pick c.args.picker.now did.new.picker (with_refill c.args.refill board.table.shared.key) t es es' answer ok in
+    let gains : Gains es es' [] (option_to_list answer) = answers_gain g.P.Picker.may_pick c.args.picker.now did.new.picker (moving_at_most c.args.refill board.table.shared.key) t es es' answer ok in
     record { inserted_are = gains.inserted_are; deleted_are = gains.deleted_are }
 
 pub returns-else-is_some-clause-adds : goal.returns-else-is_some-clause-adds
@@ -50,7 +50,7 @@ returns-else-is_some-clause-adds g c =
     let me = c.args.self.now in let t = me.number in let es = mine me.seat.me.0 in let did = c.delete_now in let es' = mine did.new.seat.me.0 in
     let rests = me.rests in let board = c.args.board.now in let same = board.key ∙ sym c.requires.1 in
     let ok = c.in_ok-answer.ensures.ok in let answer = c.in_ok-answer.answer in
-    let gains : Gains es es' [] (option_to_list answer) = answers_gain g.P.Picker.may_pick c.args.picker.now did.new.picker (with_refill c.args.refill board.table.shared.key) t es es' answer ok in
+    let gains : Gains es es' [] (option_to_list answer) = answers_gain g.P.Picker.may_pick c.args.picker.now did.new.picker (moving_at_most c.args.refill board.table.shared.key) t es es' answer ok in
     record { inserted_are = gains.inserted_are; deleted_are = gains.deleted_are }
 
 pub invariant_of-self : goal.invariant_of-self
@@ -98,9 +98,9 @@ delete_now-requires-room-S-Destruct g c κs within = shared_fits _ c.args.self.n
 pub returns-then-is_some-clause-ok : goal.returns-then-is_some-clause-ok
 returns-then-is_some-clause-ok g c =
     let me = c.args.self.now in let same = c.args.board.now.key ∙ sym c.requires.1 in let did = c.delete_now in
-    subst (λ (m : Sizes). AnswersDeletion g.P.Picker.may_pick c.args.picker.now did.new.picker (with_refill c.args.refill m) me.number (mine me.seat.me.0) (mine did.new.seat.me.0) c.in_ok-answer.answer) same c.in_ok-answer.ensures.ok
+    subst (λ (m : Sizes). AnswersDeletion g.P.Picker.may_pick c.args.picker.now did.new.picker (moving_at_most c.args.refill m) me.number (mine me.seat.me.0) (mine did.new.seat.me.0) c.in_ok-answer.answer) same c.in_ok-answer.ensures.ok
 
 pub returns-else-is_some-clause-ok : goal.returns-else-is_some-clause-ok
 returns-else-is_some-clause-ok g c =
     let me = c.args.self.now in let same = c.args.board.now.key ∙ sym c.requires.1 in let did = c.delete_now in
-    subst (λ (m : Sizes). AnswersDeletion g.P.Picker.may_pick c.args.picker.now did.new.picker (with_refill c.args.refill m) me.number (mine me.seat.me.0) (mine did.new.seat.me.0) c.in_ok-answer.answer) same c.in_ok-answer.ensures.ok
+    subst (λ (m : Sizes). AnswersDeletion g.P.Picker.may_pick c.args.picker.now did.new.picker (moving_at_most c.args.refill m) me.number (mine me.seat.me.0) (mine did.new.seat.me.0) c.in_ok-answer.answer) same c.in_ok-answer.ensures.ok

@@ -5,7 +5,7 @@ use Rattle.klsm_parts.specs.Choices.{may_choose}
 use Rattle.klsm_board.specs.declared.sizes.Sizes.{Sizes}
 use Rattle.klsm_board.specs.Balancing.{after_deletion}
 use Rattle.klsm_board.specs.Boards.{own_steps}
-use Rattle.klsm_board.specs.Deleting.{AnswersDeletion, with_refill}
+use Rattle.klsm_board.specs.Deleting.{AnswersDeletion, moving_at_most}
 use Rattle.klsm_owned.proofs.OwnedLemmas.{gains_on}
 use Rattle.klsm_owned.proofs.owned.OwnedMember.try_delete_min_alone.Goals as goal
 
@@ -17,9 +17,9 @@ returns-clause-tries c =
     record {
       balanced = own_steps between;
       first = first.first;
-      ok = subst (λ (p : Choice). AnswersDeletion may_choose p picked (with_refill 0 before.sizes) before.number (own_steps between) (own_steps now) answer) first.choice
-          (subst (λ (n : ℕ). AnswersDeletion may_choose c.balance.new.self.choice picked (with_refill 0 before.sizes) n (own_steps between) (own_steps now) answer) same.0
-          (subst (λ (m : Sizes). AnswersDeletion may_choose c.balance.new.self.choice picked (with_refill 0 m) between.number (own_steps between) (own_steps now) answer) same.1 c.in_ok-answer.ensures.ok));
+      ok = subst (λ (p : Choice). AnswersDeletion may_choose p picked (moving_at_most 0 before.sizes) before.number (own_steps between) (own_steps now) answer) first.choice
+          (subst (λ (n : ℕ). AnswersDeletion may_choose c.balance.new.self.choice picked (moving_at_most 0 before.sizes) n (own_steps between) (own_steps now) answer) same.0
+          (subst (λ (m : Sizes). AnswersDeletion may_choose c.balance.new.self.choice picked (moving_at_most 0 m) between.number (own_steps between) (own_steps now) answer) same.1 c.in_ok-answer.ensures.ok));
       counted = c.count_deletion.ensures ∙ ap after_deletion first.balancing;
       adds = gains_on (own_steps before) (own_steps between) (own_steps now) (option_to_list answer) first.adds c.in_ok-answer.ensures.adds;
       busy = tt;
