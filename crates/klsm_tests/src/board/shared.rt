@@ -234,7 +234,6 @@ fn see_shared(rt: &(impl Wait + Clock), board: &StandardBoard, member: &mut Stan
             return;
         }
     }
-    unreachable!()
 }
 
 // A member deletes these items in order, once they are shared: whether all went so.
