@@ -274,7 +274,7 @@ fn play_all<R: Threads + Wait + Clock + Sync>(
         rt,
         members,
         &|member| -> bool
-            requires { IsOf member board.entry.now }
+            requires { IsOf member board.now }
         { plays(rt, board, member) },
     )
     .ok()
