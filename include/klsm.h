@@ -20,7 +20,8 @@
  * number; "smaller", "smallest" and "ascending" mean this order.
  *
  * A queue has T members, one for each thread. Each keeps at most k items in a part of its own, and
- * all other items lie in one shared part.
+ * all other items lie in one shared part. What lies in an own part others find late, as a rule only
+ * once they find nothing else: so a thread shares it before it works for long, and before it leaves.
  * - A deletion gives an item to which at most T*k smaller ones live when it takes effect. With k = 0
  *   that is the smallest item. It passes over none that its own member inserted and that lies in its
  *   own or in the shared part. Such an item may also have moved to another member's part: seldom where the
@@ -42,7 +43,7 @@
  * - A queue is all bytes 0 (KLSM_QUEUE_CLOSED, static storage, or memset), or as the last call left
  *   it. It is aligned to 128 bytes: malloc does not give that, klsm_new does. While it is open it is not
  *   copied, moved, written to or freed.
- * - No pointer is null, but `left` may be one where `room` is 0. `item`, `account`, `left` and
+ * - No pointer is null, but `left` may be one where `room` is 0. `item`, `moved`, `account`, `left` and
  *   `options` do not overlap each other or the queue. `left` points to `room` items.
  * - A member is one of a klsm_queue.
  * - No call comes from a signal handler but klsm_work_stop, nor from a forked child about a queue that was open.
@@ -176,7 +177,7 @@ enum klsm_code {
     KLSM_OK = 0,          /* done */
     KLSM_NOTHING = 1,     /* deletion: no item was found where it looked; klsm_work_next: and no work is open */
     KLSM_BUSY = 2,        /* klsm_try_..: another member holds a lock that is needed */
-    KLSM_FULL = 3,        /* insertion: the shared part, of 2^26 items, has no room for what would move */
+    KLSM_FULL = 3,        /* insertion, sharing: the shared part, of 2^26 items, has no room for what would move */
     KLSM_NO_MEMORY = 4,   /* malloc gave none */
     KLSM_SPENT = 5,       /* insertion: the member has made 2^48 insertions */
     KLSM_NOT_OPEN = 6,    /* the member, or the queue that is to be closed, is not open */
@@ -276,6 +277,24 @@ int32_t klsm_try_insert(klsm_member *member, uint64_t key, uint64_t load);
  * After all but KLSM_OK no part has changed, and *item is unchanged. */
 KLSM_MUST_USE KLSM_NOT_NULL(1, 2)
 int32_t klsm_try_delete_min(klsm_member *member, klsm_item *item);
+
+/* Deletes a small item alone: as klsm_try_delete_min, whose costs and codes it has, but no items move to the own
+ * part behind it, whatever the refill is. For items each of which is worked on for long. */
+KLSM_MUST_USE KLSM_NOT_NULL(1, 2)
+int32_t klsm_try_delete_min_alone(klsm_member *member, klsm_item *item);
+
+/* Shares: moves all items of the own part to the shared one, where all find them. It inserts and deletes nothing. Never
+ * blocks. The member's thread, one call at a time: before it works for long, and before it leaves.
+ * Costs the own lock; where the own part has items, the shared lock too, a merge of these items, and a block of
+ * memory.
+ * KLSM_OK, with how many moved in *moved, 0 where the own part has none; or the first of these that is true:
+ *   KLSM_NOT_OPEN    the member is not open
+ *   KLSM_BUSY        the own lock, or the shared one if it is needed, is held by another member
+ *   KLSM_FULL        the shared part has no room for all of them
+ *   KLSM_NO_MEMORY   it has room, but malloc gave no memory for it
+ * After these no item has moved, and *moved is unchanged. */
+KLSM_MUST_USE KLSM_NOT_NULL(1, 2)
+int32_t klsm_try_share(klsm_member *member, uint64_t *moved);
 
 /* The front: the key of the smallest shared item, and UINT64_MAX where no item is shared, or the member is not
  * open. Items in members' own parts may have smaller keys, of which others have at most (T-1)*k. So it is a
@@ -498,12 +517,23 @@ KLSM_COLD int32_t klsm_insert_after_pauses(klsm_member *member, uint64_t key, ui
     return code;
 }
 
-KLSM_COLD int32_t klsm_delete_min_after_pauses(klsm_member *member, klsm_item *item) {
+KLSM_COLD int32_t klsm_delete_after_pauses(int32_t (*delete_by)(klsm_member *, klsm_item *), klsm_member *member,
+                                           klsm_item *item) {
     klsm_pause pause = klsm_first_pause();
     int32_t code;
     do {
         klsm_wait(&pause);
-        code = klsm_try_delete_min(member, item);
+        code = delete_by(member, item);
+    } while (code == KLSM_BUSY);
+    return code;
+}
+
+KLSM_COLD int32_t klsm_share_after_pauses(klsm_member *member, uint64_t *moved) {
+    klsm_pause pause = klsm_first_pause();
+    int32_t code;
+    do {
+        klsm_wait(&pause);
+        code = klsm_try_share(member, moved);
     } while (code == KLSM_BUSY);
     return code;
 }
@@ -519,7 +549,22 @@ KLSM_INLINE int32_t klsm_insert(klsm_member *member, uint64_t key, uint64_t load
 KLSM_MUST_USE KLSM_NOT_NULL(1, 2)
 KLSM_INLINE int32_t klsm_delete_min(klsm_member *member, klsm_item *item) {
     int32_t code = klsm_try_delete_min(member, item);
-    return __builtin_expect(code == KLSM_BUSY, 0) ? klsm_delete_min_after_pauses(member, item) : code;
+    return __builtin_expect(code == KLSM_BUSY, 0) ? klsm_delete_after_pauses(klsm_try_delete_min, member, item) : code;
+}
+
+/* klsm_try_delete_min_alone, again and again while it is KLSM_BUSY. It does not wait for an item. */
+KLSM_MUST_USE KLSM_NOT_NULL(1, 2)
+KLSM_INLINE int32_t klsm_delete_min_alone(klsm_member *member, klsm_item *item) {
+    int32_t code = klsm_try_delete_min_alone(member, item);
+    return __builtin_expect(code == KLSM_BUSY, 0) ? klsm_delete_after_pauses(klsm_try_delete_min_alone, member, item)
+                                                  : code;
+}
+
+/* klsm_try_share, again and again while it is KLSM_BUSY. How long it may wait is not promised. */
+KLSM_MUST_USE KLSM_NOT_NULL(1, 2)
+KLSM_INLINE int32_t klsm_share(klsm_member *member, uint64_t *moved) {
+    int32_t code = klsm_try_share(member, moved);
+    return __builtin_expect(code == KLSM_BUSY, 0) ? klsm_share_after_pauses(member, moved) : code;
 }
 
 #include "klsm_work.h"

@@ -61,14 +61,35 @@ KLSM_INLINE int32_t klsm_tsan_try_insert(klsm_member *member, uint64_t key, uint
     return code;
 }
 
+/* Hands on what a deletion with this code gave. */
+KLSM_INLINE int32_t klsm_tsan_give(int32_t code, const klsm_item *deleted, klsm_item *item) {
+    if (code == KLSM_OK) {
+        __tsan_acquire(klsm_tsan_word(deleted->key, deleted->load));
+        *item = *deleted;
+    }
+    return code;
+}
+
 KLSM_MUST_USE KLSM_NOT_NULL(1, 2)
 KLSM_INLINE int32_t klsm_tsan_try_delete_min(klsm_member *member, klsm_item *item) {
     klsm_item deleted = {0, 0, 0, 0};
     KLSM_TSAN(klsm_tsan_use(member), int32_t code = klsm_try_delete_min(member, &deleted));
-    if (code == KLSM_OK) {
-        __tsan_acquire(klsm_tsan_word(deleted.key, deleted.load));
-        *item = deleted;
-    }
+    return klsm_tsan_give(code, &deleted, item);
+}
+
+KLSM_MUST_USE KLSM_NOT_NULL(1, 2)
+KLSM_INLINE int32_t klsm_tsan_try_delete_min_alone(klsm_member *member, klsm_item *item) {
+    klsm_item deleted = {0, 0, 0, 0};
+    KLSM_TSAN(klsm_tsan_use(member), int32_t code = klsm_try_delete_min_alone(member, &deleted));
+    return klsm_tsan_give(code, &deleted, item);
+}
+
+KLSM_MUST_USE KLSM_NOT_NULL(1, 2)
+KLSM_INLINE int32_t klsm_tsan_try_share(klsm_member *member, uint64_t *moved) {
+    uint64_t count = 0;
+    KLSM_TSAN(klsm_tsan_use(member), int32_t code = klsm_try_share(member, &count));
+    if (code == KLSM_OK)
+        *moved = count;
     return code;
 }
 
@@ -101,6 +122,8 @@ KLSM_END_INLINE
 #define klsm_open_with_balance klsm_tsan_open_with_balance
 #define klsm_try_insert klsm_tsan_try_insert
 #define klsm_try_delete_min klsm_tsan_try_delete_min
+#define klsm_try_delete_min_alone klsm_tsan_try_delete_min_alone
+#define klsm_try_share klsm_tsan_try_share
 #define klsm_front klsm_tsan_front
 #define klsm_inserted klsm_tsan_inserted
 #define klsm_deleted klsm_tsan_deleted

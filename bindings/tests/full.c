@@ -38,6 +38,7 @@ static void make_room(void) {
 }
 
 static void fill_up(void) {
+    uint64_t moved = 7;
     check_code("open", klsm_open(&queue, 2, K, KLSM_FIRST, 0), KLSM_OK);
     check_code("insert until it is refused", fill(0, MOST + 1), KLSM_FULL);
     uint64_t first = klsm_inserted(&queue.members[0]);
@@ -46,6 +47,8 @@ static void fill_up(void) {
     check("a refused insertion does not count", klsm_inserted(&queue.members[0]) == first);
     check_code("the other member has a part of its own", fill(1, MOST + 1), KLSM_FULL);
     check("of at most k items", klsm_inserted(&queue.members[1]) == K);
+    check_code("which there is no room to share", klsm_share(&queue.members[1], &moved), KLSM_FULL);
+    check("so none moves, and no number is written", moved == 7 && klsm_left(&queue) == first + K);
     make_room();
     klsm_drop(&queue);
 }

@@ -6,6 +6,7 @@
 
 static klsm_queue queue;
 static klsm_item item;
+static uint64_t moved;
 
 static const struct {
     int32_t code;
@@ -53,59 +54,86 @@ static int32_t insert(void) { return klsm_insert(member(), 5, 6); }
 static int32_t try_insert(void) { return klsm_try_insert(member(), 5, 6); }
 static int32_t delete_min(void) { return klsm_delete_min(member(), &item); }
 static int32_t try_delete_min(void) { return klsm_try_delete_min(member(), &item); }
+static int32_t delete_min_alone(void) { return klsm_delete_min_alone(member(), &item); }
+static int32_t try_delete_min_alone(void) { return klsm_try_delete_min_alone(member(), &item); }
+static int32_t share(void) { return klsm_share(member(), &moved); }
+static int32_t try_share(void) { return klsm_try_share(member(), &moved); }
+
+/* Their exports. */
+static const enum stub_call exports[] = {STUB_TRY_INSERT, STUB_TRY_DELETE_MIN, STUB_TRY_DELETE_MIN_ALONE,
+                                         STUB_TRY_SHARE};
+enum { EXPORTS = sizeof exports / sizeof exports[0] };
 
 /* The answer of such a call where a lock is held for so many tries. */
 static int32_t after(int32_t (*call)(void), uint64_t held, int32_t code) {
     stub_begin();
-    stub_hold(STUB_TRY_INSERT, held);
-    stub_hold(STUB_TRY_DELETE_MIN, held);
-    stub_answer(STUB_TRY_INSERT, (uint64_t)code);
-    stub_answer(STUB_TRY_DELETE_MIN, (uint64_t)code);
+    for (int i = 0; i < EXPORTS; i++) {
+        stub_hold(exports[i], held);
+        stub_answer(exports[i], (uint64_t)code);
+    }
     memset(&item, 0, sizeof item);
+    moved = 7;
     return call();
 }
 
-static int inserts(uint64_t times) {
-    return was_asked(STUB_TRY_INSERT, times, address(member()), 5, 6) && stub_asked(STUB_TRY_DELETE_MIN) == 0;
+/* Whether this export alone was called, so often, each time with the member and these arguments. */
+static int calls_alone(enum stub_call call, uint64_t times, uint64_t second, uint64_t third) {
+    uint64_t all = 0;
+    for (int i = 0; i < EXPORTS; i++)
+        all += stub_asked(exports[i]);
+    return all == times && was_asked(call, times, address(member()), second, third);
 }
 
-static int deletes(uint64_t times) {
-    return was_asked(STUB_TRY_DELETE_MIN, times, address(member()), address(&item), 0) &&
-           stub_asked(STUB_TRY_INSERT) == 0;
-}
+static int inserts(uint64_t times) { return calls_alone(STUB_TRY_INSERT, times, 5, 6); }
+static int deletes(uint64_t times) { return calls_alone(STUB_TRY_DELETE_MIN, times, address(&item), 0); }
+static int deletes_alone(uint64_t times) { return calls_alone(STUB_TRY_DELETE_MIN_ALONE, times, address(&item), 0); }
+static int shares(uint64_t times) { return calls_alone(STUB_TRY_SHARE, times, address(&moved), 0); }
 
 static int has_item(int32_t code) {
     int is_written = item.key == 101 && item.load == 102 && item.number == 103 && item.owner == 104;
-    return is_written == (code == KLSM_OK);
+    return is_written == (code == KLSM_OK) && (is_written || item.key == 0) && moved == 7;
 }
+static int has_count(int32_t code) { return moved == (code == KLSM_OK ? 105 : 7) && item.key == 0; }
+static int has_none(int32_t code) {
+    (void)code;
+    return moved == 7 && item.key == 0;
+}
+
+/* What a call asks of the library, and what it writes with a code. */
+static const struct {
+    const char *name;
+    int32_t (*waits)(void), (*tries)(void);
+    int (*asks)(uint64_t times);
+    int (*wrote)(int32_t code);
+} calls[] = {
+    {"insert", insert, try_insert, inserts, has_none},
+    {"delete_min", delete_min, try_delete_min, deletes, has_item},
+    {"delete_min_alone", delete_min_alone, try_delete_min_alone, deletes_alone, has_item},
+    {"share", share, try_share, shares, has_count},
+};
 
 static void waiting_calls(void) {
     const uint64_t held[] = {0, 1, 2, 45};
-    for (int i = 0; i < CODES; i++) {
-        int32_t code = codes[i].code;
-        for (int j = 0; j < 4 && code != KLSM_BUSY; j++) {
-            check_code("insert waits for this code", after(insert, held[j], code), code);
-            check("by as many tries as it takes", inserts(held[j] + 1));
-            check_code("delete_min waits for this code", after(delete_min, held[j], code), code);
-            check("by as many tries as it takes", deletes(held[j] + 1) && has_item(code));
-        }
-    }
+    for (int call = 0; call < EXPORTS; call++)
+        for (int i = 0; i < CODES; i++)
+            for (int j = 0; j < 4 && codes[i].code != KLSM_BUSY; j++) {
+                check_code(calls[call].name, after(calls[call].waits, held[j], codes[i].code), codes[i].code);
+                check("waits for this code, by as many tries as it takes", calls[call].asks(held[j] + 1));
+                check("and writes with KLSM_OK alone", calls[call].wrote(codes[i].code));
+            }
 }
 
 static void calls_that_do_not_wait(void) {
-    for (int i = 0; i < CODES; i++) {
-        int32_t code = codes[i].code;
-        if (code == KLSM_BUSY)
-            continue;
-        check_code("try_insert has this code", after(try_insert, 0, code), code);
-        check("by one try", inserts(1));
-        check_code("try_delete_min has this code", after(try_delete_min, 0, code), code);
-        check("by one try", deletes(1) && has_item(code));
+    for (int call = 0; call < EXPORTS; call++) {
+        for (int i = 0; i < CODES; i++) {
+            if (codes[i].code == KLSM_BUSY)
+                continue;
+            check_code(calls[call].name, after(calls[call].tries, 0, codes[i].code), codes[i].code);
+            check("has this code by one try", calls[call].asks(1) && calls[call].wrote(codes[i].code));
+        }
+        check_code(calls[call].name, after(calls[call].tries, 1, KLSM_OK), KLSM_BUSY);
+        check("meets a held lock, once, and writes nothing", calls[call].asks(1) && calls[call].wrote(KLSM_BUSY));
     }
-    check_code("try_insert meets a held lock", after(try_insert, 1, KLSM_OK), KLSM_BUSY);
-    check("once", inserts(1));
-    check_code("try_delete_min meets a held lock", after(try_delete_min, 1, KLSM_OK), KLSM_BUSY);
-    check("once, and writes nothing", deletes(1) && has_item(KLSM_BUSY));
 }
 
 /* Whether the last opening that was made has these numbers behind the queue. */

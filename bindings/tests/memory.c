@@ -95,6 +95,34 @@ static void insertions(void) {
     check("and keeps no block", kept);
 }
 
+/* Sharings, in each of which each allocation is refused in turn: member 3 shares its own items, whichever they are. */
+static void sharings(void) {
+    klsm_member *member = &queue.members[3];
+    uint64_t moved = UINT64_MAX, front = klsm_front(member);
+    int codes = 1, kept = 1, unchanged = 1;
+    int32_t code = KLSM_NO_MEMORY;
+    long tries = 0;
+    for (; code == KLSM_NO_MEMORY && tries < 1000; tries++) {
+        long had = blocks;
+        allocations = 0;
+        fails_at = tries;
+        code = tries % 2 == 0 ? klsm_share(member, &moved) : klsm_try_share(member, &moved);
+        fails_at = -1;
+        if (code != KLSM_NO_MEMORY)
+            break;
+        kept = kept && blocks == had;
+        unchanged = unchanged && moved == UINT64_MAX && klsm_front(member) == front && klsm_left(&queue) == ITEMS;
+    }
+    codes = code == KLSM_OK && moved > 0 && moved <= 16;
+    check("a sharing takes memory, and is made once there is some", tries > 0 && codes);
+    check("a refused one keeps no block", kept);
+    check("and moves and writes nothing", unchanged);
+    allocations = 0;
+    check_code("a second one", klsm_share(member, &moved), KLSM_OK);
+    check("finds nothing and takes none", moved == 0 && allocations == 0);
+    check("what was shared is still there", klsm_left(&queue) == ITEMS);
+}
+
 /* Whether this holds, and nothing was asked of malloc since the last time. */
 static int without(int holds) {
     holds = holds && allocations == 0;
@@ -121,7 +149,7 @@ static uint64_t calls_without(void) {
     check("a deletion of what another member keeps", without(codes));
     codes = klsm_delete_min(&queue.members[1], &item) == KLSM_OK;
     uint64_t gone = item.load;
-    codes = codes && klsm_delete_min(&queue.members[2], &item) == KLSM_OK;
+    codes = codes && klsm_delete_min_alone(&queue.members[2], &item) == KLSM_OK;
     gone += item.load;
     check("deletions from the shared part", without(codes));
     codes = klsm_try_insert(&closed.members[0], 1, 1) == KLSM_NOT_OPEN;
@@ -183,6 +211,7 @@ int main(void) {
     check("no block is kept by drop", blocks == 0);
     check("a second opening, with a refill, takes as many allocations", opening(8) == first);
     insertions();
+    sharings();
     closing(calls_without());
     check("no block is kept at the end", blocks == 0);
     return check_status();

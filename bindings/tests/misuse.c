@@ -18,13 +18,18 @@ static int is_closed(void) {
 static void not_open(void) {
     klsm_item item, same;
     klsm_account account = {1, 2, 3};
+    uint64_t moved = 7;
     memset(&item, 0x5a, sizeof item);
     memcpy(&same, &item, sizeof item);
     check_code("try_insert, never opened", klsm_try_insert(&queue.members[0], 1, 2), KLSM_NOT_OPEN);
     check_code("insert, never opened", klsm_insert(&queue.members[KLSM_MAX_THREADS - 1], 1, 2), KLSM_NOT_OPEN);
     check_code("try_delete_min, never opened", klsm_try_delete_min(&queue.members[0], &item), KLSM_NOT_OPEN);
     check_code("delete_min, never opened", klsm_delete_min(&queue.members[KLSM_MAX_THREADS - 1], &item), KLSM_NOT_OPEN);
-    check("the item is as it was", memcmp(&same, &item, sizeof item) == 0);
+    check_code("the same alone", klsm_try_delete_min_alone(&queue.members[0], &item), KLSM_NOT_OPEN);
+    check_code("and waiting", klsm_delete_min_alone(&queue.members[KLSM_MAX_THREADS - 1], &item), KLSM_NOT_OPEN);
+    check_code("try_share, never opened", klsm_try_share(&queue.members[0], &moved), KLSM_NOT_OPEN);
+    check_code("share, never opened", klsm_share(&queue.members[KLSM_MAX_THREADS - 1], &moved), KLSM_NOT_OPEN);
+    check("the item and the number are as they were", memcmp(&same, &item, sizeof item) == 0 && moved == 7);
     check("inserted, never opened", klsm_inserted(&queue.members[0]) == 0);
     check("deleted, never opened", klsm_deleted(&queue.members[0]) == 0);
     check("left, never opened", klsm_left(&queue) == 0);
@@ -62,6 +67,7 @@ static void openings(void) {
 
 static void opening_twice(void) {
     klsm_item item;
+    uint64_t moved = 7;
     check_code("open", klsm_open(&queue, 2, 64, KLSM_FIRST, 0), KLSM_OK);
     check_code("insert", klsm_insert(&queue.members[1], 3, 30), KLSM_OK);
     refused("open what is open", 2, 64, KLSM_FIRST, KLSM_OPEN);
@@ -69,6 +75,9 @@ static void opening_twice(void) {
     check("the items are still there", klsm_left(&queue) == 1);
     check_code("member 2 of two", klsm_try_insert(&queue.members[2], 1, 2), KLSM_NOT_OPEN);
     check_code("the last member of two", klsm_delete_min(&queue.members[KLSM_MAX_THREADS - 1], &item), KLSM_NOT_OPEN);
+    check_code("alone", klsm_try_delete_min_alone(&queue.members[2], &item), KLSM_NOT_OPEN);
+    check_code("nor does it share", klsm_try_share(&queue.members[2], &moved), KLSM_NOT_OPEN);
+    check("and no number is written", moved == 7);
     check_code("delete_min", klsm_delete_min(&queue.members[0], &item), KLSM_OK);
     check("it is the item", item.key == 3 && item.load == 30 && item.owner == 1 && item.number == 0);
 }
@@ -86,6 +95,9 @@ static void closing_twice(void) {
                                     account.left == 77 && item.key == 1 && item.owner == 4);
     check_code("insert after close", klsm_insert(&queue.members[0], 1, 2), KLSM_NOT_OPEN);
     check_code("delete_min after close", klsm_delete_min(&queue.members[1], &item), KLSM_NOT_OPEN);
+    check_code("the same alone", klsm_delete_min_alone(&queue.members[1], &item), KLSM_NOT_OPEN);
+    check_code("share after close", klsm_share(&queue.members[0], &account.left), KLSM_NOT_OPEN);
+    check("they write nothing", account.left == 77 && item.key == 1 && item.owner == 4);
     check("counts after close", klsm_inserted(&queue.members[1]) == 0 && klsm_deleted(&queue.members[0]) == 0);
 }
 

@@ -73,6 +73,19 @@ static void *insert_and_delete_all(void *none) {
     return none;
 }
 
+/* The same by deletions alone, each behind a sharing. */
+static void *share_and_delete_all(void *none) {
+    klsm_item item;
+    uint64_t moved;
+    for (uint64_t i = 0; i < MOST_THREADS * K; i++)
+        failed = failed || klsm_try_insert(&queue.members[i % MOST_THREADS], i * 7919 % 100003, i) != KLSM_OK;
+    for (uint64_t i = 0; i < MOST_THREADS * K; i++) {
+        failed = failed || klsm_try_share(&queue.members[i % MOST_THREADS], &moved) != KLSM_OK;
+        failed = failed || klsm_try_delete_min_alone(&queue.members[i * i % MOST_THREADS], &item) != KLSM_OK;
+    }
+    return none;
+}
+
 static void *close_all(void *none) {
     klsm_account account;
     failed = failed || klsm_close(&queue, &account, NULL, 0) != KLSM_OK || account.left != 0;
@@ -101,6 +114,7 @@ int main(void) {
     uses("a deletion from it as a rule", none, delete_one, TRIES, 2048);
     uses("deletions from it", none, delete_own, 1, STACK / 2);
     uses("all other insertions and deletions", none, insert_and_delete_all, 1, STACK / 2);
+    uses("sharings, and deletions alone", none, share_and_delete_all, 1, STACK / 2);
     uses("a closing", none, close_all, 1, STACK / 2);
     return check_status();
 }

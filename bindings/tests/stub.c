@@ -101,10 +101,25 @@ int32_t klsm_try_insert(klsm_member *member, uint64_t key, uint64_t load) {
     return answer_code(STUB_TRY_INSERT, (arguments){{address(member), key, load}});
 }
 
-int32_t klsm_try_delete_min(klsm_member *member, klsm_item *item) {
-    int32_t code = answer_code(STUB_TRY_DELETE_MIN, (arguments){{address(member), address(item)}});
+static int32_t answer_deletion(enum stub_call call, klsm_member *member, klsm_item *item) {
+    int32_t code = answer_code(call, (arguments){{address(member), address(item)}});
     if (code == KLSM_OK)
         *item = (klsm_item){101, 102, 103, 104};
+    return code;
+}
+
+int32_t klsm_try_delete_min(klsm_member *member, klsm_item *item) {
+    return answer_deletion(STUB_TRY_DELETE_MIN, member, item);
+}
+
+int32_t klsm_try_delete_min_alone(klsm_member *member, klsm_item *item) {
+    return answer_deletion(STUB_TRY_DELETE_MIN_ALONE, member, item);
+}
+
+int32_t klsm_try_share(klsm_member *member, uint64_t *moved) {
+    int32_t code = answer_code(STUB_TRY_SHARE, (arguments){{address(member), address(moved)}});
+    if (code == KLSM_OK)
+        *moved = 105;
     return code;
 }
 

@@ -50,17 +50,32 @@ static int32_t insert(klsm_member *member, int waits, uint64_t key, uint64_t loa
     return code;
 }
 
-static int32_t delete_min(klsm_member *member, int waits, klsm_item *item) {
+static int32_t delete_min(klsm_member *member, int waits, int alone, klsm_item *item) {
     int32_t code;
     do {
         begin();
-        code = waits ? klsm_delete_min(member, item) : klsm_try_delete_min(member, item);
+        if (alone)
+            code = waits ? klsm_delete_min_alone(member, item) : klsm_try_delete_min_alone(member, item);
+        else
+            code = waits ? klsm_delete_min(member, item) : klsm_try_delete_min(member, item);
         end();
     } while (code == KLSM_BUSY && !waits);
     return code;
 }
 
-/* Two deletions for three insertions, by one form of the calls and then by the other. */
+static int32_t give_back(klsm_member *member, int waits) {
+    uint64_t moved;
+    int32_t code;
+    do {
+        begin();
+        code = waits ? klsm_share(member, &moved) : klsm_try_share(member, &moved);
+        end();
+    } while (code == KLSM_BUSY && !waits);
+    return code;
+}
+
+/* Two deletions for three insertions, by one form of the calls and then by the other. Some deletions are made alone,
+ * and behind some the member shares. */
 static void *work(void *arg) {
     share *mine = arg;
     klsm_member *member = &queue.members[mine->member];
@@ -72,10 +87,12 @@ static void *work(void *arg) {
         mine->inserted++;
         if (i % 3 == 0)
             continue;
-        int32_t code = delete_min(member, waits, &mine->deleted[mine->count]);
+        int32_t code = delete_min(member, waits, i % 5 == 0, &mine->deleted[mine->count]);
         if (code == KLSM_OK)
             mine->count++;
         else if (code != KLSM_NOTHING)
+            mine->failed = 1;
+        if (i % 29 < 2 && give_back(member, waits) != KLSM_OK)
             mine->failed = 1;
     }
     return NULL;

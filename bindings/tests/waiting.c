@@ -73,6 +73,7 @@ static void opens_before_it_inserts(int32_t code, uint64_t left) {
 
 int main(void) {
     klsm_item item = {0, 0, 0, 0};
+    uint64_t moved = 0;
     int once = 1, waited = 1, told = 1;
     for (int count = 0; count < 220; count++) {
         begin(STUB_TRY_INSERT, count, KLSM_FULL);
@@ -83,6 +84,16 @@ int main(void) {
         item.key = 0;
         once = once && klsm_delete_min(&queue.members[3], &item) == KLSM_OK &&
                has_tried(STUB_TRY_DELETE_MIN, count) && item.key == 101;
+        waited = waited && has_waited(count, 50);
+        begin(STUB_TRY_DELETE_MIN_ALONE, count, KLSM_OK);
+        item.key = 0;
+        once = once && klsm_delete_min_alone(&queue.members[3], &item) == KLSM_OK &&
+               has_tried(STUB_TRY_DELETE_MIN_ALONE, count) && item.key == 101;
+        waited = waited && has_waited(count, 50);
+        begin(STUB_TRY_SHARE, count, KLSM_OK);
+        moved = 0;
+        once = once && klsm_share(&queue.members[3], &moved) == KLSM_OK && has_tried(STUB_TRY_SHARE, count) &&
+               moved == 105;
         waited = waited && has_waited(count, 50);
     }
     for (int sleep = 1; sleep < 10; sleep++)

@@ -18,6 +18,14 @@ static int32_t delete_min(void) {
     klsm_item item;
     return klsm_try_delete_min(&queue.members[0], &item);
 }
+static int32_t delete_min_alone(void) {
+    klsm_item item;
+    return klsm_try_delete_min_alone(&queue.members[0], &item);
+}
+static int32_t share(void) {
+    uint64_t moved;
+    return klsm_try_share(&queue.members[0], &moved);
+}
 static int32_t front(void) { return klsm_front(&queue.members[0]) != 1; }
 static int32_t inserted(void) { return klsm_inserted(&queue.members[0]) != 1; }
 static int32_t deleted(void) { return klsm_deleted(&queue.members[0]) != 1; }
@@ -37,6 +45,7 @@ static const struct {
 } calls[] = {
     {"open", open},         {"open_with_balance", open_with_balance},
     {"insert", insert},     {"delete_min", delete_min},
+    {"share", share},       {"delete_min_alone", delete_min_alone},
     {"front", front},       {"inserted", inserted},
     {"deleted", deleted},   {"close_into", close_into},
     {"drop", drop},
