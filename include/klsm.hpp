@@ -185,13 +185,45 @@ public:
     }
     [[nodiscard]] klsm::code delete_min(std::optional<item> &deleted) noexcept {
         item found;
-        klsm::code answer = delete_min(found);
-        if (answer == code::ok) deleted = found;
-        return answer;
+        return hand_on(delete_min(found), found, deleted);
     }
     // Deletes a small item, and never blocks. `deleted` is written exactly with code::ok.
     [[nodiscard]] klsm::code try_delete_min(item &deleted) noexcept {
         return at_ == nullptr ? code::not_open : code(klsm_try_delete_min(at_, &deleted));
+    }
+    // The same four for items each of which is worked on for long: no items move to the own part behind them.
+    [[nodiscard]] std::optional<item> delete_min_alone() noexcept {
+        std::optional<item> deleted;
+        static_cast<void>(delete_min_alone(deleted));
+        return deleted;
+    }
+    [[nodiscard]] klsm::code delete_min_alone(item &deleted) noexcept {
+        return at_ == nullptr ? code::not_open : code(klsm_delete_min_alone(at_, &deleted));
+    }
+    [[nodiscard]] klsm::code delete_min_alone(std::optional<item> &deleted) noexcept {
+        item found;
+        return hand_on(delete_min_alone(found), found, deleted);
+    }
+    [[nodiscard]] klsm::code try_delete_min_alone(item &deleted) noexcept {
+        return at_ == nullptr ? code::not_open : code(klsm_try_delete_min_alone(at_, &deleted));
+    }
+    // Moves all items of the own part to the part that all share, and waits while a lock is held: before its thread
+    // works for long, and before it leaves. klsm.h says more at klsm_try_share.
+    [[nodiscard]] klsm::code share() noexcept {
+        std::uint64_t moved;
+        return share(moved);
+    }
+    // The same, and says how many moved. `moved` is written exactly with code::ok.
+    [[nodiscard]] klsm::code share(std::uint64_t &moved) noexcept {
+        return at_ == nullptr ? code::not_open : code(klsm_share(at_, &moved));
+    }
+    // The same two, which never block.
+    [[nodiscard]] klsm::code try_share() noexcept {
+        std::uint64_t moved;
+        return try_share(moved);
+    }
+    [[nodiscard]] klsm::code try_share(std::uint64_t &moved) noexcept {
+        return at_ == nullptr ? code::not_open : code(klsm_try_share(at_, &moved));
     }
     // The front: the key of the smallest shared item. klsm.h says more at klsm_front.
     [[nodiscard]] std::uint64_t front() const noexcept { return at_ == nullptr ? UINT64_MAX : klsm_front(at_); }
@@ -206,6 +238,11 @@ public:
 private:
     friend class queue;
     member(klsm_member *at, std::shared_ptr<detail::block> of) noexcept : at_(at), block_(std::move(of)) {}
+
+    static klsm::code hand_on(klsm::code answer, const item &found, std::optional<item> &to) noexcept {
+        if (answer == code::ok) to = found;
+        return answer;
+    }
 
     klsm_member *at_;
     std::shared_ptr<detail::block> block_;

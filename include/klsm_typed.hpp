@@ -193,17 +193,33 @@ public:
     // the item exactly with code::ok, and is otherwise unchanged.
     [[nodiscard]] klsm::code delete_min(std::optional<typed_item<T>> &deleted) noexcept {
         item found;
-        klsm::code answer = member_.delete_min(found);
-        if (answer == code::ok) take_out(found, deleted);
-        return answer;
+        return take_out(member_.delete_min(found), found, deleted);
     }
     // Deletes a small item, and never blocks. `deleted` has it exactly with code::ok, and is otherwise unchanged.
     [[nodiscard]] klsm::code try_delete_min(std::optional<typed_item<T>> &deleted) noexcept {
         item found;
-        klsm::code answer = member_.try_delete_min(found);
-        if (answer == code::ok) take_out(found, deleted);
-        return answer;
+        return take_out(member_.try_delete_min(found), found, deleted);
     }
+    // The same three for items each of which is worked on for long: no items move to the own part behind them.
+    [[nodiscard]] std::optional<typed_item<T>> delete_min_alone() noexcept {
+        std::optional<typed_item<T>> deleted;
+        static_cast<void>(delete_min_alone(deleted));
+        return deleted;
+    }
+    [[nodiscard]] klsm::code delete_min_alone(std::optional<typed_item<T>> &deleted) noexcept {
+        item found;
+        return take_out(member_.delete_min_alone(found), found, deleted);
+    }
+    [[nodiscard]] klsm::code try_delete_min_alone(std::optional<typed_item<T>> &deleted) noexcept {
+        item found;
+        return take_out(member_.try_delete_min_alone(found), found, deleted);
+    }
+    // Moves all items of the own part to the part that all share, as klsm::member does. Their payloads stay where they
+    // are.
+    [[nodiscard]] klsm::code share() noexcept { return member_.share(); }
+    [[nodiscard]] klsm::code share(std::uint64_t &moved) noexcept { return member_.share(moved); }
+    [[nodiscard]] klsm::code try_share() noexcept { return member_.try_share(); }
+    [[nodiscard]] klsm::code try_share(std::uint64_t &moved) noexcept { return member_.try_share(moved); }
     [[nodiscard]] std::uint64_t front() const noexcept { return member_.front(); }
     // How many insertions and deletions were made by this number since the queue was opened.
     [[nodiscard]] std::uint64_t inserted() const noexcept { return member_.inserted(); }
@@ -268,7 +284,9 @@ private:
         pool_.keep(in_block);
     }
 
-    void take_out(const item &found, std::optional<typed_item<T>> &to) noexcept {
+    // Of what a deletion with this code found.
+    klsm::code take_out(klsm::code answer, const item &found, std::optional<typed_item<T>> &to) noexcept {
+        if (answer != code::ok) return answer;
         if constexpr (carrier::is_in_load) {
             to.emplace(found.key, found.number, found.owner, carrier::in_load(found.load));
         } else {
@@ -276,6 +294,7 @@ private:
             to.emplace(found.key, found.number, found.owner, std::move(*payload));
             end(payload);
         }
+        return answer;
     }
 
     klsm::member member_;

@@ -2,6 +2,7 @@
 #include "klsm.hpp"
 
 #include "check.h"
+#include "deletions.hpp"
 #include "stub.h"
 #include <algorithm>
 #include <cstring>
@@ -169,44 +170,98 @@ static bool is_written(const klsm::item &item) {
     return item.key == 101 && item.load == 102 && item.number == 103 && item.owner == 104;
 }
 
-static void waiting_calls() {
+static void insertions() {
     for (auto [code, number] : codes) {
         for (unsigned held : {0u, 1u, 2u, 45u}) {
             if (number == KLSM_BUSY) continue;
             begin(STUB_TRY_INSERT, held, number);
             check("insert waits for this code", opened().member.insert(5, 6) == code);
             check("by as many tries as it takes", opened::inserts(held + 1));
-            begin(STUB_TRY_DELETE_MIN, held, number);
-            std::optional<klsm::item> item = opened().member.delete_min();
-            check("delete_min waits, and has an item with ok alone",
-                  number == KLSM_OK ? item && is_written(*item) : !item);
-            check("by as many tries as it takes", opened::asked(STUB_TRY_DELETE_MIN, held + 1));
-            begin(STUB_TRY_DELETE_MIN, held, number);
-            item = klsm::item{1, 2, 3, 4};
-            check("delete_min has this code", opened().member.delete_min(item) == code);
-            check("and writes with ok alone", number == KLSM_OK ? is_written(*item) : item->key == 1);
-            check("by as many tries as it takes", opened::asked(STUB_TRY_DELETE_MIN, held + 1));
+            begin(STUB_TRY_INSERT, held, number);
+            check("try_insert has this code, or meets a held lock",
+                  opened().member.try_insert(5, 6) == (held == 0 ? code : klsm::code::busy));
+            check("by one try", opened::inserts(1));
         }
     }
 }
 
-static void calls_that_do_not_wait() {
+// A deletion in its four forms.
+template <class Deletion> static void deletions() {
     for (auto [code, number] : codes) {
-        for (unsigned held : {0u, 1u}) {
+        for (unsigned held : {0u, 1u, 2u, 45u}) {
             if (number == KLSM_BUSY) continue;
-            klsm::code expected = held == 0 ? code : klsm::code::busy;
-            begin(STUB_TRY_INSERT, held, number);
-            check("try_insert has this code, or meets a held lock",
-                  opened().member.try_insert(5, 6) == expected);
-            check("by one try", opened::inserts(1));
-            begin(STUB_TRY_DELETE_MIN, held, number);
-            klsm::item item{};
-            check("try_delete_min has this code, or meets a held lock",
-                  opened().member.try_delete_min(item) == expected);
-            check("by one try", opened::asked(STUB_TRY_DELETE_MIN, 1));
-            check("it writes with ok alone", is_written(item) == (expected == klsm::code::ok));
+            begin(Deletion::call, held, number);
+            opened with;
+            std::optional<klsm::item> item = Deletion::waits(with.member);
+            check("a deletion waits, and has an item with ok alone",
+                  number == KLSM_OK ? item && is_written(*item) : !item);
+            check("by as many tries as it takes", opened::asked(Deletion::call, held + 1));
+            begin(Deletion::call, held, number);
+            item = klsm::item{1, 2, 3, 4};
+            check("it has this code", Deletion::waits(with.member, item) == code);
+            check("and writes with ok alone", number == KLSM_OK ? is_written(*item) : item->key == 1);
+            check("by as many tries as it takes", stub_asked(Deletion::call) == held + 1);
+            begin(Deletion::call, held, number);
+            klsm::item plain{1, 2, 3, 4};
+            check("the same with an item", Deletion::waits(with.member, plain) == code);
+            check("and writes with ok alone", number == KLSM_OK ? is_written(plain) : plain.key == 1);
+            check("by as many tries as it takes", stub_asked(Deletion::call) == held + 1);
+            klsm::code tried = held == 0 ? code : klsm::code::busy;
+            begin(Deletion::call, held, number);
+            plain = klsm::item{1, 2, 3, 4};
+            check("one that does not wait has this code, or meets a held lock",
+                  Deletion::tries(with.member, plain) == tried);
+            check("by one try", stub_asked(Deletion::call) == 1);
+            check("it writes with ok alone", tried == klsm::code::ok ? is_written(plain) : plain.key == 1);
         }
     }
+}
+
+// Whether a sharing had its code by so many tries, and wrote how many moved with ok alone.
+static bool has_shared(klsm::code answer, klsm::code expected, std::uint64_t times, std::uint64_t moved) {
+    return answer == expected && opened::asked(STUB_TRY_SHARE, times) &&
+           moved == (expected == klsm::code::ok ? 105u : 7u);
+}
+
+static void sharings() {
+    for (auto [code, number] : codes) {
+        for (unsigned held : {0u, 1u, 2u, 45u}) {
+            if (number == KLSM_BUSY) continue;
+            klsm::code tried = held == 0 ? code : klsm::code::busy, answer;
+            std::uint64_t moved = 7;
+            begin(STUB_TRY_SHARE, held, number);
+            answer = opened().member.share(moved);
+            check("share waits for this code", has_shared(answer, code, held + 1, moved));
+            begin(STUB_TRY_SHARE, held, number);
+            answer = opened().member.share();
+            check("also without a number", answer == code && opened::asked(STUB_TRY_SHARE, held + 1));
+            begin(STUB_TRY_SHARE, held, number);
+            moved = 7;
+            answer = opened().member.try_share(moved);
+            check("try_share has this code, or meets a held lock", has_shared(answer, tried, 1, moved));
+            begin(STUB_TRY_SHARE, held, number);
+            answer = opened().member.try_share();
+            check("also without a number", answer == tried && opened::asked(STUB_TRY_SHARE, 1));
+        }
+    }
+}
+
+// None of its calls reaches the library.
+static void moved_from() {
+    stub_begin();
+    opened with;
+    klsm::member &member = with.member;
+    klsm::member other = std::move(member);
+    const klsm::code closed = klsm::code::not_open;
+    std::uint64_t moved = 7;
+    klsm::item item{1, 2, 3, 4};
+    check("a member that was moved from shares nothing", member.share() == closed && member.try_share() == closed &&
+                                                             member.share(moved) == closed &&
+                                                             member.try_share(moved) == closed && moved == 7);
+    check("and deletes nothing alone", member.delete_min_alone(item) == closed &&
+                                           member.try_delete_min_alone(item) == closed &&
+                                           !member.delete_min_alone() && item.key == 1);
+    check("by no call", stub_asked(STUB_TRY_SHARE) + stub_asked(STUB_TRY_DELETE_MIN_ALONE) == 0);
 }
 
 static void counts() {
@@ -296,8 +351,11 @@ int main() {
     versions();
     refused_openings();
     drops();
-    waiting_calls();
-    calls_that_do_not_wait();
+    insertions();
+    deletions<refilling>();
+    deletions<alone>();
+    sharings();
+    moved_from();
     counts();
     members();
     closings(5);

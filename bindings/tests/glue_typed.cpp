@@ -3,6 +3,7 @@
 #include "klsm.hpp"
 
 #include "check.h"
+#include "deletions.hpp"
 #include "stub.h"
 #include <memory>
 #include <optional>
@@ -75,37 +76,62 @@ static void refusals() {
     }
 }
 
-static void deletions() {
+template <class Deletion> static void deletions() {
     klsm::typed_queue<std::uint32_t> queue(2);
     auto member = queue.member(1).value();
     std::optional<klsm::typed_item<std::uint32_t>> found;
-    begin(STUB_TRY_DELETE_MIN, 1, code::ok);
-    check("try_delete_min meets a held lock", member.try_delete_min(found) == code::busy && !found);
-    check("and then has an item", member.try_delete_min(found) == code::ok && found->key == 101 &&
+    begin(Deletion::call, 1, code::ok);
+    check("a call that does not wait meets a held lock", Deletion::tries(member, found) == code::busy && !found);
+    check("and then has an item", Deletion::tries(member, found) == code::ok && found->key == 101 &&
                                       found->payload == 102 && found->number == 103 && found->owner == 104);
-    begin(STUB_TRY_DELETE_MIN, 2, code::ok);
-    check("delete_min waits", member.delete_min()->payload == 102 && stub_asked(STUB_TRY_DELETE_MIN) == 3);
+    begin(Deletion::call, 2, code::ok);
+    check("a call that waits", Deletion::waits(member)->payload == 102 && stub_asked(Deletion::call) == 3);
     for (code why : {code::nothing, code::not_open}) {
-        begin(STUB_TRY_DELETE_MIN, 1, why);
-        check("delete_min tells it by a code", member.delete_min(found) == why && found->key == 101);
-        check("or by no item", !member.delete_min());
+        begin(Deletion::call, 1, why);
+        check("tells it by a code", Deletion::waits(member, found) == why && found->key == 101);
+        check("or by no item", !Deletion::waits(member));
     }
-    begin(STUB_TRY_DELETE_MIN, 1, code::ok);
+    begin(Deletion::call, 1, code::ok);
     found.reset();
-    check("and has one with ok", member.delete_min(found) == code::ok && found->key == 101 && found->payload == 102);
+    check("and has one with ok", Deletion::waits(member, found) == code::ok && found->key == 101 &&
+                                     found->payload == 102 && stub_asked(Deletion::call) == 2);
     check("front, counts and number are those of the member",
           std::as_const(member).front() == 0 && std::as_const(member).inserted() == 0 && member.number() == 1);
     klsm::queue plain(1);
     klsm::member of_plain = plain.member(0).value();
     klsm::item item{7, 7, 7, 7};
     for (code why : {code::nothing, code::not_open}) {
-        begin(STUB_TRY_DELETE_MIN, 1, why);
-        check("delete_min tells it by a code", of_plain.delete_min(item) == why && item.key == 7);
+        begin(Deletion::call, 1, why);
+        check("a member without payloads tells it by a code", Deletion::waits(of_plain, item) == why && item.key == 7);
     }
-    begin(STUB_TRY_DELETE_MIN, 1, code::ok);
-    check("and writes with ok", of_plain.delete_min(item) == code::ok && item.key == 101);
+    begin(Deletion::call, 1, code::ok);
+    check("and writes with ok", Deletion::waits(of_plain, item) == code::ok && item.key == 101);
     klsm::member gone = std::move(of_plain);
-    check("a member that was moved from is not open", of_plain.delete_min(item) == code::not_open);
+    check("a member that was moved from is not open", Deletion::waits(of_plain, item) == code::not_open);
+}
+
+// A sharing is that of the member, and leaves the payloads where they are.
+static void sharings() {
+    klsm::typed_queue<counted> queue(2);
+    auto member = queue.member(1).value();
+    for (code why : {code::ok, code::full, code::no_memory, code::not_open}) {
+        for (std::uint64_t held : {0u, 1u, 45u}) {
+            const code tried = held == 0 ? why : code::busy;
+            std::uint64_t moved = 7, also = 7;
+            begin(STUB_TRY_SHARE, held, why);
+            check("share waits for this code", member.share(moved) == why && stub_asked(STUB_TRY_SHARE) == held + 1);
+            begin(STUB_TRY_SHARE, held, why);
+            check("try_share has this code, or meets a held lock",
+                  member.try_share(also) == tried && stub_asked(STUB_TRY_SHARE) == 1);
+            check("they write with ok alone",
+                  moved == (why == code::ok ? 105u : 7u) && also == (tried == code::ok ? 105u : 7u));
+            begin(STUB_TRY_SHARE, held, why);
+            check("share without a number", member.share() == why && stub_asked(STUB_TRY_SHARE) == held + 1);
+            begin(STUB_TRY_SHARE, held, why);
+            check("try_share without one", member.try_share() == tried && stub_asked(STUB_TRY_SHARE) == 1);
+        }
+    }
+    begin(STUB_TRY_DELETE_MIN, 0, code::nothing); // by which the queue ends
 }
 
 // Whether it was tried so often, with its key. What is inserted is taken out of the stub, which forgets it.
@@ -377,7 +403,9 @@ int main() {
     lambdas();
     copies();
     copies_in_the_load();
-    deletions();
+    deletions<refilling>();
+    deletions<alone>();
+    sharings();
     work();
     insertions_of_work();
     return check_status();

@@ -253,6 +253,31 @@ static void copies() {
     check("a copy that throws is not inserted", threw && member.inserted() == 4 && queue.left() == 0);
 }
 
+// Items move from part to part, and their payloads stay where they are.
+static void sharings() {
+    klsm::typed_queue<counted> queue(klsm::options{2, 8, klsm::pick::first, 0, 4});
+    auto one = queue.member(0).value(), other = queue.member(1).value();
+    std::uint64_t moved = 77;
+    check("none", one.share(moved) == klsm::code::ok && moved == 0);
+    for (std::uint64_t i = 0; i < 8; i++)
+        check_or_stop("insert", one.insert(7 - i, counted(7 - i)) == klsm::code::ok);
+    check("all of an own part", one.try_share(moved) == klsm::code::ok && moved == 8 && alive == 8);
+    auto item = other.delete_min_alone();
+    check("a deletion alone", item && item->key == 0 && item->payload.is_whole() && other.front() == 1);
+    check("brings none home", other.share(moved) == klsm::code::ok && moved == 0);
+    check("one that waits for nobody", one.try_delete_min_alone(item) == klsm::code::ok && item->key == 1);
+    check("one with a code", other.delete_min_alone(item) == klsm::code::ok && item->key == 2 && one.front() == 3);
+    check("a deletion with a refill", one.delete_min()->key == 3 && other.front() == UINT64_MAX);
+    check("what it brought home goes back", one.share() == klsm::code::ok && other.front() == 4 && alive == 5);
+    for (std::uint64_t key = 4; key < 8; key++) {
+        item = other.delete_min();
+        check("and is found in order, whole", item && item->key == key && item->payload.number == key &&
+                                                  item->payload.is_whole());
+    }
+    check("nothing is left", one.try_share() == klsm::code::ok && !one.delete_min_alone() &&
+                                 one.delete_min_alone(item) == klsm::code::nothing && item->key == 7);
+}
+
 // Who sees that a piece is closed sees that its item is gone.
 static void items_go_before_their_pieces() {
     klsm::typed_queue<seeing> queue(1);
@@ -272,6 +297,7 @@ int main() {
     any_payloads();
     ascending_left();
     copies();
+    sharings();
     a_crew();
     items_go_before_their_pieces();
     check("none is left over", alive == 0);

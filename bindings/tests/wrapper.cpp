@@ -122,6 +122,27 @@ static void balances() {
     check("a balance of 2", first_in(klsm::queue(klsm::options{2, 64, first, 0, 0, 2})) == 100);
 }
 
+// The next member finds what a deletion with a refill would have brought home, or what was shared.
+static void sharings() {
+    klsm::queue queue(klsm::options{2, 8, klsm::pick::first, 0, 4});
+    klsm::member first = queue.member(0).value(), second = queue.member(1).value();
+    std::uint64_t moved = 77;
+    klsm::item item{7, 7, 7, 7};
+    for (std::uint64_t i = 0; i < 100; i++) check_or_stop("insert", first.insert(i, i) == klsm::code::ok);
+    check("all are shared", first.share() == klsm::code::ok && first.share(moved) == klsm::code::ok && moved == 0);
+    check("alone", second.delete_min_alone()->key == 0 && first.front() == 1);
+    check("alone, by a code", first.delete_min_alone(item) == klsm::code::ok && item.key == 1);
+    check("alone, waiting for nobody", second.try_delete_min_alone(item) == klsm::code::ok && item.key == 2);
+    check("with a refill", second.delete_min()->key == 3 && first.front() == 8);
+    check("what it brought home goes back", second.try_share(moved) == klsm::code::ok && moved == 4);
+    check("once", second.try_share() == klsm::code::ok && first.front() == 4 && first.delete_min()->key == 4);
+    check("nothing was inserted or deleted by that", queue.left() == 95 && second.deleted() == 3);
+    static_cast<void>(queue.close());
+    moved = 77;
+    check("after the end nothing is shared", first.share(moved) == klsm::code::not_open && moved == 77);
+    check("nor deleted", first.delete_min_alone(item) == klsm::code::not_open && item.key == 2);
+}
+
 static void members() {
     klsm::queue queue(2);
     {
@@ -272,6 +293,7 @@ int main() {
     options();
     refills();
     balances();
+    sharings();
     members();
     calls();
     moves();
