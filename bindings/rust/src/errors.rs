@@ -54,6 +54,28 @@ pub enum TryInsertError {
     NoMemory,
 }
 
+/// Why a sharing that may wait is refused. No item has moved then.
+#[derive(Clone, Copy, Debug, PartialEq, Eq)]
+#[non_exhaustive]
+pub enum ShareError {
+    /// The shared part has no room for all items of the own part: it has room for 2^26 items.
+    Full,
+    /// Out of memory.
+    NoMemory,
+}
+
+/// Why a sharing that never blocks is refused. No item has moved then.
+#[derive(Clone, Copy, Debug, PartialEq, Eq)]
+#[non_exhaustive]
+pub enum TryShareError {
+    /// A lock that the call needed was held by another member.
+    Busy,
+    /// The shared part has no room for all items of the own part: it has room for 2^26 items.
+    Full,
+    /// Out of memory.
+    NoMemory,
+}
+
 /// Why [`Work::next`](crate::Work::next) gives no piece. (That a member is not open is no cause here: each is.)
 #[derive(Clone, Copy, Debug, PartialEq, Eq)]
 #[non_exhaustive]
@@ -102,6 +124,15 @@ impl From<InsertError> for TryInsertError {
     }
 }
 
+impl From<ShareError> for TryShareError {
+    fn from(why: ShareError) -> Self {
+        match why {
+            ShareError::Full => TryShareError::Full,
+            ShareError::NoMemory => TryShareError::NoMemory,
+        }
+    }
+}
+
 const BUSY_TEXT: &str = "a lock is held by another member";
 const SPENT_TEXT: &str = "the member has made all its insertions";
 const FULL_TEXT: &str = "the shared part is full";
@@ -146,6 +177,25 @@ impl fmt::Display for TryInsertError {
             TryInsertError::Busy => BUSY_TEXT,
             TryInsertError::Full => FULL_TEXT,
             TryInsertError::NoMemory => MEMORY_TEXT,
+        })
+    }
+}
+
+impl fmt::Display for ShareError {
+    fn fmt(&self, to: &mut fmt::Formatter<'_>) -> fmt::Result {
+        to.write_str(match self {
+            ShareError::Full => FULL_TEXT,
+            ShareError::NoMemory => MEMORY_TEXT,
+        })
+    }
+}
+
+impl fmt::Display for TryShareError {
+    fn fmt(&self, to: &mut fmt::Formatter<'_>) -> fmt::Result {
+        to.write_str(match self {
+            TryShareError::Busy => BUSY_TEXT,
+            TryShareError::Full => FULL_TEXT,
+            TryShareError::NoMemory => MEMORY_TEXT,
         })
     }
 }
@@ -200,6 +250,8 @@ impl Error for Busy {}
 impl Error for OpenError {}
 impl Error for InsertError {}
 impl Error for TryInsertError {}
+impl Error for ShareError {}
+impl Error for TryShareError {}
 impl Error for End {}
 impl Error for FinishError {}
 impl<T> Error for TypedFinishError<T> {}

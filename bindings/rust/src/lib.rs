@@ -173,6 +173,9 @@
 //!
 //! # What is left to the caller
 //!
+//! Others find the items that a member keeps for itself late, as a rule only once they find nothing else. So a thread
+//! calls [`share`](Member::share) before it works for long, and before it drops its member.
+//!
 //! No call from a signal handler but [`Work::stop`], and none in a forked child of a process that had several
 //! threads.
 //! An answer "nothing" does not say that the queue is empty: see [`Member::delete_min`].
@@ -191,7 +194,8 @@ mod work;
 
 pub use builder::Builder;
 pub use errors::{
-    Busy, End, FinishError, InsertError, OpenError, Refused, TryInsertError, TypedFinishError,
+    Busy, End, FinishError, InsertError, OpenError, Refused, ShareError, TryInsertError,
+    TryShareError, TypedFinishError,
 };
 pub use keys::{
     bound_of_key, bound_of_node, f64_of_key, i64_of_key, key_of_bound, key_of_f64, key_of_i64,

@@ -1,12 +1,16 @@
 //! A member: what one thread inserts and deletes by.
 
-use crate::errors::{Busy, InsertError, TryInsertError};
+use crate::errors::{Busy, InsertError, ShareError, TryInsertError, TryShareError};
 use crate::pause::until_free;
 use crate::sys::{self, code, Item, Load, RawItem, Slot};
 use crate::work::{DeleteMin, Insert};
 use std::fmt;
 use std::iter::{Enumerate, FusedIterator};
 use std::slice::IterMut;
+
+/// What a deletion is that moves items home behind it, as the queue's refill says, and what one is that does not.
+pub(crate) const REFILLING: bool = false;
+pub(crate) const ALONE: bool = true;
 
 /// One member of a [`Queue`](crate::Queue), which it borrows. Send each to a thread of its own.
 ///
@@ -86,17 +90,17 @@ impl<'queue> Member<'queue> {
     /// [`Work`](crate::Work) does, to tell when all is done.
     #[must_use = "the item was deleted"]
     pub fn delete_min(&mut self) -> Option<Item> {
-        // SAFETY: the loads of this queue are numbers: those of one of payloads are deleted by `delete_min_raw`.
-        self.delete_min_raw()
+        // SAFETY: the loads of this queue are numbers: those of one of payloads are deleted by `delete_raw`.
+        self.delete_raw::<REFILLING>()
             .map(|item| unsafe { item.with_number() })
     }
 
-    pub(crate) fn delete_min_raw(&mut self) -> Option<RawItem> {
+    pub(crate) fn delete_raw<const HOW: bool>(&mut self) -> Option<RawItem> {
         let mut item = RawItem::new();
-        match until_free(|| self.deletion(&mut item)) {
+        match until_free(|| self.deletion::<HOW>(&mut item)) {
             code::OK => Some(item),
             code::NOTHING => None,
-            other => sys::unexpected("klsm_try_delete_min", other),
+            other => sys::unexpected(name_of_deletion(HOW), other),
         }
     }
 
@@ -109,17 +113,92 @@ impl<'queue> Member<'queue> {
     #[must_use = "the item was deleted"]
     pub fn try_delete_min(&mut self) -> Result<Option<Item>, Busy> {
         // SAFETY: as in `delete_min`.
-        let item = self.try_delete_min_raw()?;
+        let item = self.try_delete_raw::<REFILLING>()?;
         Ok(item.map(|item| unsafe { item.with_number() }))
     }
 
-    pub(crate) fn try_delete_min_raw(&mut self) -> Result<Option<RawItem>, Busy> {
+    pub(crate) fn try_delete_raw<const HOW: bool>(&mut self) -> Result<Option<RawItem>, Busy> {
         let mut item = RawItem::new();
-        match self.deletion(&mut item) {
+        match self.deletion::<HOW>(&mut item) {
             code::OK => Ok(Some(item)),
             code::NOTHING => Ok(None),
             code::BUSY => Err(Busy),
-            other => sys::unexpected("klsm_try_delete_min", other),
+            other => sys::unexpected(name_of_deletion(HOW), other),
+        }
+    }
+
+    /// Deletes a small item and returns it, as [`delete_min`](Member::delete_min) does, but alone: no items move to
+    /// the own part behind it, whatever the queue's refill is. For items each of which is worked on for long.
+    #[must_use = "the item was deleted"]
+    pub fn delete_min_alone(&mut self) -> Option<Item> {
+        // SAFETY: as in `delete_min`.
+        self.delete_raw::<ALONE>()
+            .map(|item| unsafe { item.with_number() })
+    }
+
+    /// Deletes a small item alone, as [`delete_min_alone`](Member::delete_min_alone) does, and waits for nobody.
+    ///
+    /// # Errors
+    ///
+    /// Those of [`try_delete_min`](Member::try_delete_min).
+    #[must_use = "the item was deleted"]
+    pub fn try_delete_min_alone(&mut self) -> Result<Option<Item>, Busy> {
+        // SAFETY: as in `delete_min`.
+        let item = self.try_delete_raw::<ALONE>()?;
+        Ok(item.map(|item| unsafe { item.with_number() }))
+    }
+
+    /// Moves all items of the member's own part to the part that all share, where all find them, and returns how
+    /// many moved. It waits while a lock that it needs is held.
+    ///
+    /// A deletion may have brought more items home than the one that it gave, and others come to these last, as to
+    /// those that the member inserted and still keeps. So a thread shares before it works for long, and before it
+    /// drops its member. It takes a block of memory where the own part has items.
+    ///
+    /// ```
+    /// # fn main() -> Result<(), Box<dyn std::error::Error>> {
+    /// let mut queue = klsm::Queue::new(2)?;
+    /// let mut members = queue.members();
+    /// let mut member = members.next().ok_or("no member")?;
+    /// let mut other = members.next().ok_or("no other member")?;
+    /// for key in 1..4 {
+    ///     member.insert(key, 0)?;
+    /// }
+    /// let item = member.delete_min().ok_or("no item")?; // to be worked on for long
+    /// assert_eq!((item.key, member.share()?), (1, 2));
+    /// assert_eq!(other.delete_min().map(|item| item.key), Some(2));
+    /// # Ok(())
+    /// # }
+    /// ```
+    ///
+    /// # Errors
+    ///
+    /// The shared part has no room for all of them, or out of memory. No item has moved then.
+    pub fn share(&mut self) -> Result<usize, ShareError> {
+        let mut moved = 0;
+        match until_free(|| self.sharing(&mut moved)) {
+            code::OK => Ok(moved as usize),
+            code::FULL => Err(ShareError::Full),
+            code::NO_MEMORY => Err(ShareError::NoMemory),
+            other => sys::unexpected("klsm_try_share", other),
+        }
+    }
+
+    /// Moves all items of the member's own part to the part that all share, as [`share`](Member::share) does, and
+    /// waits for nobody.
+    ///
+    /// # Errors
+    ///
+    /// Those of [`share`](Member::share), and [`TryShareError::Busy`] where a lock that it needs is held. No item
+    /// has moved then.
+    pub fn try_share(&mut self) -> Result<usize, TryShareError> {
+        let mut moved = 0;
+        match self.sharing(&mut moved) {
+            code::OK => Ok(moved as usize),
+            code::BUSY => Err(TryShareError::Busy),
+            code::FULL => Err(TryShareError::Full),
+            code::NO_MEMORY => Err(TryShareError::NoMemory),
+            other => sys::unexpected("klsm_try_share", other),
         }
     }
 
@@ -154,9 +233,27 @@ impl<'queue> Member<'queue> {
     }
 
     #[inline]
-    fn deletion(&mut self, item: &mut RawItem) -> i32 {
+    fn deletion<const HOW: bool>(&mut self, item: &mut RawItem) -> i32 {
         // SAFETY: as in `insertion`; and `item` is a place for an item outside of the queue.
-        unsafe { sys::klsm_try_delete_min(self.slot, item) }
+        unsafe {
+            match HOW {
+                REFILLING => sys::klsm_try_delete_min(self.slot, item),
+                ALONE => sys::klsm_try_delete_min_alone(self.slot, item),
+            }
+        }
+    }
+
+    #[inline]
+    fn sharing(&mut self, moved: &mut u64) -> i32 {
+        // SAFETY: as in `insertion`; and `moved` is a place for a number outside of the queue.
+        unsafe { sys::klsm_try_share(self.slot, moved) }
+    }
+}
+
+fn name_of_deletion(how: bool) -> &'static str {
+    match how {
+        REFILLING => "klsm_try_delete_min",
+        ALONE => "klsm_try_delete_min_alone",
     }
 }
 

@@ -1,6 +1,6 @@
 //! Members that own their queue together: for pools, and for threads that borrow nothing.
 
-use crate::errors::{Busy, InsertError, TryInsertError};
+use crate::errors::{Busy, InsertError, ShareError, TryInsertError, TryShareError};
 use crate::member::{deleted_by, inserted_by, Member};
 use crate::queue::Queue;
 use crate::sys::{Item, Slot};
@@ -149,6 +149,41 @@ impl OwnedMember {
     #[must_use = "the item was deleted"]
     pub fn try_delete_min(&mut self) -> Result<Option<Item>, Busy> {
         self.lend().try_delete_min()
+    }
+
+    /// Deletes a small item alone, and waits while a lock that it needs is held: [`Member::delete_min_alone`].
+    #[must_use = "the item was deleted"]
+    pub fn delete_min_alone(&mut self) -> Option<Item> {
+        self.lend().delete_min_alone()
+    }
+
+    /// Deletes a small item alone, and never blocks: [`Member::try_delete_min_alone`].
+    ///
+    /// # Errors
+    ///
+    /// Those of [`Member::try_delete_min`].
+    #[must_use = "the item was deleted"]
+    pub fn try_delete_min_alone(&mut self) -> Result<Option<Item>, Busy> {
+        self.lend().try_delete_min_alone()
+    }
+
+    /// Moves all items of its own part to the part that all share, and waits while a lock that it needs is held:
+    /// [`Member::share`].
+    ///
+    /// # Errors
+    ///
+    /// Those of [`Member::share`].
+    pub fn share(&mut self) -> Result<usize, ShareError> {
+        self.lend().share()
+    }
+
+    /// Moves all items of its own part to the part that all share, and never blocks: [`Member::try_share`].
+    ///
+    /// # Errors
+    ///
+    /// Those of [`Member::try_share`].
+    pub fn try_share(&mut self) -> Result<usize, TryShareError> {
+        self.lend().try_share()
     }
 
     /// The front, the key of the smallest shared item: [`Member::front`].

@@ -1,6 +1,6 @@
 //! What is left in a queue, taken out by deletions.
 
-use crate::member::{Member, Members};
+use crate::member::{Member, Members, REFILLING};
 use crate::queue::Queue;
 use crate::sys::RawItem;
 
@@ -31,7 +31,7 @@ impl Iterator for Rest<'_> {
 
     fn next(&mut self) -> Option<RawItem> {
         while self.left > 0 {
-            if let Some(item) = self.member.as_mut()?.delete_min_raw() {
+            if let Some(item) = self.member.as_mut()?.delete_raw::<REFILLING>() {
                 self.left -= 1;
                 return Some(item);
             }

@@ -188,6 +188,8 @@ extern "C" {
     pub(crate) fn klsm_drop(queue: *mut Slots);
     pub(crate) fn klsm_try_insert(member: *mut Slot, key: u64, load: Load) -> i32;
     pub(crate) fn klsm_try_delete_min(member: *mut Slot, item: *mut RawItem) -> i32;
+    pub(crate) fn klsm_try_delete_min_alone(member: *mut Slot, item: *mut RawItem) -> i32;
+    pub(crate) fn klsm_try_share(member: *mut Slot, moved: *mut u64) -> i32;
     pub(crate) fn klsm_front(member: *mut Slot) -> u64;
     pub(crate) fn klsm_inserted(member: *const Slot) -> u64;
     pub(crate) fn klsm_deleted(member: *const Slot) -> u64;

@@ -22,6 +22,10 @@ use std::sync::atomic::{AtomicBool, AtomicU64, AtomicUsize};
 /// A piece is [`done`](Piece::done), or else given up when it is dropped, by a return or a panic: nobody waits
 /// for it, and [`given_up`](Work::given_up) counts it. [`stop`](Work::stop) ends the crew at once.
 ///
+/// A deletion may have brought more items home than the one that it gave, and the others come to these last. So a
+/// thread calls [`share`](crate::Member::share) of its member before it works on a piece for long, and before it leaves
+/// while work is open; where it leaves since the crew was stopped, it need not.
+///
 /// ```
 /// use klsm::{InsertError, Member, Queue, Work};
 ///

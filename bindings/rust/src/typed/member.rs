@@ -2,8 +2,8 @@
 
 use super::payload::{load_of, payload_of};
 use super::{TypedItem, TypedQueue};
-use crate::errors::{Busy, InsertError, Refused, TryInsertError};
-use crate::member::{Member, Members};
+use crate::errors::{Busy, InsertError, Refused, ShareError, TryInsertError, TryShareError};
+use crate::member::{Member, Members, ALONE, REFILLING};
 use crate::sys::Load;
 use crate::work::{DeleteMin, Insert};
 use std::fmt;
@@ -76,7 +76,7 @@ impl<'queue, T> TypedMember<'queue, T> {
     /// [`Member::delete_min`], which says what `None` means.
     #[must_use = "the item was deleted"]
     pub fn delete_min(&mut self) -> Option<TypedItem<T>> {
-        let item = self.member.delete_min_raw()?;
+        let item = self.member.delete_raw::<REFILLING>()?;
         // SAFETY: the member's queue is a typed one of this `T`, and the item is given here alone.
         Some(unsafe { TypedItem::of(item) })
     }
@@ -88,9 +88,48 @@ impl<'queue, T> TypedMember<'queue, T> {
     /// Those of [`Member::try_delete_min`].
     #[must_use = "the item was deleted"]
     pub fn try_delete_min(&mut self) -> Result<Option<TypedItem<T>>, Busy> {
-        let item = self.member.try_delete_min_raw()?;
+        let item = self.member.try_delete_raw::<REFILLING>()?;
         // SAFETY: as in `delete_min`.
         Ok(item.map(|item| unsafe { TypedItem::of(item) }))
+    }
+
+    /// Deletes a small item alone, and waits while a lock that it needs is held: [`Member::delete_min_alone`].
+    #[must_use = "the item was deleted"]
+    pub fn delete_min_alone(&mut self) -> Option<TypedItem<T>> {
+        let item = self.member.delete_raw::<ALONE>()?;
+        // SAFETY: as in `delete_min`.
+        Some(unsafe { TypedItem::of(item) })
+    }
+
+    /// Deletes a small item alone, and never blocks: [`Member::try_delete_min_alone`].
+    ///
+    /// # Errors
+    ///
+    /// Those of [`Member::try_delete_min`].
+    #[must_use = "the item was deleted"]
+    pub fn try_delete_min_alone(&mut self) -> Result<Option<TypedItem<T>>, Busy> {
+        let item = self.member.try_delete_raw::<ALONE>()?;
+        // SAFETY: as in `delete_min`.
+        Ok(item.map(|item| unsafe { TypedItem::of(item) }))
+    }
+
+    /// Moves all items of its own part to the part that all share, and waits while a lock that it needs is held:
+    /// [`Member::share`]. Their payloads stay where they are.
+    ///
+    /// # Errors
+    ///
+    /// Those of [`Member::share`].
+    pub fn share(&mut self) -> Result<usize, ShareError> {
+        self.member.share()
+    }
+
+    /// Moves all items of its own part to the part that all share, and never blocks: [`Member::try_share`].
+    ///
+    /// # Errors
+    ///
+    /// Those of [`Member::try_share`].
+    pub fn try_share(&mut self) -> Result<usize, TryShareError> {
+        self.member.try_share()
     }
 
     /// The front, the key of the least shared item: [`Member::front`].

@@ -1,7 +1,7 @@
 //! A member that owns a typed queue together with the others.
 
 use super::{TypedItem, TypedMember, TypedQueue};
-use crate::errors::{Busy, InsertError, Refused, TryInsertError};
+use crate::errors::{Busy, InsertError, Refused, ShareError, TryInsertError, TryShareError};
 use crate::owned::Part;
 use crate::work::{DeleteMin, Insert};
 use std::fmt;
@@ -79,6 +79,42 @@ impl<T> OwnedTypedMember<T> {
     #[must_use = "the item was deleted"]
     pub fn try_delete_min(&mut self) -> Result<Option<TypedItem<T>>, Busy> {
         self.lend().try_delete_min()
+    }
+
+    /// Deletes a small item alone, and waits while a lock that it needs is held:
+    /// [`TypedMember::delete_min_alone`].
+    #[must_use = "the item was deleted"]
+    pub fn delete_min_alone(&mut self) -> Option<TypedItem<T>> {
+        self.lend().delete_min_alone()
+    }
+
+    /// Deletes a small item alone, and never blocks: [`TypedMember::try_delete_min_alone`].
+    ///
+    /// # Errors
+    ///
+    /// Those of [`TypedMember::try_delete_min`].
+    #[must_use = "the item was deleted"]
+    pub fn try_delete_min_alone(&mut self) -> Result<Option<TypedItem<T>>, Busy> {
+        self.lend().try_delete_min_alone()
+    }
+
+    /// Moves all items of its own part to the part that all share, and waits while a lock that it needs is held:
+    /// [`TypedMember::share`].
+    ///
+    /// # Errors
+    ///
+    /// Those of [`TypedMember::share`].
+    pub fn share(&mut self) -> Result<usize, ShareError> {
+        self.lend().share()
+    }
+
+    /// Moves all items of its own part to the part that all share, and never blocks: [`TypedMember::try_share`].
+    ///
+    /// # Errors
+    ///
+    /// Those of [`TypedMember::try_share`].
+    pub fn try_share(&mut self) -> Result<usize, TryShareError> {
+        self.lend().try_share()
     }
 
     /// The front, the key of the least shared item: [`Member::front`](crate::Member::front).

@@ -44,41 +44,64 @@ fn of_insertion(name: &str, code: i32) -> String {
     }
 }
 
-fn of_deletion(name: &str, code: i32) -> Result<Option<Item>, String> {
+fn of_deletion(name: &str, code: i32, call: &str) -> Result<Option<Item>, String> {
     match name {
         "OK" => Ok(Some(WRITTEN)),
         "NOTHING" => Ok(None),
-        _ => Err(stub::never("klsm_try_delete_min", code)),
+        _ => Err(stub::never(call, code)),
     }
+}
+
+/// What a deletion is to say, where its answer is shown so.
+fn expected(found: Result<Option<Item>, String>, shown: fn(Option<Item>) -> String) -> String {
+    match found {
+        Ok(answer) => shown(answer),
+        Err(panics) => panics,
+    }
+}
+
+fn of_sharing(name: &str, code: i32) -> String {
+    match name {
+        "OK" => "Ok(105)".to_string(),
+        "FULL" => "Err(Full)".to_string(),
+        "NO_MEMORY" => "Err(NoMemory)".to_string(),
+        _ => stub::never("klsm_try_share", code),
+    }
+}
+
+/// All codes but that of a held lock.
+fn codes() -> impl Iterator<Item = (&'static str, i32)> {
+    let codes = stub::codes().into_iter();
+    codes.filter(|(name, _)| *name != "BUSY")
 }
 
 #[test]
 fn what_waits_waits() {
-    for (name, code) in stub::codes()
-        .into_iter()
-        .filter(|(name, _)| *name != "BUSY")
-    {
+    for (name, code) in codes() {
         for held in [0, 1, 2, 45] {
             stub::answer_code(Call::TryInsert, held, code);
             assert_eq!(said(|member| member.insert(5, 6)), of_insertion(name, code));
             assert_inserts(held + 1);
             stub::answer_code(Call::TryDeleteMin, held, code);
-            let expected = match of_deletion(name, code) {
-                Ok(answer) => format!("{answer:?}"),
-                Err(panics) => panics,
-            };
-            assert_eq!(said(|member| member.delete_min()), expected);
+            let found = of_deletion(name, code, "klsm_try_delete_min");
+            let answer = said(|member| member.delete_min());
+            assert_eq!(answer, expected(found, |answer| format!("{answer:?}")));
             assert_asked(Call::TryDeleteMin, held + 1);
+            stub::answer_code(Call::TryDeleteMinAlone, held, code);
+            let found = of_deletion(name, code, "klsm_try_delete_min_alone");
+            let answer = said(|member| member.delete_min_alone());
+            assert_eq!(answer, expected(found, |answer| format!("{answer:?}")));
+            assert_asked(Call::TryDeleteMinAlone, held + 1);
+            stub::answer_code(Call::TryShare, held, code);
+            assert_eq!(said(|member| member.share()), of_sharing(name, code));
+            assert_asked(Call::TryShare, held + 1);
         }
     }
 }
 
 #[test]
 fn what_does_not_wait_asks_once() {
-    for (name, code) in stub::codes()
-        .into_iter()
-        .filter(|(name, _)| *name != "BUSY")
-    {
+    for (name, code) in codes() {
         stub::answer_code(Call::TryInsert, 0, code);
         assert_eq!(
             said(|member| member.try_insert(5, 6)),
@@ -86,12 +109,18 @@ fn what_does_not_wait_asks_once() {
         );
         assert_inserts(1);
         stub::answer_code(Call::TryDeleteMin, 0, code);
-        let expected = match of_deletion(name, code) {
-            Ok(answer) => format!("Ok({answer:?})"),
-            Err(panics) => panics,
-        };
-        assert_eq!(said(|member| member.try_delete_min()), expected);
+        let found = of_deletion(name, code, "klsm_try_delete_min");
+        let answer = said(|member| member.try_delete_min());
+        assert_eq!(answer, expected(found, |answer| format!("Ok({answer:?})")));
         assert_asked(Call::TryDeleteMin, 1);
+        stub::answer_code(Call::TryDeleteMinAlone, 0, code);
+        let found = of_deletion(name, code, "klsm_try_delete_min_alone");
+        let answer = said(|member| member.try_delete_min_alone());
+        assert_eq!(answer, expected(found, |answer| format!("Ok({answer:?})")));
+        assert_asked(Call::TryDeleteMinAlone, 1);
+        stub::answer_code(Call::TryShare, 0, code);
+        assert_eq!(said(|member| member.try_share()), of_sharing(name, code));
+        assert_asked(Call::TryShare, 1);
     }
 }
 
@@ -103,6 +132,12 @@ fn a_held_lock_is_busy() {
     stub::answer_code(Call::TryDeleteMin, 1, stub::code("OK"));
     assert_eq!(said(|member| member.try_delete_min()), "Err(Busy)");
     assert_asked(Call::TryDeleteMin, 1);
+    stub::answer_code(Call::TryDeleteMinAlone, 1, stub::code("OK"));
+    assert_eq!(said(|member| member.try_delete_min_alone()), "Err(Busy)");
+    assert_asked(Call::TryDeleteMinAlone, 1);
+    stub::answer_code(Call::TryShare, 1, stub::code("OK"));
+    assert_eq!(said(|member| member.try_share()), "Err(Busy)");
+    assert_asked(Call::TryShare, 1);
 }
 
 #[test]

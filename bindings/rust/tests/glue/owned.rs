@@ -52,18 +52,35 @@ fn what_waits_waits() {
         let item = member().delete_min().unwrap();
         assert_eq!((item.key, item.load), (101, 102));
         assert_asked(Call::TryDeleteMin, held + 1);
+        stub::answer_code(Call::TryDeleteMinAlone, held, stub::code("OK"));
+        let item = member().delete_min_alone().unwrap();
+        assert_eq!((item.key, item.load), (101, 102));
+        assert_asked(Call::TryDeleteMinAlone, held + 1);
+        stub::answer_code(Call::TryShare, held, stub::code("NO_MEMORY"));
+        assert_eq!(stub::said(|| member().share()), "Err(NoMemory)");
+        assert_asked(Call::TryShare, held + 1);
     }
 }
 
 #[test]
 fn what_does_not_wait_asks_once() {
-    for (held, inserted, deleted) in [(0, "Ok(())", "Ok(None)"), (1, "Err(Busy)", "Err(Busy)")] {
+    let busy = "Err(Busy)";
+    for (held, inserted, deleted, shared) in [
+        (0, "Ok(())", "Ok(None)", "Ok(105)"),
+        (1, busy, busy, busy),
+    ] {
         stub::answer_code(Call::TryInsert, held, stub::code("OK"));
         assert_eq!(stub::said(|| member().try_insert(5, 6)), inserted);
         assert_asked(Call::TryInsert, 1);
         stub::answer_code(Call::TryDeleteMin, held, stub::code("NOTHING"));
         assert_eq!(stub::said(|| member().try_delete_min()), deleted);
         assert_asked(Call::TryDeleteMin, 1);
+        stub::answer_code(Call::TryDeleteMinAlone, held, stub::code("NOTHING"));
+        assert_eq!(stub::said(|| member().try_delete_min_alone()), deleted);
+        assert_asked(Call::TryDeleteMinAlone, 1);
+        stub::answer_code(Call::TryShare, held, stub::code("OK"));
+        assert_eq!(stub::said(|| member().try_share()), shared);
+        assert_asked(Call::TryShare, 1);
     }
 }
 

@@ -16,6 +16,8 @@ pub enum Call {
     Close,
     Drop,
     Front,
+    TryDeleteMinAlone,
+    TryShare,
 }
 
 mod declared {

@@ -1,8 +1,8 @@
 //! The texts of errors, the greatest bound and depth of a key, and the version of the crate.
 
 use crate::stub;
-use klsm::{Busy, FinishError, InsertError, OpenError, Refused, TryInsertError};
-use klsm::{TypedFinishError, TypedQueue};
+use klsm::{Busy, FinishError, InsertError, OpenError, Refused, ShareError, TryInsertError};
+use klsm::{TryShareError, TypedFinishError, TypedQueue};
 use std::error::Error;
 
 const HEADER: &str = include_str!("../../../../include/klsm.h");
@@ -29,7 +29,7 @@ fn unfinished() -> TypedFinishError<Silent> {
 }
 
 /// Each error, and what it says: the words of klsm.h, or its own.
-fn texts() -> [(Box<dyn Error>, &'static str); 16] {
+fn texts() -> [(Box<dyn Error>, &'static str); 21] {
     let (memory, spent) = (of_code("NO_MEMORY"), of_code("SPENT"));
     let (busy, full) = (
         "a lock is held by another member",
@@ -57,6 +57,11 @@ fn texts() -> [(Box<dyn Error>, &'static str); 16] {
         (Box::new(TryInsertError::Busy), busy),
         (Box::new(TryInsertError::Full), full),
         (Box::new(TryInsertError::NoMemory), memory),
+        (Box::new(ShareError::Full), full),
+        (Box::new(ShareError::NoMemory), memory),
+        (Box::new(TryShareError::Busy), busy),
+        (Box::new(TryShareError::Full), full),
+        (Box::new(TryShareError::NoMemory), memory),
         (Box::new(FinishError::Shared), of_code("SHARED")),
         (Box::new(refused(InsertError::Spent)), spent),
         (Box::new(refused(TryInsertError::Busy)), busy),
@@ -100,6 +105,15 @@ fn an_error_of_an_insertion_stays_what_it_is() {
     assert_eq!(
         TryInsertError::from(InsertError::NoMemory),
         TryInsertError::NoMemory
+    );
+}
+
+#[test]
+fn an_error_of_a_sharing_stays_what_it_is() {
+    assert_eq!(TryShareError::from(ShareError::Full), TryShareError::Full);
+    assert_eq!(
+        TryShareError::from(ShareError::NoMemory),
+        TryShareError::NoMemory
     );
 }
 

@@ -2,7 +2,7 @@
 
 use crate::blocks::BLOCKS;
 use crate::stub::{self, Call};
-use klsm::{Pick, Refused, TypedItem, TypedQueue};
+use klsm::{Pick, Refused, ShareError, TryShareError, TypedItem, TypedQueue};
 use std::cell::Cell;
 
 thread_local! {
@@ -209,9 +209,59 @@ fn an_item_comes_with_its_payload() {
     stub::answer_code(Call::TryDeleteMin, 45, stub::code("OK"));
     assert_eq!(member.delete_min(), Some(item));
     assert_eq!(stub::asked(Call::TryDeleteMin), 46);
+    stub::answer_code(Call::TryDeleteMinAlone, 1, stub::code("OK"));
+    assert_eq!(format!("{:?}", member.try_delete_min_alone()), "Err(Busy)");
+    assert_eq!(member.try_delete_min_alone(), Ok(Some(item)));
+    stub::answer_code(Call::TryDeleteMinAlone, 45, stub::code("OK"));
+    assert_eq!(member.delete_min_alone(), Some(item));
+    let asked = [Call::TryDeleteMinAlone, Call::TryDeleteMin].map(stub::asked);
+    assert_eq!(asked, [46, 0]);
+    stub::answer(Call::TryDeleteMinAlone, stub::code("NOTHING") as u64);
+    assert_eq!(member.delete_min_alone(), None);
+    assert_eq!(member.try_delete_min_alone(), Ok(None));
     stub::answer(Call::TryDeleteMin, stub::code("NOTHING") as u64);
     assert_eq!(member.delete_min(), None);
     assert_eq!(member.try_delete_min(), Ok(None));
+}
+
+#[test]
+fn an_owned_member_deletes_alone_and_shares() {
+    let ok = stub::code("OK");
+    stub::begin();
+    let mut members = TypedQueue::<()>::new(3).unwrap().into_members();
+    let member = &mut members[1];
+    stub::answer_code(Call::TryDeleteMinAlone, 1, ok);
+    assert!(member.try_delete_min_alone().is_err());
+    assert_eq!(member.delete_min_alone().map(|item| item.key), Some(101));
+    stub::answer_code(Call::TryDeleteMinAlone, 1, ok);
+    assert_eq!(member.delete_min_alone().map(|item| item.key), Some(101));
+    assert_eq!(stub::asked(Call::TryDeleteMinAlone), 2);
+    stub::answer_code(Call::TryShare, 1, ok);
+    assert_eq!(member.try_share(), Err(TryShareError::Busy));
+    assert_eq!(member.try_share(), Ok(105));
+    stub::answer_code(Call::TryShare, 1, ok);
+    assert_eq!(member.share(), Ok(105));
+    assert_eq!(stub::asked(Call::TryShare), 2);
+}
+
+#[test]
+fn a_sharing_is_that_of_the_member() {
+    stub::begin();
+    let mut queue = TypedQueue::<String>::new(3).unwrap();
+    let slot = stub::argument(Call::OpenWithBalance, 0) + 128;
+    let mut member = queue.members().nth(1).unwrap();
+    for held in [0, 1, 45] {
+        stub::answer_code(Call::TryShare, held, stub::code("OK"));
+        assert_eq!(member.share(), Ok(105));
+        assert_eq!(stub::asked(Call::TryShare), held + 1);
+        assert_eq!(stub::argument(Call::TryShare, 0), slot);
+        stub::answer_code(Call::TryShare, held, stub::code("FULL"));
+        assert_eq!(member.share(), Err(ShareError::Full));
+        stub::answer_code(Call::TryShare, held, stub::code("NO_MEMORY"));
+        let tried = if held == 0 { TryShareError::NoMemory } else { TryShareError::Busy };
+        assert_eq!(member.try_share(), Err(tried));
+        assert_eq!(stub::asked(Call::TryShare), 1);
+    }
 }
 
 #[test]
