@@ -14,6 +14,10 @@
  * follows from it was opened. It is closed as done, or as given up, where a thread leaves it unfinished; an open
  * piece that no thread closes keeps the crew waiting until klsm_work_stop.
  *
+ * A deletion may have brought more items home than the one that it gave, and the others come to these last. So a thread
+ * calls klsm_share before it works on a piece for long, and before it leaves the crew while work is open; where it
+ * leaves since the crew was stopped, it need not.
+ *
  * A klsm_work is all bytes 0 at first and aligned to 128 bytes, as a klsm_queue is, and is neither copied nor written
  * otherwise while threads use it. Any thread may make these calls, at any time, but for klsm_work_insert and
  * klsm_work_next, which are calls of their member too. What a thread wrote before it closed a piece is seen by those

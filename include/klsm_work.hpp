@@ -7,6 +7,9 @@
 //         if (work.insert(member, .., piece->load - 1) != klsm::code::ok) ..
 //         piece.done();                                    // one that is left before is given up
 //     }
+//
+// A thread calls member.share() before it works on a piece for long, and before it leaves while work is open:
+// klsm_work.h says why.
 #ifndef KLSM_WORK_HPP
 #define KLSM_WORK_HPP
 
