@@ -132,7 +132,7 @@ static void finds(const char *name, int alone) {
     uint64_t early = 0;
     greatest = alone ? 0 : REFILL;
     parked = greatest + CHILDREN;
-    for (int round = 0; round < ROUNDS && !is_soon; round++) {
+    for (int round = 0; round < ROUNDS && all && !is_soon; round++) {
         double last = 0;
         run(alone);
         for (size_t t = 1; t < THREADS; t++) {
@@ -140,8 +140,8 @@ static void finds(const char *name, int alone) {
             is_right = is_right && crew[t].is_right;
             last = crew[t].last > last ? crew[t].last : last;
         }
-        all = all && as_told && found == parked;
-        is_soon = last - shared_at < 0.01;
+        all = as_told && found == parked;
+        is_soon = all && last < shared_at + 0.01;
     }
     check(name, all);
     check("the others find none of that before it is shared", early == 0);
