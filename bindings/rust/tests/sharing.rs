@@ -66,6 +66,7 @@ of!(klsm::OwnedTypedMember<String>, |key: u64| key.to_string(), key_of_text);
 /// Two members of k = 8 and a refill of 4, in what each kind of queue calls them.
 fn with_each_kind(test: fn(&mut dyn Member, &mut dyn Member)) {
     let open = || Queue::builder(2).k(8).refill(4).clone();
+    let typed = || -> TypedQueue<String> { open().open_typed().unwrap() };
     fn both<M: Member>(members: impl IntoIterator<Item = M>, test: fn(&mut dyn Member, &mut dyn Member)) {
         let mut members = members.into_iter();
         let (mut one, mut other) = (members.next().unwrap(), members.next().unwrap());
@@ -73,9 +74,8 @@ fn with_each_kind(test: fn(&mut dyn Member, &mut dyn Member)) {
     }
     both(open().open().unwrap().members(), test);
     both(open().open().unwrap().into_members(), test);
-    let mut typed: TypedQueue<String> = open().open_typed().unwrap();
-    both(typed.members(), test);
-    both(typed.into_members(), test);
+    both(typed().members(), test);
+    both(typed().into_members(), test);
 }
 
 #[test]
