@@ -96,9 +96,9 @@ fn a_pick_and_a_seed_arrive() {
         }
         other.delete_min().unwrap().key
     };
-    assert_eq!(first_of(&mut Queue::builder(2)), 0);
-    assert_eq!(first_of(Queue::builder(2).pick(Pick::Last)), 64);
-    let by_seed = |seed| first_of(Queue::builder(2).pick(Pick::Random).seed(seed));
+    assert_eq!(first_of(Queue::builder(2).k(64)), 0);
+    assert_eq!(first_of(Queue::builder(2).k(64).pick(Pick::Last)), 64);
+    let by_seed = |seed| first_of(Queue::builder(2).k(64).pick(Pick::Random).seed(seed));
     assert!((0..20).any(|seed| by_seed(seed) != by_seed(20)));
     assert_eq!(by_seed(3), by_seed(3));
 }
