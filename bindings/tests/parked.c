@@ -101,13 +101,13 @@ static void *work_on_others(void *arg) {
     return NULL;
 }
 
-/* All pieces are shared at first. */
+/* All pieces are shared at first. A balance would let the others find some that are parked before they are shared. */
 static void begin(void) {
     uint64_t moved;
     memset(&work, 0, sizeof work);
     is_taken = is_shared = 0;
     done = found = 0;
-    check_or_stop("open", klsm_open_default(&queue, THREADS) == KLSM_OK);
+    check_or_stop("open", klsm_open_with_refill(&queue, THREADS, KLSM_DEFAULT_K, KLSM_FIRST, 0, REFILL) == KLSM_OK);
     for (size_t t = 0; t < THREADS; t++)
         crew[t] = (thread){.member = &queue.members[t], .is_right = 1};
     for (uint64_t i = 0; i < ITEMS; i++)

@@ -194,7 +194,8 @@ fn a_crew_finds_what_one_of_its_threads_shared() {
         let [taken, done, shared, early, found] = [0; 5].map(AtomicU64::new);
         let work = Work::new();
         let crew = Crew { work, taken, done, shared, early, found };
-        let mut queue = Queue::new(4).unwrap();
+        // A balance would let them find some before.
+        let mut queue = Queue::builder(4).balance(0).open().unwrap();
         let mut first = queue.members().nth(1).unwrap();
         for key in 0..40_000 {
             crew.work.insert(&mut first, key, 0).unwrap();
