@@ -1,0 +1,115 @@
+"""The program as a co-process, whose input stays open while it is asked: a replay answers each row before the next one is
+written, and behind a row that is refused no command waits for more or reads on.
+
+The scripts and their answers are those of `examples`.
+"""
+
+import functools
+import os
+import select
+import subprocess
+import tempfile
+import time
+
+from cases import difference, lines_of, read
+from process import PROGRAM, ROOT
+
+# A row is answered at once, and a program that waits for another one never ends.
+PATIENCE = 20
+
+# The program asks for so many bytes at a time, at most.
+BLOCK = 64 * 1024
+
+
+class Driven:
+    """A run whose rows are given one by one."""
+
+    def __init__(self, words):
+        self.process = subprocess.Popen([PROGRAM, *words], stdin=subprocess.PIPE, stdout=subprocess.PIPE,
+                                        stderr=subprocess.DEVNULL, bufsize=0)
+        self.answer = b""
+
+    def give(self, row):
+        try:
+            self.process.stdin.write(row)
+        except BrokenPipeError:
+            pass
+
+    def hear(self, lines):
+        """Waits until so many lines were answered, or the program has ended. Says whether it has."""
+        until = time.monotonic() + PATIENCE
+        while self.answer.count(b"\n") < lines:
+            ready, _, _ = select.select([self.process.stdout], [], [], max(0, until - time.monotonic()))
+            if not ready:
+                raise subprocess.TimeoutExpired(PROGRAM, PATIENCE)
+            more = os.read(self.process.stdout.fileno(), BLOCK)
+            if not more:
+                return True
+            self.answer += more
+        return False
+
+    def end(self):
+        self.process.kill()
+        self.process.wait()
+        self.process.stdin.close()
+        self.process.stdout.close()
+
+
+def parts_of(stem):
+    """The words, the rows, and the whole answer of a case."""
+    of = {kind: read(stem.with_suffix(f".{kind}")) for kind in ("args", "csv", "txt")}
+    return lines_of(of["args"] or b"replay\n"), of["csv"].splitlines(keepends=True), of["txt"]
+
+
+def row_by_row(stem):
+    """Each row of a replay is answered by its line, while the input stays open."""
+    words, rows, wanted = parts_of(stem)
+    run = Driven(words)
+    try:
+        for number, row in enumerate(rows, 1):
+            run.give(row)
+            if run.hear(number):
+                break
+        else:
+            run.process.stdin.close()
+            run.hear(float("inf"))
+        return None if run.answer == wanted else difference(run.answer, wanted)
+    finally:
+        run.end()
+
+
+def ends_at_a_refusal(stem):
+    """All is answered behind a row that is refused, while the input stays open."""
+    words, rows, wanted = parts_of(stem)
+    run = Driven(words)
+    try:
+        for row in rows:
+            run.give(row)
+        run.hear(float("inf"))
+        return None if run.answer == wanted else difference(run.answer, wanted)
+    finally:
+        run.end()
+
+
+def reads_no_further(stem):
+    """Of what stands far behind a row that is refused nothing is read."""
+    words, rows, wanted = parts_of(stem)
+    with tempfile.TemporaryFile() as file:
+        file.write(b"".join(rows) + rows[0] * (32 * BLOCK // len(rows[0])))
+        file.seek(0)
+        ran = subprocess.run([PROGRAM, *words], stdin=file, stdout=subprocess.PIPE, stderr=subprocess.DEVNULL,
+                             timeout=PATIENCE, check=False)
+        read_bytes = os.lseek(file.fileno(), 0, os.SEEK_CUR)
+    if ran.stdout != wanted:
+        return difference(ran.stdout, wanted)
+    return f"{read_bytes} bytes were read" if read_bytes > len(b"".join(rows)) + BLOCK else None
+
+
+def checks():
+    for stem in sorted(it.with_suffix("") for it in (ROOT / "examples").glob("*.csv")):
+        words = parts_of(stem)[0]
+        if words[0] == b"replay":
+            yield f"row by row: {stem.name}", functools.partial(row_by_row, stem)
+        if stem.name.startswith("refused"):
+            yield f"it ends at a refusal: {stem.name}", functools.partial(ends_at_a_refusal, stem)
+            yield f"it reads no further: {stem.name}", functools.partial(reads_no_further, stem)
