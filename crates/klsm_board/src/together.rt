@@ -184,11 +184,7 @@ impl<const CAP: usize, const LEVELS: usize> AllMembers<CAP, LEVELS> {
 
     /// Moves all items of an own part to the shared one, as the member of this number does (`Member::try_share`), and answers
     /// how many moved. It is never refused for a lock, as no other member is within a call.
-    pub fn share(
-        &mut self,
-        board: &Board<CAP, LEVELS>,
-        number: u32,
-    ) -> Result<usize, ShareError>
+    pub fn share(&mut self, board: &Board<CAP, LEVELS>, number: u32) -> Result<usize, ShareError>
         requires of { AreOf self.old board.now }
         requires number { number < (sizes_of_all self.old).threads }
         ensures same { ActsFor number self.old self.new }

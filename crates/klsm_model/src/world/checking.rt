@@ -11,7 +11,9 @@ ghost use Rattle.klsm_world.specs.Schedules.{MayStep, NamesFront};
 ghost use Rattle.klsm_world.specs.Worlds.{content_of, hand_in, steps_of, word_of};
 
 use super::World;
-use crate::conditions::{may_flush, may_refill, may_share, may_spy, may_steal, may_take, may_take_early};
+use crate::conditions::{
+    may_flush, may_refill, may_share, may_spy, may_steal, may_take, may_take_early,
+};
 use crate::errors::StepError;
 use klsm_run::Item;
 use klsm_world::{Event, Step};

@@ -99,7 +99,10 @@ const STEPS: &[(Row, Option<StepError>)] = &[
     (Row::Share(1, Moved::One(SEVEN)), Some(StepError::NotHeld)),
     (Row::Share(0, Moved::None), Some(StepError::WrongEvent)),
     (Row::Share(0, Moved::One(TWO)), Some(StepError::WrongEvent)),
-    (Row::Share(0, Moved::One(SEVEN)), Some(StepError::WrongEvent)),
+    (
+        Row::Share(0, Moved::One(SEVEN)),
+        Some(StepError::WrongEvent),
+    ),
     (Row::Nothing(3), Some(StepError::NoSuchPart)),
     (Row::Nothing(2), Some(StepError::NotHeld)),
     (Row::Nothing(1), Some(StepError::NotHeld)),
