@@ -49,5 +49,10 @@ class Medians:
         return list(found)
 
 
+def numbers_of(parameter):
+    """The numbers of a setting of ours, such as k=1024; refill=64; balance=16."""
+    return {name: int(value) for name, value in (part.split("=") for part in parameter.split("; "))}
+
+
 def default_csv():
     return os.path.join(os.path.dirname(os.path.realpath(__file__)), "results.csv")
