@@ -5,6 +5,7 @@ The scripts and their answers are those of `examples`.
 """
 
 import functools
+import math
 import os
 import select
 import subprocess
@@ -61,31 +62,19 @@ def parts_of(stem):
     return lines_of(of["args"] or b"replay\n"), of["csv"].splitlines(keepends=True), of["txt"]
 
 
-def row_by_row(stem):
-    """Each row of a replay is answered by its line, while the input stays open."""
+def answers(stem, rows_are_answered):
+    """The answer is that of the case while the input stays open. A replay answers each row by a line before it is given
+    the next one; what is refused ends the program, and what is not ends with the input."""
     words, rows, wanted = parts_of(stem)
     run = Driven(words)
     try:
         for number, row in enumerate(rows, 1):
             run.give(row)
-            if run.hear(number):
+            if rows_are_answered and run.hear(number):
                 break
-        else:
+        if not stem.name.startswith("refused"):
             run.process.stdin.close()
-            run.hear(float("inf"))
-        return None if run.answer == wanted else difference(run.answer, wanted)
-    finally:
-        run.end()
-
-
-def ends_at_a_refusal(stem):
-    """All is answered behind a row that is refused, while the input stays open."""
-    words, rows, wanted = parts_of(stem)
-    run = Driven(words)
-    try:
-        for row in rows:
-            run.give(row)
-        run.hear(float("inf"))
+        run.hear(math.inf)
         return None if run.answer == wanted else difference(run.answer, wanted)
     finally:
         run.end()
@@ -109,7 +98,7 @@ def checks():
     for stem in sorted(it.with_suffix("") for it in (ROOT / "examples").glob("*.csv")):
         words = parts_of(stem)[0]
         if words[0] == b"replay":
-            yield f"row by row: {stem.name}", functools.partial(row_by_row, stem)
+            yield f"row by row: {stem.name}", functools.partial(answers, stem, True)
         if stem.name.startswith("refused"):
-            yield f"it ends at a refusal: {stem.name}", functools.partial(ends_at_a_refusal, stem)
+            yield f"it ends at a refusal: {stem.name}", functools.partial(answers, stem, False)
             yield f"it reads no further: {stem.name}", functools.partial(reads_no_further, stem)
