@@ -1,9 +1,9 @@
 /* What single calls cost through klsm.h: medians of five rounds, in nanoseconds. One thread. */
 #define _POSIX_C_SOURCE 200809L
+#include "clock.h"
 #include "klsm.h"
 #include <stdio.h>
 #include <stdlib.h>
-#include <time.h>
 
 enum { ROUNDS = 5, CALLS = 2000000 };
 
@@ -51,27 +51,16 @@ static void insert_and_delete(void) {
     result = sum;
 }
 
-static double now(void) {
-    struct timespec time;
-    clock_gettime(CLOCK_MONOTONIC, &time);
-    return (double)time.tv_sec * 1e9 + (double)time.tv_nsec;
-}
-
-static int order(const void *a, const void *b) {
-    const double *x = a, *y = b;
-    return (*x > *y) - (*x < *y);
-}
-
 static void print(const char *name, void (*calls)(void)) {
-    double times[ROUNDS];
+    uint64_t times[ROUNDS];
     calls();
     for (int round = 0; round < ROUNDS; round++) {
-        double start = now();
+        uint64_t start = now();
         calls();
-        times[round] = (now() - start) / CALLS;
+        times[round] = now() - start;
     }
     qsort(times, ROUNDS, sizeof *times, order);
-    printf("%s %.1f\n", name, times[ROUNDS / 2]);
+    printf("%s %.1f\n", name, (double)times[ROUNDS / 2] / CALLS);
 }
 
 int main(void) {

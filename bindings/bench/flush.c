@@ -5,10 +5,10 @@
  *
  *     flush [ITEMS]      so many items at first, 100,000 where nothing is said */
 #define _POSIX_C_SOURCE 200809L
+#include "clock.h"
 #include "klsm.h"
 #include <stdio.h>
 #include <stdlib.h>
-#include <time.h>
 
 enum { ITEMS_THAT_MOVE = 1 << 20 };
 
@@ -22,31 +22,20 @@ static uint64_t random_key(void) {
     return state;
 }
 
-static double now(void) {
-    struct timespec time;
-    clock_gettime(CLOCK_MONOTONIC, &time);
-    return (double)time.tv_sec * 1e6 + (double)time.tv_nsec / 1e3;
-}
-
 static void insert(void) {
     if (klsm_insert(&queue.members[0], random_key(), 0) != KLSM_OK) abort();
 }
 
-static int order(const void *a, const void *b) {
-    const double *x = a, *y = b;
-    return (*x > *y) - (*x < *y);
-}
-
 static void measure(size_t k, uint64_t items) {
-    static double times[ITEMS_THAT_MOVE];
+    static uint64_t times[ITEMS_THAT_MOVE];
     const size_t count = ITEMS_THAT_MOVE / k;
-    double sum = 0;
+    uint64_t sum = 0;
     if (klsm_open(&queue, 1, k, KLSM_FIRST, 0) != KLSM_OK) abort();
     /* Behind so many insertions the own part has k items, as one block. */
     for (uint64_t i = 0; i < (items / k + 1) * k; i++)
         insert();
     for (size_t i = 0; i < count; i++) {
-        double start = now();
+        uint64_t start = now();
         insert();
         times[i] = now() - start;
         sum += times[i];
@@ -54,8 +43,9 @@ static void measure(size_t k, uint64_t items) {
             insert();
     }
     qsort(times, count, sizeof *times, order);
-    printf("k %zu: median %.1f, one in a hundred %.1f, greatest %.1f us; %.1f ns an item\n", k, times[count / 2],
-           times[count - count / 100 - 1], times[count - 1], sum * 1e3 / ITEMS_THAT_MOVE);
+    printf("k %zu: median %.1f, one in a hundred %.1f, greatest %.1f us; %.1f ns an item\n", k,
+           (double)times[count / 2] / 1e3, (double)times[count - count / 100 - 1] / 1e3,
+           (double)times[count - 1] / 1e3, (double)sum / ITEMS_THAT_MOVE);
     klsm_drop(&queue);
 }
 

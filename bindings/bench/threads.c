@@ -1,12 +1,12 @@
 /* What threads take that insert and delete in turn, with keys at random and at a hold: a queue with k = 64 and
  * no refill through klsm.h, and a binary heap in C behind a mutex of pthreads. */
 #define _POSIX_C_SOURCE 200809L
+#include "clock.h"
 #include "klsm.h"
 #include <pthread.h>
 #include <stdio.h>
 #include <stdlib.h>
 #include <string.h>
-#include <time.h>
 
 enum { ROUNDS = 5, PAIRS = 50000, FILLINGS = 1000, K = 64, MOST_THREADS = 4 };
 
@@ -145,12 +145,6 @@ static void *work(void *arg) {
     return NULL;
 }
 
-static uint64_t now(void) {
-    struct timespec time;
-    clock_gettime(CLOCK_MONOTONIC, &time);
-    return (uint64_t)time.tv_sec * 1000000000 + (uint64_t)time.tv_nsec;
-}
-
 /* Nanoseconds of a round in which each worker has a thread of its own. (Where one of them was the
  * caller's, the others were slow to start.) */
 static uint64_t time_round(worker *crew, size_t threads) {
@@ -175,11 +169,6 @@ static int fill(worker *crew, size_t threads, size_t share) {
                 return 0;
     }
     return 1;
-}
-
-static int order(const void *a, const void *b) {
-    const uint64_t *x = a, *y = b;
-    return (*x > *y) - (*x < *y);
 }
 
 /* The median, in tenths of nanoseconds for each of so many operations. */
