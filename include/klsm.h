@@ -493,10 +493,15 @@ KLSM_INLINE void klsm_look_away(uint32_t nanoseconds) {
     while (__builtin_ia32_rdtsc() - begin < UINT64_C(3) * nanoseconds);
 }
 
+/* For less than a second. select is declared under each standard. */
+KLSM_INLINE void klsm_sleep(long microseconds) {
+    struct timeval length = {0, microseconds};
+    select(0, NULL, NULL, NULL, &length);
+}
+
 KLSM_INLINE void klsm_wait(klsm_pause *pause) {
     if (pause->misses >= 200) {
-        struct timeval sleep = {0, 50}; /* microseconds; select is declared under each standard */
-        select(0, NULL, NULL, NULL, &sleep);
+        klsm_sleep(50);
         return;
     }
     klsm_look_away(pause->length);

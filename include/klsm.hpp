@@ -175,7 +175,7 @@ public:
     // the queue is closed.
     [[nodiscard]] std::optional<item> delete_min() noexcept {
         item deleted;
-        if (at_ == nullptr || klsm_delete_min(at_, &deleted) != KLSM_OK) return std::nullopt;
+        if (delete_min(deleted) != code::ok) return std::nullopt;
         return deleted;
     }
     // The same with a code, which tells a member that is not open from a queue where it found nothing. `deleted`
@@ -193,8 +193,8 @@ public:
     }
     // The same four for items each of which is worked on for long: no items move to the own part behind them.
     [[nodiscard]] std::optional<item> delete_min_alone() noexcept {
-        std::optional<item> deleted;
-        static_cast<void>(delete_min_alone(deleted));
+        item deleted;
+        if (delete_min_alone(deleted) != code::ok) return std::nullopt;
         return deleted;
     }
     [[nodiscard]] klsm::code delete_min_alone(item &deleted) noexcept {

@@ -168,8 +168,7 @@ KLSM_INLINE void klsm_work_wait(klsm_pause *pause) {
         klsm_wait(pause);
         return;
     }
-    struct timeval sleep = {0, 50 << (pause->misses - 200)};
-    select(0, NULL, NULL, NULL, &sleep);
+    klsm_sleep(50L << (pause->misses - 200));
     pause->misses += pause->misses < 203;
 }
 

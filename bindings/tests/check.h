@@ -6,6 +6,7 @@
 #include "klsm.h"
 #include <stdio.h>
 #include <stdlib.h>
+#include <time.h>
 
 static int check_failures = 0;
 
@@ -35,6 +36,13 @@ static inline void check_or_stop(const char *name, int holds) {
 
 /* The status of the program. */
 static inline int check_status(void) { return check_failures > 0; }
+
+/* The time, in seconds. */
+static inline double check_now(void) {
+    struct timespec now;
+    timespec_get(&now, TIME_UTC);
+    return (double)now.tv_sec + (double)now.tv_nsec * 1e-9;
+}
 
 /* A generator of numbers for tests: splitmix64. */
 static inline uint64_t check_random(uint64_t *state) {

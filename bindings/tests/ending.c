@@ -3,7 +3,6 @@
 #include "check.h"
 #include <pthread.h>
 #include <signal.h>
-#include <time.h>
 
 enum { THREADS = 16, ROUNDS = 50 };
 
@@ -23,17 +22,10 @@ static thread crew[THREADS];
 static void (*act)(void);
 static double left_at;
 
-static double now(void) {
-    struct timespec now;
-    timespec_get(&now, TIME_UTC);
-    return (double)now.tv_sec + (double)now.tv_nsec * 1e-9;
-}
-
 /* The others wait by now, and sleep for as long as they ever do. */
 static void wait_and_leave(void) {
-    struct timeval sleep = {0, 20000};
-    select(0, NULL, NULL, NULL, &sleep);
-    left_at = now();
+    klsm_sleep(20000);
+    left_at = check_now();
 }
 
 static void *run(void *arg) {
@@ -59,7 +51,7 @@ static double run_all(void) {
     }
     for (size_t t = 0; t < THREADS; t++)
         pthread_join(threads[t], NULL);
-    return now() - left_at;
+    return check_now() - left_at;
 }
 
 /* All see this end, within ten milliseconds in the best of some rounds, since other programs run too. So many pieces

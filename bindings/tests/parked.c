@@ -4,7 +4,6 @@
 #include "check.h"
 #include <pthread.h>
 #include <string.h>
-#include <time.h>
 
 enum { THREADS = 4, REFILL = KLSM_DEFAULT_REFILL, CHILDREN = 4, ITEMS = 40000, BEFORE = 200, ROUNDS = 20 };
 
@@ -34,16 +33,7 @@ typedef struct thread {
 
 static thread crew[THREADS];
 
-static double now(void) {
-    struct timespec now;
-    timespec_get(&now, TIME_UTC);
-    return (double)now.tv_sec + (double)now.tv_nsec * 1e-9;
-}
-
-static void work_for_a_while(void) {
-    struct timeval sleep = {0, 50};
-    select(0, NULL, NULL, NULL, &sleep);
-}
+static void work_for_a_while(void) { klsm_sleep(50); }
 
 static uint64_t value_of(const uint64_t *count) { return __atomic_load_n(count, __ATOMIC_RELAXED); }
 static void count_in(uint64_t *count) { __atomic_fetch_add(count, 1, __ATOMIC_RELAXED); }
@@ -65,10 +55,10 @@ static void *work_for_long(void *takes) {
     __atomic_store_n(&is_taken, 1, __ATOMIC_RELAXED);
     while (value_of(&done) < BEFORE)
         work_for_a_while();
-    shared_at = now();
+    shared_at = check_now();
     __atomic_store_n(&is_shared, 1, __ATOMIC_RELAXED);
     as_told = as_told && klsm_share(member, &moved) == KLSM_OK && moved == parked;
-    while (value_of(&found) < parked && now() < shared_at + 1)
+    while (value_of(&found) < parked && check_now() < shared_at + 1)
         work_for_a_while();
     klsm_work_stop(&work);
     klsm_work_done(&work);
@@ -81,7 +71,7 @@ static void see(thread *mine, const klsm_item *item) {
     if (item->key > greatest)
         return;
     if (__atomic_load_n(&is_shared, __ATOMIC_RELAXED))
-        mine->last = now();
+        mine->last = check_now();
     else
         mine->early++;
     count_in(&found);
