@@ -202,18 +202,25 @@ END
     echo use | diff - "$work/seen"
 }
 
+# refused_for WORDS SOURCE FLAGS..: the compiler refuses what lies in the temporary folder, and says these words.
+refused_for() {
+    words=$1
+    source=$2
+    shift 2
+    compile "$work/$source" "$work/$source.o" -c "$@" 2>"$work/errors" && return 1
+    grep "$words" "$work/errors" || { cat "$work/errors" && return 1; }
+}
+
 # refused_elsewhere SOURCE HEADER WORDS FLAG: what the header says to a compiler with this flag.
 refused_elsewhere() {
     printf '#include <%s>\n' "$2" >"$work/$1"
-    compile "$work/$1" "$work/$1.o" -c "$4" 2>"$work/errors" && return 1
-    grep "#error.*$3" "$work/errors" || { cat "$work/errors" && return 1; }
+    refused_for "#error.*$3" "$1" "$4"
 }
 
 # A payload that cannot be moved without an exception is refused with a text.
 refused_payload() {
     printf '#include <klsm.hpp>\n#include <deque>\nklsm::typed_queue<std::deque<int>> queue(1);\n' >"$work/payload.cpp"
-    compile "$work/payload.cpp" "$work/payload.o" -c 2>"$work/errors" && return 1
-    grep "put one of this type into a std::unique_ptr" "$work/errors" || { cat "$work/errors" && return 1; }
+    refused_for "put one of this type into a std::unique_ptr" payload.cpp
 }
 
 # Two parts of a program, compiled with headers of two versions: each has its own, and no queue passes between them.
