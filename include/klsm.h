@@ -297,10 +297,10 @@ KLSM_MUST_USE KLSM_NOT_NULL(1, 2)
 int32_t klsm_try_share(klsm_member *member, uint64_t *moved);
 
 /* The front: the key of the smallest shared item, and UINT64_MAX where no item is shared, or the member is not
- * open. Items in members' own parts may have smaller keys, of which others have at most (T-1)*k. So it is a
- * bound of what the shared part may still give. The proof says it of a state of the queue that the member
- * cannot tell from the present one. The member's thread, one call at a time. Takes no lock and never
- * blocks. */
+ * open. Items in members' own parts may have smaller keys, of which others have at most (T-1)*k, and a smaller one
+ * may be shared right after the call. So it is no bound of what is left: it is what the shared part had at the
+ * moment of the call, of use to a thread that asks whether another deletion is worth its while. The member's
+ * thread, one call at a time. Takes no lock and never blocks. */
 KLSM_NOT_NULL(1) uint64_t klsm_front(klsm_member *member);
 
 /* How many insertions and deletions of the member returned KLSM_OK since the queue was opened; 0

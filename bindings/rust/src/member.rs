@@ -204,9 +204,8 @@ impl<'queue> Member<'queue> {
 
     /// The front: the key of the smallest shared item, and `u64::MAX` where no item is shared.
     ///
-    /// Items that members keep for themselves may have smaller keys: those of the others are at most
-    /// (T-1)·k. The proof says it of a state of the queue that the member cannot tell from the present one.
-    /// It takes no lock.
+    /// Items that members keep for themselves may have smaller keys, those of the others at most (T-1)·k, and
+    /// a smaller one may be shared right after the call. So it is no bound of what is left. It takes no lock.
     #[must_use]
     pub fn front(&mut self) -> u64 {
         // SAFETY: as in `insertion`.
