@@ -1,9 +1,12 @@
 """The pages and the names: what a link leads to is there, no line is wider than 120, a definition's name stands once in
-the `specs/` of all crates, an edit says first by which clause it is refused, the libraries are as many as is said, and
-the tables of figures are those of bench/results.csv.
+the `specs/` of all crates, and where a page says that it does, each name that a page has in quotes stands in some source
+file, an edit says first by which clause it is refused, the libraries are as many as is said, and the tables of figures
+are those of bench/results.csv.
 """
 
 import functools
+import os
+import pathlib
 import re
 import subprocess
 import sys
@@ -17,6 +20,9 @@ NUMBERS = "no one two three four five six seven eight nine ten eleven twelve thi
 seventeen eighteen nineteen twenty".split()
 
 TESTS = {"klsm_tests", "klsm_program_tests", "klsm_test_support"}
+# Names of the kit and of others' programs, and those that are put together where they are used.
+FOREIGN = {"BUILD", "bazel", "start_io", "also_shares", "crossbeam_utils", "Backoff", "longjmp", "memmove",
+           "latency_insert_", "libklsm2_VERSION_amd64"}
 LITERAL = re.compile(r"\b(1024|1_024|67108864|67_108_864|64 21)\b|(Board|Members?)(<| )\d|(≤|<=) (16|21|64|128|129)\b"
                      r"|(?<!<)< (16|21|129)\b|(?<![*^<>] )\b(16|21|64|128|129) (≤|<(?!<))")
 
@@ -63,6 +69,45 @@ def names():
     return f"stand more than once: {twice}" if twice else None
 
 
+@functools.cache
+def words(file):
+    return set(re.findall(r"\w+", file.read_text(errors="ignore")))
+
+
+def definitions():
+    """Of a name that leads to a file of definitions, or of code: that file has it."""
+    absent = []
+    for page, text in pages():
+        for name, path in re.findall(r"\[`([^`]+)`\]\(([^)#]+\.(?:antt|rt))\)", text):
+            led = (page.parent / path).resolve()
+            if led.exists() and not words(led).issuperset(re.findall(r"\w+", name)):
+                absent.append(f"{page.relative_to(ROOT)}: {name} in {path}")
+    return f"do not stand there: {absent}" if absent else None
+
+
+def sources():
+    """The files of the repository, without what is built."""
+    for folder, folders, files in os.walk(ROOT):
+        folders[:] = [name for name in folders if name not in ("out", "target", ".git", "__pycache__")]
+        yield from (pathlib.Path(folder, file) for file in files)
+
+
+def quoted():
+    """A name in quotes is a word of a source file, or of its path. The changelog may have names of before."""
+    there = set()
+    for file in sources():
+        there.update(re.findall(r"\w+", file.relative_to(ROOT).as_posix()))
+        if file.suffix not in (".md", ".svg", ".csv"):
+            there.update(words(file))
+    absent = defaultdict(set)
+    for page, text in pages():
+        for name in re.findall(r"`([\w.:()]+)`", text) if page.name != "CHANGELOG.md" else ():
+            for word in set(re.findall(r"\w+", name)) - there - FOREIGN:
+                if not word.endswith("_") or not any(other.startswith(word) for other in there):
+                    absent[page.relative_to(ROOT).as_posix()].add(word)
+    return f"stand in no source: {dict(absent)}" if absent else None
+
+
 def edits():
     silent = [edit.name for edit in ROOT.glob("crates/*/must-fail/*.edit") if not edit.read_text().startswith("# refused by: ")]
     return f"name no clause first: {silent}" if silent else None
@@ -97,6 +142,8 @@ def checks():
     yield "pages: links", links
     yield "pages: widths", widths
     yield "pages: a definition's name stands once", names
+    yield "pages: a definition stands where a page says", definitions
+    yield "pages: names in quotes stand in the sources", quoted
     yield "pages: the clause that refuses an edit", edits
     yield "pages: how many libraries there are", libraries
     yield "pages: limits by their names", limits
