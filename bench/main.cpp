@@ -49,6 +49,7 @@ std::vector<job> jobs_of(const bench &with) {
     add("work", work_jobs);
     add("latency", latency_jobs);
     add("rank", rank_jobs);
+    add("worst", worst_jobs);
     add("search", search_jobs);
     add("paths", paths_jobs);
     return all;

@@ -104,8 +104,8 @@ std::vector<figure> ranks_by_turns(const subject &one, const workload &load, std
 }
 
 std::vector<figure> ranks_in_threads(const subject &one, const workload &load, std::size_t steps,
-                                     const placing &where) {
-    const std::vector<life> lives = lives_of(one.in_threads(load, steps, where));
+                                     const placing &where, double stop) {
+    const std::vector<life> lives = lives_of(one.in_threads(load, steps, where, stop));
     const rank_errors sure = certain(lives);
     check_bound(one, load.threads, sure);
     std::vector<figure> figures = figures_of("rank_threads", replayed(lives));
@@ -114,18 +114,70 @@ std::vector<figure> ranks_in_threads(const subject &one, const workload &load, s
     return figures;
 }
 
-void measure_ranks(const bench &with, const workload &load, const chosen &some) {
-    const cell in{load.threads, name_of(load.what), load.items};
-    const std::size_t steps = with.given.rank_calls / load.calls_of_a_step();
+void add_bounds(const bench &with, const chosen &some, const cell &in) {
     for (const subject *one : some)
-        if (one->k != 0) with.to.add(*one, in, {"rank_bound", "items", double(load.threads * one->k)});
-    with.to.compare(some, in, 1,
-                    [&](const subject &one, std::size_t) { return ranks_by_turns(one, load, steps); });
+        if (one->k != 0) with.to.add(*one, in, {"rank_bound", "items", double(in.threads * one->k)});
+}
+
+// Rank errors of threads, in all rounds, of which one is stopped for so many seconds.
+void measure_ranks_in_threads(const bench &with, const workload &load, const chosen &some, const cell &in,
+                              double stop) {
+    const std::size_t steps = with.given.rank_calls / load.calls_of_a_step();
     with.to.compare(some, in, with.given.rounds, [&](const subject &one, std::size_t round) {
         workload other = load;
         other.seed = round;
-        return ranks_in_threads(one, other, steps, with.where);
+        return ranks_in_threads(one, other, steps, with.where, stop);
     });
+}
+
+void measure_ranks(const bench &with, const workload &load, const chosen &some) {
+    const cell in{load.threads, name_of(load.what), load.items};
+    const std::size_t steps = with.given.rank_calls / load.calls_of_a_step();
+    add_bounds(with, some, in);
+    with.to.compare(some, in, 1,
+                    [&](const subject &one, std::size_t) { return ranks_by_turns(one, load, steps); });
+    measure_ranks_in_threads(with, load, some, in, 0);
+}
+
+// Those that are measured everywhere and, in a whole run, all settings of those that may pass over items.
+chosen those_at_worst(const bench &with) {
+    chosen found;
+    for (const subject &one : with.all) {
+        if (one.is_for_one_thread || one.keeps_processors) continue;
+        const bool is_setting = one.takes == part::as_setting && !one.is_exact && with.given.has_worst_settings;
+        if (one.takes == part::everywhere || is_setting) found.push_back(&one);
+    }
+    return found;
+}
+
+// A job that measures rank errors and speed with so many threads, which may be more than there are processors.
+job crowded_job(const bench &with, const chosen &some, std::size_t threads) {
+    const workload load{pattern::hold, threads, with.given.setting_items, 0};
+    const cell in{threads, "crowded hold", load.items};
+    const double seconds = double(load.items + with.given.rank_calls) * costs::recorded_call;
+    return {"worst: " + in_words(threads),
+            seconds_of(with, some, seconds + seconds_of_a_timed_round(with, load.items)), [=, &with] {
+                add_bounds(with, some, in);
+                measure_ranks_in_threads(with, load, some, in, 0);
+                with.to.compare(some, in, with.given.rounds, [&](const subject &one, std::size_t round) {
+                    workload other = load;
+                    other.seed = round;
+                    const double speed = one.throughput(other, with.given.seconds_of_a_round(), with.where);
+                    return std::vector<figure>{{"throughput", "operations/s", speed}};
+                });
+            }};
+}
+
+// One that measures rank errors while one thread is stopped.
+job stopped_job(const bench &with, const chosen &some) {
+    const std::size_t threads = with.given.most_threads();
+    const workload load{pattern::hold, threads, with.given.setting_items, 0};
+    const cell in{threads, "stopped hold", load.items};
+    const double seconds = double(load.items + with.given.rank_calls) * costs::recorded_call + with.given.stop;
+    return {"worst: a thread is stopped", seconds_of(with, some, seconds), [=, &with] {
+                add_bounds(with, some, in);
+                measure_ranks_in_threads(with, load, some, in, with.given.stop);
+            }};
 }
 
 const std::vector<pattern> all_patterns{pattern::uniform, pattern::pairs, pattern::hold, pattern::ascending};
@@ -190,6 +242,16 @@ std::vector<job> rank_jobs(const bench &with) {
                             seconds_of(with, some, seconds) + double(some.size()) * seconds,
                             [=, &with] { measure_ranks(with, {what, threads, items, 0}, some); }});
         }
+    return jobs;
+}
+
+std::vector<job> worst_jobs(const bench &with) {
+    const chosen some = those_at_worst(with);
+    std::vector<job> jobs;
+    for (std::size_t times : {2, 4})
+        if (with.given.most_threads() * times <= KLSM_MAX_THREADS)
+            jobs.push_back(crowded_job(with, some, with.given.most_threads() * times));
+    if (with.given.most_threads() > 1) jobs.push_back(stopped_job(with, some));
     return jobs;
 }
 

@@ -31,6 +31,7 @@ std::vector<job> throughput_jobs(const bench &with);
 std::vector<job> work_jobs(const bench &with);
 std::vector<job> latency_jobs(const bench &with);
 std::vector<job> rank_jobs(const bench &with);
+std::vector<job> worst_jobs(const bench &with);
 std::vector<job> search_jobs(const bench &with);
 std::vector<job> paths_jobs(const bench &with);
 

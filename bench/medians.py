@@ -39,6 +39,10 @@ class Medians:
         """The median of a heap without a lock, by one thread."""
         return self.get(what, "heap alone", "-", 1, workload, items)
 
+    def shown(self, queue):
+        """The setting of a queue that is measured with each number of threads; none where there is none."""
+        return next(iter(self.all("parameter", what="throughput", queue=queue, threads=1)), None)
+
     def all(self, *names, **given):
         """The different entries at these places of the keys, in the order of the file, where others are as given."""
         found = {}

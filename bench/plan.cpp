@@ -16,6 +16,8 @@ void make_short(plan &one) {
     one.setting_items = 10000;
     one.work_items = {10000};
     one.rank_calls = 40000;
+    one.stop = 0.1;
+    one.has_worst_settings = false;
     one.searches = {{0, 36, 5, 17000}, {1, 36, 5, 17000}, {10, 36, 5, 17000}, {100, 30, 7, 1500}};
     one.graph_nodes = 20000;
 }
@@ -68,8 +70,8 @@ plan plan_of(int count, char **words) {
             stop(("unknown word " + word).c_str());
     }
     if (one.csv.empty()) stop("--csv FILE is missing");
-    const std::vector<std::string> parts{"throughput", "work", "latency", "rank", "search", "paths"};
+    const std::vector<std::string> parts{"throughput", "work", "latency", "rank", "worst", "search", "paths"};
     if (!one.only.empty() && std::find(parts.begin(), parts.end(), one.only) == parts.end())
-        stop("--only wants throughput, work, latency, rank, search or paths");
+        stop("--only wants throughput, work, latency, rank, worst, search or paths");
     return one;
 }

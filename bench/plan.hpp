@@ -31,6 +31,8 @@ struct plan {
     std::vector<double> work{0.3, 1, 3}; // microseconds between the two calls of a pair
 
     std::size_t rank_calls = 120000;
+    double stop = 1; // seconds for which a thread is stopped
+    bool has_worst_settings = true;
 
     // Much work has a smaller knapsack, so that it does not take most of a run.
     std::vector<planned_search> searches{

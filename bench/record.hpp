@@ -2,6 +2,7 @@
 #ifndef BENCH_RECORD_HPP
 #define BENCH_RECORD_HPP
 
+#include "stopping.hpp"
 #include "workloads.hpp"
 
 #include <atomic>
@@ -89,9 +90,10 @@ std::vector<call> record_by_turns(const workload &given, std::size_t steps, type
     return all;
 }
 
-// Threads make so many steps together, as they take them up.
+// Threads make so many steps together, as they take them up. Once a quarter of them is taken up, thread 0 is stopped for
+// so many seconds, while the others go on.
 template <class Queue>
-std::vector<call> record_in_threads(const workload &given, std::size_t steps, const placing &where,
+std::vector<call> record_in_threads(const workload &given, std::size_t steps, const placing &where, double stop,
                                     typename Queue::setting setting) {
     using placed = placed_worker<Queue, recorded_calls<by_clock>>;
     Queue queue(given.threads, given.room(), setting);
@@ -100,15 +102,19 @@ std::vector<call> record_in_threads(const workload &given, std::size_t steps, co
     fill(given, handles, filling);
     common_steps common;
     std::vector<std::unique_ptr<placed>> workers(given.threads);
+    stopping first(stop);
     time_of(
         given.threads, where,
         [&](std::size_t t) {
             workers[t].reset(new placed{{given, handles[t]}, own_steps(common)});
             workers[t]->by.calls().reserve(2 * steps);
+            if (t == 0) first.can_be_stopped();
         },
         [&](std::size_t t) {
-            for (std::uint64_t step; (step = workers[t]->steps.next()) < steps;)
+            for (std::uint64_t step; (step = workers[t]->steps.next()) < steps;) {
+                if (t != 0 && step >= steps / 4) first.stop_once();
                 workers[t]->by.run(step);
+            }
         });
     std::vector<call> all = filling.all();
     for (auto &one : workers)

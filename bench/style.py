@@ -1,5 +1,6 @@
 """How the pictures look: which line each queue has, axes, names, and the SVG that is written."""
 
+import html
 import io
 import os
 import re
@@ -80,6 +81,48 @@ def two_panels(title, more, names):
     return figure, grid
 
 
+def one_panel(title, *more):
+    """A figure of one panel, with a title and lines below it."""
+    figure, axes = plt.subplots(1, 1, figsize=(WIDTH, 3.5))
+    figure.subplots_adjust(left=0.255, right=0.92, top=0.8, bottom=0.13)
+    figure.text(0.015, 0.955, title, fontsize=10.5, fontweight="bold", va="center")
+    for number, line in enumerate(more):
+        figure.text(0.015, 0.9 - 0.055 * number, line, color=GREY, va="center")
+    return figure, axes
+
+
+# A marker for each situation of a row.
+SITUATIONS = ["o", "^", "s", "X"]
+
+
+def point_of(name, situation):
+    return {"color": STYLES[name][0], "marker": SITUATIONS[situation], "linestyle": "none", "markersize": 6,
+            "markeredgecolor": "white", "markeredgewidth": 0.5, "zorder": 4, "clip_on": False}
+
+
+def name_row(axes, row, name, written, figure_beside):
+    """What is written at the left of a row, and a figure at its right."""
+    weight = "bold" if name.startswith("k-LSM") else "normal"
+    at = {"va": "center", "color": STYLES[name][0], "fontweight": weight, "transform": axes.get_yaxis_transform()}
+    axes.text(-0.02, row, written, ha="right", **at)
+    if figure_beside:
+        axes.text(1.03, row, figure_beside, ha="left", **at)
+
+
+def set_rows(axes, count, situations):
+    """So many rows over an axis of rank errors, and what the markers say."""
+    axes.set_ylim(-0.6, count - 0.4)
+    axes.set_yticks([])
+    axes.spines["left"].set_visible(False)
+    axes.grid(axis="y", visible=False)
+    set_from_exact(axes, 0, 20000)
+    if len(situations) > 1:
+        marks = [plt.Line2D([], [], color=GREY, marker=SITUATIONS[i], linestyle="none", markersize=6)
+                 for i in range(len(situations))]
+        axes.figure.legend(marks, situations, loc="lower left", ncols=4, frameon=False, fontsize=7.5,
+                           handletextpad=0.1, columnspacing=1.0, bbox_to_anchor=(0.0, -0.015))
+
+
 def millions(value, _):
     return f"{value / 1e6:g} M"
 
@@ -93,11 +136,8 @@ def short(value, _):
 
 
 def set_threads(axes, threads):
-    axes.set_xscale("log", base=2)
     axes.set_xticks(threads)
-    axes.xaxis.set_major_formatter(FuncFormatter(plain))
-    axes.xaxis.set_minor_locator(NullLocator())
-    axes.set_xlim(threads[0] * 0.88, threads[-1] * 1.14)
+    axes.set_xlim(threads[0] - 0.1 * threads[-1] / 4, threads[-1] + 0.1 * threads[-1] / 4)
     axes.set_xlabel("threads", labelpad=1)
 
 
@@ -117,7 +157,7 @@ def set_from_exact(axes, least, reach):
     first = 10**least
     axes.set_xscale("symlog", linthresh=first, linscale=0.6)
     highest = max(axes.get_xlim()[1], reach)
-    axes.set_xlim(-0.25 * first, highest)
+    axes.set_xlim(-0.25 * first, 1.3 * highest)
     axes.set_xticks([0] + [10**power for power in range(least, 7) if 1.3 * 10**power <= highest])
     axes.xaxis.set_major_formatter(FuncFormatter(short))
     axes.xaxis.set_minor_locator(NullLocator())
@@ -179,14 +219,17 @@ def shorter(number):
 
 
 def write(figure, folder, name):
-    """Writes an SVG whose text is text, without comments, indentation and needless digits."""
+    """Writes an SVG whose text is text, without comments, indentation and needless digits. Its title is the figure's
+    first text, and its description the others that stand above the panels."""
     text = io.StringIO()
+    title, *more = (html.escape(one.get_text(), quote=False) for one in figure.texts)
     figure.savefig(text, format="svg", metadata={"Date": None, "Creator": None, "Format": None, "Type": None})
     plt.close(figure)
     svg = re.sub(r"<!--.*?-->|<metadata>.*?</metadata>", "", text.getvalue(), flags=re.S)
     svg = re.sub(r'<g id="[^"]*"', "<g", svg)
     svg = svg.replace("'DejaVu Sans'", "'DejaVu Sans', Verdana, sans-serif")  # which are as wide
     head, body = svg.split("<defs>", 1)
+    head += f'<title>{title}</title>\n<desc>{" ".join(more)}</desc>\n'
     svg = re.sub(r"\n\s*", "\n", head + "<defs>" + re.sub(r"-?\d+\.\d+", shorter, body))
     path = os.path.join(folder, name)
     with open(path, "w", encoding="utf-8") as file:

@@ -34,8 +34,8 @@ subject subject_of(part takes, std::string queue, std::string parameter, typenam
     made.by_turns = [=](const workload &given, std::size_t steps) {
         return record_by_turns<Queue>(given, steps, setting);
     };
-    made.in_threads = [=](const workload &given, std::size_t steps, const placing &where) {
-        return record_in_threads<Queue>(given, steps, where, setting);
+    made.in_threads = [=](const workload &given, std::size_t steps, const placing &where, double stop) {
+        return record_in_threads<Queue>(given, steps, where, stop, setting);
     };
     // On the heap, since these have parts that are aligned to lines of the cache.
     made.search_for = [=](const search_task &task, const placing &where) {
@@ -56,7 +56,7 @@ subject board(part takes, std::string queue, std::string parameter, klsm_board::
 }
 
 void add_with_balance(std::vector<subject> &all, std::size_t k, std::size_t refill, std::uint32_t balance) {
-    const bool is_shown = k == 1024 && refill == 64 && balance == 16;
+    const bool is_shown = k == 1024 && refill == 16 && balance == 16;
     all.push_back(board(is_shown ? part::everywhere : part::as_setting, "k-LSM balance",
                         named("k=", k) + named("; refill=", refill) + named("; balance=", balance),
                         {k, KLSM_FIRST, refill, balance}));
@@ -77,8 +77,8 @@ void add_boards(std::vector<subject> &all) {
     for (std::size_t k : {256, 1024})
         for (std::size_t refill : {16, 64, 256})
             add_with_balance(all, k, refill, 16);
-    for (std::uint32_t balance : {0, 1, 64})
-        add_with_balance(all, 1024, 64, balance);
+    for (std::uint32_t balance : {0, 1, 4, 64})
+        add_with_balance(all, 1024, 16, balance);
 }
 
 // Queues whose deletions may pass over any number of items.
@@ -97,6 +97,10 @@ template <class Kept> void add_relaxed(std::vector<subject> &all, part as_shown,
         if (!is_wide || batch == 4)
             all.push_back(subject_of<stealing_multiqueue<Kept>>(takes(batch == 4), "Stealing MultiQueue p=1/8" + width,
                                                                 named("b=", batch), {batch, 8}));
+    for (std::size_t one_in : {2, 4, 16, 32, 64})
+        if (!is_wide)
+            all.push_back(subject_of<stealing_multiqueue<Kept>>(part::as_setting, "Stealing MultiQueue b=4",
+                                                                named("p=1/", one_in), {4, one_in}));
 }
 
 // Queues that pass over no item. The calls of the array heap need not take effect at one moment, so that cannot be
@@ -113,6 +117,7 @@ template <class Kept> void add_exact(std::vector<subject> &all, part takes, cons
 #endif
 #if BENCH_CDS
     all.push_back(subject_of<combining_and_pause<Kept>>(takes, "flat combining pauses" + width, "-", {}));
+    all.back().keeps_processors = true;
     all.push_back(subject_of<combining_and_sleep<Kept>>(takes, "flat combining sleeps" + width, "-", {}));
 #endif
     for (std::size_t i = first; i < all.size(); i++)

@@ -25,12 +25,13 @@ struct subject {
     bool is_exact = false;          // passes over no item
     bool is_for_one_thread = false; // has no lock
     bool has_fixed_room = false;    // so it takes no part in searches
+    bool keeps_processors = false;  // a thread that waits does, so there may not be more of them than processors
     std::size_t k = 0;              // of our queue; 0 for the others
 
     std::function<double(const workload &, double seconds, const placing &)> throughput; // operations a second
     std::function<timed_calls(const workload &, double seconds, const placing &)> latency;
     std::function<std::vector<call>(const workload &, std::size_t steps)> by_turns;
-    std::function<std::vector<call>(const workload &, std::size_t steps, const placing &)> in_threads;
+    std::function<std::vector<call>(const workload &, std::size_t steps, const placing &, double stop)> in_threads;
     std::function<search_result(const search_task &, const placing &)> search_for;
     std::function<paths_result(const paths_task &, const placing &)> find_paths;
 };
