@@ -7,7 +7,7 @@ import re
 
 import matplotlib
 import matplotlib.pyplot as plt
-from matplotlib.ticker import FuncFormatter, NullFormatter, NullLocator
+from matplotlib.ticker import FuncFormatter, LogLocator, NullFormatter, NullLocator
 
 WIDTH = 5.2  # inches: 500 px, so that the text can be read where a page has 400
 GREY = "#555555"
@@ -145,6 +145,25 @@ def set_from_zero(axes, form):
     axes.set_ylim(bottom=0)
     axes.yaxis.set_major_formatter(FuncFormatter(form))
     axes.tick_params(axis="y", pad=1)
+
+
+def time_of(nanoseconds, _):
+    for unit, length in (("s", 1e9), ("ms", 1e6), ("µs", 1e3)):
+        if nanoseconds >= length:
+            return f"{nanoseconds / length:g} {unit}"
+    return f"{nanoseconds:g} ns"
+
+
+def set_times(axes, shares):
+    """A logarithm of times over so many shares of the calls."""
+    axes.set_yscale("log")
+    axes.set_ylim(10, 1e7)
+    axes.yaxis.set_major_locator(LogLocator(numticks=8))
+    axes.yaxis.set_major_formatter(FuncFormatter(time_of))
+    axes.yaxis.set_minor_locator(NullLocator())
+    axes.tick_params(axis="y", pad=1)
+    axes.set_xticks(range(len(shares)), shares)
+    axes.set_xlim(-0.25, len(shares) - 0.75)
 
 
 def set_ranks(axes):
