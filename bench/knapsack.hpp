@@ -27,8 +27,13 @@ struct sums {
 };
 
 struct instance {
-    std::vector<thing> things; // by value for weight, the greatest first
+    std::vector<thing> things; // once they are sorted: by value for weight, the greatest first
     std::uint64_t capacity;
+
+    void sort() {
+        std::sort(things.begin(), things.end(),
+                  [](const thing &a, const thing &b) { return a.value * b.weight > b.value * a.weight; });
+    }
 
     // The sums of what the node has picked.
     sums of(node at) const {
@@ -73,8 +78,29 @@ inline instance drawn_instance(std::size_t things, std::uint64_t seed) {
         drawn.capacity += weight;
     }
     drawn.capacity /= 2;
-    std::sort(drawn.things.begin(), drawn.things.end(),
-              [](const thing &a, const thing &b) { return a.value * b.weight > b.value * a.weight; });
+    drawn.sort();
+    return drawn;
+}
+
+// Classes of instances by which Pisinger (2005, "Where are the hard knapsack problems?") compares solvers: how far a
+// thing's value goes with its weight. Of his others some hundred nodes are enough here.
+enum class correlation { almost_strong, strong, inverse };
+
+// One number of 1 to 10,000 is the weight, or at `inverse` the value, and the other one is 1,000 more, or nearly so. The
+// capacity is half of all weights.
+inline instance pisinger_instance(correlation how, std::size_t things, std::uint64_t seed) {
+    constexpr std::uint64_t most = 10000, tenth = most / 10, little = most / 500;
+    draws from(seed);
+    instance drawn{{}, 0};
+    for (std::size_t i = 0; i < things; i++) {
+        const std::uint64_t one = 1 + from.next() % most;
+        std::uint64_t other = one + tenth;
+        if (how == correlation::almost_strong) other += from.next() % (2 * little + 1) - little;
+        drawn.things.push_back(how == correlation::inverse ? thing{one, other} : thing{other, one});
+        drawn.capacity += drawn.things.back().weight;
+    }
+    drawn.capacity /= 2;
+    drawn.sort();
     return drawn;
 }
 

@@ -255,18 +255,32 @@ std::vector<job> worst_jobs(const bench &with) {
     return jobs;
 }
 
+namespace {
+
+instance instance_of(const planned_search &planned) {
+    if (planned.kind.empty()) return drawn_instance(planned.things, planned.seed);
+    for (auto [name, how] : {std::pair("strong", correlation::strong),
+                             std::pair("almost strong", correlation::almost_strong),
+                             std::pair("inverse", correlation::inverse)})
+        if (planned.kind == name) return pisinger_instance(how, planned.things, planned.seed);
+    stop(("no instances are called " + planned.kind).c_str());
+}
+
+} // namespace
+
 std::vector<job> search_jobs(const bench &with) {
     std::vector<job> jobs;
     for (const planned_search &planned : with.given.searches) {
-        const instance drawn = drawn_instance(planned.things, planned.seed);
+        const instance drawn = instance_of(planned);
         const std::uint64_t best = drawn.by_table();
         const std::size_t microseconds = planned.microseconds, things = planned.things;
+        const std::string name = planned.name();
         for (std::size_t threads : with.given.threads) {
             const chosen some = those_that_search(with, threads);
             auto run = [=, &with] {
                 const std::uint64_t spins = std::uint64_t(with.steps_in_a_microsecond * double(microseconds));
                 const search_task task{&drawn, threads, spins};
-                const cell in{threads, "search " + std::to_string(microseconds) + " us", things};
+                const cell in{threads, name, things};
                 with.to.compare(some, in, with.given.rounds, [&](const subject &one, std::size_t) {
                     const search_result found = one.search_for(task, with.where);
                     if (found.best != best) stop((one.queue + ": the search has not found the best").c_str());
@@ -275,7 +289,7 @@ std::vector<job> search_jobs(const bench &with) {
                 });
             };
             const double nodes = double(planned.nodes) / double(threads);
-            jobs.push_back({"search: " + std::to_string(microseconds) + " microseconds a node, " + in_words(threads),
+            jobs.push_back({name + " a node, " + std::to_string(things) + " things, " + in_words(threads),
                             seconds_of(with, some,
                                        costs::queue_of_a_search +
                                            nodes * (costs::searched_node + double(microseconds) * 1e-6)),

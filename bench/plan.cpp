@@ -18,7 +18,11 @@ void make_short(plan &one) {
     one.rank_calls = 40000;
     one.stop = 0.1;
     one.has_worst_settings = false;
-    one.searches = {{0, 36, 5, 17000}, {1, 36, 5, 17000}, {10, 36, 5, 17000}, {100, 30, 7, 1500}};
+    one.searches = {{0, 36, 5, 17000},
+                    {1, 36, 5, 17000},
+                    {10, 36, 5, 17000},
+                    {100, 30, 7, 1500},
+                    {1, 36, 3, 12400, "strong"}};
     one.graph_nodes = 20000;
 }
 

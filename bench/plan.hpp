@@ -12,6 +12,9 @@ struct planned_search {
     std::size_t microseconds, things;
     std::uint64_t seed;
     std::size_t nodes;
+    std::string kind{}; // of Pisinger's classes; the harness's own where it is empty
+
+    std::string name() const { return "search " + (kind.empty() ? "" : kind + " ") + std::to_string(microseconds) + " us"; }
 };
 
 struct plan {
@@ -35,8 +38,14 @@ struct plan {
     bool has_worst_settings = true;
 
     // Much work has a smaller knapsack, so that it does not take most of a run.
-    std::vector<planned_search> searches{
-        {0, 48, 7, 131000}, {1, 48, 7, 131000}, {10, 48, 7, 131000}, {100, 48, 6, 13700}};
+    std::vector<planned_search> searches{{0, 48, 7, 131000},
+                                         {1, 48, 7, 131000},
+                                         {10, 48, 7, 131000},
+                                         {100, 48, 6, 13700},
+                                         {1, 44, 3, 151000, "strong"},
+                                         {1, 48, 4, 153000, "strong"},
+                                         {1, 40, 4, 123000, "almost strong"},
+                                         {1, 44, 3, 64000, "inverse"}};
 
     std::size_t graph_nodes = 250000;
 
