@@ -1,6 +1,7 @@
 //! Laws of the definitions that the contracts cite. The functions do nothing: what they ensure is a
 //! theorem.
 ghost use Rattle.klsm_world.specs.Laws.{AccountsAddUp, AccountsLeaveLive, AcquiresFindContents, DeletionsAreFew, EarliesKeepOwnOrder, EarliesSkipFew, FirstWorldIsLawful, ListsHaveEvents, ListsTellFronts, LiveItemsDiffer, LooksTellFronts, NothingLeavesFew, PartsShareNone, SchedulesAreRuns, SchedulesKeepLawful, StepsKeepLawful, TakesKeepOwnOrder, TakesSkipFew};
+ghost use Rattle.klsm_world.specs.LiveLaws.{FullHandsHaveLive, LaterItemsLived, LeastKeysHold};
 ghost use Rattle.klsm_world.specs.OwnListLaws.{HandsAreApart, ListsKeepOwnOrder, ListsKeepOwnOrderEarly, ListsLeaveFew, ListsSkipFew, ListsSkipFewEarly, NextIsNewInHand, OwnDeletionsAreFew, RefilledMayFollowEarly};
 ghost use Rattle.klsm_world.specs.Reached.{ReachesMostLeft, ReachesMostLeftRefilled, ReachesMostSkipped, ReachesMostSkippedEarly, ReachesMostSkippedEarlyRefilled, ReachesMostSkippedRefilled, two_threads};
 
@@ -84,6 +85,19 @@ pub fn own_lists_tell()
     ensures new { NextIsNewInHand }
     ensures deletions { OwnDeletionsAreFew }
     ensures refilled { RefilledMayFollowEarly }
+{}
+
+/// In a lawful world a thread that has all parts in its hand has the live items there, and no others: those of
+/// the shared part first, and then those of each thread's own part.
+pub fn full_hands_have_live()
+    ensures { FullHandsHaveLive }
+{}
+
+/// An item that lives later lived before, or was inserted since. So the least key of all items that live in a
+/// lawful world is at most that of each item that lives later and was not inserted since.
+pub fn least_keys_hold()
+    ensures items { LaterItemsLived }
+    ensures keys { LeastKeysHold }
 {}
 
 /// A thread's own steps have its events of the schedule, in their order.

@@ -10,3 +10,4 @@ pub mod LiveOnceLemmas  -- no item is live twice
 pub mod OwnListLemmas  -- what a list of own steps tells
 pub mod OwnEventLemmas  -- lists have the events of a schedule
 pub mod AccountLemmas  -- the account
+pub mod LiveLemmas  -- what lives, by a hand with all parts, and later
