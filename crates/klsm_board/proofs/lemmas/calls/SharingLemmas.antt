@@ -1,5 +1,5 @@
 -- A sharing of all own items, from what its two acquires found.
-use Rattle.std.proofs.Common.{◌≡◌, ℕ, ◌+◌, ◌<◌, ◌≤◌, ◌↔◌, List, [], ◌∷◌, ◌++◌, length, sym, ap, ◌∙◌, subst, arith, refl, inl, inr, Result, Ok, Err, IfOk, IfErr}
+use Rattle.std.proofs.Common.{◌≡◌, ℕ, ◌<◌, ◌≤◌, ◌↔◌, List, [], ◌∷◌, ◌++◌, length, sym, ap, ◌∙◌, subst, arith, refl, inl, inr, Result, Ok, Err, IfOk, IfErr}
 use Rattle.atomic_table.specs.Table.{Me}
 use Rattle.klsm_run.specs.declared.item.Item.{Item}
 use Rattle.klsm_parts.specs.declared.LsmError.{LsmError}

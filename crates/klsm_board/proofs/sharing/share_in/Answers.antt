@@ -1,8 +1,6 @@
-use Rattle.std.proofs.Common.{◌≡◌, ◌+◌, ◌<◌, ◌≤◌, ◌∙◌, List, length, ap, refl, subst, sym}
+use Rattle.std.proofs.Common.{◌<◌, ◌∙◌, List, length, ap, refl, subst, sym}
 use Rattle.klsm_run.specs.declared.item.Item.{Item}
-use Rattle.klsm_run.specs.Capacity.{heap_room}
 use Rattle.klsm_run.specs.Content.{ShareNone}
-use Rattle.klsm_parts.specs.Limit.{limit_of}
 use Rattle.klsm_parts.specs.Events.{front_of}
 use Rattle.klsm_parts.specs.Sharing.{MayShare, own_after_share, shared_after_share}
 use Rattle.klsm_board.specs.Seats.{Carries, both_in_hand}

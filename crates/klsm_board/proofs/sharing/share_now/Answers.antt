@@ -1,4 +1,4 @@
-use Rattle.std.proofs.Common.{◌+◌, ◌∷◌, ◌++◌, ◌∙◌, [], ap, refl, subst, inl, inr, append_assoc, arith, length}
+use Rattle.std.proofs.Common.{◌+◌, ◌∷◌, ◌++◌, ◌∙◌, [], ap, refl, subst, inl, inr, append_assoc, arith}
 use Rattle.std.specs.Prelude.{None}
 use Rattle.klsm_world.specs.declared.step.Entry.TheVariants.{Missed, Released}
 use Rattle.klsm_board.specs.Effects.{MeetsHolder}
