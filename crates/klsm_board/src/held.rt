@@ -1,8 +1,9 @@
 //! How a member holds a part, in order to look at it.
-ghost use Rattle.std.specs.Prelude.{◌≡◌, ◌<◌, ◌≤◌, ◌++◌, ◌↔◌, ◌∷◌, [], List, length, slice_get, IfOk, IfErr, IsErrAnd, IsTrue};
+ghost use Rattle.std.specs.Prelude.{◌≡◌, ◌<◌, ◌≤◌, ◌++◌, ◌↔◌, ◌∷◌, [], List, length, slice_get, IfOk, IfErr, IfSome, IsErrAnd, IsTrue};
 ghost use Rattle.klsm_run.specs.declared.item.Item.{Item};
 ghost use Rattle.klsm_world.specs.declared.step.Entry.TheVariants.{Acquired, Released, Missed};
-ghost use Rattle.klsm_world.specs.OwnSteps.{inserted, deleted};
+ghost use Rattle.klsm_parts.specs.Least.{IsLeast};
+ghost use Rattle.klsm_world.specs.OwnSteps.{Hand, inserted, deleted};
 ghost use Rattle.klsm_world.specs.Worlds.{World, content_of, steps_of};
 ghost use Rattle.klsm_world.specs.LawfulWorlds.{IsLawful};
 ghost use Rattle.klsm_board.specs.Rule.{IsReached, world_limits};
@@ -160,7 +161,7 @@ impl<const CAP: usize, const LEVELS: usize> Held<CAP, LEVELS> {
     }
 }
 
-// How many items a part has that the seat acquired, and the least of them.
+// How many items the part has that the seat acquired last, and the least of them.
 pub(crate) fn look<S: PartSlot>(
     table: &Locks<S>,
     seat: &mut MemberSeat<S>,
@@ -168,13 +169,14 @@ pub(crate) fn look<S: PartSlot>(
     thread: usize,
 ) -> (usize, Option<Item>)
     requires seat { seat.old.table_id ≡ table.now.table_id }
-    requires carries { (found : List Item)
-        × Carries S.content S.suits table.now.key thread ((lock, found) ∷ []) seat.old.me }
+    requires carries { (found : List Item) × (hand : Hand)
+        × Carries S.content S.suits table.now.key thread ((lock, found) ∷ hand) seat.old.me }
     ensures same { (seat.new.table_id ≡ seat.old.table_id) × (seat.new.me.0 ≡ seat.old.me.0) }
-    ensures looked { (found : List Item)
-        → Carries S.content S.suits table.now.key thread ((lock, found) ∷ []) seat.old.me
-        → Carries S.content S.suits table.now.key thread ((lock, found) ∷ []) seat.new.me
-        × (result.0 ≡ length found) × (result.1 ≡ slice_get found 0) }
+    ensures looked { (found : List Item) → (hand : Hand)
+        → Carries S.content S.suits table.now.key thread ((lock, found) ∷ hand) seat.old.me
+        → Carries S.content S.suits table.now.key thread ((lock, found) ∷ hand) seat.new.me
+        × (result.0 ≡ length found) × (result.1 ≡ slice_get found 0)
+        × IfSome result.1 (λ x. IsLeast x found) }
 {
     // For the proof: the contract alone names the thread.
     let _ = thread;

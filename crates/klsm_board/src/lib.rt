@@ -39,8 +39,11 @@
 //! An answer `None` is no sign of the end, since another member may be about to insert. So the threads end
 //! when no node is open.
 //!
-//! `try_insert`, `try_delete_min`, `try_share` and `try_balance` wait for nobody: where a lock is held they release what
-//! they acquired, and say who held it. `try_hold` acquires one part in order to look at it.
+//! A member may ask for a bound (`Member::bound`): the least key of all live items, and how many live, exactly. It has all
+//! parts in hand for a moment, so a program asks seldom: now and then, and not at each deletion.
+//!
+//! `try_insert`, `try_delete_min`, `try_share`, `try_bound` and `try_balance` wait for nobody: where a lock is held they
+//! release what they acquired, and say who held it. `try_hold` acquires one part in order to look at it.
 //!
 //! **What a member promises** is said by its list of own steps, which is for the proof alone: which
 //! parts it acquired and what it found there, what it committed, what it released. The contract of each
@@ -63,12 +66,14 @@
 //!   `Balances`.
 //! - **A sharing moves all own items or none**, by one event: clauses `ok` and `refused` of `Member::try_share` and
 //!   `Member::share`. Full or without memory it has changed nothing.
+//! - **A bound is exact** at one moment of the call, when the member has all parts in hand: clauses `ok` and `live` of
+//!   `Member::try_bound` and `Member::bound`, by `SeesAllLive`.
 //! - **All members in one hand** (`Board::gather`, `AllMembers`) are of one world: `AllMembers::threads`, clause
 //!   `rule`. What is left is then what the calls made it, and no deletion skips more than T·k of that, nor more
 //!   than (T-1)·k where it went by the front, nor any where T is 1: clauses `left` and `few` of
 //!   `AllMembers::delete_min`. An insertion is full only where all inserted as many as the shared part has room
 //!   for: clause `full` of `AllMembers::insert`. A sharing changes nothing that is left: clause `left` of
-//!   `AllMembers::share`. No call meets a lock that is held, so none waits: clauses `ok` and `refused`. `spread` gives
+//!   `AllMembers::share`, and a bound is that of what is left: clause `bound` of `AllMembers::bound`. No call meets a lock that is held, so none waits: clauses `ok` and `refused`. `spread` gives
 //!   the members back, as they were.
 //! - **Nothing is lost.** Once all members are back, `finish` tells how many items were inserted and
 //!   deleted, and which are left: each item inserted is one of these two, once (`each_once`).
@@ -86,7 +91,7 @@
 //! The files, from the atomic steps up: `rule` and `plays` (what always holds, and what a step tells), `steps`
 //! (acquire, release, the two commits, the look at the front), `slot` (what is done to the parts), `lending`,
 //! `acquiring` (one try, or as many as it needs), `inserting`, `spying`, `early` (deletions by the front),
-//! `taking`, `deleting`, `stealing` (balances), `sharing`, and the public calls in `making`, `member`, `held`, `together` and
+//! `taking`, `deleting`, `stealing` (balances), `sharing`, `bounding`, and the public calls in `making`, `member`, `held`, `together` and
 //! `finishing`. `tally` has the counts of members that are in one hand. `gate` is for programs that run members in
 //! threads.
 #![tactic(auto)]
@@ -95,6 +100,7 @@ mod acquiring;
 mod all_members;
 mod balancing;
 mod board;
+mod bounding;
 mod boxed;
 mod deleting;
 mod early;
@@ -124,6 +130,7 @@ pub use balancing::{Balancing, MOST_BALANCED};
 pub use board::{
     Board, Held, HoldRefused, Member, StandardBoard, StandardMember, WideBoard, WideMember,
 };
+pub use bounding::Bound;
 pub use errors::{
     Busy, FinishError, HoldError, InsertError, MakeError, ShareError, TryInsertError, TryShareError,
 };

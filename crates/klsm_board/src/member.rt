@@ -13,8 +13,10 @@ ghost use Rattle.klsm_board.specs.Inserting.{Inserts, InsertsWaiting, MissesOwn,
 ghost use Rattle.klsm_board.specs.Deleting.{AnswersDeletion, AnswersWaiting, MissesDeletion, moving_at_most};
 ghost use Rattle.klsm_board.specs.Sharing.{Shares, SharesWaiting, RefusesShare, RefusesShareWaiting};
 ghost use Rattle.klsm_board.specs.Stealing.{Balances};
+ghost use Rattle.klsm_board.specs.Bounding.{Bounds, BoundsWaiting, MissesSome, SeesAllLive};
 
 use crate::board::{Board, Member};
+use crate::bounding::{Bound, bound_now};
 use crate::deleting::delete_now;
 use crate::errors::{Busy, InsertError, ShareError, TryInsertError, TryShareError};
 use crate::inserting::insert_now;
@@ -384,6 +386,67 @@ impl<const CAP: usize, const LEVELS: usize> Member<CAP, LEVELS> {
                 Err(TryShareError::Busy(busy)) => pause.wait(rt, &board.table.shared, busy),
                 Err(TryShareError::Full) => return Err(ShareError::Full),
                 Err(TryShareError::NoMemory) => return Err(ShareError::NoMemory),
+            }
+        }
+        unreachable!()
+    }
+
+    /// The least key of all live items, in all parts together, and how many live. It waits for nobody.
+    ///
+    /// It acquires the own locks of all members, in the order of their numbers, and then the shared one; `Busy` names the
+    /// first that was not free. So there is a moment in the call when the member has all parts in hand, and what it answers
+    /// is exact for that moment. Each item that lives later was inserted since, or has a key of at least `queue`
+    /// (`laws::least_keys_hold` of `klsm_world`). It changes no part and takes no memory. It costs T+1 acquires and
+    /// releases, and a comparison for each block; as long as it has a part, nobody else can use that.
+    ///
+    /// An item that was deleted is in no part, however long its thread still works at it, and `queue` says nothing of it.
+    /// A search that wants a bound of its open nodes keeps a word for each thread, and beside it a count of its writes. The
+    /// thread lowers its word to a number that is at most each key it may be given, as the last bound that was found, before
+    /// it calls for a deletion; it sets it to the key of the item once it has that; and it clears it, to the greatest
+    /// number, once it has inserted all that it made of the item, or if there was none. Somebody reads all words before a
+    /// bound and again behind it. Where no count has changed, and what is made of an item has no lesser key than that, the
+    /// least of `queue` and of the words is at most the key of each node that was open at that moment. For a thread whose
+    /// count has changed its word says nothing, whether it was read before or behind: only the number that it is lowered
+    /// to holds for it then.
+    pub fn try_bound(&mut self, board: &Board<CAP, LEVELS>) -> Result<Bound, Busy>
+        requires { IsOf self.old board.now }
+        ensures same { IsSame self.old self.new }
+        ensures others { known_of_others self.new ≡ known_of_others self.old }
+        ensures ok { IfOk result (Bounds self.old.sizes.threads (own_steps self.old)
+            (own_steps self.new)) }
+        ensures live { IfOk result (SeesAllLive self.old.sizes self.old.number
+            (known_of_others self.old) (own_steps self.old) (own_steps self.new)) }
+        ensures adds { Adds self.old self.new [] [] }
+        ensures busy { IfErr result (MissesSome self.old.sizes.threads (own_steps self.old)
+            (own_steps self.new)) }
+        ensures holder { IfErr result (MeetsHolder self.old.sizes self.old.number
+            (known_of_others self.old) (own_steps self.new)) }
+    {
+        let thread = self.number as usize;
+        let threads = self.sizes.threads;
+        bound_now(&board.table.shared, &mut self.seat, thread, threads)
+    }
+
+    /// The least key of all live items, in all parts together, and how many live. It is `try_bound`, again and again, as
+    /// long as that meets a lock that is held, and it waits between two tries as `insert` does.
+    ///
+    /// Each try needs all locks at once and keeps none for the next one, so other members may overtake it any number of
+    /// times: where many of them do little but insert and delete, it may take long.
+    pub fn bound(&mut self, rt: &(impl Wait + Clock), board: &Board<CAP, LEVELS>) -> Bound
+        requires { IsOf self.old board.now }
+        ensures same { IsSame self.old self.new }
+        ensures others { known_of_others self.new ≡ known_of_others self.old }
+        ensures ok { BoundsWaiting self.old.sizes.threads (own_steps self.old) (own_steps self.new)
+            result }
+        ensures live { SeesAllLive self.old.sizes self.old.number (known_of_others self.old)
+            (own_steps self.old) (own_steps self.new) result }
+        ensures adds { Adds self.old self.new [] [] }
+    {
+        let mut pause = Pause::new();
+        for _ in rt.forever() {
+            match self.try_bound(board) {
+                Ok(bound) => return bound,
+                Err(held) => pause.wait(rt, &board.table.shared, held),
             }
         }
         unreachable!()

@@ -13,6 +13,7 @@ ghost use Rattle.klsm_world.specs.declared.step.Entry.TheVariants.{Looked};
 ghost use Rattle.klsm_board.specs.Boards.{AreMembersOf, Gains, IsOf, own_steps};
 ghost use Rattle.klsm_board.specs.Inserting.{Inserts, RefusesInsert, as_tried, stamp_of, stamped};
 ghost use Rattle.klsm_board.specs.Deleting.{AnswersDeletion};
+ghost use Rattle.klsm_board.specs.Bounding.{Bounds, IsBoundOf};
 ghost use Rattle.klsm_board.specs.Stealing.{Balances};
 ghost use Rattle.klsm_board.specs.Sharing.{RefusesShare, Shares, as_tried_share};
 ghost use Rattle.klsm_board.specs.Finishing.{AreAll, AreListsAtEnd, IsLeastAbsent, lists_of};
@@ -23,6 +24,7 @@ ghost use Rattle.klsm_board.specs.Turning.{HasList, left_behind, steps_known, tu
 
 use crate::all_members::{AllMembers, GatherRefused};
 use crate::board::{Board, Member};
+use crate::bounding::Bound;
 use crate::errors::{Busy, InsertError, ShareError, TryInsertError, TryShareError};
 use crate::finishing::{counts_of, join_all};
 use crate::making::First;
@@ -222,6 +224,26 @@ impl<const CAP: usize, const LEVELS: usize> AllMembers<CAP, LEVELS> {
         ensures front { IsFrontOf (sizes_of_all self.old) (all_lists self.old) result }
     {
         self.acting.front(board)
+    }
+
+    /// The least key of the items that are left, or the greatest number where none is, and how many are left. It is
+    /// `Member::try_bound` of the member whose turn it is, which meets no lock that is held.
+    pub fn bound(&mut self, board: &Board<CAP, LEVELS>) -> Bound
+        requires of { AreOf self.old board.now }
+        ensures of { AreOf self.new board.now }
+        ensures same { ActsFor (turn_of self.old) self.old self.new }
+        ensures turn { turn_of self.new ≡ turn_of self.old }
+        ensures ok { Bounds (sizes_of_all self.old).threads (steps_for self.old (turn_of self.old))
+            (steps_for self.new (turn_of self.old)) result }
+        ensures left { left_of self.new ≡ left_of self.old }
+        ensures counts { (account (all_lists self.new)).inserted
+            ≡ (account (all_lists self.old)).inserted }
+        ensures bound { IsBoundOf (left_of self.old) result }
+    {
+        let Ok(bound) = self.acting.try_bound(board) else {
+            unreachable!();
+        };
+        bound
     }
 
     /// Gives the members back, in the order of their numbers, between two of their calls. It changes nothing on

@@ -8,6 +8,8 @@ pub mod AddLemmas  -- what the calls insert and delete
 pub mod AddedLemmas  -- the events of each call
 pub mod RefillLemmas  -- what a refill adds
 pub mod StealLemmas  -- when a steal moves items
+pub mod BoundingLemmas  -- a bound, from what its acquires found to the world that it is of
+pub mod ReadingLemmas  -- parts that are acquired, read and released one after another
 pub mod SharingLemmas  -- what the sharing of all own items adds
 pub mod DeletedLemmas  -- those of a deletion
 pub mod LoneLemmas  -- with one thread a deletion skips nothing

@@ -13,6 +13,7 @@ use Rattle.atomic_table.specs.Table.{Me}
 use Rattle.klsm_run.specs.declared.item.Item.{Item}
 use Rattle.klsm_run.specs.Content.{sorted, skipped}
 use Rattle.klsm_run.specs.ItemOrder.{is_smaller}
+use Rattle.klsm_run.proofs.ContentLemmas.{sorted_itself}
 use Rattle.klsm_run.proofs.RankLemmas.{count_sorted}
 use Rattle.klsm_run.proofs.SortedLemmas.{length_sorted}
 use Rattle.klsm_parts.specs.Events.{minus}
@@ -28,12 +29,14 @@ use Rattle.klsm_world.proofs.lemmas.theorems.AccountLemmas.{left_is_live}
 use Rattle.klsm_world.proofs.lemmas.theorems.OwnEventLemmas.{lists_have_events}
 use Rattle.klsm_world.proofs.lemmas.theorems.RunLemmas.{schedules_are_runs, schedules_keep_lawful}
 use Rattle.klsm_board.specs.declared.board.Member.{Member}
+use Rattle.klsm_board.specs.declared.bounding.Bound.{Bound}
 use Rattle.klsm_board.specs.declared.errors.Busy.{Busy}
 use Rattle.klsm_board.specs.declared.rule.Own.{Own}
 use Rattle.klsm_board.specs.declared.rule.View.{View}
 use Rattle.klsm_board.specs.declared.sizes.Sizes.{Sizes}
 use Rattle.klsm_board.specs.declared.slot.Slot.{Slot}
 use Rattle.klsm_board.specs.Boards.{IsSame, known_of_others, own_steps}
+use Rattle.klsm_board.specs.Bounding.{IsBoundOf, SeesAllLive}
 use Rattle.klsm_board.specs.Effects.{MeetsHolder, PassesFew, TakesEffect}
 use Rattle.klsm_board.specs.Finishing.{AreAll, AreListsAtEnd, HasMember, Knows, lists_of, steps_among}
 use Rattle.klsm_board.specs.Knowing.{AreCounted, IsAtRest, IsWhole}
@@ -42,6 +45,8 @@ use Rattle.klsm_board.specs.Rule.{own, view, world_limits}
 use Rattle.klsm_board.specs.Steps.{mine, rest_of, IsMine, AreReached, HasFront}
 use Rattle.klsm_board.specs.Together.{IsFrontOf, PassesFewLeft}
 use Rattle.klsm_board.specs.Turning.{steps_known, lists_known, HasList, left_behind, turned}
+use Rattle.klsm_board.proofs.lemmas.calls.AddedLemmas.{quiet_same}
+use Rattle.klsm_board.proofs.lemmas.calls.ReadingLemmas.{bound_same}
 use Rattle.klsm_board.proofs.lemmas.ending.EndLemmas.{found_first, place_within, same_lists}
 use Rattle.klsm_board.proofs.lemmas.ending.JoinLemmas.{at_end, at_front}
 use Rattle.klsm_board.proofs.lemmas.table.DealtLemmas.{has_one}
@@ -121,20 +126,27 @@ known_changed f t es fs behind same u = dite (ℕ_discrete t u)
 has_changed : (t : ℕ) (es fs : List Entry) (behind : List Own) (u : ℕ) → HasList (own t es ∷ behind) u → HasList (own t fs ∷ behind) u
 has_changed t es fs behind u has = has
 
+-- the items that lived while a seat knew all lists are those that their account left, where its thread's list had the same insertions
+-- and deletions
+left_when : (m : Sizes) (t : ℕ) (behind : List Own) (es at : List Entry) → ((u : ℕ) → u < m.threads → HasList (own t es ∷ behind) u) → inserted at ≡ inserted es → deleted at ≡ deleted es
+    → (r : AreReached m t (view (own t at ∷ behind))) → sorted (live r.world) ≡ (account (lists_known m.threads (own t es ∷ behind))).left
+left_when m t behind es at each inserted_are deleted_are r =
+    let now : View = view (own t at ∷ behind) in
+    let lawful : IsLawful (world_limits m) r.world = schedules_keep_lawful (world_limits m) r.schedule r.world r.leads in
+    let lists : r.world.lists ≡ lists_known m.threads now.lists = world_lists m t now r (λ u below. has_changed t es at behind u (each u below)) in
+    let ins : flat_map inserted (lists_known m.threads now.lists) ≡ flat_map inserted (lists_known m.threads (own t es ∷ behind)) =
+    same_items inserted m.threads now.lists (own t es ∷ behind) (λ u below. known_changed inserted t at es behind inserted_are u) in
+    let dels : flat_map deleted (lists_known m.threads now.lists) ≡ flat_map deleted (lists_known m.threads (own t es ∷ behind)) =
+    same_items deleted m.threads now.lists (own t es ∷ behind) (λ u below. known_changed deleted t at es behind deleted_are u) in
+    sym (left_is_live (world_limits m) r.world lawful)
+    ∙ (ap (λ z. (account z).left) lists ∙ λ i. minus (sorted (ins i)) (dels i))
+
 -- a deletion of a seat that knows all lists passed over few of the items that their account left
 pub passes_few : (m : Sizes) (t : ℕ) (behind : List Own) (es es' : List Entry) (answer : Option Item) → ((u : ℕ) → u < m.threads → HasList (own t es ∷ behind) u) → TakesEffect m t behind es es' answer
     → PassesFewLeft m (lists_known m.threads (own t es ∷ behind)) es' answer
 passes_few m t behind es es' answer each effect =
-    let now : View = view (own t effect.at ∷ behind) in let r = effect.reached in
-    let lawful : IsLawful (world_limits m) r.world = schedules_keep_lawful (world_limits m) r.schedule r.world r.leads in
-    let lists : r.world.lists ≡ lists_known m.threads now.lists = world_lists m t now r (λ u below. has_changed t es effect.at behind u (each u below)) in
-    let ins : flat_map inserted (lists_known m.threads now.lists) ≡ flat_map inserted (lists_known m.threads (own t es ∷ behind)) =
-    same_items inserted m.threads now.lists (own t es ∷ behind) (λ u below. known_changed inserted t effect.at es behind effect.inserted_are u) in
-    let dels : flat_map deleted (lists_known m.threads now.lists) ≡ flat_map deleted (lists_known m.threads (own t es ∷ behind)) =
-    same_items deleted m.threads now.lists (own t es ∷ behind) (λ u below. known_changed deleted t effect.at es behind effect.deleted_are u) in
-    let left : sorted (live r.world) ≡ (account (lists_known m.threads (own t es ∷ behind))).left =
-    sym (left_is_live (world_limits m) r.world lawful)
-    ∙ (ap (λ z. (account z).left) lists ∙ λ i. minus (sorted (ins i)) (dels i)) in
+    let r = effect.reached in
+    let left = left_when m t behind es effect.at each effect.inserted_are effect.deleted_are r in
     record {
       at = effect.at;
       event = effect.event;
@@ -143,6 +155,14 @@ passes_few m t behind es es' answer each effect =
       answers = effect.answers;
       few = subst (PassesFew m effect.event) left (in_order m effect.event (live r.world) effect.few);
     }
+
+-- and its bound is that of those items
+pub bounds_left : (m : Sizes) (t : ℕ) (behind : List Own) (es es' : List Entry) (bound : Bound) → ((u : ℕ) → u < m.threads → HasList (own t es ∷ behind) u) → SeesAllLive m t behind es es' bound
+    → IsBoundOf (account (lists_known m.threads (own t es ∷ behind))).left bound
+bounds_left m t behind es es' bound each sees =
+    let r = sees.reached in let quiet = quiet_same es sees.added (es ++ sees.added) refl sees.none in
+    let left = left_when m t behind es (es ++ sees.added) each quiet.inserted_are quiet.deleted_are r in
+    subst (λ items. IsBoundOf items bound) left (bound_same (live r.world) (sorted (live r.world)) bound (sym (sorted_itself (live r.world))) sees.is)
 
 -- where a seat goes on that knows all, each list but its thread's is what it was
 pub known_elsewhere : (t : ℕ) (v w : View) → IsMine v t → IsMine w t → rest_of w ≡ rest_of v → (u : ℕ) → u ≢ t → steps_known w.lists u ≡ steps_known v.lists u

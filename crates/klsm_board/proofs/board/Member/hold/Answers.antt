@@ -37,14 +37,14 @@ look-len-requires-clause-carries g c =
     let me = c.args.self in let t = me.number in let board = c.args.board.now in let same = board.key ∙ sym c.requires.board.1 in
     let stands = subst (λ m. Stands slot_content IsSlotOf m t [] me.seat.me) (sym same) (stands_at_rest g.row.CAP me.sizes me.in_range t me.inserted me.deleted me.seat.me me.rests) in
     let acquired = c.in_default.ensures.ok [] stands in
-    (acquired.0, acquired.1.carries)
+    (acquired.0, [], acquired.1.carries)
 
 pub invariant_of-result : goal.invariant_of-result
 invariant_of-result g c =
     let me = c.args.self in let t = me.number in let board = c.args.board.now in let same = board.key ∙ sym c.requires.board.1 in let rests = me.rests in
     let stands = subst (λ m. Stands slot_content IsSlotOf m t [] me.seat.me) (sym same) (stands_at_rest g.row.CAP me.sizes me.in_range t me.inserted me.deleted me.seat.me rests) in
     let after = c.look-len.new.seat.me in let acquired = c.in_default.ensures.ok [] stands in
-    let looked = c.look-len.ensures.looked acquired.0 acquired.1.carries in
+    let looked = c.look-len.ensures.looked acquired.0 [] acquired.1.carries in
     let has = has_still slot_content IsSlotOf board.table.shared.key t ((c.args.lock, acquired.0) ∷ []) c.try_acquire.new.seat.me after acquired.1 c.look-len.ensures.same.1 looked.0 in
     let quiet = quiet_same (mine me.seat.me.0) (Acquired c.args.lock acquired.0 ∷ []) (mine after.0) (ap mine c.look-len.ensures.same.1 ∙ acquired.2) refl in
     let held = holds_after g.row.CAP me.sizes me.in_range t me.inserted me.deleted c.args.lock c.look-len.result.0 c.look-len.result.1 acquired.0 after (subst (λ m. Has slot_content IsSlotOf m t ((c.args.lock, acquired.0) ∷ []) after) same has)
@@ -56,7 +56,7 @@ returns-clause-ok g c =
     let me = c.args.self in let t = me.number in let board = c.args.board.now in let same = board.key ∙ sym c.requires.board.1 in let rests = me.rests in
     let stands = subst (λ m. Stands slot_content IsSlotOf m t [] me.seat.me) (sym same) (stands_at_rest g.row.CAP me.sizes me.in_range t me.inserted me.deleted me.seat.me rests) in
     let after = c.look-len.new.seat.me in let acquired = c.in_default.ensures.ok [] stands in
-    let looked = c.look-len.ensures.looked acquired.0 acquired.1.carries in
+    let looked = c.look-len.ensures.looked acquired.0 [] acquired.1.carries in
     let has = has_still slot_content IsSlotOf board.table.shared.key t ((c.args.lock, acquired.0) ∷ []) c.try_acquire.new.seat.me after acquired.1 c.look-len.ensures.same.1 looked.0 in
     let list = ap mine c.look-len.ensures.same.1 ∙ acquired.2 in
     let quiet = quiet_same (mine me.seat.me.0) (Acquired c.args.lock acquired.0 ∷ []) (mine after.0) list refl in (
