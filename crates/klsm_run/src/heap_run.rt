@@ -1,7 +1,7 @@
 //! A run in a store of the heap, of the least power of two that holds its items when it is made.
-ghost use Rattle.std.specs.Prelude.{◌≡◌, ◌+◌, ◌≤◌, List, length, take, max, false, IfOk, vec_capacity};
+ghost use Rattle.std.specs.Prelude.{◌≡◌, ◌+◌, ◌≤◌, ◌++◌, List, length, take, max, false, IfOk, vec_capacity};
 ghost use Rattle.klsm_run.specs.declared.item.Item.{Item};
-ghost use Rattle.klsm_run.specs.Content.{IsAscending};
+ghost use Rattle.klsm_run.specs.Content.{sorted, IsAscending, ShareNone};
 ghost use Rattle.klsm_run.specs.Capacity.{heap_room, IsPowerFor};
 ghost use Rattle.klsm_run.specs.Stores.{spanned, HeapState, IsHeapRun};
 
@@ -53,6 +53,19 @@ impl<A: Allocator + Copy> HeapRun<A> {
         ensures reserved { IfOk result (λ copy. IsPowerFor count copy.capacity) }
     {
         stored_for(alloc, run.as_slice(), count)
+    }
+
+    /// Puts the items of a list in, in place, as `unite` does with those of a run. It takes no memory.
+    pub fn unite_items(&mut self, joining: &[Item])
+        requires ascending { IsAscending joining.now }
+        requires apart { ShareNone self.old.items joining.now }
+        requires room { length self.old.items + length joining.now ≤ self.old.capacity }
+        ensures union { self.new.items ≡ sorted (self.old.items ++ joining.now) }
+        ensures capacity { self.new.capacity ≡ self.old.capacity }
+    {
+        let end = (self.span.end + joining.len()).min(self.places);
+        fill_up(&mut self.items, end, joining);
+        self.span.unite(self.items.as_mut_slice(), joining);
     }
 }
 
@@ -175,10 +188,7 @@ impl<A: Allocator + Copy> Run for HeapRun<A> {
     }
 
     fn unite(&mut self, other: &Self) {
-        let joining = other.as_slice();
-        let end = (self.span.end + joining.len()).min(self.places);
-        fill_up(&mut self.items, end, joining);
-        self.span.unite(self.items.as_mut_slice(), joining);
+        self.unite_items(other.as_slice());
     }
 
     // The stores change places.

@@ -1,30 +1,13 @@
-use Rattle.std.proofs.Common.{◌∙◌, ap, sym, refl, length, arith}
-use Rattle.klsm_run.specs.Content.{ShareNone}
-use Rattle.klsm_run.specs.Stores.{spanned, HeapState}
-use Rattle.klsm_run.proofs.ApartLemmas.{apart_if_sharing_none, ascending_sorted}
-use Rattle.klsm_run.proofs.StoreLemmas.{heap_whole, heap_lent, spanned_kept}
 use Rattle.klsm_run.proofs.heap_run.HeapRunRun.unite.Goals as goal
 
-pub unite-requires-clause-ascending : goal.unite-requires-clause-ascending
-unite-requires-clause-ascending g c =
-    let kept = spanned_kept c.self.inside.span c.self.inside.items.items c.fill_up.new.store.items c.self.invariant.span_in c.fill_up.ensures.kept in
-    rw (c.as_mut_slice.ensures.value, kept) c.self.invariant.ascending
+pub unite_items-requires-clause-ascending : goal.unite_items-requires-clause-ascending
+unite_items-requires-clause-ascending g c = rw c.as_slice.ensures.items c.as_slice.ensures.ascending
 
-pub unite-requires-clause-apart : goal.unite-requires-clause-apart
-unite-requires-clause-apart g c =
-    let kept = spanned_kept c.self.inside.span c.self.inside.items.items c.fill_up.new.store.items c.self.invariant.span_in c.fill_up.ensures.kept in
-    rw (c.as_mut_slice.ensures.value, kept, c.as_slice-joining.ensures.items, ap (λ (s : HeapState). s.items) c.self.view_is) c.requires.apart
+pub unite_items-requires-clause-apart : goal.unite_items-requires-clause-apart
+unite_items-requires-clause-apart g c = rw c.as_slice.ensures.items c.requires.apart
 
-pub invariant_of-self : goal.invariant_of-self
-invariant_of-self g c =
-    let kept = spanned_kept c.self.inside.span c.self.inside.items.items c.fill_up.new.store.items c.self.invariant.span_in c.fill_up.ensures.kept in
-    let apart : ShareNone (spanned c.self.inside.span c.self.inside.items.items) c.args.other.now.items = rw (ap (λ (s : HeapState). s.items) c.self.view_is) c.requires.apart in
-    heap_lent _ _ _ _ _ _ (ap length (sym c.as_mut_slice.ensures.value) ∙ c.as_mut_slice.ensures.len) (c.unite.ensures.len ∙ ap length c.as_mut_slice.ensures.value) c.unite.ensures.within
-    (rw (c.unite.ensures.united, c.as_mut_slice.ensures.value, kept, c.as_slice-joining.ensures.items) (ascending_sorted _ _ c.self.invariant.ascending c.as_slice-joining.ensures.ascending (apart_if_sharing_none _ _ apart)))
-    (omega (arith, c.fill_up.ensures.filled, c.min-end.ensures, c.self.invariant.filled)) (omega (arith, c.self.invariant.reserved, c.fill_up.ensures.reserved)) c.self.invariant.at_most c.self.invariant.whole_or_power
+pub unite_items-requires-clause-room : goal.unite_items-requires-clause-room
+unite_items-requires-clause-room g c = rw c.as_slice.ensures.items c.requires.room
 
 pub returns-clause-union : goal.returns-clause-union
-returns-clause-union g c =
-    let kept = spanned_kept c.self.inside.span c.self.inside.items.items c.fill_up.new.store.items c.self.invariant.span_in c.fill_up.ensures.kept in
-    ap (spanned c.unite.new.self) (heap_whole _ _ _ (ap length (sym c.as_mut_slice.ensures.value) ∙ c.as_mut_slice.ensures.len) (c.unite.ensures.len ∙ ap length c.as_mut_slice.ensures.value))
-    ∙ (c.unite.ensures.united ∙ rw (c.as_mut_slice.ensures.value, kept, c.as_slice-joining.ensures.items, ap (λ (s : HeapState). s.items) c.self.view_is) refl)
+returns-clause-union g c = rw c.as_slice.ensures.items at c.unite_items.ensures.union
