@@ -1,6 +1,6 @@
 -- A block that is joined to the blocks after it: what stays true of all items, the content, the levels, and that the blocks are lawful.
-use Rattle.std.proofs.Common.{◌≡◌, ℕ, ◌+◌, ◌<◌, ◌≤◌, ◌^◌, true, false, List, [], ◌∷◌, ◌++◌, length, nat_lt, refl, ap, ◌∙◌, arith, pow-suc, if◌then◌else◌, zero, suc, inl, inr}
-use Rattle.std.specs.List.{AllByRecursion}
+use Rattle.std.proofs.Common.{◌≡◌, ℕ, ◌+◌, ◌<◌, ◌≤◌, ◌^◌, true, false, List, [], ◌∷◌, ◌++◌, length, nat_lt, refl, ap, ◌∙◌, subst, arith, pow-suc, if◌then◌else◌, zero, suc, inl, inr}
+use Rattle.std.specs.List.{AllByRecursion, Contains}
 use Rattle.std.proofs.Math.Pow.{pow_mono}
 use Rattle.std.proofs.lemmas.Bool.{cases_lt, lt-ltb, le-ltb}
 use Rattle.std.proofs.lemmas.List.Elements.{Contains-append_left, Contains-append_right}
@@ -11,6 +11,7 @@ use Rattle.klsm_run.specs.Content.{sorted, ShareNone, IsAscending}
 use Rattle.klsm_run.proofs.AllLemmas.{all_weaker, all_append, all_front, all_back}
 use Rattle.klsm_run.proofs.SortedLemmas.{IsNew, all_sorted, length_sorted}
 use Rattle.klsm_run.proofs.ApartLemmas.{AreApart, apart_if_sharing_none, ascending_sorted}
+use Rattle.klsm_run.proofs.ContainsLemmas.{contains_unsorted}
 use Rattle.klsm_run.proofs.ContentLemmas.{sorted_sorted, sharing_none_if_apart}
 use Rattle.klsm_lsm.specs.Level.{least_level, level}
 use Rattle.klsm_lsm.specs.Lsm.{content, IsLsm}
@@ -37,6 +38,10 @@ is_block b up some = (up, has_level (length b) some)
 -- no item shared, the other way round
 pub sharing_none_flipped : (xs ys : List Item) → ShareNone xs ys → ShareNone ys xs
 sharing_none_flipped xs ys none x in_ys in_xs = none x in_xs in_ys
+
+-- nor with a list in its order
+pub sharing_none_sorted : (xs ys run : List Item) → ShareNone xs ys → run ≡ sorted ys → ShareNone xs run
+sharing_none_sorted xs ys run none is x in_xs in_run = none x in_xs (contains_unsorted x ys (subst (λ zs. Contains zs x) is in_run))
 
 -- what shares no item with two lists together shares none with each
 pub none_in_front : (xs ys zs : List Item) → ShareNone xs (ys ++ zs) → ShareNone xs ys

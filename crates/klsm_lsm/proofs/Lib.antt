@@ -21,5 +21,6 @@ pub mod RemovingLemmas
 pub mod SlotLemmas
 pub mod SpyLemmas
 pub mod StoredLemmas
+pub mod TogetherLemmas
 pub mod TwoSlotLemmas
 pub mod UnitedLemmas

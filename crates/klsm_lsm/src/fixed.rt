@@ -13,8 +13,7 @@ ghost use Rattle.klsm_lsm.specs.Adding.{add};
 ghost use Rattle.klsm_lsm.specs.Slots.{block_in, blocks_in};
 ghost use Rattle.klsm_lsm.specs.Spying.{spied, left_by_spy};
 
-use crate::absorbing::united_with;
-use crate::{Cascade, Lsm, LsmError};
+use crate::{Lsm, LsmError};
 use arrayvec::ArrayVec;
 use klsm_run::{FixedRun, Item, Run};
 
@@ -38,20 +37,6 @@ impl<const CAP: usize, const LEVELS: usize> Lsm<FixedRun<CAP>, LEVELS> {
         self.count = carry(self.slots.as_mut_slice(), self.count) + 1;
         self.len += 1;
         Ok(())
-    }
-
-    /// All items as one run. It costs one merge of all blocks, the least first.
-    pub fn united(&self) -> FixedRun<CAP>
-        requires capacity { IsCapacity CAP }
-        ensures { result ≡ sorted (content self.now) }
-    {
-        // For the proof: all items are within the limit.
-        let _known = self.len();
-        let all = Cascade {
-            first: 0,
-            count: self.blocks(),
-        };
-        united_with(self.filled(), all, FixedRun::empty())
     }
 
     /// Takes from a victim into this LSM, which is empty: the largest block or, where it is the

@@ -1,10 +1,8 @@
 -- All items of an own part on their way to the shared one.
-use Rattle.std.proofs.Common.{◌≡◌, ◌≢◌, ℕ, ◌<◌, ◌≤◌, List, [], ◌++◌, length, sym, ap, ◌∙◌, subst, arith}
-use Rattle.std.specs.List.{Contains}
+use Rattle.std.proofs.Common.{◌≡◌, ◌≢◌, ℕ, ◌<◌, ◌≤◌, List, [], ◌++◌, length, sym, ap, ◌∙◌, arith}
 use Rattle.std.proofs.lemmas.List.{append-nil}
 use Rattle.klsm_run.specs.declared.item.Item.{Item}
-use Rattle.klsm_run.specs.Content.{sorted, ShareNone}
-use Rattle.klsm_run.proofs.ContainsLemmas.{contains_unsorted}
+use Rattle.klsm_run.specs.Content.{sorted}
 use Rattle.klsm_run.proofs.ContentLemmas.{sorted_itself}
 use Rattle.klsm_run.proofs.SortedLemmas.{length_sorted}
 use Rattle.klsm_lsm.specs.Lsm.{content, IsLsm}
@@ -23,7 +21,3 @@ may_share_all bs lsm some = record {
 -- and leave none
 pub all_shared : (c : List Item) → own_after_share (sorted c) (sorted c) ≡ []
 all_shared c = minus_moved (sorted c) [] c (sym (ap sorted (append-nil (sorted c)) ∙ sorted_itself c))
-
--- the shared part has none of them
-pub sharing_apart : (own shared run : List Item) → ShareNone own shared → run ≡ sorted own → ShareNone shared run
-sharing_apart own shared run apart is x in_shared in_run = apart x (contains_unsorted x own (subst (λ xs. Contains xs x) is in_run)) in_shared

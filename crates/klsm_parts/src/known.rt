@@ -8,7 +8,7 @@ ghost use Rattle.klsm_parts.specs.Pivots.{ArePivots};
 ghost use Rattle.klsm_parts.specs.Ranking.{AreRanked};
 
 use crate::ranking::Ranking;
-use crate::ranks::mark_least;
+use crate::ranks::{mark_least, none_of};
 use arrayvec::ArrayVec;
 use klsm_lsm::Lsm;
 use klsm_run::{Item, Run};
@@ -19,6 +19,26 @@ pub(crate) struct LeastItems {
     /// The least item, if there is one. A look at it needs no access to a block.
     pub(crate) first: Option<Item>,
     pub(crate) ranking: Ranking,
+}
+
+/// Forgets what was ranked, since items that came may lie between, and ranks the least item alone.
+pub(crate) fn know_anew<R: Run, const LEVELS: usize>(
+    lsm: &Lsm<R, LEVELS>,
+    pivots: &mut ArrayVec<usize, LEVELS>,
+    least: &mut LeastItems,
+)
+    requires { IsLevelCount LEVELS }
+    ensures lawful { IsLsm lsm.now }
+    ensures pivots { ArePivots (length least.new.ranking.blocks.items) lsm.now pivots.new.items }
+    ensures ranked { AreRanked lsm.now
+        least.new.ranking.blocks.items least.new.ranking.owners.items }
+    ensures len { length least.new.ranking.blocks.items ≡ min 1 (length (content lsm.now)) }
+    ensures first { least.new.first ≡ slice_get (sorted (content lsm.now)) 0 }
+{
+    let none = none_of(lsm);
+    *pivots = none;
+    least.ranking.clear();
+    know_least(lsm, pivots, least);
 }
 
 /// Ranks one item where none is ranked, and looks at the least one. It costs one comparison a block where none is.

@@ -181,14 +181,6 @@ impl<const CAP: usize> Local<CAP> {
         };
     }
 
-    // All items, as one run.
-    pub(crate) fn united(&self) -> FixedRun<CAP>
-        requires { IsCapacity CAP }
-        ensures { result ≡ items_in self.now }
-    {
-        self.lsm.united()
-    }
-
     // Loses all items.
     pub(crate) fn clear(&mut self)
         ensures { self.new ≡ record { k = self.old.k; blocks = [] } }

@@ -12,10 +12,10 @@ ghost use Rattle.klsm_parts.specs.Taking.{own_first};
 ghost use Rattle.klsm_parts.specs.Parts.{PartState, IsShared, items_in, least_in, candidates_of};
 
 use crate::appending::append_blocks;
-use crate::known::{LeastItems, know_least, rank_up_to};
+use crate::known::{LeastItems, know_anew, know_least, rank_up_to};
 use crate::leaving::{copy_least, cut_block, cut_blocks};
 use crate::ranking::Ranking;
-use crate::ranks::{Place, item_of_rank, none_of, pivots_of};
+use crate::ranks::{Place, item_of_rank, pivots_of};
 use arrayvec::ArrayVec;
 use klsm_lsm::{Lsm, LsmError};
 use klsm_run::{HeapRun, Item, Run};
@@ -191,11 +191,32 @@ impl<const LEVELS: usize, A: Allocator + Copy> Shared<LEVELS, A> {
     {
         match self.lsm.absorb_copy(self.alloc, run) {
             Ok(()) => {
-                // Items that came may lie between those that were ranked.
-                let none = none_of(&self.lsm);
-                self.pivots = none;
-                self.least.ranking.clear();
-                know_least(&self.lsm, &mut self.pivots, &mut self.least);
+                know_anew(&self.lsm, &mut self.pivots, &mut self.least);
+                Ok(())
+            }
+            Err(why) => Err(why),
+        }
+    }
+
+    // Puts a copy of all items of an LSM in, as one run. What can be refused comes first, and Full before a growth.
+    pub(crate) fn absorb_all<R: Run, const OTHERS: usize>(
+        &mut self,
+        others: &Lsm<R, OTHERS>,
+    ) -> Result<(), LsmError>
+        requires some { 0 < length (content others.now) }
+        requires apart { ShareNone (content self.old.blocks) (content others.now) }
+        ensures added { OnOk result (self.new ≡ record {
+          k = self.old.k;
+          blocks = add self.old.blocks (sorted (content others.now));
+        }) }
+        ensures full { IsErrAnd result (λ why. why ≡ LsmError.Full)
+            ↔ (limit_of LEVELS heap_room
+            < length (content self.old.blocks) + length (content others.now)) }
+        ensures unchanged { OnErr result (self.new ≡ self.old) }
+    {
+        match self.lsm.absorb_all(self.alloc, others) {
+            Ok(()) => {
+                know_anew(&self.lsm, &mut self.pivots, &mut self.least);
                 Ok(())
             }
             Err(why) => Err(why),

@@ -14,10 +14,9 @@ use std::alloc::Allocator;
 
 /// Moves all items of the own part to the shared one. The answer is how many moved.
 ///
-/// They leave as one run: it costs one merge of the own blocks, one growth, the merges of the shared part and, whatever
-/// k is, one comparison a block of that. A refusal comes before anything changes, and `Full` before the growth.
-// It is kept apart from the other calls, since a run of all items lies on the stack.
-#[inline(never)]
+/// They leave as one run: it costs one growth, a merge of the own blocks in that store, which copies an item twice on average
+/// at most, the merges of the shared part and, whatever k is, one comparison a block of that. A refusal comes before anything
+/// changes, and `Full` before the growth.
 pub fn share<const CAP: usize, const LEVELS: usize, A: Allocator + Copy>(
     own: &mut Local<CAP>,
     shared: &mut Shared<LEVELS, A>,
@@ -49,7 +48,7 @@ pub fn share<const CAP: usize, const LEVELS: usize, A: Allocator + Copy>(
     if count == 0 {
         return Ok(0);
     }
-    match shared.absorb_copy(&own.united()) {
+    match shared.absorb_all(own.lsm()) {
         Ok(()) => {
             own.clear();
             Ok(count)

@@ -3,10 +3,11 @@ use Rattle.klsm_run.specs.declared.item.Item.{Item}
 use Rattle.klsm_run.proofs.SortedLemmas.{length_sorted}
 use Rattle.klsm_lsm.specs.Lsm.{content}
 use Rattle.klsm_lsm.specs.Adding.{add}
+use Rattle.klsm_lsm.proofs.JoinLemmas.{sharing_none_flipped}
 use Rattle.klsm_parts.specs.Parts.{PartState, items_in}
 use Rattle.klsm_parts.proofs.EventLemmas.{no_items, shared_flushed}
-use Rattle.klsm_parts.proofs.FitLemmas.{run_fits}
-use Rattle.klsm_parts.proofs.SharingLemmas.{may_share_all, all_shared, sharing_apart}
+use Rattle.klsm_parts.proofs.FitLemmas.{first_fits, run_fits}
+use Rattle.klsm_parts.proofs.SharingLemmas.{may_share_all, all_shared}
 use Rattle.klsm_parts.proofs.sharing.share.Goals as goal
 
 pub returns-then-count-eq0-clause-count : goal.returns-then-count-eq0-clause-count
@@ -31,17 +32,17 @@ returns-then-count-eq0-clause-full g c = (λ bad. absurd bad, λ less. absurd (o
 pub returns-then-count-eq0-clause-unchanged : goal.returns-then-count-eq0-clause-unchanged
 returns-then-count-eq0-clause-unchanged g c = tt
 
-pub absorb_copy-requires : goal.absorb_copy-requires
-absorb_copy-requires g c =
+pub absorb_all-requires : goal.absorb_all-requires
+absorb_all-requires g c =
     let own = content c.args.own.now.blocks in
-    let some : 0 < length c.united.result = omega (arith, ap length c.united.ensures, length_sorted own, c.len-count.ensures.len, c.if-count-eq0.false) in
-    (search, (some, sharing_apart own (content c.args.shared.now.blocks) c.united.result c.requires.apart c.united.ensures))
+    let some : 0 < length own = omega (arith, c.len-count.ensures.len, c.if-count-eq0.false) in
+    (search, (search first_fits, rw c.lsm.ensures (some, sharing_none_flipped own (content c.args.shared.now.blocks) c.requires.apart)))
 
-pub absorb_copy-requires-room-R-Run : goal.absorb_copy-requires-room-R-Run
-absorb_copy-requires-room-R-Run g c κs = search run_fits
+pub absorb_all-requires-room-R-Run : goal.absorb_all-requires-room-R-Run
+absorb_all-requires-room-R-Run g c κs = search run_fits
 
-pub united-requires : goal.united-requires
-united-requires g c = (search, (search run_fits, c.requires.capacity))
+pub lsm-requires : goal.lsm-requires
+lsm-requires g c = (search, (search first_fits, search run_fits))
 
 pub returns-in-Ok-clause-count : goal.returns-in-Ok-clause-count
 returns-in-Ok-clause-count g c = c.len-count.ensures.len ∙ sym (length_sorted (content c.args.own.now.blocks))
@@ -59,8 +60,7 @@ pub returns-in-Ok-clause-event : goal.returns-in-Ok-clause-event
 returns-in-Ok-clause-event g c some =
     let bs = c.args.own.now.blocks in let shared = c.args.shared.now in let own = items_in c.args.own.now in
     let are : 0 < length (content bs) = omega (arith, some, c.len-count.ensures.len) in
-    let added : c.absorb_copy.new.self ≡ record { k = shared.k; blocks = add shared.blocks own } =
-    c.in-Ok.ensures.added ∙ ap (λ (run : List Item). record { k = shared.k; blocks = add shared.blocks run }) c.united.ensures in (
+    let added : c.absorb_all.new.self ≡ record { k = shared.k; blocks = add shared.blocks own } = rw c.lsm.ensures at c.in-Ok.ensures.added in (
       may_share_all bs c.len-count.ensures.lawful are,
       ap items_in c.clear.ensures ∙ sym (all_shared (content bs)),
       ap items_in added ∙ shared_flushed shared.blocks own,
@@ -68,10 +68,7 @@ returns-in-Ok-clause-event g c some =
     )
 
 pub returns-in-Ok-clause-full : goal.returns-in-Ok-clause-full
-returns-in-Ok-clause-full g c = (
-  λ bad. absurd bad,
-  λ less. c.in-Ok.ensures.full.1 (omega (arith, less, ap length c.united.ensures, length_sorted (content c.args.own.now.blocks))),
-)
+returns-in-Ok-clause-full g c = rw c.lsm.ensures at c.in-Ok.ensures.full
 
 pub returns-in-Ok-clause-unchanged : goal.returns-in-Ok-clause-unchanged
 returns-in-Ok-clause-unchanged g c = tt
@@ -92,11 +89,7 @@ pub returns-in-Err-clause-event : goal.returns-in-Err-clause-event
 returns-in-Err-clause-event g c = tt
 
 pub returns-in-Err-clause-full : goal.returns-in-Err-clause-full
-returns-in-Err-clause-full g c =
-    let own = content c.args.own.now.blocks in (
-      λ is. let less = c.in-Err.ensures.full.0 is in omega (arith, less, ap length c.united.ensures, length_sorted own),
-      λ less. c.in-Err.ensures.full.1 (omega (arith, less, ap length c.united.ensures, length_sorted own)),
-    )
+returns-in-Err-clause-full g c = rw c.lsm.ensures at c.in-Err.ensures.full
 
 pub returns-in-Err-clause-unchanged : goal.returns-in-Err-clause-unchanged
 returns-in-Err-clause-unchanged g c = (refl, c.in-Err.ensures.unchanged)

@@ -1,11 +1,10 @@
-use Rattle.std.proofs.Common.{List, length, refl, subst, sym, ◌∙◌, ap, arith}
+use Rattle.std.proofs.Common.{List, subst, sym, ◌∙◌, ap, arith}
 use Rattle.klsm_run.specs.Content.{ShareNone}
 use Rattle.klsm_run.specs.declared.item.Item.{Item}
 use Rattle.klsm_lsm.specs.Lsm.{content}
 use Rattle.klsm_lsm.specs.Adding.{add}
 use Rattle.klsm_parts.specs.Parts.{PartState, IsShared}
 use Rattle.klsm_parts.proofs.FitLemmas.{lsm_fits, pivots_fit}
-use Rattle.klsm_parts.proofs.PivotLemmas.{pivots_none}
 use Rattle.klsm_parts.proofs.shared.Shared.absorb_copy.Goals as goal
 
 pub absorb_copy-requires : goal.absorb_copy-requires
@@ -13,34 +12,18 @@ absorb_copy-requires g c =
     let apart = subst (λ (p : PartState). ShareNone (content p.blocks) (g.R.Run.items c.args.run.now)) (sym c.self.view_is) c.requires.apart in
     (search lsm_fits, (c.requires.some, apart))
 
-pub none_of-none-requires : goal.none_of-none-requires
-none_of-none-requires g c = (search lsm_fits, (search pivots_fit, c.self.invariant.levels_in_range))
-
-pub know_least-requires : goal.know_least-requires
-know_least-requires g c =
-    let none = c.clear.ensures in (
-      search lsm_fits,
-      (
-        search pivots_fit,
-        (
-          c.self.invariant.levels_in_range,
-          (
-            rw (none.blocks, c.none_of-none.ensures) (pivots_none _),
-            rw (none.blocks, none.owners) (record { in_blocks = tt; owned = tt; as_many = refl }),
-          ),
-        ),
-      ),
-    )
+pub know_anew-requires : goal.know_anew-requires
+know_anew-requires g c = (search lsm_fits, (search pivots_fit, c.self.invariant.levels_in_range))
 
 pub invariant_of-self : goal.invariant_of-self
 invariant_of-self g c =
-    let known = c.know_least.ensures in
+    let known = c.know_anew.ensures in
     record {
       lawful = known.lawful;
       pivots_exact = known.pivots;
       ranking_exact = known.ranked;
       ranking_some = omega (arith, known.len);
-      ranking_few = omega (arith, known.len, ap length c.clear.ensures.blocks);
+      ranking_few = omega (arith, known.len);
       least_found = known.first;
       k_in_range = c.self.invariant.k_in_range;
       levels_in_range = c.self.invariant.levels_in_range;
