@@ -400,14 +400,14 @@ impl<const CAP: usize, const LEVELS: usize> Member<CAP, LEVELS> {
     /// releases, and a comparison for each block; as long as it has a part, nobody else can use that.
     ///
     /// An item that was deleted is in no part, however long its thread still works at it, and `queue` says nothing of it.
-    /// A search that wants a bound of its open nodes keeps a word for each thread, and beside it a count of its writes. The
-    /// thread lowers its word to a number that is at most each key it may be given, as the last bound that was found, before
-    /// it calls for a deletion; it sets it to the key of the item once it has that; and it clears it, to the greatest
-    /// number, once it has inserted all that it made of the item, or if there was none. Somebody reads all words before a
-    /// bound and again behind it. Where no count has changed, and what is made of an item has no lesser key than that, the
-    /// least of `queue` and of the words is at most the key of each node that was open at that moment. For a thread whose
-    /// count has changed its word says nothing, whether it was read before or behind: only the number that it is lowered
-    /// to holds for it then.
+    /// A search that wants a bound of its open nodes keeps a word for each thread, and a count of its writes, which rises
+    /// behind each. The thread lowers its word to a number that is at most each key it may be given, as the last bound that
+    /// was found, before it calls for a deletion; it sets it to the key of the item once it has that; and it clears it, to
+    /// the greatest number, once it has inserted all that it made of the item, or if there was none. Somebody reads of each
+    /// thread the count and then the word, calls for a bound, and reads the counts again. Where none has changed, and what
+    /// is made of an item has no lesser key than that, the least of `queue` and of the words is at most the key of each
+    /// node that was open at that moment. Of a thread whose count has changed the word says nothing: only the number that
+    /// it is lowered to holds for it then.
     pub fn try_bound(&mut self, board: &Board<CAP, LEVELS>) -> Result<Bound, Busy>
         requires { IsOf self.old board.now }
         ensures same { IsSame self.old self.new }
