@@ -5,6 +5,7 @@ use Rattle.klsm_run.specs.declared.item.Item.{Item}
 use Rattle.klsm_run.specs.declared.item.Stamp.{Stamp}
 use Rattle.klsm_run.specs.declared.limits.TheConstants.{MOST_LEVELS}
 use Rattle.klsm_world.specs.OwnSteps.{inserted}
+use Rattle.klsm_board.specs.declared.bounding.Bound.{Bound}
 use Rattle.klsm_board.specs.declared.errors.Busy.{Busy}
 use Rattle.klsm_board.specs.declared.errors.TryInsertError.{TryInsertError}
 use Rattle.klsm_board.specs.declared.errors.TryInsertError.TheVariants.{Spent}
@@ -19,6 +20,7 @@ use Rattle.klsm_board.specs.Rule.{own, view}
 use Rattle.klsm_board.specs.Steps.{HasFront}
 use Rattle.klsm_board.specs.Inserting.{Inserts, RefusesInsert, stamp_of, stamped}
 use Rattle.klsm_board.specs.Deleting.{AnswersDeletion, MissesDeletion, moving_at_most}
+use Rattle.klsm_board.specs.Bounding.{Bounds, MissesSome, SeesAllLive}
 use Rattle.klsm_board.specs.Sharing.{RefusesShare, Shares}
 use Rattle.klsm_owned.specs.declared.owned.OwnedMember.{OwnedMember}
 use Rattle.klsm_parts.specs.Choices.{may_choose}
@@ -89,6 +91,19 @@ pub record TriesShare (before after : OwnedMember) (result : Result ℕ TryShare
       (own_steps (member_of before)) (own_steps (member_of after)))
   pub adds : Adds (member_of before) (member_of after) [] []
   pub refused : IfErr result (RefusesShare MOST_LEVELS (member_of before).number
+      (own_steps (member_of before)) (own_steps (member_of after)))
+  pub choice : choice_of after ≡ choice_of before
+  pub balancing : balancing_of after ≡ balancing_of before
+
+-- A bound: all parts were in hand at one moment, and it is that of the items that lived then; or a lock was not free.
+-- The picker stays.
+pub record TriesBound (before after : OwnedMember) (result : Result Bound Busy) : Type 0 where
+  pub ok : IfOk result (Bounds (member_of before).sizes.threads
+      (own_steps (member_of before)) (own_steps (member_of after)))
+  pub live : IfOk result (SeesAllLive (member_of before).sizes (member_of before).number
+      (known_of_others (member_of before)) (own_steps (member_of before)) (own_steps (member_of after)))
+  pub adds : Adds (member_of before) (member_of after) [] []
+  pub busy : IfErr result (MissesSome (member_of before).sizes.threads
       (own_steps (member_of before)) (own_steps (member_of after)))
   pub choice : choice_of after ≡ choice_of before
   pub balancing : balancing_of after ≡ balancing_of before

@@ -5,10 +5,12 @@ ghost use Rattle.klsm_world.specs.OwnSteps.{inserted, deleted};
 ghost use Rattle.klsm_board.specs.Boards.{IsOf, own_steps};
 ghost use Rattle.klsm_board.specs.Members.{most_deletions, most_insertions};
 ghost use Rattle.klsm_owned.specs.Owned.{IsSameOwned, board_of, member_of};
-ghost use Rattle.klsm_owned.specs.Trying.{BalancesFirst, LooksAtFront, TriesInsert, TriesDelete, TriesDeleteAlone, TriesShare};
+ghost use Rattle.klsm_owned.specs.Trying.{BalancesFirst, LooksAtFront, TriesBound, TriesInsert, TriesDelete, TriesDeleteAlone, TriesShare};
 
 use crate::owned::OwnedMember;
-use klsm_board::{Busy, MOST_BALANCED, TryInsertError, TryShareError, WideBoard, WideMember};
+use klsm_board::{
+    Bound, Busy, MOST_BALANCED, TryInsertError, TryShareError, WideBoard, WideMember,
+};
 use klsm_run::{Item, Stamp};
 use std::alloc::Global;
 use std::sync::Arc;
@@ -58,6 +60,15 @@ impl OwnedMember {
         ensures tries { TriesShare self.old self.new result }
     {
         self.member.try_share(&self.board)
+    }
+
+    /// The least key of all live items, and how many live, as `Member::try_bound`.
+    #[inline]
+    pub fn try_bound(&mut self) -> Result<Bound, Busy>
+        ensures same { IsSameOwned self.old self.new }
+        ensures tries { TriesBound self.old self.new result }
+    {
+        self.member.try_bound(&self.board)
     }
 
     // Balances with the member whose turn it is, where it is time. One whose lock is held is passed over.
