@@ -3,14 +3,16 @@ use Rattle.std.proofs.Common.{◌≡◌, ℕ, List, [], ◌∷◌, Result, Optio
 use Rattle.std.specs.Prelude.{ℤ, pos}
 use Rattle.klsm_run.specs.declared.item.Item.{Item}
 use Rattle.klsm_run.specs.declared.item.Stamp.{Stamp}
+use Rattle.klsm_board.specs.declared.bounding.Bound.{Bound}
 use Rattle.klsm_board.specs.declared.errors.Busy.{Busy}
 use Rattle.klsm_board.specs.declared.errors.TryInsertError.{TryInsertError}
 use Rattle.klsm_board.specs.declared.errors.TryShareError.{TryShareError}
+use Rattle.klsm_c.specs.declared.bounding.PlainBound.{PlainBound}
 use Rattle.klsm_c.specs.declared.item.PlainItem.{PlainItem}
 use Rattle.klsm_owned.specs.declared.owned.OwnedMember.{OwnedMember}
 use Rattle.klsm_owned.specs.Owned.{IsSameOwned}
-use Rattle.klsm_owned.specs.Trying.{LooksAtFront, TriesInsert, TriesDelete, TriesDeleteAlone, TriesShare}
-use Rattle.klsm_c.specs.Calls.{InsertsBySlot, DeletesBySlot, DeletesAloneBySlot, SharesBySlot, LooksAt, insert_code, delete_code, share_code, written, count_written}
+use Rattle.klsm_owned.specs.Trying.{LooksAtFront, TriesBound, TriesInsert, TriesDelete, TriesDeleteAlone, TriesShare}
+use Rattle.klsm_c.specs.Calls.{InsertsBySlot, DeletesBySlot, DeletesAloneBySlot, SharesBySlot, BoundsBySlot, LooksAt, insert_code, delete_code, share_code, bound_code, written, count_written, bound_written}
 
 pub inserts_told : (old new : List OwnedMember) (x y : OwnedMember) (key load : ℕ) (code : ℤ) (answer : Result Stamp TryInsertError)
     → old ≡ x ∷ [] → new ≡ y ∷ [] → IsSameOwned x y → TriesInsert x y key load answer → code ≡ insert_code answer
@@ -41,6 +43,12 @@ pub shares_told : (old new : List OwnedMember) (x y : OwnedMember) (moved moved'
     → SharesBySlot old new moved moved' code
 shares_told old new x y moved moved' code answer was is same tries code_is written_is =
     subst (λ (xs : List OwnedMember). SharesBySlot xs new moved moved' code) (sym was) (y, is, same, answer, code_is, written_is, tries)
+
+pub bounds_told : (old new : List OwnedMember) (x y : OwnedMember) (bound bound' : PlainBound) (code : ℤ) (answer : Result Bound Busy)
+    → old ≡ x ∷ [] → new ≡ y ∷ [] → IsSameOwned x y → TriesBound x y answer → code ≡ bound_code answer → bound' ≡ bound_written bound answer
+    → BoundsBySlot old new bound bound' code
+bounds_told old new x y bound bound' code answer was is same tries code_is written_is =
+    subst (λ (xs : List OwnedMember). BoundsBySlot xs new bound bound' code) (sym was) (y, is, same, answer, code_is, written_is, tries)
 
 pub looks_told : (old new : List OwnedMember) (x y : OwnedMember) (front : ℕ) → old ≡ x ∷ [] → new ≡ y ∷ [] → IsSameOwned x y → LooksAtFront x y front → LooksAt old new front
 looks_told old new x y front was is same looks = subst (λ (xs : List OwnedMember). LooksAt xs new front) (sym was) (y, is, same, looks)

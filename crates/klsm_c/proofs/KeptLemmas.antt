@@ -12,9 +12,10 @@ use Rattle.klsm_board.proofs.lemmas.ending.MemberLemmas.{stands_mapped}
 use Rattle.klsm_owned.specs.declared.owned.OwnedMember.{OwnedMember}
 use Rattle.klsm_owned.specs.Owned.{IsSameOwned, AreAllOfTheirBoard, member_of, members_of}
 use Rattle.klsm_owned.proofs.ListLemmas.{unmapped}
+use Rattle.klsm_c.specs.declared.bounding.PlainBound.{PlainBound}
 use Rattle.klsm_c.specs.declared.item.PlainItem.{PlainItem}
 use Rattle.klsm_c.specs.declared.slot.Slot.{Slot}
-use Rattle.klsm_c.specs.Calls.{DeletesAloneBySlot, DeletesBySlot, InsertsBySlot, LooksAt, SharesBySlot}
+use Rattle.klsm_c.specs.Calls.{BoundsBySlot, DeletesAloneBySlot, DeletesBySlot, InsertsBySlot, LooksAt, SharesBySlot}
 use Rattle.klsm_c.specs.Slots.{owned_in}
 use Rattle.klsm_c.proofs.ListLemmas.{map_behind}
 
@@ -65,6 +66,10 @@ kept_by_delete_alone (x ∷ xs) new item item' code told = (told.0, told.1, told
 pub kept_by_share : (old new : List OwnedMember) (moved moved' : ℕ) (code : ℤ) → SharesBySlot old new moved moved' code → IsKept old new
 kept_by_share [] new moved moved' code told = told.1
 kept_by_share (x ∷ xs) new moved moved' code told = (told.0, told.1, told.2)
+
+pub kept_by_bound : (old new : List OwnedMember) (bound bound' : PlainBound) (code : ℤ) → BoundsBySlot old new bound bound' code → IsKept old new
+kept_by_bound [] new bound bound' code told = told.1
+kept_by_bound (x ∷ xs) new bound bound' code told = (told.0, told.1, told.2)
 
 pub kept_by_look : (old new : List OwnedMember) (front : ℕ) → LooksAt old new front → IsKept old new
 kept_by_look [] new front told = told.1

@@ -8,6 +8,7 @@ use Rattle.klsm_run.specs.declared.item.Stamp.{Stamp}
 use Rattle.klsm_world.specs.declared.step.Entry.{Entry}
 use Rattle.klsm_world.specs.OwnSteps.{inserted, deleted}
 use Rattle.klsm_board.specs.Boards.{own_steps}
+use Rattle.klsm_board.specs.declared.bounding.Bound.{Bound}
 use Rattle.klsm_board.specs.declared.errors.Busy.{Busy as IsBusy}
 use Rattle.klsm_board.specs.declared.errors.TryInsertError.{TryInsertError}
 use Rattle.klsm_board.specs.declared.errors.TryInsertError.TheVariants.{Spent, Busy, Full, NoMemory}
@@ -15,10 +16,11 @@ use Rattle.klsm_board.specs.declared.errors.TryShareError.{TryShareError}
 use Rattle.klsm_board.specs.declared.errors.TryShareError.TheVariants as try_share
 use Rattle.klsm_owned.specs.declared.owned.OwnedMember.{OwnedMember}
 use Rattle.klsm_owned.specs.Owned.{IsSameOwned, member_of}
-use Rattle.klsm_owned.specs.Trying.{LooksAtFront, TriesInsert, TriesDelete, TriesDeleteAlone, TriesShare}
+use Rattle.klsm_owned.specs.Trying.{LooksAtFront, TriesBound, TriesInsert, TriesDelete, TriesDeleteAlone, TriesShare}
+use Rattle.klsm_c.specs.declared.bounding.PlainBound.{PlainBound}
 use Rattle.klsm_c.specs.declared.item.PlainItem.{PlainItem}
 use Rattle.klsm_c.specs.declared.slot.Slot.{Slot}
-use Rattle.klsm_c.specs.Items.{plain_of}
+use Rattle.klsm_c.specs.Items.{plain_bound_of, plain_of}
 use Rattle.klsm_c.specs.Codes as codes
 
 -- how many items the member of a slot has, of those that its list has by this measure
@@ -90,6 +92,22 @@ SharesBySlot [] new moved moved' code = (code ≡ codes.not_open) × (new ≡ []
 SharesBySlot (x ∷ xs) new moved moved' code = (y : OwnedMember) × (new ≡ y ∷ []) × IsSameOwned x y
     × (answer : Result ℕ TryShareError) × (code ≡ share_code answer) × (moved' ≡ count_written moved answer)
     × TriesShare x y answer
+
+-- the code of a bound's answer, and what is written for it
+abbrev pub bound_code : Result Bound IsBusy → ℤ
+bound_code (Ok bound) = codes.ok
+bound_code (Err busy) = codes.busy
+
+abbrev pub bound_written : PlainBound → Result Bound IsBusy → PlainBound
+bound_written old (Ok bound) = plain_bound_of bound
+bound_written old (Err busy) = old
+
+-- A bound, as an insertion. It is written exactly where the code is `ok`.
+abbrev pub BoundsBySlot : List OwnedMember → List OwnedMember → PlainBound → PlainBound → ℤ → Type 0
+BoundsBySlot [] new bound bound' code = (code ≡ codes.not_open) × (new ≡ []) × (bound' ≡ bound)
+BoundsBySlot (x ∷ xs) new bound bound' code = (y : OwnedMember) × (new ≡ y ∷ []) × IsSameOwned x y
+    × (answer : Result Bound IsBusy) × (code ≡ bound_code answer) × (bound' ≡ bound_written bound answer)
+    × TriesBound x y answer
 
 -- A look at the front: the greatest number where there is no member.
 abbrev pub LooksAt : List OwnedMember → List OwnedMember → ℕ → Type 0

@@ -3,14 +3,14 @@
 //! A queue is memory of the caller's: 64 slots of two cache lines each. A slot that is open has one
 //! member of a board, behind a pointer; a slot of zeros is closed. `klsm_open` makes a board and puts its
 //! members into the first slots; so does `klsm_open_with_balance`. From then on each thread uses one slot
-//! (`klsm_try_insert`, `klsm_try_delete_min`, `klsm_try_share`), and once they are done, `klsm_close_into` ends the board with the
-//! account of all members and what is left. `klsm_drop` lets a queue go without an account.
+//! (`klsm_try_insert`, `klsm_try_delete_min`, `klsm_try_share`, `klsm_try_bound`), and once they are done, `klsm_close_into`
+//! ends the board with the account of all members and what is left. `klsm_drop` lets a queue go without an account.
 //!
 //! What C gets is what `klsm_board` promises:
 //!
 //! - **A call of a slot is a call of the member behind it**, with all that `Member::try_insert`,
-//!   `Member::try_delete_min` and `Member::try_share` promise, and its code says which answer it was (`InsertsBySlot`,
-//!   `DeletesBySlot` and `SharesBySlot` of `specs/Calls.antt`).
+//!   `Member::try_delete_min`, `Member::try_share` and `Member::try_bound` promise, and its code says which answer it was
+//!   (`InsertsBySlot`, `DeletesBySlot`, `SharesBySlot` and `BoundsBySlot` of `specs/Calls.antt`).
 //! - **A code comes exactly where its cause holds**; memory is refused only where `malloc` gives none. After
 //!   a refusal nothing has changed.
 //! - **The members of an open queue are all those of one board.** That is part of the type `Queue`, each
@@ -21,6 +21,7 @@
 //! No proof says what C does with a queue between two calls; docs/C-INTERFACE.md lists what is trusted.
 #![tactic(auto)]
 
+mod bounding;
 mod calls;
 mod closing;
 mod codes;
@@ -33,6 +34,7 @@ mod raw_box;
 mod sharing;
 mod slot;
 
+pub use bounding::{PlainBound, klsm_try_bound};
 pub use calls::{klsm_deleted, klsm_front, klsm_inserted, klsm_try_delete_min, klsm_try_insert};
 pub use closing::{Account, klsm_close_into, klsm_drop};
 pub use codes::{klsm_abi, klsm_version};

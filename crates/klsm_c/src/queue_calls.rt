@@ -1,8 +1,9 @@
 //! The calls of one member of a queue, for a caller that has the whole queue.
 ghost use Rattle.std.specs.Prelude.{◌≡◌, ◌<◌};
 ghost use Rattle.klsm_run.specs.declared.limits.TheConstants.{MOST_THREADS};
-ghost use Rattle.klsm_c.specs.Calls.{CallsSlot, DeletesAloneBySlot, DeletesBySlot, InsertsBySlot, LooksAt, SharesBySlot, deleted_in, inserted_in};
+ghost use Rattle.klsm_c.specs.Calls.{BoundsBySlot, CallsSlot, DeletesAloneBySlot, DeletesBySlot, InsertsBySlot, LooksAt, SharesBySlot, deleted_in, inserted_in};
 
+use crate::bounding::{PlainBound, klsm_try_bound};
 use crate::calls::{klsm_deleted, klsm_front, klsm_inserted, klsm_try_delete_min, klsm_try_insert};
 use crate::item::PlainItem;
 use crate::queue::Queue;
@@ -47,6 +48,16 @@ impl Queue {
             (λ before after. SharesBySlot before after moved.old moved.new result) }
     {
         klsm_try_share(&mut self.slots[number], moved)
+    }
+
+    /// Reads all parts at one moment by the member of this number, as C does by a pointer to its slot. The members stay
+    /// those of one board.
+    pub fn try_bound(&mut self, number: usize, bound: &mut PlainBound) -> i32
+        requires { number < MOST_THREADS }
+        ensures { CallsSlot number self.old.slots self.new.slots
+            (λ before after. BoundsBySlot before after bound.old bound.new result) }
+    {
+        klsm_try_bound(&mut self.slots[number], bound)
     }
 
     /// The front, as C asks for it by a pointer to this slot. The members stay those of one board.
