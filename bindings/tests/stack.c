@@ -114,7 +114,7 @@ int main(void) {
     uses("a deletion from it as a rule", none, delete_one, TRIES, 2048);
     uses("deletions from it", none, delete_own, 1, STACK / 2);
     uses("all other insertions and deletions", none, insert_and_delete_all, 1, STACK / 2);
-    uses("sharings, and deletions alone", none, share_and_delete_all, 1, STACK / 2);
+    uses("sharings, and deletions alone", none, share_and_delete_all, 1, 4096);
     uses("a closing", none, close_all, 1, STACK / 2);
     return check_status();
 }
