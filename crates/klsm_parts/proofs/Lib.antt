@@ -2,6 +2,7 @@ pub mod AppendLemmas
 pub mod BlockCutLemmas
 pub mod EmptyLemmas
 pub mod EventLemmas
+pub mod FirstLemmas
 pub mod FitLemmas
 pub mod FlushLemmas
 pub mod FoundLemmas

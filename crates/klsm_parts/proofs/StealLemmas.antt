@@ -1,5 +1,5 @@
 -- The least items of another member's part on their way to an own one.
-use Rattle.std.proofs.Common.{inl, inr, ◌≡◌, ℕ, ◌+◌, ◌-◌, ◌/◌, min, ◌<◌, ◌≤◌, List, [], ◌∷◌, ◌++◌, length, take, drop, Some, refl, sym, ap, ◌∙◌, subst, arith}
+use Rattle.std.proofs.Common.{inl, inr, ◌≡◌, ℕ, ◌+◌, ◌-◌, ◌/◌, min, ◌<◌, ◌≤◌, List, [], ◌∷◌, ◌++◌, length, take, drop, Some, refl, sym, ap, ◌∙◌, subst, arith, zero, suc}
 use Rattle.std.specs.List.{Contains, slice_get}
 use Rattle.std.proofs.lemmas.List.{append_assoc, take-append-drop}
 use Rattle.std.proofs.lemmas.List.Elements.{Contains-append_right, Contains-append_cases}
@@ -10,8 +10,9 @@ use Rattle.klsm_run.proofs.ContainsLemmas.{contains_sorted, contains_unsorted}
 use Rattle.klsm_run.proofs.ContentLemmas.{sorted_itself, sorted_swap, sorted_same_behind, sharing_none_if_apart}
 use Rattle.klsm_run.proofs.IndexLemmas.{contains_at}
 use Rattle.klsm_run.proofs.LeastLemmas.{without_first}
+use Rattle.klsm_lsm.specs.Adding.{add}
 use Rattle.klsm_parts.specs.Events.{plus}
-use Rattle.klsm_parts.specs.Stealing.{MaySteal, own_after_steal, victim_after_steal, steal_count}
+use Rattle.klsm_parts.specs.Stealing.{MaySteal, AreCutFrom, own_after_steal, victim_after_steal, steal_count, with_each}
 use Rattle.klsm_parts.proofs.RefillLemmas.{take_parts, split_apart, may_refill, are_moved, refill_leaves}
 
 -- how many may move, reckoned from the sizes
@@ -70,3 +71,19 @@ are_stolen k n own c after left some few room up joined rest =
       own_is = leaves.0;
       left_is = leaves.1;
     }
+
+-- one item more is added
+pub with_one_more : (n : ℕ) (bs : List (List Item)) (xs : List Item) → n < length xs → add (with_each bs (take n xs)) (take 1 (drop n xs)) ≡ with_each bs (take (n + 1) xs)
+with_one_more n bs [] more = absurd (omega (arith, more))
+with_one_more zero bs (x ∷ xs) more = refl
+with_one_more (suc n) bs (x ∷ xs) more =
+    let next : suc n + 1 ≡ suc (n + 1) = omega arith in
+    rw next (with_one_more n (add bs (x ∷ [])) xs (omega (arith, more)))
+
+-- and cut out
+pub cut_one_more : (n : ℕ) (xs : List Item) (before between after : List (List Item)) → AreCutFrom (take n xs) before between → AreCutFrom (take 1 (drop n xs)) between after → AreCutFrom (take (n + 1) xs) before after
+cut_one_more zero xs before between after first last = subst (λ bs. AreCutFrom (take 1 xs) bs after) first last
+cut_one_more (suc n) [] before between after first last = let next : suc n + 1 ≡ suc (n + 1) = omega arith in rw next (last ∙ first)
+cut_one_more (suc n) (x ∷ xs) before between after first last =
+    let next : suc n + 1 ≡ suc (n + 1) = omega arith in
+    rw next (first.0, first.1, cut_one_more n xs first.0 between after first.2 last)

@@ -8,6 +8,7 @@ ghost use Rattle.klsm_lsm.specs.Limit.{IsLevelCount};
 ghost use Rattle.klsm_parts.specs.Pivots.{ArePivots, AreWithin};
 ghost use Rattle.klsm_parts.specs.Ranking.{AreInBlocks, IsRanking};
 ghost use Rattle.klsm_parts.specs.Mending.{IsBlockCut};
+ghost use Rattle.klsm_parts.specs.Refilling.{without_firsts};
 
 use crate::mending::cut_pivot;
 use crate::ranking::Ranking;
@@ -80,6 +81,7 @@ pub(crate) fn cut_blocks<R: Run, const LEVELS: usize>(
     requires few { sum pivots.old.items ≤ MOST_K + 1 }
     requires ranking { AreInBlocks lsm.old (drop (sum counts.now) (sorted (content lsm.old)))
         ranking.old.blocks.items }
+    ensures blocks { lsm.new ≡ without_firsts lsm.old counts.now }
     ensures left { sorted (content lsm.new) ≡ drop (sum counts.now) (sorted (content lsm.old)) }
     ensures lawful { IsLsm lsm.new }
     ensures pivots { ArePivots (sum pivots.old.items - sum counts.now) lsm.new pivots.new.items }

@@ -173,6 +173,7 @@ impl<const CAP: usize> Local<CAP> {
         requires apart { ShareNone (content self.old.blocks) items.now }
         requires room { length (content self.old.blocks) + length items.now ≤ self.old.k }
         ensures k { self.new.k ≡ self.old.k }
+        ensures blocks { self.new.blocks ≡ add self.old.blocks items.now }
         ensures items { items_in self.new ≡ own_after_refill (items_in self.old) items.now }
     {
         self.found = None;

@@ -1,10 +1,10 @@
 //! What a member that has both parts in hand moves to its own one, so that its next deletions do not need
 //! the shared one. It fetches the items while it has both, and takes them in when it has given the shared one back.
-ghost use Rattle.std.specs.Prelude.{◌≡◌, ◌<◌, ◌≤◌, length, take, drop};
+ghost use Rattle.std.specs.Prelude.{◌≡◌, ◌+◌, ◌<◌, ◌≤◌, length, take, drop};
 ghost use Rattle.klsm_lsm.specs.Lsm.{IsLsm};
 ghost use Rattle.klsm_parts.specs.Parts.{items_in};
 ghost use Rattle.klsm_parts.specs.Events.{MayRefill, shared_after_refill};
-ghost use Rattle.klsm_parts.specs.Refilling.{refill_count, refill_of};
+ghost use Rattle.klsm_parts.specs.Refilling.{cut_least, refill_count, refill_of};
 
 use crate::{Local, Shared};
 use klsm_run::Item;
@@ -35,6 +35,10 @@ pub fn fetch<const CAP: usize, const LEVELS: usize, A: Allocator + Copy>(
         (refill_of most own.now.k (items_in own.now) (items_in shared.old))
         × (items_in shared.new ≡ shared_after_refill (items_in shared.old)
         (refill_of most own.now.k (items_in own.now) (items_in shared.old))) }
+
+    // Which blocks that leaves, where no more items move than are candidates, as where the two parts have one k.
+    ensures blocks { 0 < result → result ≤ shared.old.k + 1
+        → shared.new.blocks ≡ cut_least result shared.old.blocks }
 {
     let count = count_to_move(own, shared, most);
     if count == 0 {
@@ -68,6 +72,8 @@ fn move_least<const LEVELS: usize, A: Allocator + Copy>(
     ensures shared_k { shared.new.k ≡ shared.old.k }
     ensures moved { places.new ≡ take (length places.old) (items_in shared.old) }
     ensures left { items_in shared.new ≡ drop (length places.old) (items_in shared.old) }
+    ensures blocks { 0 < length places.old → length places.old ≤ shared.old.k + 1
+        → shared.new.blocks ≡ cut_least (length places.old) shared.old.blocks }
 {
     let mut done = 0;
     while done < places.len() {

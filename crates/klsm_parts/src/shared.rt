@@ -8,6 +8,7 @@ ghost use Rattle.klsm_lsm.specs.Limit.{IsLevelCount, limit_of};
 ghost use Rattle.klsm_lsm.specs.Adding.{add, cut};
 ghost use Rattle.klsm_parts.specs.Pivots.{ArePivots, IsPivotAt, count_in_least};
 ghost use Rattle.klsm_parts.specs.Events.{front_of};
+ghost use Rattle.klsm_parts.specs.Refilling.{cut_least};
 ghost use Rattle.klsm_parts.specs.Taking.{own_first};
 ghost use Rattle.klsm_parts.specs.Parts.{PartState, IsShared, items_in, least_in, candidates_of};
 
@@ -228,6 +229,7 @@ impl<const LEVELS: usize, A: Allocator + Copy> Shared<LEVELS, A> {
         requires { length places.old ≤ length (candidates_of self.old) }
         ensures k { self.new.k ≡ self.old.k }
         ensures taken { places.new ≡ take (length places.old) (items_in self.old) }
+        ensures blocks { self.new.blocks ≡ cut_least (length places.old) self.old.blocks }
         ensures left { items_in self.new ≡ drop (length places.old) (items_in self.old) }
     {
         let ranking = &mut self.least.ranking;

@@ -3,9 +3,10 @@ ghost use Rattle.std.specs.Prelude.{◌≡◌, ◌<◌, ◌≤◌, length, take,
 ghost use Rattle.klsm_run.specs.Capacity.{IsCapacity};
 ghost use Rattle.klsm_run.specs.Content.{ShareNone};
 ghost use Rattle.klsm_lsm.specs.Lsm.{IsLsm};
+ghost use Rattle.klsm_lsm.specs.Adding.{add};
 ghost use Rattle.klsm_parts.specs.Parts.{items_in};
 ghost use Rattle.klsm_parts.specs.Events.{plus};
-ghost use Rattle.klsm_parts.specs.Stealing.{MaySteal, own_after_steal, victim_after_steal, steal_count, steal_of};
+ghost use Rattle.klsm_parts.specs.Stealing.{MaySteal, AreCutFrom, own_after_steal, victim_after_steal, steal_count, steal_of, with_each};
 
 use crate::{Local, put, take_least};
 
@@ -21,6 +22,12 @@ pub fn steal<const CAP: usize>(own: &mut Local<CAP>, victim: &mut Local<CAP>, mo
     ensures own_k { own.new.k ≡ own.old.k }
     ensures victim_k { victim.new.k ≡ victim.old.k }
     ensures unchanged { result ≡ 0 → (own.new ≡ own.old) × (victim.new ≡ victim.old) }
+
+    // Each item is cut out of its block, and added as a run of its own.
+    ensures own { own.new.blocks ≡ with_each own.old.blocks
+        (steal_of most own.old.k (items_in own.old) (items_in victim.old)) }
+    ensures victim { AreCutFrom (steal_of most own.old.k (items_in own.old) (items_in victim.old))
+        victim.old.blocks victim.new.blocks }
 
     // What takes effect on the contents.
     ensures event { 0 < result → MaySteal own.old.k (items_in own.old) (items_in victim.old)
@@ -63,6 +70,9 @@ fn steal_least<const CAP: usize>(own: &mut Local<CAP>, victim: &mut Local<CAP>)
     ensures victim_k { victim.new.k ≡ victim.old.k }
     ensures own { items_in own.new ≡ plus (items_in own.old) (take 1 (items_in victim.old)) }
     ensures victim { items_in victim.new ≡ drop 1 (items_in victim.old) }
+    ensures own_blocks { own.new.blocks ≡ add own.old.blocks (take 1 (items_in victim.old)) }
+    ensures victim_blocks { AreCutFrom (take 1 (items_in victim.old))
+        victim.old.blocks victim.new.blocks }
 {
     let least = take_least(victim);
     put(own, least);

@@ -1,10 +1,11 @@
-use Rattle.std.proofs.Common.{◌≡◌, ℕ, ◌+◌, ◌≤◌, ◌∙◌, length, take, drop, sym, ap, subst, refl, arith}
+use Rattle.std.proofs.Common.{◌≡◌, ℕ, ◌+◌, ◌<◌, ◌≤◌, ◌∙◌, length, take, drop, sym, ap, subst, refl, arith}
 use Rattle.std.proofs.lemmas.List.{length-take, length-take-le, take-append-le, take_all}
 use Rattle.klsm_run.proofs.SortedLemmas.{length_sorted}
 use Rattle.klsm_lsm.specs.Lsm.{content}
 use Rattle.klsm_lsm.proofs.ContentLemmas.{ascending_content}
 use Rattle.klsm_parts.specs.Parts.{items_in}
 use Rattle.klsm_parts.specs.Events.{MayRefill, plus, shared_after_refill}
+use Rattle.klsm_parts.specs.Refilling.{cut_least}
 use Rattle.klsm_parts.proofs.RefillLemmas.{have_room, are_moved, may_refill, refill_leaves}
 use Rattle.klsm_parts.proofs.refilling.fetch.Goals as goal
 
@@ -67,3 +68,10 @@ returns-clause-event g c some =
     let leaves = refill_leaves n own (plus own c.move_least.new.places) (content bs) c.move_least.new.places (items_in c.move_least.new.shared) up moved refl in
     subst (λ m. MayRefill k own shared (take m shared) × (items_in c.move_least.new.shared ≡ shared_after_refill shared (take m shared))) told.count
     (may, leaves.1)
+
+pub returns-clause-blocks : goal.returns-clause-blocks
+returns-clause-blocks g c some at_once =
+    let n = c.count_to_move-count.result in let told = c.count_to_move-count.ensures in
+    let all = have_room c.args.most c.args.own.now.k n (items_in c.args.own.now) (items_in c.args.shared.now) told.count told.few in
+    let lent : length (take n c.args.places.now) ≡ n = omega (arith, length-take n c.args.places.now, are_enough _ _ _ _ all.room c.requires.enough) in
+    subst (λ i. 0 < i → i ≤ c.args.shared.now.k + 1 → c.move_least.new.shared.blocks ≡ cut_least i c.args.shared.now.blocks) lent c.move_least.ensures.blocks some at_once

@@ -1,12 +1,13 @@
-use Rattle.std.proofs.Common.{◌≡◌, ◌+◌, ◌-◌, ◌<◌, ◌≤◌, length, take, drop, refl, sym, ap, ◌∙◌, arith}
+use Rattle.std.proofs.Common.{◌≡◌, ◌+◌, ◌-◌, ◌<◌, ◌≤◌, length, take, drop, refl, sym, ap, ◌∙◌, inl, inr, arith}
 use Rattle.std.proofs.lemmas.List.{length-take, length-drop, take_all}
 use borrow.Rule.Slice.PartMut.{same_len_mid}
 use Rattle.klsm_parts.specs.Parts.{items_in}
+use Rattle.klsm_parts.specs.Refilling.{cut_least}
 use Rattle.klsm_parts.proofs.RefillLemmas.{moved_on}
 use Rattle.klsm_parts.proofs.refilling.move_least.Goals as goal
 
 pub loop-done-init : goal.loop-done-init
-loop-done-init g c = record { few = omega arith; len = refl; moved = refl; left = refl; shared_k = refl }
+loop-done-init g c = record { few = omega arith; len = refl; moved = refl; left = refl; blocks = λ few. inl (refl, refl); shared_k = refl }
 
 pub candidates-requires : goal.candidates-requires
 candidates-requires g c = search
@@ -30,6 +31,13 @@ loop-done-preserved g c =
       len = on.len ∙ now.len;
       moved = on.moved;
       left = on.left_is;
+      blocks = λ at_once. elim (now.blocks at_once) [
+        | inl start ↦
+            let size : length (items_in c.loop-done.shared) ≡ length all - n = ap length now.left ∙ length-drop n all in
+            let most : m ≡ length c.args.places.now = omega (arith, c.min-count.ensures, c.candidates.ensures, start.0, now.len, at_once, c.requires, size, now.shared_k, length-take (c.loop-done.shared.k + 1) (items_in c.loop-done.shared)) in
+            inr (omega (arith, most, start.0), c.take_least.ensures.blocks ∙ (ap (λ i. cut_least i c.loop-done.shared.blocks) (lent ∙ (is ∙ most)) ∙ ap (cut_least (length c.args.places.now)) start.1))
+        | inr gone ↦ absurd (omega (arith, gone.0, c.loop-done-test.true, now.len))
+      ];
       shared_k = c.take_least.ensures.k ∙ now.shared_k;
     }
 
@@ -57,3 +65,12 @@ returns-clause-left g c =
     let now = c.loop-done.invariant in
     let done : c.loop-done.done ≡ length c.args.places.now = omega (arith, now.few, now.len, c.loop-done-test.false) in
     now.left ∙ ap (λ i. drop i (items_in c.args.shared.now)) done
+
+pub returns-clause-blocks : goal.returns-clause-blocks
+returns-clause-blocks g c some at_once =
+    let now = c.loop-done.invariant in
+    let done : c.loop-done.done ≡ length c.args.places.now = omega (arith, now.few, now.len, c.loop-done-test.false) in
+    elim (now.blocks at_once) [
+      | inl start ↦ absurd (omega (arith, start.0, done, some))
+      | inr gone ↦ gone.1
+    ]

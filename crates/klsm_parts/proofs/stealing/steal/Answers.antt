@@ -3,18 +3,19 @@ use Rattle.std.proofs.lemmas.List.{drop-drop, length-append, length-take, length
 use Rattle.klsm_run.specs.Content.{ShareNone}
 use Rattle.klsm_run.proofs.SortedLemmas.{length_sorted}
 use Rattle.klsm_lsm.specs.Lsm.{content}
+use Rattle.klsm_lsm.specs.Adding.{add}
 use Rattle.klsm_lsm.proofs.ContentLemmas.{ascending_content}
 use Rattle.klsm_parts.specs.Parts.{items_in}
 use Rattle.klsm_parts.specs.Events.{plus}
-use Rattle.klsm_parts.specs.Stealing.{MaySteal, own_after_steal, victim_after_steal}
-use Rattle.klsm_parts.proofs.StealLemmas.{plus_none, plus_more, still_apart, are_stolen}
+use Rattle.klsm_parts.specs.Stealing.{MaySteal, AreCutFrom, own_after_steal, victim_after_steal, with_each}
+use Rattle.klsm_parts.proofs.StealLemmas.{plus_none, plus_more, still_apart, are_stolen, with_one_more, cut_one_more}
 use Rattle.klsm_parts.proofs.stealing.steal.Goals as goal
 
 pub returns-then-count-eq0-clause-count : goal.returns-then-count-eq0-clause-count
 returns-then-count-eq0-clause-count g c = sym c.if-count-eq0.true ∙ c.count_to_steal-count.ensures.count
 
 pub loop-done-init : goal.loop-done-init
-loop-done-init g c = record { few = omega arith; moved = plus_none (content c.args.own.now.blocks); left = refl; own_k = refl; victim_k = refl }
+loop-done-init g c = record { few = omega arith; moved = plus_none (content c.args.own.now.blocks); left = refl; own_blocks = refl; victim_blocks = refl; own_k = refl; victim_k = refl }
 
 pub steal_least-requires : goal.steal_least-requires
 steal_least-requires g c =
@@ -37,6 +38,8 @@ loop-done-preserved g c =
       few = omega (arith, c.loop-done-test.true);
       moved = c.steal_least.ensures.own ∙ (ap (λ xs. plus xs (take 1 (items_in c.loop-done.victim))) now.moved ∙ (ap (λ xs. plus (plus own (take n victim)) (take 1 xs)) now.left ∙ plus_more n own victim));
       left = c.steal_least.ensures.victim ∙ (ap (λ xs. drop 1 xs) now.left ∙ drop-drop 1 n victim);
+      own_blocks = c.steal_least.ensures.own_blocks ∙ (ap (λ bs. add bs (take 1 (items_in c.loop-done.victim))) now.own_blocks ∙ (ap (λ xs. add (with_each c.args.own.now.blocks (take n victim)) (take 1 xs)) now.left ∙ with_one_more n c.args.own.now.blocks victim (omega (arith, c.count_to_steal-count.ensures.count, c.loop-done-test.true))));
+      victim_blocks = cut_one_more n victim c.args.victim.now.blocks c.loop-done.victim.blocks c.steal_least.new.victim.blocks now.victim_blocks (subst (λ xs. AreCutFrom (take 1 xs) c.loop-done.victim.blocks c.steal_least.new.victim.blocks) now.left c.steal_least.ensures.victim_blocks);
       own_k = c.steal_least.ensures.own_k ∙ now.own_k;
       victim_k = c.steal_least.ensures.victim_k ∙ now.victim_k;
     }
@@ -46,6 +49,22 @@ loop-done-smaller g c = omega (arith, c.loop-done-test.true)
 
 pub returns-clause-count : goal.returns-clause-count
 returns-clause-count g c = c.count_to_steal-count.ensures.count
+
+pub returns-then-count-eq0-clause-own : goal.returns-then-count-eq0-clause-own
+returns-then-count-eq0-clause-own g c = ap (λ n. with_each c.args.own.now.blocks (take n (items_in c.args.victim.now))) (sym c.if-count-eq0.true ∙ c.count_to_steal-count.ensures.count)
+
+pub returns-then-count-eq0-clause-victim : goal.returns-then-count-eq0-clause-victim
+returns-then-count-eq0-clause-victim g c = subst (λ n. AreCutFrom (take n (items_in c.args.victim.now)) c.args.victim.now.blocks c.args.victim.now.blocks) (sym c.if-count-eq0.true ∙ c.count_to_steal-count.ensures.count) refl
+
+pub returns-clause-own : goal.returns-clause-own
+returns-clause-own g c =
+    let done : c.loop-done.done ≡ c.count_to_steal-count.result = omega (arith, c.loop-done.invariant.few, c.loop-done-test.false) in
+    subst (λ i. c.loop-done.own.blocks ≡ with_each c.args.own.now.blocks (take i (items_in c.args.victim.now))) (done ∙ c.count_to_steal-count.ensures.count) c.loop-done.invariant.own_blocks
+
+pub returns-clause-victim : goal.returns-clause-victim
+returns-clause-victim g c =
+    let done : c.loop-done.done ≡ c.count_to_steal-count.result = omega (arith, c.loop-done.invariant.few, c.loop-done-test.false) in
+    subst (λ i. AreCutFrom (take i (items_in c.args.victim.now)) c.args.victim.now.blocks c.loop-done.victim.blocks) (done ∙ c.count_to_steal-count.ensures.count) c.loop-done.invariant.victim_blocks
 
 pub returns-clause-own_k : goal.returns-clause-own_k
 returns-clause-own_k g c = c.loop-done.invariant.own_k

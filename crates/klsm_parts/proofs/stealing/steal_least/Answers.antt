@@ -1,8 +1,10 @@
-use Rattle.std.proofs.Common.{ap, sym, ◌∙◌, arith}
+use Rattle.std.proofs.Common.{refl, ap, sym, subst, ◌∙◌, arith}
 use Rattle.klsm_run.proofs.SortedLemmas.{length_sorted}
 use Rattle.klsm_lsm.specs.Lsm.{content}
+use Rattle.klsm_lsm.specs.Adding.{add}
 use Rattle.klsm_parts.specs.Parts.{PartState, items_in}
 use Rattle.klsm_parts.specs.Events.{plus}
+use Rattle.klsm_parts.specs.Stealing.{AreCutFrom}
 use Rattle.klsm_parts.proofs.StealLemmas.{first_taken, without_least, least_is_new}
 use Rattle.klsm_parts.proofs.stealing.steal_least.Goals as goal
 
@@ -26,3 +28,12 @@ returns-clause-own g c =
 
 pub returns-clause-victim : goal.returns-clause-victim
 returns-clause-victim g c = c.take_least-least.ensures.event.1 ∙ without_least (items_in c.args.victim.now) c.take_least-least.result c.take_least-least.ensures.least
+
+pub returns-clause-own_blocks : goal.returns-clause-own_blocks
+returns-clause-own_blocks g c =
+    ap (λ (p : PartState). p.blocks) c.put.ensures.blocks ∙ ap (add c.args.own.now.blocks) (sym (first_taken (items_in c.args.victim.now) c.take_least-least.result c.take_least-least.ensures.least))
+
+pub returns-clause-victim_blocks : goal.returns-clause-victim_blocks
+returns-clause-victim_blocks g c =
+    subst (λ xs. AreCutFrom xs c.args.victim.now.blocks c.take_least-least.new.own.blocks) (sym (first_taken (items_in c.args.victim.now) c.take_least-least.result c.take_least-least.ensures.least))
+    (c.take_least-least.new.own.blocks, c.take_least-least.ensures.cut, refl)

@@ -3,6 +3,7 @@ use Rattle.klsm_run.specs.declared.limits.TheConstants.{OWN_LEVELS}
 use Rattle.klsm_run.specs.Content.{sorted, ShareNone}
 use Rattle.klsm_lsm.specs.Lsm.{content}
 use Rattle.klsm_lsm.specs.Limit.{limit_of}
+use Rattle.klsm_lsm.specs.Adding.{add}
 use Rattle.klsm_lsm.proofs.AddLemmas.{sorted_add}
 use Rattle.klsm_parts.specs.Parts.{PartState}
 use Rattle.klsm_parts.proofs.OwnLemmas.{own_absorbed, absorbed_is}
@@ -21,6 +22,9 @@ invariant_of-self g c =
 
 pub returns-clause-k : goal.returns-clause-k
 returns-clause-k g c = ap (λ (p : PartState). p.k) c.self.view_is
+
+pub returns-clause-blocks : goal.returns-clause-blocks
+returns-clause-blocks g c = c.in-Ok.ensures.added ∙ ap (λ (p : PartState). add p.blocks c.args.items.now) c.self.view_is
 
 pub returns-clause-items : goal.returns-clause-items
 returns-clause-items g c =

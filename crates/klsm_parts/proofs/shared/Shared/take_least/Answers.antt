@@ -1,7 +1,10 @@
-use Rattle.std.proofs.Common.{◌≡◌, ◌+◌, ◌≤◌, length, drop, min, take, ap, ◌∙◌, arith}
+use Rattle.std.proofs.Common.{◌≡◌, ◌+◌, ◌≤◌, length, drop, map, min, take, ap, ◌∙◌, arith}
 use Rattle.klsm_run.specs.Content.{sorted}
 use Rattle.klsm_lsm.specs.Lsm.{content}
 use Rattle.klsm_parts.specs.Parts.{PartState, items_in}
+use Rattle.klsm_parts.specs.Pivots.{count_in_least}
+use Rattle.klsm_parts.specs.Refilling.{without_firsts, cut_least}
+use Rattle.klsm_parts.proofs.FirstLemmas.{pivots_are_counts}
 use Rattle.klsm_parts.proofs.FitLemmas.{lsm_fits, pivots_fit}
 use Rattle.klsm_parts.proofs.LeavingLemmas.{can_take, can_rank_on}
 use Rattle.klsm_parts.proofs.PivotLemmas.{among_candidates}
@@ -83,6 +86,12 @@ returns-clause-k g c = ap (λ (p : PartState). p.k) c.self.view_is
 
 pub returns-clause-taken : goal.returns-clause-taken
 returns-clause-taken g c = c.copy_least-counts.ensures.taken ∙ ap (λ (p : PartState). take (length c.args.places.now) (items_in p)) c.self.view_is
+
+pub returns-clause-blocks : goal.returns-clause-blocks
+returns-clause-blocks g c =
+    let bs = c.self.inside.lsm in
+    let counts : c.copy_least-counts.result.items ≡ map (count_in_least (length c.args.places.now) (content bs)) bs = pivots_are_counts (length c.args.places.now) bs c.copy_least-counts.result.items c.self.invariant.lawful c.copy_least-counts.ensures.counts in
+    (rw c.as_slice.ensures.value at c.cut_blocks.ensures.blocks) ∙ (ap (without_firsts bs) counts ∙ ap (λ (p : PartState). cut_least (length c.args.places.now) p.blocks) c.self.view_is)
 
 pub returns-clause-left : goal.returns-clause-left
 returns-clause-left g c =
