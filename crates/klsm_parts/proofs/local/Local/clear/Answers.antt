@@ -2,7 +2,7 @@ use Rattle.std.proofs.Common.{◌∙◌, [], List, ap, arith, length}
 use Rattle.klsm_run.specs.declared.item.Item.{Item}
 use Rattle.klsm_lsm.specs.Lsm.{content}
 use Rattle.klsm_parts.specs.Parts.{PartState}
-use Rattle.klsm_parts.proofs.FitLemmas.{first_fits, run_fits}
+use Rattle.klsm_parts.proofs.FitLemmas.{first_fits}
 use Rattle.klsm_parts.proofs.OwnLemmas.{none_found}
 use Rattle.klsm_parts.proofs.local.Local.clear.Goals as goal
 
