@@ -10,6 +10,7 @@ import os
 import select
 import subprocess
 import tempfile
+import threading
 import time
 
 from cases import difference, lines_of, read
@@ -80,6 +81,42 @@ def answers(stem, rows_are_answered):
         run.end()
 
 
+def answers_far_behind():
+    """Rows behind more than 2^24 bytes are answered while the input stays open, each before the next one is given."""
+    row = b"0,i," + b"0" * 1000 + b"5,0\n"
+    rows = 2**24 // len(row) + 2
+    run = Driven(["replay"])
+    writer = threading.Thread(target=run.give, args=(row * rows,))
+    writer.start()
+    try:
+        run.hear(rows)
+        for more in range(1, 4):
+            run.give(row)
+            run.hear(rows + more)
+        *_, last = run.answer.splitlines()
+        wanted = b"0 i 5 0.%d" % (rows + 2)
+        return None if last == wanted else f"the last line is {last!r}, and not {wanted!r}"
+    finally:
+        run.end()
+        writer.join()
+
+
+def answers_before_quotes_end():
+    """Within quotes two of them are one, and a line end belongs to the field: so that row is not whole, and the one
+    before it is answered while the rest is waited for."""
+    run = Driven(["replay"])
+    try:
+        run.give(b'0,d,,\n0,i,"1""\n')
+        run.hear(1)
+        heard = run.answer
+        run.give(b'",0\n')
+        run.hear(math.inf)
+        wanted = (b"0 d none\n", b"0 d none\nrefused row 2: key\n")
+        return None if (heard, run.answer) == wanted else f"the answer is {heard!r}, and then {run.answer!r}"
+    finally:
+        run.end()
+
+
 def reads_no_further(stem):
     """Of what stands far behind a row that is refused nothing is read."""
     words, rows, wanted = parts_of(stem)
@@ -95,6 +132,8 @@ def reads_no_further(stem):
 
 
 def checks():
+    yield "row by row: behind 2^24 bytes", answers_far_behind
+    yield "row by row: quotes within quotes", answers_before_quotes_end
     for stem in sorted(it.with_suffix("") for it in (ROOT / "examples").glob("*.csv")):
         words = parts_of(stem)[0]
         if words[0] == b"replay":

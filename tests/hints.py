@@ -26,6 +26,7 @@ HINTS = [
     ("replay", b"0,i,1,2.5\n", f'row 1, field 4 is "2.5": {NUMBER}'),
     ("replay", b"0,d,1,\n", 'row 1, field 3 is "1": nothing is expected here behind d'),
     ("replay", b"0,i,\xff,1\n", f"row 1, field 3 is not UTF-8: {NUMBER}"),
+    ("replay", b"0,\x1b]0;title\x07,1,2\n", r'row 1, field 2 is "\u{1b}]0;title\u{7}": i or d is expected'),
     ("replay", b"0,i," + b"1" * 61 + b",1\n", f"row 1, field 3 is 61 bytes long: {NUMBER}"),
     ("knapsack", b"10\n", "row 1: the first row is capacity,C"),
     ("knapsack", b"capacity,1\n1\n", "row 2: two fields are expected, a value and a weight"),
@@ -75,20 +76,26 @@ def hint(words, text, wanted):
     return f"where standard error is no terminal it has {silent!r}" if silent else None
 
 
-def failed_stream(wanted, **streams):
-    said = watched("replay", **streams)
+def failed_stream(words, wanted, **streams):
+    said = watched(words, **streams)
     return None if said == wanted + "\r\n" else f"a terminal is told {said!r}"
 
 
-def full_disk():
-    with open("/dev/full", "wb") as full, open(os.devnull, "rb") as empty:
-        return failed_stream("cannot write to standard output: it is closed, or its disk is full", stdin=empty, stdout=full)
+def full_disk(words, text):
+    """The first write of a command fails."""
+    wanted = "cannot write to standard output: it is closed, or its disk is full"
+    with open("/dev/full", "wb") as full:
+        status = subprocess.run([PROGRAM, *words.split()], input=text, stdout=full, stderr=subprocess.DEVNULL,
+                                timeout=SECONDS).returncode
+        if status != 4:
+            return f"the status is {status}"
+        return failed_stream(words, wanted, input=text, stdout=full)
 
 
 def no_file():
     folder = os.open("/", os.O_RDONLY)
     try:
-        return failed_stream("cannot read standard input", stdin=folder, stdout=subprocess.DEVNULL)
+        return failed_stream("replay", "cannot read standard input", stdin=folder, stdout=subprocess.DEVNULL)
     finally:
         os.close(folder)
 
@@ -123,6 +130,7 @@ def checks():
         return
     for words, text, wanted in HINTS:
         yield f"hint: {words}, {text[:20]!r}", lambda case=(words, text, wanted): hint(*case)
-    yield "hint: a full disk", full_disk
+    for words, text in (("replay", b"0,d,,\n"), ("live", b"0,d,,\n"), ("knapsack", b"capacity,1\n")):
+        yield f"hint: a full disk, {words}", lambda case=(words, text): full_disk(*case)
     yield "hint: a folder as input", no_file
     yield "hint: rows that are typed", typed

@@ -1,11 +1,13 @@
-"""Texts of the parser: each help fits a terminal of 80 columns, the version is that of its source file and of the
-changelog, and no input is waited for.
+"""Texts of the parser: each help fits a terminal of 80 columns, the version is that of its source file, of the
+changelog and of the kit that stands on this machine, and no input is waited for.
 
 What the help of a command says of its options stands in `program/help`.
 """
 
 import functools
 import re
+import shutil
+import subprocess
 
 from process import ROOT, run_unheard
 
@@ -53,7 +55,16 @@ def tells_version(word):
     return None
 
 
+def names_the_kit():
+    """The kit that `rt version` tells is the one that the program says it was proved with."""
+    kit = subprocess.run(["rt", "version"], capture_output=True, check=True).stdout.strip()
+    answer = run_unheard(["--version"])[1]
+    return None if answer.endswith(b", proved with " + kit + b"\n") else f"the text is {answer!r}, and the kit is {kit!r}"
+
+
 def checks():
+    if shutil.which("rt"):
+        yield "the version beside that of the kit", names_the_kit
     for words in REQUESTS:
         yield f"help of 80 columns: {words}", functools.partial(helps, words.split())
     for word in ("--version", "-V"):

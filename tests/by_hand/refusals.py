@@ -7,7 +7,7 @@ The program has to stand built: `./klsm --help` at the root of the repository bu
 be some of the usual lines and then `no memory`, with status 3. It may be the usual text where the
 growth was one that the program can do without: of a thread's own, which the C library makes, or of the
 set by which a replay counts skips. The runs are those of `examples/`, and words that are refused or ask
-for help.
+for help. A search by a worker that keeps no node for itself has more growths than one that keeps 64.
 """
 
 import os
@@ -28,6 +28,7 @@ RUNS = [
     (["live", "--threads", "4", "--k", "4"], "four_threads_random.csv"),
     (["replay", "--threads", "2", "--k", "4", "--refill", "2"], "refilled_items.csv"),
     (["knapsack"], "knapsack.csv"),
+    (["knapsack", "--k", "0"], "knapsack.csv"),
     (["knapsack", "--threads", "2", "--k", "1"], "knapsack.csv"),
     (["knapsack", "--threads", "4", "--k", "0"], "knapsack.csv"),
     (["replay"], "refused_after_answer.csv"),
@@ -49,6 +50,7 @@ def is_cut_off(text, usual):
 
 
 def main(library, klsm):
+    growths = {}
     for words, example in RUNS:
         usual = run([klsm, *words], example, {})
         counts = {"no memory": 0, "the usual text": 0}
@@ -63,6 +65,9 @@ def main(library, klsm):
                 assert (refused.returncode, refused.stdout) == (usual.returncode, usual.stdout), where
                 counts["the usual text"] += 1
         print(f"{' '.join(words)} < {example}: {counts}", flush=True)
+        growths[" ".join(words)] = sum(counts.values())
+    # A worker that keeps no node for itself has the shared part grow.
+    assert growths["knapsack"] < growths["knapsack --k 0"], "a search does not depend on --k"
 
 
 main(*sys.argv[1:])

@@ -3,6 +3,7 @@
 
 use super::worked::SCRIPT;
 use super::{Told, all_go};
+use crate::sixteen::Sixteen;
 use crate::three::Three;
 use klsm_test_support::{Counting, Meeting};
 use klsm_tool::{End, Listeners, Pick, Report, Settings, Silent, live_over};
@@ -120,6 +121,29 @@ fn three_threads_run_side_by_side(rt: HostRuntime) {
     };
     let report = live_over(&rt, script, &mut text, &OF_THREE, &listeners);
     assert!(rt; text.as_slice() == b"inserted 3 deleted 0 left 3\n".as_slice());
+    assert!(rt; report.end == End::Done && gate.took_place());
+}
+
+const OF_SIXTEEN: Settings = Settings {
+    threads: 16,
+    k: 64,
+    refill: 0,
+    balance: 0,
+    pick: Pick::First,
+    seed: 1,
+};
+
+// Most of the sixteen have no row.
+#[test]
+fn sixteen_threads_pass_the_gate_side_by_side(rt: HostRuntime) {
+    let gate = Sixteen::new();
+    let mut text = Vec::new(rt.alloc());
+    let script: &[u8] = b"0,i,1,0\n15,i,2,0\n7,d,,\n";
+    let listeners = Listeners {
+        gate: &gate,
+        progress: &Silent,
+    };
+    let report = live_over(&rt, script, &mut text, &OF_SIXTEEN, &listeners);
     assert!(rt; report.end == End::Done && gate.took_place());
 }
 

@@ -1,9 +1,11 @@
 //! What comes before what: words are judged before any input is read, no thread runs where a row or an
 //! instance is refused, and each worker passes its gate before its first row.
 
+use super::knapsack::{INSTANCE, LINE};
 use super::process::{Input, Output};
 use super::repeated::repeated;
 use super::run;
+use crate::sixteen::Sixteen;
 use klsm_board::Gate;
 use klsm_test_support::{Counting, Meeting};
 use klsm_tool::{
@@ -166,6 +168,25 @@ fn each_worker_of_a_search_passes_the_gate_once(rt: HostRuntime) {
     assert!(rt; found == ([1, 1, 1], End::Done));
     let found = passed_by_workers(&rt, b"capacity,10\n60,5\n50,0\n");
     assert!(rt; found == ([0, 0, 0], End::Refused));
+}
+
+// Five threads in the place of sixteen would not do.
+#[test]
+fn sixteen_workers_of_a_search_pass_the_gate_side_by_side(rt: HostRuntime) {
+    let gate = Sixteen::new();
+    let mut text = Vec::new(rt.alloc());
+    let listeners = Listeners {
+        gate: &gate,
+        progress: &Silent,
+    };
+    let search = Search {
+        threads: 16,
+        k: 1,
+        idle: 8,
+    };
+    let report = knapsack_over(&rt, INSTANCE, &mut text, &search, &listeners);
+    assert!(rt; text.as_slice() == LINE && report.end == End::Done);
+    assert!(rt; gate.took_place());
 }
 
 /// So many rows a thread runs before it tells of them.
