@@ -1,7 +1,9 @@
 -- Workers, and how the work of one of them grows.
 use Rattle.std.specs.Prelude.{ℕ, ◌≡◌, ◌+◌, ◌≤◌, ◌<◌, ◌⊎◌, List, [], None, Some, All, length, map, slice_get}
 use Rattle.std.specs.List.{AllByRecursion, Contains, flat_map}
+use Rattle.rand_pcg.specs.Lcg.{Lcg}
 use Rattle.klsm_run.specs.declared.item.Item.{Item}
+use Rattle.klsm_parts.specs.Generators.{generator_of}
 use Rattle.klsm_world.specs.declared.step.Entry.{Entry}
 use Rattle.klsm_world.specs.OwnSteps.{inserted, deleted}
 use Rattle.klsm_board.specs.Boards.{AreMembersOf, IsOf, IsSame, own_steps}
@@ -15,6 +17,7 @@ use Rattle.klsm_knapsack.specs.IncumbentSeats.{IsSeatAt, found_by}
 use Rattle.klsm_knapsack.specs.Work.{Work, HasNode, HasWorked, IsNodeItem, all_inserted, all_deleted}
 use Rattle.klsm_knapsack.specs.Ends.{EndsAnswered, HasEnded}
 use Rattle.klsm_knapsack.specs.Answers.{EndsIdle}
+use Rattle.klsm_knapsack.specs.Courses.{CallsOfWorker, IsOnCourse}
 
 -- only nodes were inserted since
 pub record InsertsNodes (p : Problem) (before after : List Item) : Type 0 where
@@ -64,10 +67,24 @@ module _ {LEVELS : ℕ} where
   IsIdle n since w = EndsIdle n since (own_steps w.member)
       ⊎ (w.member.sizes.quota < length (inserted (own_steps w.member)) + 2)
 
+  -- the worker's list goes on by calls of its member, and its picker by these
+  abbrev pub KeepsCourse : Worker LEVELS → Worker LEVELS → Type 0
+  KeepsCourse before after = (first : Lcg)
+      → IsOnCourse (CallsOfWorker LEVELS before.member.sizes before.member.number) first before.picker
+      (own_steps before.member)
+      → IsOnCourse (CallsOfWorker LEVELS before.member.sizes before.member.number) first after.picker
+      (own_steps after.member)
+
+  -- it is that of calls by the picker whose seed is the worker's number, and which began once
+  abbrev pub GoesByItsSeed : Worker LEVELS → Type 0
+  GoesByItsSeed w = IsOnCourse (CallsOfWorker LEVELS w.member.sizes w.member.number)
+      (generator_of w.member.number) w.picker (own_steps w.member)
+
   -- the worker ran until it was idle or refused
   pub record HasRun (no_room : NoRoom) (p : Problem) (idle : ℕ) (before after : Worker LEVELS) : Type 0 where
     pub same : IsSameWorker before after
     pub ended : HasEndedSo no_room after
+    pub course : KeepsCourse before after
     pub worked : after.refused ≡ None → HasWorked p (work_of after)
     pub inserts : after.refused ≡ None
         → InsertsNodes p (work_of before).inserted (work_of after).inserted

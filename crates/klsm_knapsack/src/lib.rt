@@ -42,8 +42,8 @@
 //! what is left the caller finishes. So by induction on the things that a node leaves free no completion
 //! of it is above the answer. `laws::nothing_is_missed` states this.
 //!
-//! `worker` has what one worker does, `alone` what it does without the board, `crew` all of them,
-//! `ending` what follows, and `solving` and `to_the_end` the whole. No contract says how many nodes the
+//! `worker` has what one worker does once it has passed its gate (`passing`), `alone` what it does without
+//! the board, `crew` all of them, `ending` what follows, and `solving` and `to_the_end` the whole. No contract says how many nodes the
 //! workers close, or that a second one finds any.
 #![tactic(auto)]
 
@@ -55,6 +55,7 @@ mod incumbent;
 mod incumbent_seat;
 pub mod laws;
 mod options;
+mod passing;
 mod rule;
 mod search_state;
 mod solving;
@@ -65,6 +66,7 @@ pub use errors::{SolveError, UnsolvedError};
 pub use incumbent::{Incumbent, IncumbentSeat};
 pub use klsm_instance::{Best, Instance, Node, ReadError, Reordered, Thing, solve_in_turn};
 pub use options::SearchOptions;
+pub use passing::Passed;
 pub use rule::{Highest, View};
 pub use search_state::Listeners;
 pub use solving::solve;

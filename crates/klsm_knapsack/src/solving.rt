@@ -1,11 +1,13 @@
 //! The whole search.
-ghost use Rattle.std.specs.Prelude.{All, ◌≡◌, ◌≤◌, ◌<◌, ◌⊎◌, ◌↔◌, IfOk, IfErr, IsErrAnd, length};
+ghost use Rattle.std.specs.Prelude.{All, ◌≡◌, ◌≤◌, ◌<◌, ◌⊎◌, ◌↔◌, List, IfOk, IfErr, IsErrAnd, length};
 ghost use Rattle.klsm_run.specs.declared.limits.TheConstants.{MOST_THREADS, PROGRAM_K};
 ghost use Rattle.klsm_parts.specs.Limit.{IsLevelCount};
 ghost use Rattle.klsm_board.specs.Members.{sizes_of};
 ghost use Rattle.klsm_board.specs.Boards.{AreNewMembersOf, IsOf};
 ghost use Rattle.klsm_instance.specs.Answers.{IsBestAnswer};
+ghost use Rattle.klsm_world.specs.declared.step.Entry.{Entry};
 ghost use Rattle.klsm_knapsack.specs.Refusals.{RefusesSearch};
+ghost use Rattle.klsm_knapsack.specs.Searches.{HasSearched};
 
 use crate::crew::{join_workers, make_workers, search};
 use crate::ending::conclude;
@@ -37,6 +39,7 @@ pub fn solve<G: Gate, P: Progress, const LEVELS: usize>(
 ) -> Result<Best, SolveError>
     requires levels { IsLevelCount LEVELS }
     ensures best { IfOk result (λ best. IsBestAnswer instance.now best) }
+    ensures ran { IfOk result (λ _. (lists : List (List Entry)) × HasSearched LEVELS options.now lists) }
     ensures refused { IfErr result (λ why.
         RefusesSearch LEVELS options.now.threads options.now.k options.now.refill why) }
     ensures bad_threads { IsErrAnd result (λ why. why ≡ SolveError.BadThreads)
@@ -62,6 +65,7 @@ pub(crate) fn solve_on_board<G: Gate, P: Progress, const LEVELS: usize>(
 ) -> Result<Best, SolveError>
     requires levels { IsLevelCount LEVELS }
     ensures best { IfOk result (λ best. IsBestAnswer instance.now best) }
+    ensures ran { IfOk result (λ _. (lists : List (List Entry)) × HasSearched LEVELS options.now lists) }
     ensures refused { IfErr result (λ why. no_room ≡ NoRoom.Refuses
         → RefusesSearch LEVELS options.now.threads options.now.k options.now.refill why) }
     ensures bad_threads { IsErrAnd result (λ why. why ≡ SolveError.BadThreads)

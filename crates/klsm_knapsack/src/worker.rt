@@ -11,9 +11,10 @@ ghost use Rattle.klsm_knapsack.specs.IncumbentSeats.{problem_of};
 ghost use Rattle.klsm_knapsack.specs.Work.{ClosesBounded, HasNode, IsNodeItem, IsSplit, IsDone, HasWorked};
 ghost use Rattle.klsm_knapsack.specs.Ends.{EndsAnswered, EndsRefused};
 ghost use Rattle.klsm_knapsack.specs.Answers.{GainsNothing, GainsOthers, GainsSome};
-ghost use Rattle.klsm_knapsack.specs.Workers.{Extends, HasEndedSo, HasRun, InsertsNodes, IsAtWork, IsIdle, HasNotBegun, IsSameWorker, IsWorkerOf, work_of};
+ghost use Rattle.klsm_knapsack.specs.Workers.{Extends, HasEndedSo, HasRun, InsertsNodes, IsAtWork, IsIdle, HasNotBegun, IsSameWorker, IsWorkerOf, KeepsCourse, work_of};
 
 use crate::errors::Refusal;
+use crate::passing::Passed;
 use crate::search_state::{Listeners, NoRoom, SearchState, Worker};
 use klsm_board::{Gate, InsertError};
 use klsm_instance::{Instance, Node};
@@ -33,6 +34,7 @@ impl<const LEVELS: usize> Worker<LEVELS> {
         requires new { HasNotBegun self.old }
         requires room { 2 ≤ self.old.member.sizes.quota }
         ensures same { IsSameWorker self.old self.new }
+        ensures course { KeepsCourse self.old self.new }
         ensures ended { HasEndedSo state.now.no_room self.new }
         ensures begun { MatchBool result
             (IsAtWork state.now.no_room instance.now self.new × HasNode (work_of self.new).inserted 0 0)
@@ -63,25 +65,30 @@ impl<const LEVELS: usize> Worker<LEVELS> {
         requires begins { IsAtWork state.now.no_room instance.now self.old }
         ensures { HasRun state.now.no_room instance.now idle self.old self.new }
     {
-        listeners.gate.pass(self.member.number() as usize);
+        let passed = listeners.pass(self.member.number() as usize);
         let progress = listeners.progress;
-        self.refused = self.work(rt, state, instance, idle, progress).err();
+        self.refused = self
+            .work(rt, state, instance, idle, &passed, progress)
+            .err();
     }
 
     // Takes nodes until the board answers `idle` times in a row that it has none, or the member has
-    // no two insertions left.
+    // no two insertions left. It has passed the gate before.
     fn work(
         &mut self,
         rt: &(impl Wait + Clock),
         state: &SearchState<LEVELS>,
         instance: &Instance,
         idle: u32,
+        passed: &Passed,
         progress: &impl Progress,
     ) -> Result<(), Refusal>
         requires of { IsWorkerOf state.now self.old }
         requires problem { problem_of state.now.incumbent ≡ instance.now }
         requires begins { IsAtWork state.now.no_room instance.now self.old }
+        requires passed { passed.now.worker ≡ self.old.member.number }
         ensures same { IsSameWorker self.old self.new }
+        ensures course { KeepsCourse self.old self.new }
         ensures goes_on { IfOk result (λ _. IsAtWork state.now.no_room instance.now self.new) }
         ensures inserts { IfOk result (λ _. InsertsNodes instance.now
             (work_of self.old).inserted (work_of self.new).inserted) }
@@ -89,6 +96,8 @@ impl<const LEVELS: usize> Worker<LEVELS> {
         ensures refused { IfErr result (λ why. EndsRefused LEVELS self.new.member.sizes.k
             self.new.member.number (own_steps self.new.member) why) }
     {
+        // For the proof: that the gate was passed is a premise alone.
+        let _ = passed;
         let mut nothings = 0;
         for _ in rt.forever() {
             if nothings == idle || !self.may_split(state) {
@@ -126,6 +135,7 @@ impl<const LEVELS: usize> Worker<LEVELS> {
         requires problem { problem_of state.now.incumbent ≡ instance.now }
         requires begins { IsAtWork state.now.no_room instance.now self.old }
         ensures same { IsSameWorker self.old self.new }
+        ensures course { KeepsCourse self.old self.new }
         ensures goes_on { IfOk result (λ _. IsAtWork state.now.no_room instance.now self.new) }
         ensures inserts { IfOk result (λ _. InsertsNodes instance.now
             (work_of self.old).inserted (work_of self.new).inserted) }
@@ -159,6 +169,7 @@ impl<const LEVELS: usize> Worker<LEVELS> {
         requires answered { state.now.no_room ≡ NoRoom.Refuses
             → EndsAnswered self.old.member.number (own_steps self.old.member) }
         ensures same { IsSameWorker self.old self.new }
+        ensures course { KeepsCourse self.old self.new }
         ensures answered { IfOk result (λ _. state.now.no_room ≡ NoRoom.Refuses
             → EndsAnswered self.new.member.number (own_steps self.new.member)) }
         ensures extends { IfOk result (λ _.
@@ -209,6 +220,7 @@ impl<const LEVELS: usize> Worker<LEVELS> {
         requires answered { state.now.no_room ≡ NoRoom.Refuses
             → EndsAnswered self.old.member.number (own_steps self.old.member) }
         ensures same { IsSameWorker self.old self.new }
+        ensures course { KeepsCourse self.old self.new }
         ensures answered { IfOk result (λ _. state.now.no_room ≡ NoRoom.Refuses
             → EndsAnswered self.new.member.number (own_steps self.new.member)) }
         ensures extends { IfOk result (λ _.
@@ -257,6 +269,7 @@ impl<const LEVELS: usize> Worker<LEVELS> {
         requires node { IsNodeOf instance.now node.now }
         requires free { node.now.level < length instance.now.things }
         ensures same { IsSameWorker self.old self.new }
+        ensures course { KeepsCourse self.old self.new }
         ensures answered { IfOk result (λ _.
             EndsAnswered self.new.member.number (own_steps self.new.member)) }
         ensures extends { Extends instance.now (work_of self.old) (work_of self.new) }
@@ -288,6 +301,7 @@ impl<const LEVELS: usize> Worker<LEVELS> {
             < self.old.member.sizes.quota }
         requires node { IsNodeOf instance.now node.now }
         ensures same { IsSameWorker self.old self.new }
+        ensures course { KeepsCourse self.old self.new }
         ensures inserts { IfOk result (λ _. (x : Item) × IsNodeItem instance.now x
             × (level_in x.load ≡ node.now.level) × (picks_in x.load ≡ node.now.picks)
             × ((work_of self.new).inserted ≡ (work_of self.old).inserted ++ x ∷ [])) }

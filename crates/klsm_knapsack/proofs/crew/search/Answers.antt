@@ -7,6 +7,7 @@ use Rattle.klsm_world.specs.declared.step.Entry.{Entry}
 use Rattle.klsm_knapsack.specs.Answers.{GainsOthers}
 use Rattle.klsm_knapsack.specs.Work.{HasNode}
 use Rattle.klsm_knapsack.specs.Workers.{work_of}
+use Rattle.klsm_knapsack.proofs.CourseLemmas.{all_go, begun_go}
 use Rattle.klsm_knapsack.proofs.CrewLemmas.{crew_begun, crew_ended, crew_ready, crew_run, all_worked, begun_gains, all_idle, each_worker}
 use Rattle.klsm_knapsack.proofs.crew.search.Goals as goal
 
@@ -68,3 +69,13 @@ returns-else-begin-clause-idle g c = λ none.
     let some_worker : 0 < length (set c.args.crew.now 0 c.begin.new.self) = omega (arith, length-set c.args.crew.now 0 c.begin.new.self, c.requires.crew.some_worker) in
     let first : get_or (set c.args.crew.now 0 c.begin.new.self) 0 d ≡ c.begin.new.self = get_or-set_same c.args.crew.now 0 c.begin.new.self d c.requires.crew.some_worker in
     absurd (c.if-begin.ensures.begun (subst (λ (w : Worker g.row.LEVELS). w.refused ≡ None) first (none 0 d some_worker)))
+
+pub returns-then-begin-clause-course : goal.returns-then-begin-clause-course
+returns-then-begin-clause-course g c =
+    let begun = set c.args.crew.now 0 c.begin.new.self in
+    let many : length c.run_all.new.crew ≡ length begun = c.run_all.auto.crew in
+    all_go c.args.state.now.no_room c.args.instance.now c.args.idle begun c.run_all.new.crew many c.run_all.ensures
+    (begun_go c.args.crew.now c.index-crew-0.result c.begin.new.self c.requires.new c.requires.pickers c.begin.ensures.same c.begin.ensures.course)
+
+pub returns-else-begin-clause-course : goal.returns-else-begin-clause-course
+returns-else-begin-clause-course g c = begun_go c.args.crew.now c.index-crew-0.result c.begin.new.self c.requires.new c.requires.pickers c.begin.ensures.same c.begin.ensures.course

@@ -8,6 +8,7 @@ use Rattle.klsm_knapsack.specs.declared.search_state.SearchState.{SearchState}
 use Rattle.klsm_knapsack.specs.declared.search_state.NoRoom.{NoRoom}
 use Rattle.klsm_knapsack.specs.declared.search_state.Worker.{Worker}
 use Rattle.klsm_knapsack.specs.declared.errors.SolveError.{SolveError}
+use Rattle.klsm_parts.specs.Generators.{generator_of}
 use Rattle.klsm_knapsack.specs.IncumbentSeats.{IsSeatAt}
 use Rattle.klsm_knapsack.specs.Ends.{IsLeastRefusal}
 use Rattle.klsm_knapsack.specs.Refusals.{RefusesSearch}
@@ -15,6 +16,7 @@ use Rattle.klsm_knapsack.specs.Workers.{AreWorkersOf, HasEndedSo, HasNotBegun, H
 use Rattle.klsm_knapsack.proofs.CrewLemmas.{none_refused, so_many_workers}
 use Rattle.klsm_parts.proofs.FitLemmas.{shared_fits}
 use Rattle.klsm_knapsack.proofs.FinishLemmas.{good_threads, good_k, good_refill, memory_is_not_threads, memory_is_not_k, memory_is_not_refill, whole, refuses, refused_too, workers_made, are_new, members_of, least_refusal, searched}
+use Rattle.klsm_knapsack.proofs.SearchLemmas.{has_searched}
 use Rattle.klsm_knapsack.proofs.solving.solve_on_board.Goals as goal
 
 pub search-requires-after_bounds : goal.search-requires-after_bounds
@@ -29,7 +31,7 @@ search-requires-after_bounds g c κs within =
     let crew : AreWorkersOf state workers = workers_made state workers c.in_ok-board.members.items c.in-Ok-make_workers.ensures.members made.crew some_thread c.in-Ok-make_workers.ensures.seats in
     let new : All HasNotBegun workers = are_new state workers c.in_ok-board.members.items c.in-Ok-make_workers.ensures.members made.crew some_thread c.in-Ok-make_workers.ensures.seats in
     let lent : workers ≡ c.as_mut_slice.result.now = sym c.as_mut_slice.ensures.value in
-    (lit< tt, (lit< tt, (c.in-Ok.ensures.0, (subst (λ (ws : List (Worker g.row.LEVELS)). AreWorkersOf state ws) lent crew, (subst (λ (ws : List (Worker g.row.LEVELS)). All HasNotBegun ws) lent new, omega (arith, quota))))))
+    (lit< tt, (lit< tt, (c.in-Ok.ensures.0, (subst (λ (ws : List (Worker g.row.LEVELS)). AreWorkersOf state ws) lent crew, (subst (λ (ws : List (Worker g.row.LEVELS)). All HasNotBegun ws) lent new, (omega (arith, quota), subst (λ (ws : List (Worker g.row.LEVELS)). All (λ (w : Worker g.row.LEVELS). w.picker ≡ generator_of w.member.number) ws) lent c.in-Ok-make_workers.ensures.pickers))))))
 
 pub join_workers-requires : goal.join_workers-requires
 join_workers-requires g c =
@@ -89,6 +91,16 @@ returns-clause-best g c =
     let done : IsSearched p c.finish-number.result c.in-Ok-finish.account.left.items = searched state after c.search.ensures.crew p _ c.finish-number.result c.join_workers.new.back.items c.in-Ok-finish.account.left.items back worked found c.finish-number.ensures.found
     c.in-Ok-finish.ensures.each_once c.in-Ok-finish.ensures.ok.4 in
     c.conclude.ensures.best (rw c.as_slice.ensures.value done)
+
+pub returns-clause-ran : goal.returns-clause-ran
+returns-clause-ran g c =
+    let state : SearchState g.row.LEVELS = record { board = c.in_ok-board.board; incumbent = c.in-Ok.incumbent; no_room = c.args.no_room } in
+    let after : List (Worker g.row.LEVELS) = c.search.new.crew in
+    let as_long : c.in-Ok-make_workers.crew.len ≡ length after = search rules in
+    let is : take c.in-Ok-make_workers.crew.len (after ++ drop (length after) c.in-Ok-make_workers.crew.items) ≡ after = whole c.in-Ok-make_workers.crew.len after (drop (length after) c.in-Ok-make_workers.crew.items) as_long in
+    let back = rw is at c.in_default-join_workers.ensures.members in
+    let none = rw is at c.in_default-join_workers.ensures.none in
+    has_searched state after c.search.ensures.crew c.args.options.now c.in_ok-board.ensures.sizes c.join_workers.new.back.items back c.in-Ok-finish.ensures.ok.1 c.search.ensures.course (c.search.ensures.idle (none_refused after none))
 
 pub drop-members-requires-room-T-Destruct : goal.drop-members-requires-room-T-Destruct
 drop-members-requires-room-T-Destruct g c κs = lit< tt

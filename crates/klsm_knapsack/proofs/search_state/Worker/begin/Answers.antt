@@ -10,3 +10,9 @@ returns-in-Ok-clause-begun g c =
     let root = c.root.ensures.root in
     let one = c.in-Ok.ensures.inserts in
     root_at_work c.args.state.now.no_room c.args.instance.now c.args.self.now c.insert.new.self one.0 c.requires.new one.1 (one.2 ∙ root.0) (one.3 ∙ root.1) one.4 c.in-Ok.ensures.deletes c.in-Ok.ensures.answered
+
+pub returns-in-Ok-clause-course : goal.returns-in-Ok-clause-course
+returns-in-Ok-clause-course g c first on = c.in-Ok.ensures.course first on
+
+pub returns-in-Err-clause-course : goal.returns-in-Err-clause-course
+returns-in-Err-clause-course g c first on = c.in-Err.ensures.course first on

@@ -93,3 +93,12 @@ returns-clause-closes g c = λ is_node not_alone.
       subst (λ (m : ℕ). IsBound p m (picks_in c.args.load) bound) node.1 (subst (λ (m : ℕ). IsBound p l m bound) node.2 c.bound_of.ensures.exact),
       λ few. absurd (omega (arith, few, c.if-bound_of-found.false, raised.found.0, ap value_in (c.expand.ensures.splits not_alone))),
     )
+
+pub returns-in_default-clause-course : goal.returns-in_default-clause-course
+returns-in_default-clause-course g c = λ first on. on
+
+pub returns-then-node-len-clause-course : goal.returns-then-node-len-clause-course
+returns-then-node-len-clause-course g c = λ first on. on
+
+pub returns-clause-course : goal.returns-clause-course
+returns-clause-course g c = λ first on. c.expand.ensures.course first on

@@ -1,6 +1,7 @@
 use Rattle.std.proofs.Common.{◌+◌, ◌^◌, ℕ, arith, ◌∙◌, lit<}
 use Rattle.klsm_knapsack.specs.Workers.{InsertsNodes}
 use Rattle.klsm_knapsack.proofs.CoverageLemmas.{wider}
+use Rattle.klsm_knapsack.proofs.CourseLemmas.{course_both}
 use Rattle.klsm_knapsack.proofs.CrewLemmas.{same_of}
 use Rattle.klsm_knapsack.proofs.IdleLemmas.{gains_both}
 use Rattle.klsm_knapsack.proofs.WorkLemmas.{inserts_one, inserts_both, inserts_same, has_last, room_left, same_both}
@@ -86,3 +87,15 @@ returns-in_err-insert-2-clause-same g c = same_both c.args.self.now c.insert.new
 
 pub returns-in_ok-insert-2-clause-same : goal.returns-in_ok-insert-2-clause-same
 returns-in_ok-insert-2-clause-same g c = same_both c.args.self.now c.insert.new.self c.insert-in-Some.new.self c.in_ok-insert.ensures.same c.in_ok-insert-2.ensures.same
+
+pub returns-in_err-insert-clause-course : goal.returns-in_err-insert-clause-course
+returns-in_err-insert-clause-course g c = c.in_err-insert.ensures.course
+
+pub returns-in_default-clause-course : goal.returns-in_default-clause-course
+returns-in_default-clause-course g c = c.in_ok-insert.ensures.course
+
+pub returns-in_err-insert-2-clause-course : goal.returns-in_err-insert-2-clause-course
+returns-in_err-insert-2-clause-course g c = course_both c.args.self.now c.insert.new.self c.insert-in-Some.new.self c.in_ok-insert.ensures.same c.in_ok-insert.ensures.course c.in_err-insert-2.ensures.course
+
+pub returns-in_ok-insert-2-clause-course : goal.returns-in_ok-insert-2-clause-course
+returns-in_ok-insert-2-clause-course g c = course_both c.args.self.now c.insert.new.self c.insert-in-Some.new.self c.in_ok-insert.ensures.same c.in_ok-insert.ensures.course c.in_ok-insert-2.ensures.course

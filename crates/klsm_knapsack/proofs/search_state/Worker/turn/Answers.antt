@@ -1,10 +1,13 @@
-use Rattle.std.proofs.Common.{◌≡◌, ◌≤◌, ◌+◌, ◌∙◌, length, refl, lit<, ap, subst, sym, arith}
+use Rattle.std.proofs.Common.{◌≡◌, ◌≤◌, ◌+◌, ◌∙◌, None, Some, inr, length, refl, lit<, ap, subst, sym, arith}
 use Rattle.std.proofs.lemmas.List.{append-nil}
 use Rattle.klsm_world.specs.OwnSteps.{inserted}
 use Rattle.klsm_board.specs.Boards.{own_steps}
+use Rattle.klsm_knapsack.specs.declared.search_state.Worker.{Worker}
+use Rattle.klsm_knapsack.specs.Courses.{CallsOfWorker}
 use Rattle.klsm_knapsack.specs.Ends.{EndsAnswered}
 use Rattle.klsm_knapsack.specs.Workers.{work_of}
 use Rattle.klsm_knapsack.proofs.AnswerLemmas.{after_item, deletion_gains, no_deletion_gains}
+use Rattle.klsm_knapsack.proofs.CourseLemmas.{course_both, one_call}
 use Rattle.klsm_knapsack.proofs.IdleLemmas.{gains_more}
 use Rattle.klsm_knapsack.proofs.WorkLemmas.{inserts_same, inserts_both, same_both, worked_on}
 use Rattle.klsm_knapsack.proofs.search_state.Worker.turn.Goals as goal
@@ -55,3 +58,22 @@ examine-requires-after_bounds g c κs within =
     let room : length (inserted (own_steps new)) + 2 ≤ new.sizes.quota = omega (arith, many, c.requires.room, ap (λ m. m.quota) same.1) in
     let answered = subst (λ t. EndsAnswered t (own_steps new)) (sym same.0) (after_item _ _ _ _ _ _ _ _ told.ok) in
     (lit< tt, (lit< tt, (record { member = (same.2 ∙ of.0, same.1 ∙ of.1); seat = c.requires.of.seat }, (room, (c.requires.problem, λ refuses. answered)))))
+
+pub returns-in_default-clause-course : goal.returns-in_default-clause-course
+returns-in_default-clause-course g c first on =
+    let before = c.args.self.now in let me = before.member in
+    one_call (CallsOfWorker g.row.LEVELS me.sizes me.number) first before.picker c.delete_min.new.picker (own_steps me) (own_steps c.delete_min.new.self) on (inr (None, c.in_default.ensures.ok))
+
+pub returns-in_err-examine-clause-course : goal.returns-in_err-examine-clause-course
+returns-in_err-examine-clause-course g c =
+    let before = c.args.self.now in let me = before.member in
+    let mid : Worker g.row.LEVELS = record { member = c.delete_min.new.self; seat = before.seat; picker = c.delete_min.new.picker; pace = c.count.new.self; is_alone = before.is_alone; refused = before.refused } in
+    course_both before mid c.examine.new.self record { member = c.delete_min.ensures.same; seat = refl }
+    (λ first on. one_call (CallsOfWorker g.row.LEVELS me.sizes me.number) first before.picker mid.picker (own_steps me) (own_steps mid.member) on (inr (Some c.in-Some.item, c.in-Some.ensures.ok))) c.in_err-examine.ensures.course
+
+pub returns-clause-course : goal.returns-clause-course
+returns-clause-course g c =
+    let before = c.args.self.now in let me = before.member in
+    let mid : Worker g.row.LEVELS = record { member = c.delete_min.new.self; seat = before.seat; picker = c.delete_min.new.picker; pace = c.count.new.self; is_alone = before.is_alone; refused = before.refused } in
+    course_both before mid c.examine.new.self record { member = c.delete_min.ensures.same; seat = refl }
+    (λ first on. one_call (CallsOfWorker g.row.LEVELS me.sizes me.number) first before.picker mid.picker (own_steps me) (own_steps mid.member) on (inr (Some c.in-Some.item, c.in-Some.ensures.ok))) c.in_ok-examine.ensures.course

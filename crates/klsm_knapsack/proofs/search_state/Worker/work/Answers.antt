@@ -1,6 +1,7 @@
 use Rattle.std.proofs.Common.{arith, refl, lit<}
 use Rattle.klsm_board.specs.Boards.{own_steps}
 use Rattle.klsm_knapsack.specs.Answers.{GainsNothing, GainsSome}
+use Rattle.klsm_knapsack.proofs.CourseLemmas.{course_both}
 use Rattle.klsm_knapsack.proofs.CrewLemmas.{same_of}
 use Rattle.klsm_knapsack.proofs.IdleLemmas.{idle_at_first, idle_once_more, idle_no_more}
 use Rattle.klsm_knapsack.proofs.WorkLemmas.{inserts_none, inserts_both, same_both}
@@ -11,6 +12,7 @@ loop-init g c = record {
   next = (tt, tt);
   few = omega arith;
   same = record { member = (refl, refl, refl); seat = refl };
+  course = λ first on. on;
   at_work = c.requires.begins;
   answers = idle_at_first _;
   inserts = inserts_none _ _;
@@ -27,6 +29,9 @@ turn-requires-after_bounds g c κs within =
 pub returns-in_err-turn-clause-same : goal.returns-in_err-turn-clause-same
 returns-in_err-turn-clause-same g c = same_both c.args.self.now c.loop.self c.turn.new.self c.loop.invariant.same c.turn.ensures.same
 
+pub returns-in_err-turn-clause-course : goal.returns-in_err-turn-clause-course
+returns-in_err-turn-clause-course g c = course_both c.args.self.now c.loop.self c.turn.new.self c.loop.invariant.same c.loop.invariant.course c.turn.ensures.course
+
 pub loop-preserved-then-branch : goal.loop-preserved-then-branch
 loop-preserved-then-branch g c =
     let inv = c.loop.invariant in
@@ -36,6 +41,7 @@ loop-preserved-then-branch g c =
       next = (tt, tt);
       few = omega arith;
       same = same_both c.args.self.now c.loop.self c.turn.new.self inv.same turned.same;
+      course = course_both c.args.self.now c.loop.self c.turn.new.self inv.same inv.course turned.course;
       at_work = turned.goes_on;
       answers = idle_no_more _ _ _ _ inv.answers some;
       inserts = inserts_both _ _ _ _ inv.inserts turned.inserts;
@@ -50,6 +56,7 @@ loop-preserved g c =
       next = (tt, tt);
       few = omega (arith, inv.few, c.if-nothings-idle.false);
       same = same_both c.args.self.now c.loop.self c.turn.new.self inv.same turned.same;
+      course = course_both c.args.self.now c.loop.self c.turn.new.self inv.same inv.course turned.course;
       at_work = turned.goes_on;
       answers = idle_once_more _ _ _ _ inv.answers nothing;
       inserts = inserts_both _ _ _ _ inv.inserts turned.inserts;
