@@ -33,6 +33,9 @@ use Rattle.klsm_tool.specs.Shown.{AreShown, IsFew, shown_in}
 steps_are : (n : ℕ) (os : List Own) (u : ℕ) → u < n → steps_in (lists_known n os) u ≡ steps_known os u
 steps_are n os u below = list_at (lists_known n os) u (steps_known os u) (known_at n os u below)
 
+pub steps_of_all : (all : AllMembers PROGRAM_K MOST_LEVELS) (t : ℕ) → t < (sizes_of_all all).threads → steps_in (all_lists all) t ≡ steps_for all t
+steps_of_all all t below = steps_are (sizes_of_all all).threads all.acting.seat.me.0.lists t below
+
 -- and none behind them
 beyond : (xs : List (List Entry)) (u : ℕ) → length xs ≤ u → steps_in xs u ≡ []
 beyond [] u past = refl

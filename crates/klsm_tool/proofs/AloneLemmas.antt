@@ -26,11 +26,14 @@ use Rattle.klsm_text.specs.declared.report.End.{End}
 use Rattle.klsm_text.specs.declared.report.End.TheVariants as end
 use Rattle.klsm_text.specs.declared.report.Report.{Report}
 use Rattle.klsm_text.specs.Reports.{GoesOrFails}
-use Rattle.klsm_tool.specs.Crews.{steps_in}
+use Rattle.klsm_words.specs.declared.settings.Settings.{Settings}
+use Rattle.klsm_tool.specs.Courses.{GoInOneHand}
+use Rattle.klsm_tool.specs.Crews.{board_sizes, steps_in}
 use Rattle.klsm_tool.specs.Shown.{shown_in}
 use Rattle.klsm_tool.specs.Replay.{ReplaysAlone, ReplaysToTheEnd}
 use Rattle.klsm_tool.proofs.AllLemmas.{rule_of_all}
 use Rattle.klsm_tool.proofs.ClosingLemmas.{replays_nothing}
+use Rattle.klsm_tool.proofs.CourseLemmas.{none_go}
 
 empty_at : (n t : ℕ) → steps_in (replicate n []) t ≡ []
 empty_at zero t = refl
@@ -69,25 +72,30 @@ module _ (board : Board PROGRAM_K MOST_LEVELS) (all : AllMembers PROGRAM_K MOST_
       subst (λ n. get_elem? (all_lists all) n ≡ some (own_steps member)) (sym (crew.numbered i member there))
       (known_at (sizes_of_all all).threads all.acting.seat.me.0.lists i (omega (arith, inside, crew.many, ap (λ (z : Sizes). z.threads) sizes)) ∙ ap some (sym (steps i member there))))
 
-module _ (m : Sizes) (input before after : Option (List ℕ)) (report : Report) where
+module _ (settings : Settings) (input before after : Option (List ℕ)) (report : Report) where
+  abbrev m : Sizes
+  m = board_sizes settings
+
   -- the lists are those of the members
-  pub alone : (all : AllMembers PROGRAM_K MOST_LEVELS) → sizes_of_all all ≡ m → ReplaysToTheEnd m.threads m.k (all_lists all) input before after report
-      → (report.end ≡ end.Done → AreListsAtEnd m (all_lists all)) → ReplaysAlone m input before after report
-  alone all sizes replays at_end = record {
+  pub alone : (all : AllMembers PROGRAM_K MOST_LEVELS) → sizes_of_all all ≡ m → GoInOneHand settings (all_lists all) → ReplaysToTheEnd settings.threads settings.k (all_lists all) input before after report
+      → (report.end ≡ end.Done → AreListsAtEnd m (all_lists all)) → ReplaysAlone settings input before after report
+  alone all sizes course replays at_end = record {
     lists = all_lists all;
     run = subst (λ (z : Sizes). ∥ AreListsAtEnd z (all_lists all) ∥₁) sizes (rule_of_all all);
+    course = course;
     replays = replays;
     at_end = at_end;
   }
 
   -- where there was no memory for a board, they are empty
-  pub alone_without : GoesOrFails before after (codes "no memory\n") 0 report.written end.NoMemory report.end → ReplaysAlone m input before after report
+  pub alone_without : GoesOrFails before after (codes "no memory\n") 0 report.written end.NoMemory report.end → ReplaysAlone settings input before after report
   alone_without goes = record {
-    lists = replicate m.threads [];
+    lists = replicate settings.threads [];
     run = ∣ first_lists m ∣₁;
-    replays = inl (replays_nothing m.threads m.k (replicate m.threads []) input before after report (record {
-      answers = λ t below. ap shown_in (sym (empty_at m.threads t));
-      left_is = λ i. minus (sorted (empty_in inserted refl m.threads i)) (empty_in deleted refl m.threads i);
+    course = none_go settings (replicate settings.threads []) (λ t below. empty_at settings.threads t);
+    replays = inl (replays_nothing settings.threads settings.k (replicate settings.threads []) input before after report (record {
+      answers = λ t below. ap shown_in (sym (empty_at settings.threads t));
+      left_is = λ i. minus (sorted (empty_in inserted refl settings.threads i)) (empty_in deleted refl settings.threads i);
       few = tt;
     }) goes);
     at_end = λ done. absurd (not_done before after (codes "no memory\n") 0 report.written report.end goes done);

@@ -6,7 +6,7 @@ pub mod AllLemmas  -- one of all members goes on
 pub mod CrewLemmas  -- one member goes on, and the others stay
 pub mod ShownLemmas  -- what the calls of a member show in the text
 pub mod PickingLemmas  -- the pickers of the threads
-pub mod CourseLemmas  -- how balances go on, row after row
+pub mod CourseLemmas  -- how the calls of a thread go on, one after another
 pub mod ReplayLemmas
 pub mod TellingLemmas
 pub mod WorkLemmas  -- what a worker's rows are answered with

@@ -13,17 +13,16 @@ use Rattle.klsm_text.specs.Keeping.{KeepsNoMore}
 use Rattle.klsm_text.specs.Reading.{reader_failed}
 use Rattle.klsm_text.specs.Reports.{GoesOrFails}
 use Rattle.klsm_text.specs.ThreadRows.{HasReadToRefusal, StandsAtRefusal}
-use Rattle.klsm_board.specs.declared.sizes.Sizes.{Sizes}
 use Rattle.klsm_tool.specs.Live.{HasNoTotals, outcome_end, outcome_text}
 use Rattle.klsm_tool.proofs.ClosingLemmas.{refused_end}
 
 -- a script that is not run
-pub not_run : {R : Type 0} (rem : R → Option (List ℕ)) (m : Sizes) (number : ℕ) (input : Option (List ℕ)) (lists : List (List ThreadRow)) (script : Script R) (why : Stop) → KeepsNoMore rem m.threads input lists script number why → why ≢ stop.AtEnd → HasNoTotals (reader_failed script) m input number why
-not_run rem m number input lists script stop.AtEnd ended other = absurd (other refl)
-not_run rem m number input lists script (stop.Refused why) ended other = record { rows = ended.rows; accepted = ended.accepted; stops = ended.stops; number_is = ended.number_is }
-not_run rem m number input lists script stop.NoMemory ended other = tt
-not_run rem m number input lists script stop.ReadFault ended other = (record { rows = ended.rows; accepted = ended.accepted; stops = ended.stops; number_is = ended.number_is }, ended.fault refl)
-not_run rem m number input lists script stop.WriteFault ended other = absurd ended.stops
+pub not_run : {R : Type 0} (rem : R → Option (List ℕ)) (threads number : ℕ) (input : Option (List ℕ)) (lists : List (List ThreadRow)) (script : Script R) (why : Stop) → KeepsNoMore rem threads input lists script number why → why ≢ stop.AtEnd → HasNoTotals (reader_failed script) threads input number why
+not_run rem threads number input lists script stop.AtEnd ended other = absurd (other refl)
+not_run rem threads number input lists script (stop.Refused why) ended other = record { rows = ended.rows; accepted = ended.accepted; stops = ended.stops; number_is = ended.number_is }
+not_run rem threads number input lists script stop.NoMemory ended other = tt
+not_run rem threads number input lists script stop.ReadFault ended other = (record { rows = ended.rows; accepted = ended.accepted; stops = ended.stops; number_is = ended.number_is }, ended.fault refl)
+not_run rem threads number input lists script stop.WriteFault ended other = absurd ended.stops
 
 -- want of memory refuses no row
 pub memory_refuses_no_row : (refusal : Refusal) (why : Stop) → why ≡ stop.NoMemory → why ≢ stop.Refused refusal

@@ -1,19 +1,22 @@
--- How a member balances before its deletions, and how that goes on over the rows of a script.
-use Rattle.std.specs.Prelude.{ℕ, zero, suc, ◌≡◌, ◌<◌, Bool, List, [], ◌∷◌, length, slice_index_or, Option, Some, None}
+-- What the calls of a thread's member add to its list, one after another, and how they go by its picker.
+use Rattle.std.specs.Prelude.{ℕ, ◌≡◌, ◌<◌, ◌⊎◌, Bool, List, length, slice_index_or, Option, Some, None}
 use Rattle.klsm_run.specs.declared.item.Item.{Item}
+use Rattle.klsm_run.specs.declared.limits.TheConstants.{MOST_LEVELS}
 use Rattle.klsm_parts.specs.Choices.{may_choose}
 use Rattle.klsm_world.specs.declared.step.Entry.{Entry}
-use Rattle.klsm_board.specs.declared.balancing.Balancing.{Balancing}
 use Rattle.klsm_board.specs.declared.balancing.TheConstants.{MOST_BALANCED}
 use Rattle.klsm_board.specs.declared.sizes.Sizes.{Sizes}
-use Rattle.klsm_board.specs.Balancing.{HasBalanced, after_deletion, after_turn, balancing_each, victim_now}
+use Rattle.klsm_board.specs.Balancing.{HasBalanced, after_deletion, after_turn, victim_now}
 use Rattle.klsm_board.specs.Deleting.{AnswersDeletion, AnswersWaiting}
+use Rattle.klsm_board.specs.Inserting.{GivesUp, Inserts, InsertsWaiting, IsBelowLimit}
 use Rattle.klsm_board.specs.Stealing.{Balances}
+use Rattle.klsm_knapsack.specs.Courses.{IsOnCourse}
 use Rattle.klsm_text.specs.declared.answer.Answer.{Answer}
 use Rattle.klsm_text.specs.declared.answer.Answer.TheVariants.{Inserted, Deleted, Nothing}
+use Rattle.klsm_words.specs.declared.settings.Settings.{Settings}
 use Rattle.klsm_tool.specs.declared.picking.ThreadPicker.{ThreadPicker}
-use Rattle.klsm_tool.specs.Crews.{steps_in}
-use Rattle.klsm_tool.specs.Shown.{shown_in}
+use Rattle.klsm_tool.specs.Crews.{board_sizes, steps_in}
+use Rattle.klsm_tool.specs.Picking.{picker_of}
 
 -- the item that a deletion answered
 abbrev pub item_of : Answer → Option Item
@@ -42,24 +45,36 @@ pub record DeletesInOneHand (m : Sizes) (t : ℕ) (picker picker' : ThreadPicker
   pub deletes : AnswersDeletion may_choose picker.choice picker'.choice m t balanced es' (item_of answer)
   pub counted : picker'.balancing ≡ after_deletion (after_turn picker.balancing m.threads)
 
--- how many deletions were answered
-abbrev pub deletions_in : List Answer → ℕ
-deletions_in [] = 0
-deletions_in (Inserted x ∷ answers) = deletions_in answers
-deletions_in (Deleted x ∷ answers) = suc (deletions_in answers)
-deletions_in (Nothing ∷ answers) = suc (deletions_in answers)
+-- One call of thread t: an item was inserted, and the picker is as it was. Or the thread deleted by its picker.
+abbrev pub CallsInTurn : Sizes → ℕ → ThreadPicker → ThreadPicker → List Entry → List Entry → Type 0
+CallsInTurn m t picker picker' es es' =
+    (((x : Item) × InsertsWaiting MOST_LEVELS m.k t es es' x) × (picker' ≡ picker))
+    ⊎ ((answer : Answer) × DeletesInTurn m t picker picker' es es' answer)
 
--- what tells when to balance before each so-manyth deletion, one of so many threads, after so many deletions
-abbrev pub balancing_after : ℕ → ℕ → ℕ → Balancing
-balancing_after every threads zero = balancing_each every
-balancing_after every threads (suc n) = after_deletion (after_turn (balancing_after every threads n) threads)
+-- an item was inserted, or memory was wanted for that
+abbrev pub InsertsOrLacksMemory : Sizes → ℕ → List Entry → List Entry → Type 0
+InsertsOrLacksMemory m t es es' =
+    ((x : Item) × Inserts MOST_LEVELS m.k t es es' x) ⊎ GivesUp m.k t es es' (IsBelowLimit MOST_LEVELS)
 
--- a picker tells so after the deletions that its thread's list shows
-abbrev pub IsOnCourse : ℕ → ℕ → List Entry → ThreadPicker → Type 0
-IsOnCourse every threads es picker =
-    picker.balancing ≡ balancing_after every threads (deletions_in (shown_in es))
+-- the same as above, of a thread whose member is in one hand with all others
+abbrev pub CallsInOneHand : Sizes → ℕ → ThreadPicker → ThreadPicker → List Entry → List Entry → Type 0
+CallsInOneHand m t picker picker' es es' =
+    (InsertsOrLacksMemory m t es es' × (picker' ≡ picker))
+    ⊎ ((answer : Answer) × DeletesInOneHand m t picker picker' es es' answer)
 
--- so do those of all threads
-abbrev pub AreOnCourse : ℕ → ℕ → List (List Entry) → List ThreadPicker → Type 0
-AreOnCourse every threads lists pickers = (t : ℕ) (d : ThreadPicker) → t < length pickers
-    → IsOnCourse every threads (steps_in lists t) (slice_index_or pickers t d)
+-- the lists of all threads, which are in one hand, are those of some calls, and the pickers stand behind these
+abbrev pub AreOnCourse : Sizes → (ℕ → ThreadPicker) → List (List Entry) → List ThreadPicker → Type 0
+AreOnCourse m first lists pickers = (t : ℕ) (d : ThreadPicker) → t < length pickers
+    → IsOnCourse (CallsInOneHand m t) (first t) (slice_index_or pickers t d) (steps_in lists t)
+
+-- Each thread's list is that of some calls over a board of these settings, the refill among them. Its deletions go
+-- by the picker that the settings choose for it, which goes on from each of them to the next, and the balances
+-- between are those that are due.
+abbrev pub GoInTurn : Settings → List (List Entry) → Type 0
+GoInTurn settings lists = (t : ℕ) → t < settings.threads → (picker : ThreadPicker)
+    × IsOnCourse (CallsInTurn (board_sizes settings) t) (picker_of settings t) picker (steps_in lists t)
+
+-- the same of threads that are in one hand
+abbrev pub GoInOneHand : Settings → List (List Entry) → Type 0
+GoInOneHand settings lists = (t : ℕ) → t < settings.threads → (picker : ThreadPicker)
+    × IsOnCourse (CallsInOneHand (board_sizes settings) t) (picker_of settings t) picker (steps_in lists t)

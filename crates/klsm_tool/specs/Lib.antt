@@ -4,7 +4,7 @@ pub mod Crews  -- the members that answer rows
 pub mod SkipCounters  -- the live items, by which skips are counted
 pub mod Picking  -- how the deletions of each thread pick, and when its member begins to balance
 pub mod MemberCalls  -- what a member answers to a row
-pub mod Courses  -- how a member balances before its deletions, row after row
+pub mod Courses  -- what the calls of a member add to its list, one after another, and how they go by its picker
 pub mod Answering  -- what a replay keeps beside the board, and how a row is answered
 pub mod Replay  -- what `replay_over` promises
 pub mod Live  -- what `live_over` promises

@@ -10,7 +10,6 @@ use Rattle.klsm_text.specs.declared.report.Report.{Report}
 use Rattle.klsm_words.specs.declared.settings.Search.{Search}
 use Rattle.klsm_words.specs.declared.settings.Settings.{Settings}
 use Rattle.klsm_words.specs.CommandLine.{HasStatus, IsCommand, action_in, usual_settings}
-use Rattle.klsm_tool.specs.Crews.{board_sizes}
 use Rattle.klsm_tool.specs.Replay.{ReplaysAlone}
 use Rattle.klsm_tool.specs.Live.{Lives}
 use Rattle.klsm_tool.specs.Knapsack.{Solves}
@@ -49,13 +48,13 @@ AnswersWords words before after result =
 -- the input is replayed, and the status is that of the replay's end
 abbrev pub RunsReplay : Settings → Option (List ℕ) → Option (List ℕ) → Option (List ℕ) → ℕ → Type 0
 RunsReplay settings input before after result =
-    (report : Report) × ReplaysAlone (board_sizes settings) input before after report
+    (report : Report) × ReplaysAlone settings input before after report
     × (result ≡ status_of report.end)
 
 -- the rows of the input are run by threads, and the status is that of the run's end
 abbrev pub RunsLive : Settings → Option (List ℕ) → Option (List ℕ) → Option (List ℕ) → ℕ → Type 0
 RunsLive settings input before after result =
-    (report : Report) × Lives (board_sizes settings) input before after report
+    (report : Report) × Lives settings input before after report
     × (result ≡ status_of report.end)
 
 -- the instance of the input is solved, and the status is that of the end

@@ -3,7 +3,6 @@ use Rattle.std.specs.Prelude.{ℕ, ◌≡◌, ◌*◌, ◌<◌, ◌≤◌, ◌�
 use Rattle.std.specs.Prelude.{Ok, Err, codes}
 use Rattle.std.specs.Io.KnownBytes.{Appends}
 use Rattle.klsm_world.specs.declared.step.Entry.{Entry}
-use Rattle.klsm_board.specs.declared.sizes.Sizes.{Sizes}
 use Rattle.klsm_board.specs.Finishing.{AreListsAtEnd}
 use Rattle.klsm_text.specs.declared.answer.Line.{Line}
 use Rattle.klsm_text.specs.declared.request.Request.{Request}
@@ -15,6 +14,9 @@ use Rattle.klsm_rows.specs.Rows.{Row, AreFirstRows, AreAllRows}
 use Rattle.klsm_text.specs.Script.{request_after}
 use Rattle.klsm_text.specs.Reports.{GoesOrFails, end_of}
 use Rattle.klsm_text.specs.AnswerText.{greatest_skip, text_of}
+use Rattle.klsm_words.specs.declared.settings.Settings.{Settings}
+use Rattle.klsm_tool.specs.Courses.{GoInOneHand}
+use Rattle.klsm_tool.specs.Crews.{board_sizes}
 use Rattle.klsm_tool.specs.Shown.{IsFew, Show}
 use Rattle.klsm_tool.specs.MemberCalls.{IsAnswerTo}
 
@@ -69,11 +71,12 @@ ReplaysToTheEnd threads k lists input before after report =
     × GoesOrFails middle after (codes "no memory\n") done.written report.written end.NoMemory
     report.end)
 
--- the lists are those of a board of its own, of these sizes: all of them are those of one schedule of
--- legal steps, and where all is done the board has ended with them
-pub record ReplaysAlone (m : Sizes) (input before after : Option (List ℕ)) (report : Report)
+-- the lists are those of a board of its own, of these settings: all of them are those of one schedule of
+-- legal steps, and of calls as the settings choose them, and where all is done the board has ended with them
+pub record ReplaysAlone (settings : Settings) (input before after : Option (List ℕ)) (report : Report)
     : Type 0 where
   pub lists : List (List Entry)
-  pub run : ∥ AreListsAtEnd m lists ∥₁
-  pub replays : ReplaysToTheEnd m.threads m.k lists input before after report
-  pub at_end : report.end ≡ end.Done → AreListsAtEnd m lists
+  pub run : ∥ AreListsAtEnd (board_sizes settings) lists ∥₁
+  pub course : GoInOneHand settings lists
+  pub replays : ReplaysToTheEnd settings.threads settings.k lists input before after report
+  pub at_end : report.end ≡ end.Done → AreListsAtEnd (board_sizes settings) lists

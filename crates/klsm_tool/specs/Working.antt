@@ -9,8 +9,13 @@ use Rattle.klsm_board.specs.Boards.{IsOf, own_steps}
 use Rattle.klsm_board.specs.declared.sizes.Sizes.{Sizes}
 use Rattle.klsm_board.specs.Finishing.{AreListsAtEnd}
 use Rattle.klsm_text.specs.declared.totals.Totals.{Totals}
+use Rattle.klsm_words.specs.declared.settings.Settings.{Settings}
 use Rattle.klsm_tool.specs.declared.member_calls.Want.{Want}
+use Rattle.klsm_tool.specs.declared.picking.ThreadPicker.{ThreadPicker}
 use Rattle.klsm_tool.specs.declared.worker.Worker.{Worker}
+use Rattle.klsm_tool.specs.Picking.{picker_of}
+use Rattle.klsm_knapsack.specs.Courses.{IsOnCourse}
+use Rattle.klsm_tool.specs.Courses.{CallsInTurn}
 use Rattle.klsm_tool.specs.Shown.{shown_in}
 use Rattle.klsm_tool.specs.MemberCalls.{AreAnswers, Wants}
 use Rattle.klsm_text.specs.declared.request.Operation.{Operation}
@@ -33,28 +38,31 @@ Works k t asked es (Some want) = GaveUpAt k t asked es want
 abbrev pub ready : Member PROGRAM_K MOST_LEVELS → Option Worker
 ready member = Some (record { member = member; passed = None; gave_up = None })
 
--- the member is thread t's of the board, and its list answers nothing
+-- the member is thread t's of the board, and has made no step
 pub record IsReady (board : Board PROGRAM_K MOST_LEVELS) (t : ℕ) (member : Member PROGRAM_K MOST_LEVELS) : Type 0 where
   pub of : IsOf member board
   pub number : member.number ≡ t
-  pub shows_none : shown_in (own_steps member) ≡ []
+  pub no_steps : own_steps member ≡ []
 
--- it is, has passed the gate, and has run what it was asked for
-pub record HasRunRows (board : Board PROGRAM_K MOST_LEVELS) (t : ℕ) (asked : List Operation) (worker : Worker)
-    : Type 0 where
+-- It is, has passed the gate, and has run what it was asked for. Where it did not give up its list is that of calls as
+-- the settings choose them.
+pub record HasRunRows (settings : Settings) (board : Board PROGRAM_K MOST_LEVELS) (t : ℕ) (asked : List Operation)
+    (worker : Worker) : Type 0 where
   pub of : IsOf worker.member board
   pub number : worker.member.number ≡ t
   pub passed : worker.passed ≡ Some (record { worker = t })
   pub works : Works board.sizes.k t asked (own_steps worker.member) worker.gave_up
+  pub course : worker.gave_up ≡ None → (picker : ThreadPicker)
+      × IsOnCourse (CallsInTurn board.sizes t) (picker_of settings t) picker (own_steps worker.member)
 
 -- at its place
 abbrev pub IsReadyAt : Board PROGRAM_K MOST_LEVELS → ℕ → Option Worker → Type 0
 IsReadyAt board t None = ⊥
 IsReadyAt board t (Some worker) = IsReady board t worker.member
 
-abbrev pub HasRunAt : Board PROGRAM_K MOST_LEVELS → ℕ → List Operation → Option Worker → Type 0
-HasRunAt board t asked None = ⊥
-HasRunAt board t asked (Some worker) = HasRunRows board t asked worker
+abbrev pub HasRunAt : Settings → Board PROGRAM_K MOST_LEVELS → ℕ → List Operation → Option Worker → Type 0
+HasRunAt settings board t asked None = ⊥
+HasRunAt settings board t asked (Some worker) = HasRunRows settings board t asked worker
 
 -- its list
 abbrev pub steps_at : Option Worker → List Entry

@@ -21,7 +21,7 @@
 //! Rows are read and judged by `klsm_text`, which also makes the lines and sends them. `replay` reads
 //! a row, `replay_state` lets the member of its thread answer and has `skip_counter` count the skip, and
 //! the line goes out with others before a further row is waited for. Where threads run the rows,
-//! `live` has a `worker` for each, which goes through the gate by `passing`; `making` has the board of
+//! `live` has a `worker` for each, which passes its gate first; `making` has the board of
 //! either, `picking` what each thread's deletions go by, and `member_calls` the calls of a member, which
 //! balances where it is time. `knapsack` reads an instance, has it solved with the things of the
 //! greatest value for their weight first, and writes its answer by the rows. `program` runs what its
@@ -51,8 +51,10 @@
 //!   `replays` of `run_words`.
 //! - **The process ends with that status.** Nothing outside this crate makes a `Status`, and
 //!   `Status::report` says that the process ends with its number.
+//! - **Calls obey the settings**: the refill of the board, each thread's one picker, and the balances that are
+//!   due: clause `course` of `replay_script`, and `course` of `ReplaysAlone` and of `RunsAll`.
 //! - **What no contract says**: that the process's words are those that the system gave, what
-//!   standard input and output carried, and, of a whole run, how its deletions pick and which balances come before them.
+//!   standard input and output carried, and how a search found its answer.
 #![tactic(auto)]
 
 mod advising;
@@ -60,7 +62,6 @@ mod knapsack;
 mod live;
 mod making;
 mod member_calls;
-mod passing;
 mod picking;
 mod process_words;
 mod program;

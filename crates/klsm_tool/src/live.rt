@@ -5,7 +5,7 @@ ghost use Rattle.klsm_run.specs.declared.limits.TheConstants.{PROGRAM_K, PROGRAM
 ghost use Rattle.klsm_rows.specs.Rows.{Row, AreAllRows};
 ghost use Rattle.klsm_text.specs.Script.{row_limit};
 ghost use Rattle.klsm_text.specs.Reports.{GoesOrFails};
-ghost use Rattle.klsm_tool.specs.Crews.{board_sizes, lists_in};
+ghost use Rattle.klsm_tool.specs.Crews.{lists_in};
 ghost use Rattle.klsm_text.specs.ThreadRows.{AreAccepted, HasReadToRefusal, StandsAtRefusal};
 ghost use Rattle.klsm_text.specs.Keeping.{AreKept, kept_for};
 ghost use Rattle.klsm_text.specs.Reading.{HasReadScript, reader_failed};
@@ -18,7 +18,6 @@ ghost use Rattle.klsm_board.specs.Finishing.{AreListsAtEnd};
 use crate::advising::advise_on_row;
 use crate::making::board_for;
 use crate::member_calls::Want;
-use crate::passing::pass;
 use crate::worker::Worker;
 use klsm_board::{Gate, StandardBoard, StandardMember};
 use klsm_knapsack::Listeners;
@@ -52,7 +51,7 @@ pub fn live_over<
     requires threads { settings.now.threads ≤ PROGRAM_THREADS }
     requires k { settings.now.k ≤ PROGRAM_K }
     requires refill { settings.now.refill ≤ settings.now.k }
-    ensures { Lives (board_sizes settings.now) (R.remaining reader)
+    ensures { Lives settings.now (R.remaining reader)
         (W.contents writer.old) (W.contents writer.new) result }
 {
     let mut script = Script::new(rt.alloc(), reader);
@@ -80,7 +79,7 @@ pub fn live_script<
     requires refill { settings.now.refill ≤ settings.now.k }
     requires read { (input : Option (List ℕ)) × HasReadScript R.remaining input [] script.old }
     ensures lives { (input : Option (List ℕ)) → HasReadScript R.remaining input [] script.old
-        → LivesBy (reader_failed script.new) (board_sizes settings.now) input
+        → LivesBy (reader_failed script.new) settings.now input
         (W.contents writer.old) (W.contents writer.new) result }
     ensures refused { (input : Option (List ℕ)) → HasReadScript R.remaining input [] script.old
         → result.end ≡ End.Refused
@@ -119,7 +118,7 @@ fn run_script<P: AllocGlobal + Wait + Clock + Threads + Sync, R: Read + Drop, G:
     requires refill { settings.now.refill ≤ settings.now.k }
     requires read { (input : Option (List ℕ)) × HasReadScript R.remaining input [] script.old }
     ensures runs { (input : Option (List ℕ)) → HasReadScript R.remaining input [] script.old
-        → RunsScript (reader_failed script.new) (board_sizes settings.now) input result }
+        → RunsScript (reader_failed script.new) settings.now input result }
     ensures refused { (input : Option (List ℕ)) → HasReadScript R.remaining input [] script.old
         → IfErr result (λ closing.
         StandsAtRefusal R.remaining settings.now.threads input script.new closing.stop) }
@@ -154,7 +153,7 @@ fn run_rows<P: AllocGlobal + Wait + Clock + Threads + Sync, G: Gate, H: Progress
     ensures runs { (failed : Bool) (input : Option (List ℕ)) (all : List Row) → AreAllRows input all
         → AreAccepted settings.now.threads all
         → AreKept settings.now.threads all (map (λ list. list.items) rows.now)
-        → RunsScript failed (board_sizes settings.now) input result }
+        → RunsScript failed settings.now input result }
     ensures memory { IfErr result (λ closing. closing.stop ≡ Stop.NoMemory) }
 {
     let Ok((board, members)) = board_for(rt.alloc(), settings) else {
@@ -200,7 +199,7 @@ fn run_members<R: AllocGlobal + Wait + Clock + Threads + Sync, G: Gate, P: Progr
     requires new { AreNewMembersOf live.now.board.now members.items }
     ensures many { IfOk result (λ crew. length crew.items ≡ length members.items) }
     ensures ran { IfOk result (λ crew. (t : ℕ) (d : Option Worker) → t < length crew.items
-        → HasRunAt live.now.board.now t
+        → HasRunAt live.now.settings.now live.now.board.now t
         (kept_for (map (λ list. list.items) live.now.rows.now) t)
         (slice_index_or crew.items t d)) }
 {
@@ -224,7 +223,7 @@ fn run_all<R: Wait + Clock + Threads + Sync, G: Gate, P: Progress>(
     requires ready { (t : ℕ) (d : Option Worker) → t < length crew.old
         → IsReadyAt live.now.board.now t (slice_index_or crew.old t d) }
     ensures { (t : ℕ) (d : Option Worker) → t < length crew.old
-        → HasRunAt live.now.board.now t
+        → HasRunAt live.now.settings.now live.now.board.now t
         (kept_for (map (λ list. list.items) live.now.rows.now) t)
         (slice_index_or crew.new t d) }
 {
@@ -238,7 +237,7 @@ fn run_all<R: Wait + Clock + Threads + Sync, G: Gate, P: Progress>(
                 × IsReadyAt live.now.board.now index place.old
                 × (length (kept_for (map (λ list. list.items) live.now.rows.now) index)
                 < live.now.board.now.sizes.quota) }
-            ensures { HasRunAt live.entry.now.board.now index
+            ensures { HasRunAt live.entry.now.settings.now live.entry.now.board.now index
                 (kept_for (map (λ list. list.items) live.entry.now.rows.now) index) place.new }
         { run_at(rt, live, place, index) },
     );
@@ -255,11 +254,11 @@ fn run_at<G: Gate, P: Progress>(
     requires ready { IsReadyAt live.now.board.now index place.old }
     requires few { length (kept_for (map (λ list. list.items) live.now.rows.now) index)
         < live.now.board.now.sizes.quota }
-    ensures { HasRunAt live.now.board.now index
+    ensures { HasRunAt live.now.settings.now live.now.board.now index
         (kept_for (map (λ list. list.items) live.now.rows.now) index) place.new }
 {
     let rows = live.rows[index].as_slice();
-    let passed = pass(live.listeners.gate, index);
+    let passed = live.listeners.pass(index);
     let Some(worker) = place.take() else {
         unreachable!();
     };

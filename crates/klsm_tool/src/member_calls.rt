@@ -1,12 +1,14 @@
 //! What the members of a board do for a row.
-ghost use Rattle.std.specs.Prelude.{◌≡◌, ◌<◌, ◌++◌, ◌∷◌, [], length, IfOk, IfErr};
+ghost use Rattle.std.specs.Prelude.{◌≡◌, ◌<◌, ◌++◌, ◌∷◌, [], length, IfOk, IfErr, OnErr};
 ghost use Rattle.klsm_run.specs.declared.item.Item.{Item};
+ghost use Rattle.klsm_run.specs.declared.limits.TheConstants.{MOST_LEVELS};
 ghost use Rattle.klsm_world.specs.Account.{account};
 ghost use Rattle.klsm_world.specs.OwnSteps.{inserted};
 ghost use Rattle.klsm_parts.specs.Choices.{may_choose};
 ghost use Rattle.klsm_board.specs.Balancing.{HasBalanced, after_turn, victim_now};
 ghost use Rattle.klsm_board.specs.Boards.{IsOf, IsSame, own_steps};
 ghost use Rattle.klsm_board.specs.Deleting.{AnswersDeletion, AnswersWaiting};
+ghost use Rattle.klsm_board.specs.Inserting.{GivesUp, Inserts, InsertsWaiting, IsBelowLimit};
 ghost use Rattle.klsm_text.specs.declared.answer.Answer.TheVariants.{Inserted};
 ghost use Rattle.klsm_board.specs.Together.{AreOf, all_lists, left_of, steps_for};
 ghost use Rattle.klsm_text.specs.AnswerText.{skip_of};
@@ -50,6 +52,8 @@ pub(crate) fn insert<const CAP: usize, const LEVELS: usize>(
     ensures item { IfOk result (λ x. (x.key ≡ key) × (x.load ≡ load)) }
     ensures shown { IfOk result (λ x.
         shown_in (own_steps member.new) ≡ shown_in (own_steps member.old) ++ Inserted x ∷ []) }
+    ensures inserts { IfOk result (InsertsWaiting LEVELS member.old.sizes.k member.old.number
+        (own_steps member.old) (own_steps member.new)) }
     ensures refused { IfErr result (λ wanted.
         (shown_in (own_steps member.new) ≡ shown_in (own_steps member.old))
         × Wants LEVELS member.old.sizes.k member.old.number (own_steps member.new) wanted) }
@@ -141,8 +145,12 @@ pub(crate) fn insert_by(
     ensures item { IfOk result (λ x. (x.key ≡ key) × (x.load ≡ load)) }
     ensures goes { IfOk result (λ x.
         Goes thread (all_lists all.old) (all_lists all.new) (Inserted x ∷ [])) }
+    ensures inserts { IfOk result (Inserts MOST_LEVELS board.now.sizes.k thread
+        (steps_for all.old thread) (steps_for all.new thread)) }
     ensures refused { IfErr result (λ why. (why ≡ stop.NoMemory)
         × Goes thread (all_lists all.old) (all_lists all.new) []) }
+    ensures lacks { OnErr result (GivesUp board.now.sizes.k thread (steps_for all.old thread)
+        (steps_for all.new thread) (IsBelowLimit MOST_LEVELS)) }
 {
     match all.insert(board, thread, key, load) {
         Ok(stamp) => Ok(Item { key, stamp, load }),

@@ -14,8 +14,9 @@ ghost use Rattle.klsm_rows.specs.Rows.{Row};
 ghost use Rattle.klsm_text.specs.Script.{row_limit};
 ghost use Rattle.klsm_tool.specs.Crews.{AreFew, HaveNoSteps, board_sizes};
 ghost use Rattle.klsm_tool.specs.Answering.{live_kept, picker_count, pickers_kept};
-ghost use Rattle.klsm_tool.specs.Picking.{ArePickers};
-ghost use Rattle.klsm_tool.specs.Courses.{AreOnCourse};
+ghost use Rattle.klsm_tool.specs.Picking.{ArePickers, picker_of};
+ghost use Rattle.klsm_tool.specs.Courses.{AreOnCourse, GoInOneHand};
+ghost use Rattle.klsm_tool.specs.declared.picking.ThreadPicker.{ThreadPicker};
 ghost use Rattle.klsm_text.specs.Reading.{HasReadScript, reader_failed};
 ghost use Rattle.klsm_text.specs.ThreadRows.{AreAccepted, HasReadToRefusal, StandsAtRefusal};
 ghost use Rattle.klsm_text.specs.Waiting.{HasSentBefore};
@@ -49,7 +50,7 @@ pub fn replay_over<P: AllocGlobal, R: Read + Drop, W: Write>(
     requires threads { settings.now.threads ≤ PROGRAM_THREADS }
     requires k { settings.now.k ≤ PROGRAM_K }
     requires refill { settings.now.refill ≤ settings.now.k }
-    ensures { ReplaysAlone (board_sizes settings.now) (R.remaining reader)
+    ensures { ReplaysAlone settings.now (R.remaining reader)
         (W.contents writer.old) (W.contents writer.new) result }
 {
     let Ok((board, mut all)) = board_in_one_hand(rt.alloc(), settings) else {
@@ -99,6 +100,7 @@ pub fn replay_script<P: AllocGlobal, R: Read + Drop, W: Write>(
     ensures replays { (input : Option (List ℕ)) → HasReadScript R.remaining input [] script.old
         → Replays settings.now.threads settings.now.k (all_lists all.new) input
         (W.contents writer.old) (W.contents writer.new) result }
+    ensures course { GoInOneHand settings.now (all_lists all.new) }
     ensures fault { (input : Option (List ℕ)) → HasReadScript R.remaining input [] script.old
         → result.end ≡ End.ReadFault → reader_failed script.new ≡ true }
     ensures refused { (input : Option (List ℕ)) → HasReadScript R.remaining input [] script.old
@@ -152,9 +154,8 @@ impl Replay {
         requires sizes { board.now.sizes ≡ board_sizes settings.now }
         requires of { AreOf all.old board.now }
         requires pickers { picker_count self.old.state ≡ board.now.sizes.threads }
-        requires choices { ArePickers settings.now (pickers_kept self.old.state) }
         requires few { AreFew 0 (all_lists all.old) }
-        requires course { AreOnCourse settings.now.balance board.now.sizes.threads
+        requires course { AreOnCourse board.now.sizes (picker_of settings.now)
             (all_lists all.old) (pickers_kept self.old.state) }
         requires put { put_count self.old.output ≡ 0 }
         ensures of { AreOf all.new board.now }
@@ -173,8 +174,7 @@ impl Replay {
             script.old (live_kept self.old.state) self.old.state.most
             → IsTold before (W.contents writer.old) [] self.old.output
             → StandsAtRefusal R.remaining settings.now.threads input script.new result.stop }
-        ensures course { AreOnCourse settings.now.balance board.now.sizes.threads
-            (all_lists all.new) (pickers_kept self.new.state) }
+        ensures course { GoInOneHand settings.now (all_lists all.new) }
     {
         let bound = settings.threads * settings.k;
         let mut pace = Pace::new(Counted::RowsAnswered);
@@ -232,9 +232,9 @@ impl Replay {
             → HasReadScript R.remaining input rows script.old
             → AreAccepted board.now.sizes.threads rows → length rows < row_limit
             → IfErr result (StandsAtRefusal R.remaining board.now.sizes.threads input script.new) }
-        ensures course { (every : ℕ) → AreOnCourse every board.now.sizes.threads
-            (all_lists all.old) (pickers_kept self.old.state)
-            → AreOnCourse every board.now.sizes.threads (all_lists all.new)
+        ensures course { (first : ℕ → ThreadPicker)
+            → AreOnCourse board.now.sizes first (all_lists all.old) (pickers_kept self.old.state)
+            → AreOnCourse board.now.sizes first (all_lists all.new)
             (pickers_kept self.new.state) }
     {
         send_before_wait(script, &mut self.output, writer)?;
@@ -299,10 +299,9 @@ fn next_line<R: Read + Drop>(
         → HasReadScript R.remaining input rows script.old
         → AreAccepted board.now.sizes.threads rows → length rows < row_limit
         → IfErr result (StandsAtRefusal R.remaining board.now.sizes.threads input script.new) }
-    ensures course { (every : ℕ) → AreOnCourse every board.now.sizes.threads
-        (all_lists all.old) (pickers_kept state.old)
-        → AreOnCourse every board.now.sizes.threads (all_lists all.new)
-        (pickers_kept state.new) }
+    ensures course { (first : ℕ → ThreadPicker)
+        → AreOnCourse board.now.sizes first (all_lists all.old) (pickers_kept state.old)
+        → AreOnCourse board.now.sizes first (all_lists all.new) (pickers_kept state.new) }
 {
     script.advance(output)?;
     match request_of(&script.row, board.threads()) {

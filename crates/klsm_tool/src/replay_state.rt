@@ -20,8 +20,9 @@ pub(crate) struct ReplayState {
 }
 
 impl ReplayState {
-    ghost use Rattle.std.specs.Prelude.{◌≡◌, ◌<◌, [], ◌∷◌, ℕ, max, slice_index_or, IfOk, IfErr};
+    ghost use Rattle.std.specs.Prelude.{◌≡◌, ◌<◌, ◌⊎◌, [], ◌∷◌, ℕ, max, slice_index_or, IfOk, IfErr, OnErr};
     ghost use Rattle.klsm_run.specs.Content.{sorted};
+    ghost use Rattle.klsm_run.specs.declared.limits.TheConstants.{MOST_LEVELS};
     ghost use Rattle.klsm_world.specs.Account.{account};
     ghost use Rattle.klsm_text.specs.AnswerText.{live_after, skip_of};
     ghost use Rattle.klsm_tool.specs.Crews.{Goes};
@@ -30,6 +31,7 @@ impl ReplayState {
     ghost use Rattle.klsm_tool.specs.MemberCalls.{IsDeletion};
     ghost use Rattle.klsm_tool.specs.Courses.{AreOnCourse, DeletesInOneHand};
     ghost use Rattle.klsm_tool.specs.declared.picking.ThreadPicker.{ThreadPicker};
+    ghost use Rattle.klsm_board.specs.Inserting.{GivesUp, Inserts, IsBelowLimit};
     ghost use Rattle.klsm_board.specs.Together.{AreOf, all_lists, steps_for};
     ghost use Rattle.klsm_text.specs.Script.{row_limit};
     ghost use Rattle.klsm_text.specs.declared.stop.Stop.TheVariants as stop;
@@ -76,10 +78,9 @@ impl ReplayState {
             (slice_index_or (pickers_kept self.new) request.thread d)
             (steps_for all.old request.thread) (steps_for all.new request.thread)
             printed.line.answer) }
-        ensures course { (every : ℕ) → AreOnCourse every board.now.sizes.threads
-            (all_lists all.old) (pickers_kept self.old)
-            → AreOnCourse every board.now.sizes.threads (all_lists all.new)
-            (pickers_kept self.new) }
+        ensures course { (first : ℕ → ThreadPicker)
+            → AreOnCourse board.now.sizes first (all_lists all.old) (pickers_kept self.old)
+            → AreOnCourse board.now.sizes first (all_lists all.new) (pickers_kept self.new) }
     {
         let Request { thread, operation } = request;
         match operation {
@@ -121,10 +122,15 @@ impl ReplayState {
         ensures item { IfOk result (λ x. (x.key ≡ key) × (x.load ≡ load)) }
         ensures goes { IfOk result (λ x.
             Goes thread (all_lists all.old) (all_lists all.new) (Inserted x ∷ [])) }
+        ensures inserts { IfOk result (Inserts MOST_LEVELS board.now.sizes.k thread
+            (steps_for all.old thread) (steps_for all.new thread)) }
         ensures live { IfOk result (λ x. sorted (live_kept self.new)
             ≡ sorted (x ∷ live_kept self.old)) }
         ensures refused { IfErr result (λ why. (why ≡ stop.NoMemory)
             × Goes thread (all_lists all.old) (all_lists all.new) []) }
+        ensures lacks { OnErr result ((steps_for all.new thread ≡ steps_for all.old thread)
+            ⊎ GivesUp board.now.sizes.k thread (steps_for all.old thread)
+            (steps_for all.new thread) (IsBelowLimit MOST_LEVELS)) }
     {
         if self.live.reserve().is_err() {
             return Err(Stop::NoMemory);

@@ -1,5 +1,5 @@
 //! A worker of `klsm live`: a member of the board that runs the rows of its thread.
-ghost use Rattle.std.specs.Prelude.{◌≡◌, ◌<◌, ◌++◌, ℕ, [], ◌∷◌, length, map, IfOk, IfErr};
+ghost use Rattle.std.specs.Prelude.{◌≡◌, ◌<◌, ◌++◌, [], ◌∷◌, None, length, map, IfOk, IfErr, OnOk};
 ghost use Rattle.klsm_run.specs.declared.limits.TheConstants.{MOST_LEVELS};
 ghost use Rattle.klsm_world.specs.OwnSteps.{inserted};
 ghost use Rattle.klsm_board.specs.Boards.{IsOf, IsSame, own_steps};
@@ -7,13 +7,15 @@ ghost use Rattle.klsm_tool.specs.Shown.{shown_in};
 ghost use Rattle.klsm_tool.specs.MemberCalls.{IsAnswerTo, Wants};
 ghost use Rattle.klsm_text.specs.Keeping.{operation_in};
 ghost use Rattle.klsm_tool.specs.Picking.{picker_of};
-ghost use Rattle.klsm_tool.specs.Courses.{DeletesInTurn, IsOnCourse};
+ghost use Rattle.klsm_knapsack.specs.Courses.{IsOnCourse};
+ghost use Rattle.klsm_tool.specs.Courses.{CallsInTurn, DeletesInTurn};
+ghost use Rattle.klsm_tool.specs.declared.picking.ThreadPicker.{ThreadPicker};
 ghost use Rattle.klsm_tool.specs.Working.{HasRunRows, IsReady, Works};
 
 use crate::member_calls::{Want, delete, insert};
-use crate::passing::Passed;
 use crate::picking::ThreadPicker;
 use klsm_board::{StandardBoard, StandardMember};
+use klsm_knapsack::Passed;
 use klsm_progress::{Counted, Pace, Progress};
 use klsm_text::{Answer, Operation, ThreadRow};
 use klsm_words::Settings;
@@ -43,7 +45,8 @@ impl Worker {
         requires ready { IsReady board.now self.member.number self.member }
         requires few { length rows.now < board.now.sizes.quota }
         requires passed { passed.worker ≡ self.member.number }
-        ensures { HasRunRows board.now self.member.number (map operation_in rows.now) result }
+        ensures { HasRunRows settings.now board.now self.member.number (map operation_in rows.now)
+            result }
     {
         let Worker { mut member, .. } = self;
         let mut picker = ThreadPicker::of(settings, member.number() as u64);
@@ -76,14 +79,14 @@ fn answer_all(
     progress: &impl Progress,
 ) -> Option<Want>
     requires of { IsOf member.old board.now }
-    requires shows_none { shown_in (own_steps member.old) ≡ [] }
+    requires no_steps { own_steps member.old ≡ [] }
     requires few { length rows.now < board.now.sizes.quota }
     requires picks { picker.old ≡ picker_of settings.now member.old.number }
     ensures same { IsSame member.old member.new }
     ensures works { Works board.now.sizes.k member.old.number (map operation_in rows.now)
         (own_steps member.new) result }
-    ensures course { IsOnCourse settings.now.balance board.now.sizes.threads
-        (own_steps member.new) picker.new }
+    ensures course { result ≡ None → IsOnCourse (CallsInTurn board.now.sizes member.old.number)
+        (picker_of settings.now member.old.number) picker.new (own_steps member.new) }
 {
     let mut pace = Pace::new(Counted::RowsRun);
     for row in rows {
@@ -116,9 +119,11 @@ fn answer(
     ensures deletes { operation ≡ Operation.Delete
         → IfOk result (DeletesInTurn member.old.sizes member.old.number picker.old picker.new
         (own_steps member.old) (own_steps member.new)) }
-    ensures course { (every : ℕ)
-        → IsOnCourse every board.now.sizes.threads (own_steps member.old) picker.old
-        → IsOnCourse every board.now.sizes.threads (own_steps member.new) picker.new }
+    ensures course { (first : ThreadPicker)
+        → IsOnCourse (CallsInTurn board.now.sizes member.old.number) first picker.old
+        (own_steps member.old)
+        → OnOk result (IsOnCourse (CallsInTurn board.now.sizes member.old.number) first picker.new
+        (own_steps member.new)) }
 {
     match operation {
         Operation::Insert { key, load } => match insert(rt, board, member, key, load) {

@@ -18,8 +18,8 @@ pub returns : goal.returns
 returns g c =
     let same = rows_at c.args.live.now.rows.now c.index-live-index.result c.args.index c.as_slice-rows.result.now c.requires.below c.as_slice-rows.ensures.value in
     let there = subst (IsReadyAt c.args.live.now.board.now c.args.index) (sym c.in-Some.ensures.value) c.requires.ready in
-    subst (λ t. HasRunRows c.args.live.now.board.now t (kept_for (map (λ list. list.items) c.args.live.now.rows.now) c.args.index) c.run.result) there.number
-    (subst (λ asked. HasRunRows c.args.live.now.board.now c.in-Some.worker.member.number asked c.run.result) same c.run.ensures)
+    subst (λ t. HasRunRows c.args.live.now.settings.now c.args.live.now.board.now t (kept_for (map (λ list. list.items) c.args.live.now.rows.now) c.args.index) c.run.result) there.number
+    (subst (λ asked. HasRunRows c.args.live.now.settings.now c.args.live.now.board.now c.in-Some.worker.member.number asked c.run.result) same c.run.ensures)
 
 pub unreachable-unreachable : goal.unreachable-unreachable
 unreachable-unreachable g c = c.unreachable.type_inv

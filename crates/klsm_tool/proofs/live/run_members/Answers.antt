@@ -42,5 +42,5 @@ returns-clause-many g c =
 pub returns-clause-ran : goal.returns-clause-ran
 returns-clause-ran g c = λ t d.
     let back = comes_back c.run_all.new.crew c.as_mut_slice.result.now c.in_ok-crew.crew.items c.in_ok-crew.crew.len c.args.members.items c.run_all.auto.crew c.as_mut_slice.ensures.value c.in_ok-crew.ensures c.in_ok-crew.crew.ok.0 in
-    subst (λ (z : List (Option Worker)). t < length z → HasRunAt c.args.live.now.board.now t (kept_for (map (λ list. list.items) c.args.live.now.rows.now) t) (slice_index_or z t d)) (sym back.0)
+    subst (λ (z : List (Option Worker)). t < length z → HasRunAt c.args.live.now.settings.now c.args.live.now.board.now t (kept_for (map (λ list. list.items) c.args.live.now.rows.now) t) (slice_index_or z t d)) (sym back.0)
     (λ below. c.run_all.ensures t d (omega (arith, below, c.run_all.auto.crew)))

@@ -4,7 +4,6 @@ use Rattle.klsm_text.specs.declared.stop.Stop.TheVariants as stop
 use Rattle.klsm_text.specs.declared.thread_rows.ThreadRow.{ThreadRow}
 use Rattle.klsm_text.specs.Keeping.{AreKept}
 use Rattle.klsm_text.specs.Reading.{reader_failed}
-use Rattle.klsm_tool.specs.Crews.{board_sizes}
 use Rattle.klsm_tool.specs.Live.{HasNoTotals}
 use Rattle.klsm_text.specs.ThreadRows.{StopsReading}
 use Rattle.klsm_tool.proofs.CrewLemmas.{written_back}
@@ -16,14 +15,14 @@ kept_lists lists = map (λ (list : Vec ThreadRow Global). list.items) lists
 
 pub returns-in_default-clause-runs : goal.returns-in_default-clause-runs
 returns-in_default-clause-runs g c = λ input read.
-    subst (HasNoTotals (reader_failed c.args.script.now) (board_sizes c.args.settings.now) input c.at.result.row) (sym c.at.ensures.stop) tt
+    subst (HasNoTotals (reader_failed c.args.script.now) c.args.settings.now.threads input c.at.result.row) (sym c.at.ensures.stop) tt
 
 pub returns-then-ne-clause-runs : goal.returns-then-ne-clause-runs
 returns-then-ne-clause-runs g c = λ input read.
     let threads = c.args.settings.now.threads in
     let other : c.keep_rows-closing.result.stop ≢ stop.AtEnd = search rules in
     let kept : AreKept threads [] (kept_lists c.as_mut_slice.result.now) = subst (λ (z : List (Vec ThreadRow Global)). AreKept threads [] (kept_lists z)) (sym c.as_mut_slice.ensures.value) c.in-Ok.ensures in
-    not_run g.R.Read.remaining (board_sizes c.args.settings.now) c.keep_rows-closing.result.row _ _ c.keep_rows-closing.new.script _ (c.keep_rows-closing.ensures threads input read kept) other
+    not_run g.R.Read.remaining threads c.keep_rows-closing.result.row _ _ c.keep_rows-closing.new.script _ (c.keep_rows-closing.ensures threads input read kept) other
 
 pub run_rows-requires-clause-script : goal.run_rows-requires-clause-script
 run_rows-requires-clause-script g c =

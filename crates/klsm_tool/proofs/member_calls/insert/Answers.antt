@@ -11,6 +11,9 @@ returns-in-Ok-clause-shown g c =
     let me = c.args.member.now in let told = c.in-Ok.ensures.ok in
     insertion_shows g.row.LEVELS me.sizes.k me.number (own_steps me) (own_steps c.insert.new.self) _ told
 
+pub returns-in-Ok-clause-inserts : goal.returns-in-Ok-clause-inserts
+returns-in-Ok-clause-inserts g c = c.in-Ok.ensures.ok
+
 pub returns-in-Err-Full-clause-refused : goal.returns-in-Err-Full-clause-refused
 returns-in-Err-Full-clause-refused g c =
     let me = c.args.member.now in let spent : Type 0 = length (inserted (own_steps me)) ≡ me.sizes.quota in

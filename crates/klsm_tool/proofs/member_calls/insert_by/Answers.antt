@@ -1,7 +1,7 @@
 use Rattle.std.proofs.Common.{◌≡◌, [], ◌∷◌, length, sym, ap, subst, ◌∙◌, append-nil, arith, refl}
 use Rattle.klsm_run.specs.declared.limits.TheConstants.{MOST_LEVELS}
 use Rattle.klsm_world.specs.OwnSteps.{inserted}
-use Rattle.klsm_board.specs.Inserting.{RefusesInsert, as_tried}
+use Rattle.klsm_board.specs.Inserting.{GivesUp, Inserts, IsBelowLimit, RefusesInsert, as_tried}
 use Rattle.klsm_board.specs.declared.errors.InsertError.{InsertError}
 use Rattle.klsm_board.specs.declared.errors.TryInsertError.TheVariants as try_insert
 use Rattle.klsm_board.specs.declared.sizes.Sizes.{Sizes}
@@ -40,3 +40,15 @@ returns-in-Err-NoMemory-clause-refused c =
       all_go all after t told.same (omega (arith, c.requires.thread, threads)) []
           (refused_shows MOST_LEVELS all.acting.sizes.k t (steps_for all t) (steps_for after t) try_insert.NoMemory refused ∙ sym (append-nil _)) told.left_alone (omega (arith, told.counts_alone)),
     )
+
+pub returns-in-Ok-clause-inserts : goal.returns-in-Ok-clause-inserts
+returns-in-Ok-clause-inserts c =
+    let t = c.args.thread in let es = steps_for c.args.all.now t in let es' = steps_for c.insert.new.self t in
+    subst (λ (z : Sizes). Inserts MOST_LEVELS z.k t es es' (record { key = c.args.key; stamp = c.in-Ok.stamp; load = c.args.load })) c.requires.of.1 c.in-Ok.ensures.ok
+
+pub returns-in-Err-NoMemory-clause-lacks : goal.returns-in-Err-NoMemory-clause-lacks
+returns-in-Err-NoMemory-clause-lacks c =
+    let all = c.args.all.now in let t = c.args.thread in let es = steps_for all t in let es' = steps_for c.insert.new.self t in
+    let spent : Type 0 = length (inserted es) ≡ all.acting.sizes.quota in
+    let refused = subst (λ (why : InsertError). RefusesInsert spent MOST_LEVELS all.acting.sizes.k t es es' (as_tried why)) c.in-Err-NoMemory.field-0-is c.in-Err-NoMemory.ensures.refused.1 in
+    subst (λ (z : Sizes). GivesUp z.k t es es' (IsBelowLimit MOST_LEVELS)) c.requires.of.1 refused

@@ -44,10 +44,10 @@ returns-in-Err-clause-refused g c = λ input rows read accepted below refusal is
     refusal_read g.R.Read.remaining c.args.board.now.sizes.threads input rows c.advance.new.self row c.in-Err.why accepted (c.in_ok-advance.ensures input rows read) (judged c.args.board.now.sizes.threads rows row below ∙ asks)
 
 pub returns-in_err-advance-clause-course : goal.returns-in_err-advance-clause-course
-returns-in_err-advance-clause-course g c = λ every on. on
+returns-in_err-advance-clause-course g c = λ first on. on
 
 pub returns-in-Ok-clause-course : goal.returns-in-Ok-clause-course
-returns-in-Ok-clause-course g c = λ every on. c.answer.ensures.course every on
+returns-in-Ok-clause-course g c = λ first on. c.answer.ensures.course first on
 
 pub returns-in-Err-clause-course : goal.returns-in-Err-clause-course
-returns-in-Err-clause-course g c = λ every on. on
+returns-in-Err-clause-course g c = λ first on. on

@@ -1,15 +1,15 @@
-use Rattle.std.proofs.Common.{arith, ap, sym, ◌∙◌, ◌≡◌, ℕ, []}
+use Rattle.std.proofs.Common.{arith, ap, sym, ◌∙◌, ◌≡◌, ◌<◌, ℕ, []}
 use Rattle.klsm_run.specs.declared.limits.TheConstants.{MOST_LEVELS, PROGRAM_K}
 use Rattle.klsm_board.specs.declared.all_members.AllMembers.{AllMembers}
 use Rattle.klsm_board.specs.declared.sizes.Sizes.{Sizes}
 use Rattle.klsm_board.specs.Together.{all_lists, sizes_of_all}
 use Rattle.klsm_tool.specs.Crews.{HaveNoSteps}
 use Rattle.klsm_tool.specs.Shown.{Show}
-use Rattle.klsm_tool.proofs.AllLemmas.{fresh_inserts_none, fresh_leaves_none, fresh_shows_none}
+use Rattle.klsm_tool.proofs.AllLemmas.{fresh_inserts_none, fresh_leaves_none, fresh_shows_none, steps_of_all}
 use Rattle.klsm_tool.proofs.ClosingLemmas.{fault_failed, refused_closing, replays, replays_nothing}
 use Rattle.klsm_tool.proofs.ReplayLemmas.{first_stands}
 use Rattle.klsm_tool.specs.Answering.{pickers_kept}
-use Rattle.klsm_tool.proofs.CourseLemmas.{fresh_on_course}
+use Rattle.klsm_tool.proofs.CourseLemmas.{fresh_on_course, none_go}
 use Rattle.klsm_tool.proofs.TellingLemmas.{nothing_told}
 use Rattle.klsm_tool.proofs.replay.replay_script.Goals as goal
 
@@ -32,7 +32,17 @@ answer_rows-closing-requires-clause-few g c κs within = let none = fresh_insert
 pub answer_rows-closing-requires-clause-course : goal.answer_rows-closing-requires-clause-course
 answer_rows-closing-requires-clause-course g c κs within t d below =
     let threads = ap (λ (z : Sizes). z.threads) (c.requires.of.1 ∙ c.requires.sizes) in
-    fresh_on_course c.args.settings.now c.args.board.now.sizes.threads c.args.all.now (pickers_kept c.in-Ok.replay.state) c.requires.fresh (sym threads) c.in-Ok.ensures.choices t d below
+    fresh_on_course c.args.settings.now c.args.board.now.sizes c.args.all.now (pickers_kept c.in-Ok.replay.state) c.requires.fresh (sym threads) c.in-Ok.ensures.choices t d below
+
+-- where a replay that begins is refused no step was made
+pub returns-in_default-clause-course : goal.returns-in_default-clause-course
+returns-in_default-clause-course g c =
+    let all = c.args.all.now in
+    let threads : (sizes_of_all all).threads ≡ c.args.settings.now.threads = ap (λ (z : Sizes). z.threads) (c.requires.of.1 ∙ c.requires.sizes) in
+    none_go c.args.settings.now (all_lists all) (λ t below. let inside : t < (sizes_of_all all).threads = omega (arith, below, threads) in steps_of_all all t inside ∙ c.requires.fresh t inside)
+
+pub returns-clause-course : goal.returns-clause-course
+returns-clause-course g c = c.answer_rows-closing.ensures.course
 
 pub returns-clause-replays : goal.returns-clause-replays
 returns-clause-replays g c = λ input read.

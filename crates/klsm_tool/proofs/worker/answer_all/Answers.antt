@@ -1,13 +1,16 @@
-use Rattle.std.proofs.Common.{◌≡◌, ◌∙◌, List, [], false, get_or, take, refl, subst, sym, ap, arith}
+use Rattle.std.proofs.Common.{◌≡◌, ◌∙◌, ℕ, [], None, Some, false, get_or, take, refl, subst, sym, ap, arith}
 use Rattle.std.proofs.lemmas.List.{take_all}
 use Rattle.klsm_run.specs.declared.limits.TheConstants.{MOST_LEVELS}
 use Rattle.klsm_board.specs.Boards.{own_steps}
 use Rattle.klsm_text.specs.declared.thread_rows.ThreadRow.{ThreadRow}
-use Rattle.klsm_text.specs.declared.answer.Answer.{Answer}
 use Rattle.klsm_tool.specs.declared.picking.ThreadPicker.{ThreadPicker}
-use Rattle.klsm_tool.specs.Courses.{balancing_after, deletions_in}
+use Rattle.klsm_knapsack.specs.Courses.{IsOnCourse}
+use Rattle.klsm_tool.specs.Courses.{CallsInTurn}
+use Rattle.klsm_tool.specs.Picking.{picker_of}
+use Rattle.klsm_tool.specs.Shown.{shown_in}
 use Rattle.klsm_tool.specs.MemberCalls.{AreAnswers}
 use Rattle.klsm_tool.specs.MemberCalls.{IsAnswerTo, Wants}
+use Rattle.klsm_knapsack.proofs.CourseLemmas.{no_calls}
 use Rattle.klsm_tool.proofs.ShownLemmas.{inserted_within}
 use Rattle.klsm_tool.proofs.WorkLemmas.{row_answered, row_given_up, so_many}
 use Rattle.klsm_tool.proofs.worker.answer_all.Goals as goal
@@ -33,10 +36,12 @@ pub loop-row-preserved : goal.loop-row-preserved
 loop-row-preserved g c =
     let told = c.in_default.ensures in let was = c.loop-row.invariant in
     let row = get_or c.args.rows.now c.loop-row.row-index empty in
+    let sizes = c.args.board.now.sizes in let first = picker_of c.args.settings.now c.args.member.now.number in
+    let on = subst (λ (n : ℕ). IsOnCourse (CallsInTurn sizes n) first c.loop-row.picker (own_steps c.loop-row.member)) (sym was.same.0) was.course in
     record {
       same = (told.same.0 ∙ was.same.0, told.same.1 ∙ was.same.1, told.same.2 ∙ was.same.2);
       picks = told.picker ∙ (was.picks ∙ sym told.same.0);
-      course = told.course c.args.settings.now.balance was.course;
+      course = subst (λ (n : ℕ). IsOnCourse (CallsInTurn sizes n) first c.answer.new.picker (own_steps c.answer.new.member)) was.same.0 (told.course first on);
       answers = row_answered c.args.rows.now c.loop-row.row-index empty c.loop-row-test.true (own_steps c.loop-row.member) (own_steps c.answer.new.member) c.in_default.field-0 was.answers
           (subst (λ o. IsAnswerTo o c.in_default.field-0) c.operation.ensures told.answer) told.shown;
     }
@@ -45,8 +50,8 @@ pub loop-row-init : goal.loop-row-init
 loop-row-init g c = record {
   same = (refl, refl, refl);
   picks = ap (λ (p : ThreadPicker). p.thread) c.requires.picks;
-  course = ap (λ (p : ThreadPicker). p.balancing) c.requires.picks ∙ ap (λ (z : List Answer). balancing_after c.args.settings.now.balance c.args.board.now.sizes.threads (deletions_in z)) (sym c.requires.shows_none);
-  answers = subst (AreAnswers []) (sym c.requires.shows_none) tt;
+  course = no_calls (CallsInTurn c.args.board.now.sizes c.args.member.now.number) (picker_of c.args.settings.now c.args.member.now.number) c.args.picker.now (own_steps c.args.member.now) c.requires.picks c.requires.no_steps;
+  answers = subst (AreAnswers []) (sym (ap shown_in c.requires.no_steps)) tt;
 }
 
 pub returns-clause-works : goal.returns-clause-works
@@ -55,7 +60,7 @@ returns-clause-works g c =
     rw whole at c.loop-row.invariant.answers
 
 pub returns-in-Err-clause-course : goal.returns-in-Err-clause-course
-returns-in-Err-clause-course g c = c.in-Err.ensures.course c.args.settings.now.balance c.loop-row.invariant.course
+returns-in-Err-clause-course g c is = absurd (let bad : Some c.in-Err.want ≡ None = is in cc)
 
 pub returns-clause-course : goal.returns-clause-course
-returns-clause-course g c = c.loop-row.invariant.course
+returns-clause-course g c is = c.loop-row.invariant.course

@@ -46,10 +46,10 @@ returns-clause-refused g c input rows read accepted below =
     put_stands g.R.Read.remaining c.args.board.now.sizes.threads input (g.W.Write.contents c.send_before_wait.new.writer) (g.W.Write.contents c.put.new.writer) c.next_line.new.script c.as_bytes.result.now c.send_before_wait.new.output c.put.new.self c.put.result c.put.ensures
 
 pub returns-in_err-send_before_wait-clause-course : goal.returns-in_err-send_before_wait-clause-course
-returns-in_err-send_before_wait-clause-course g c every on = on
+returns-in_err-send_before_wait-clause-course g c first on = on
 
 pub returns-in_err-line-clause-course : goal.returns-in_err-line-clause-course
-returns-in_err-line-clause-course g c every on = c.in_err-line.ensures.course every on
+returns-in_err-line-clause-course g c first on = c.in_err-line.ensures.course first on
 
 pub returns-clause-course : goal.returns-clause-course
-returns-clause-course g c every on = c.in_ok-line.ensures.course every on
+returns-clause-course g c first on = c.in_ok-line.ensures.course first on

@@ -1,11 +1,13 @@
 use Rattle.std.proofs.Common.{◌≡◌, ℕ, ◌+◌, ◌<◌, [], ◌∷◌, refl, ap, sym, length, subst, arith}
-use Rattle.klsm_tool.specs.Answering.{live_kept}
+use Rattle.klsm_tool.specs.Answering.{live_kept, pickers_kept}
+use Rattle.klsm_tool.specs.Picking.{picker_of}
 use Rattle.klsm_board.specs.Together.{all_lists}
 use Rattle.klsm_board.specs.declared.sizes.Sizes.{Sizes}
 use Rattle.klsm_text.specs.Script.{row_limit}
 use Rattle.klsm_text.specs.Reading.{reader_failed}
 use Rattle.klsm_text.specs.ThreadRows.{StandsAtRefusal}
 use Rattle.klsm_tool.specs.Progress.{HasStopped, StandsAfter}
+use Rattle.klsm_tool.proofs.CourseLemmas.{all_go_on}
 use Rattle.klsm_tool.proofs.ReplayLemmas.{accepted_rows}
 use Rattle.klsm_tool.proofs.replay.Replay.answer_rows.Goals as goal
 
@@ -28,7 +30,7 @@ loop-answered-preserved g c = record {
   of = c.in_default.ensures.of;
   pickers = c.in_default.ensures.pickers;
   few = c.in_default.ensures.few c.loop-answered.answered c.loop-answered.invariant.few;
-  course = c.in_default.ensures.course c.args.settings.now.balance c.loop-answered.invariant.course;
+  course = c.in_default.ensures.course (picker_of c.args.settings.now) c.loop-answered.invariant.course;
   short = omega (arith, c.in_default.ensures.put, c.loop-answered.invariant.short);
   stands = λ input before stands told.
       let k = c.loop-answered.invariant.stands input before stands told in
@@ -72,7 +74,10 @@ returns-clause-refused g c input before stands told =
     subst (λ n. StandsAtRefusal g.R.Read.remaining n input c.stop_behind.new.script c.stop_behind.result) threads (c.stop_behind.ensures.refused _ input k.0 k.3.read accepted all)
 
 pub returns-in-Err-clause-course : goal.returns-in-Err-clause-course
-returns-in-Err-clause-course g c = c.in-Err.ensures.course c.args.settings.now.balance c.loop-answered.invariant.course
+returns-in-Err-clause-course g c =
+    let settings = c.args.settings.now in
+    all_go_on settings c.args.board.now.sizes (all_lists c.answer_row.new.all) (pickers_kept c.answer_row.new.self.state) c.requires.sizes c.in-Err.ensures.pickers (c.in-Err.ensures.course (picker_of settings) c.loop-answered.invariant.course)
 
 pub returns-clause-course : goal.returns-clause-course
-returns-clause-course g c = c.loop-answered.invariant.course
+returns-clause-course g c =
+    all_go_on c.args.settings.now c.args.board.now.sizes (all_lists c.loop-answered.all) (pickers_kept c.loop-answered.self.state) c.requires.sizes c.loop-answered.invariant.pickers c.loop-answered.invariant.course
