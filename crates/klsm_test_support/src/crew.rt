@@ -5,8 +5,8 @@ ghost use Rattle.klsm_parts.specs.Limit.{IsLevelCount};
 ghost use Rattle.klsm_board.specs.Boards.{IsOf, IsHeldOf};
 
 use klsm_board::{
-    Account, Board, Busy, FinishError, FinishRefused, Held, HoldError, HoldRefused, InsertError,
-    MakeError, Member, ShareError, TryInsertError, TryShareError,
+    Account, Board, Bound, Busy, FinishError, FinishRefused, Held, HoldError, HoldRefused,
+    InsertError, MakeError, Member, ShareError, TryInsertError, TryShareError,
 };
 use klsm_parts::{First, Picker};
 use klsm_run::{Item, Stamp};
@@ -150,6 +150,18 @@ impl<const LEVELS: usize> Crew<LEVELS> {
     ) -> Option<Result<usize, ShareError>> {
         let member = self.members.get_mut(member)?;
         Some(member.share(rt, &self.board))
+    }
+
+    /// How a member's bound ends that waits for nobody.
+    pub fn try_bound(&mut self, member: usize) -> Option<Result<Bound, Busy>> {
+        let member = self.members.get_mut(member)?;
+        Some(member.try_bound(&self.board))
+    }
+
+    /// What one comes to that may wait.
+    pub fn bound(&mut self, rt: &(impl Wait + Clock), member: usize) -> Option<Bound> {
+        let member = self.members.get_mut(member)?;
+        Some(member.bound(rt, &self.board))
     }
 
     /// How a member's balance with a victim ends, where that is another member of the board.

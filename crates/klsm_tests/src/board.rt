@@ -1,6 +1,7 @@
 //! A board and its members, in one thread and in several.
 
 mod balanced;
+mod bounded;
 mod dropped;
 mod finished;
 mod front;

@@ -3,7 +3,7 @@
 
 use super::plain::Plain;
 use crate::rules::Pick;
-use klsm_board::{Busy, TryInsertError, TryShareError};
+use klsm_board::{Bound, Busy, TryInsertError, TryShareError};
 use klsm_parts::{First, Last, Picker, Random};
 use klsm_run::{Item, Stamp};
 use klsm_test_support::Crew;
@@ -134,6 +134,18 @@ impl Both {
         Some(self.crew.try_share(member)? == want)
     }
 
+    // Whether a bound that the first free member asks for ends alike.
+    fn bound(&mut self) -> Option<bool> {
+        if self.crew.members.is_empty() {
+            return Some(true);
+        }
+        let want = match self.plain.bound()? {
+            Ok((queue, items)) => Ok(Bound { queue, items }),
+            Err(busy) => Err(busy),
+        };
+        Some(self.crew.try_bound(0)? == want)
+    }
+
     // Whether a balance with some other member ends alike, and without others a deletion.
     fn balance(&mut self, member: usize) -> Option<bool> {
         let threads = self.crew.board.threads();
@@ -213,11 +225,12 @@ impl Both {
         }
     }
 
-    // Whether each of 1,200 calls does: for a while more insertions, and for as long more deletions.
+    // Whether each of 1,200 calls does, and a bound behind each: for a while more insertions, and for as long more
+    // deletions.
     fn steps(&mut self, turn: usize) -> Option<bool> {
         for round in 0..1200 {
             let bound = if round / turn.max(1) % 2 == 0 { 11 } else { 4 };
-            if !self.step(bound)? {
+            if !self.step(bound)? || !self.bound()? {
                 return Some(false);
             }
         }

@@ -249,6 +249,23 @@ impl Plain {
         Some(Ok(items.len()))
     }
 
+    /// How a bound ends: the least key of all items, or the greatest number, and how many they are. It needs all locks.
+    pub(super) fn bound(&self) -> Option<Result<(u64, usize), Busy>> {
+        if let Some(busy) = self.held {
+            return Some(Err(busy));
+        }
+        let mut least = self.front();
+        let mut count = self.shared.len();
+        for own in self.owns.as_slice() {
+            let items = sorted(self.alloc, &own.blocks).ok()?;
+            if let Some(item) = items.first() {
+                least = least.min(item.key);
+            }
+            count = count.saturating_add(items.len());
+        }
+        Some(Ok((least, count)))
+    }
+
     /// How a member's balance with a victim ends that may move so many items.
     pub(super) fn balance(
         &mut self,

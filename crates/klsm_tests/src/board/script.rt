@@ -1,7 +1,7 @@
 //! Scripts of steps on a board, with what each has to answer.
 ghost use Rattle.klsm_parts.specs.Limit.{IsLevelCount};
 
-use klsm_board::{Busy, HoldError, InsertError, ShareError, TryInsertError, TryShareError};
+use klsm_board::{Bound, Busy, HoldError, InsertError, ShareError, TryInsertError, TryShareError};
 use klsm_parts::First;
 use klsm_run::{Item, Stamp};
 use klsm_test_support::Crew;
@@ -38,6 +38,10 @@ pub(super) enum Step {
     Shares(u32, usize),
     /// A member that shares is refused.
     KeepsAll(u32, TryShareError),
+    /// A member finds this least key of all live items, and so many items.
+    Bounds(u32, u64, usize),
+    /// A member that asks for a bound misses a lock.
+    CannotBound(u32, Busy),
     /// A member balances with a victim, and at most so many items may move: whether some did.
     Balances(u32, u32, usize, bool),
     /// A member that balances misses a lock.
@@ -170,6 +174,21 @@ fn shares<const LEVELS: usize>(
     crew.try_share(index) == Some(want)
 }
 
+// Whether a member's bound ends so, by either call likewise.
+fn bounds<const LEVELS: usize>(
+    rt: &(impl Wait + Clock),
+    crew: &mut Crew<LEVELS>,
+    waits: bool,
+    member: u32,
+    want: Result<Bound, Busy>,
+) -> bool {
+    let index = member as usize;
+    if waits && want.is_ok() {
+        return crew.bound(rt, index) == want.ok();
+    }
+    crew.try_bound(index) == Some(want)
+}
+
 // Whether a member's balance with a victim ends so.
 fn balances<const LEVELS: usize>(
     crew: &mut Crew<LEVELS>,
@@ -221,6 +240,10 @@ fn goes<const LEVELS: usize>(
         Step::Misses(member, busy) => deletes(rt, crew, waits, member, Err(busy)),
         Step::Shares(member, count) => shares(rt, crew, waits, member, Ok(count)),
         Step::KeepsAll(member, why) => shares(rt, crew, waits, member, Err(why)),
+        Step::Bounds(member, queue, items) => {
+            bounds(rt, crew, waits, member, Ok(Bound { queue, items }))
+        }
+        Step::CannotBound(member, busy) => bounds(rt, crew, waits, member, Err(busy)),
         Step::Balances(member, victim, most, moves) => {
             balances(crew, (member, victim), most, Ok(moves))
         }

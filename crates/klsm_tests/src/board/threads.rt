@@ -1,4 +1,4 @@
-//! Members in threads of their own, which insert, delete, hold parts and put them back. What they
+//! Members in threads of their own, which insert, delete, ask for bounds, hold parts and put them back. What they
 //! noted is compared with what is found on the board afterwards, and with its account.
 ghost use Rattle.std.specs.Prelude.{◌≡◌, All, IfSome};
 ghost use Rattle.klsm_board.specs.Boards.{IsOf};
@@ -177,6 +177,18 @@ impl Worker {
         };
     }
 
+    // Asks for a bound likewise.
+    fn ask(&mut self, rt: &(impl Wait + Clock), board: &StandardBoard, waits: bool)
+        requires { IsOf self.old.member board.now }
+        ensures { IsOf self.new.member board.now }
+    {
+        let _bound = if waits {
+            Some(self.member.bound(rt, board))
+        } else {
+            self.member.try_bound(board).ok()
+        };
+    }
+
     // Holds a part, if it is free, and puts it back.
     fn hold(self, board: &StandardBoard, lock: usize) -> Self
         requires { IsOf self.member board.now }
@@ -207,7 +219,7 @@ impl Worker {
         requires { IsOf self.member board.now }
         ensures { IsOf result.member board.now }
     {
-        match self.mix.next_u32() % 20 {
+        match self.mix.next_u32() % 22 {
             kind @ 0..=5 => {
                 let key = self.mix.next_u64() % 1000;
                 self.insert(rt, board, kind < 3, key);
@@ -215,6 +227,7 @@ impl Worker {
             kind @ 6..=13 => self.delete(rt, board, kind < 10),
             kind @ 14..=15 => self.delete_alone(rt, board, kind < 15),
             kind @ 16..=17 => self.give_back(rt, board, kind < 17),
+            kind @ 18..=19 => self.ask(rt, board, kind < 19),
             _ => {
                 let lock = self.mix.next_u32() as usize % (board.threads() + 1);
                 return self.hold(board, lock);

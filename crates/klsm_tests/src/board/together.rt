@@ -3,7 +3,7 @@ ghost use Rattle.std.specs.Prelude.{All};
 ghost use Rattle.klsm_board.specs.Boards.{IsOf};
 ghost use Rattle.klsm_board.specs.Together.{AreOf};
 
-use klsm_board::{AllStandardMembers, GatherRefused, StandardBoard, StandardMember};
+use klsm_board::{AllStandardMembers, Bound, GatherRefused, StandardBoard, StandardMember};
 use klsm_parts::First;
 
 // The most insertions of a member.
@@ -61,23 +61,35 @@ fn sees(board: &StandardBoard, all: &mut AllStandardMembers, front: u64) -> bool
     all.front(board) == front
 }
 
+// Whether this is the least key of what is left, and this how many items are.
+fn bounds(board: &StandardBoard, all: &mut AllStandardMembers, queue: u64, items: usize) -> bool
+    requires of { AreOf all.old board.now }
+    ensures of { AreOf all.new board.now }
+{
+    all.bound(board) == Bound { queue, items }
+}
+
 // Whether two members who keep one item each go by turns: one deletes what the other inserted, and who has
 // nothing spies. The one that is shared meanwhile is the front.
 fn go_by_turns(board: &StandardBoard, all: &mut AllStandardMembers) -> bool
     requires of { AreOf all.old board.now }
     ensures of { AreOf all.new board.now }
 {
-    inserts(board, all, 0, 5)
+    bounds(board, all, u64::MAX, 0)
+        && inserts(board, all, 0, 5)
         && sees(board, all, u64::MAX)
         && inserts(board, all, 0, 3)
         && inserts(board, all, 1, 9)
         && sees(board, all, 5)
+        && bounds(board, all, 3, 3)
         && deletes(board, all, 1, Some(5))
         && sees(board, all, u64::MAX)
         && deletes(board, all, 0, Some(3))
+        && bounds(board, all, 9, 1)
         && deletes(board, all, 0, Some(9))
         && deletes(board, all, 1, None)
         && inserts(board, all, 1, 4)
+        && bounds(board, all, 4, 1)
 }
 
 // Whether two members who keep four items each balance by turns: half of what the other one has comes over, rounded
