@@ -43,7 +43,7 @@
  * - A queue is all bytes 0 (KLSM_QUEUE_CLOSED, static storage, or memset), or as the last call left
  *   it. It is aligned to 128 bytes: malloc does not give that, klsm_new does. While it is open it is not
  *   copied, moved, written to or freed.
- * - No pointer is null, but `left` may be one where `room` is 0. `item`, `moved`, `account`, `left` and
+ * - No pointer is null, but `left` may be one where `room` is 0. `item`, `moved`, `bound`, `account`, `left` and
  *   `options` do not overlap each other or the queue. `left` points to `room` items.
  * - A member is one of a klsm_queue.
  * - No call comes from a signal handler but klsm_work_stop, nor from a forked child about a queue that was open.
@@ -139,6 +139,12 @@ typedef struct klsm_item {
     uint32_t owner;  /* the number of the member that inserted it */
 } klsm_item;
 
+/* What lives in a queue at one moment, in all parts together. */
+typedef struct klsm_dual_bound {
+    uint64_t queue; /* the smallest key of all items that live, and UINT64_MAX where none lives */
+    uint64_t items; /* how many items live */
+} klsm_dual_bound;
+
 /* What a closed queue says of itself: inserted = deleted + left. */
 typedef struct klsm_account {
     uint64_t inserted;
@@ -164,6 +170,8 @@ KLSM_ASSERT(sizeof(klsm_queue) == 8192 && offsetof(klsm_queue, members) == 0);
 KLSM_ASSERT(sizeof(klsm_item) == 32);
 KLSM_ASSERT(offsetof(klsm_item, key) == 0 && offsetof(klsm_item, load) == 8);
 KLSM_ASSERT(offsetof(klsm_item, number) == 16 && offsetof(klsm_item, owner) == 24);
+KLSM_ASSERT(sizeof(klsm_dual_bound) == 16);
+KLSM_ASSERT(offsetof(klsm_dual_bound, queue) == 0 && offsetof(klsm_dual_bound, items) == 8);
 KLSM_ASSERT(sizeof(klsm_account) == 24 && offsetof(klsm_account, inserted) == 0);
 KLSM_ASSERT(offsetof(klsm_account, deleted) == 8 && offsetof(klsm_account, left) == 16);
 #ifdef __cplusplus
@@ -295,6 +303,21 @@ int32_t klsm_try_delete_min_alone(klsm_member *member, klsm_item *item);
  * After these no item has moved, and *moved is unchanged. */
 KLSM_MUST_USE KLSM_NOT_NULL(1, 2)
 int32_t klsm_try_share(klsm_member *member, uint64_t *moved);
+
+/* The bound: the smallest key of all items that live, in all parts together, and how many live. It inserts and deletes
+ * nothing, and no item moves. Never blocks. The member's thread, one call at a time: now and then, since it takes the
+ * lock of each member, in the order of their numbers, and then the shared one, and while it has a part nobody else can
+ * use that. Allocates nothing.
+ * There is a moment in the call when the member has all parts, and of that moment it is exact. Each item that lives
+ * later was inserted since, or has a key of at least `queue`. An item that was deleted lives no more, however long its
+ * thread works at it: C-INTERFACE.md, "A search that stops at a gap", has how a search keeps those keys itself, and
+ * what it may conclude.
+ * KLSM_OK            *bound is written
+ * KLSM_BUSY          one of the locks is held by another member
+ * KLSM_NOT_OPEN      the member is not open
+ * After all but KLSM_OK *bound is unchanged. */
+KLSM_MUST_USE KLSM_NOT_NULL(1, 2)
+int32_t klsm_try_bound(klsm_member *member, klsm_dual_bound *bound);
 
 /* The front: the key of the smallest shared item, and UINT64_MAX where no item is shared, or the member is not
  * open. Items in members' own parts may have smaller keys, of which others have at most (T-1)*k, and a smaller one
@@ -543,6 +566,16 @@ KLSM_COLD int32_t klsm_share_after_pauses(klsm_member *member, uint64_t *moved) 
     return code;
 }
 
+KLSM_COLD int32_t klsm_bound_after_pauses(klsm_member *member, klsm_dual_bound *bound) {
+    klsm_pause pause = klsm_first_pause();
+    int32_t code;
+    do {
+        klsm_wait(&pause);
+        code = klsm_try_bound(member, bound);
+    } while (code == KLSM_BUSY);
+    return code;
+}
+
 /* klsm_try_insert, again and again while it is KLSM_BUSY. How long it may wait is not promised. */
 KLSM_MUST_USE KLSM_NOT_NULL(1)
 KLSM_INLINE int32_t klsm_insert(klsm_member *member, uint64_t key, uint64_t load) {
@@ -570,6 +603,14 @@ KLSM_MUST_USE KLSM_NOT_NULL(1, 2)
 KLSM_INLINE int32_t klsm_share(klsm_member *member, uint64_t *moved) {
     int32_t code = klsm_try_share(member, moved);
     return __builtin_expect(code == KLSM_BUSY, 0) ? klsm_share_after_pauses(member, moved) : code;
+}
+
+/* klsm_try_bound, again and again while it is KLSM_BUSY. Each try needs all locks at once and keeps none for the next
+ * one, so where many threads do little but insert and delete it may take long. How long is not promised. */
+KLSM_MUST_USE KLSM_NOT_NULL(1, 2)
+KLSM_INLINE int32_t klsm_bound(klsm_member *member, klsm_dual_bound *bound) {
+    int32_t code = klsm_try_bound(member, bound);
+    return __builtin_expect(code == KLSM_BUSY, 0) ? klsm_bound_after_pauses(member, bound) : code;
 }
 
 #include "klsm_work.h"

@@ -93,6 +93,15 @@ KLSM_INLINE int32_t klsm_tsan_try_share(klsm_member *member, uint64_t *moved) {
     return code;
 }
 
+KLSM_MUST_USE KLSM_NOT_NULL(1, 2)
+KLSM_INLINE int32_t klsm_tsan_try_bound(klsm_member *member, klsm_dual_bound *bound) {
+    klsm_dual_bound found = {0, 0};
+    KLSM_TSAN(klsm_tsan_use(member), int32_t code = klsm_try_bound(member, &found));
+    if (code == KLSM_OK)
+        *bound = found;
+    return code;
+}
+
 KLSM_INLINE uint64_t klsm_tsan_front(klsm_member *member) {
     KLSM_TSAN(klsm_tsan_use(member), uint64_t front = klsm_front(member));
     return front;
@@ -124,6 +133,7 @@ KLSM_END_INLINE
 #define klsm_try_delete_min klsm_tsan_try_delete_min
 #define klsm_try_delete_min_alone klsm_tsan_try_delete_min_alone
 #define klsm_try_share klsm_tsan_try_share
+#define klsm_try_bound klsm_tsan_try_bound
 #define klsm_front klsm_tsan_front
 #define klsm_inserted klsm_tsan_inserted
 #define klsm_deleted klsm_tsan_deleted

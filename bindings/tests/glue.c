@@ -7,6 +7,7 @@
 static klsm_queue queue;
 static klsm_item item;
 static uint64_t moved;
+static klsm_dual_bound bound;
 
 static const struct {
     int32_t code;
@@ -58,10 +59,12 @@ static int32_t delete_min_alone(void) { return klsm_delete_min_alone(member(), &
 static int32_t try_delete_min_alone(void) { return klsm_try_delete_min_alone(member(), &item); }
 static int32_t share(void) { return klsm_share(member(), &moved); }
 static int32_t try_share(void) { return klsm_try_share(member(), &moved); }
+static int32_t find_bound(void) { return klsm_bound(member(), &bound); }
+static int32_t try_bound(void) { return klsm_try_bound(member(), &bound); }
 
 /* Their exports. */
 static const enum stub_call exports[] = {STUB_TRY_INSERT, STUB_TRY_DELETE_MIN, STUB_TRY_DELETE_MIN_ALONE,
-                                         STUB_TRY_SHARE};
+                                         STUB_TRY_SHARE, STUB_TRY_BOUND};
 enum { EXPORTS = sizeof exports / sizeof exports[0] };
 
 /* The answer of such a call where a lock is held for so many tries. */
@@ -73,6 +76,7 @@ static int32_t after(int32_t (*call)(void), uint64_t held, int32_t code) {
     }
     memset(&item, 0, sizeof item);
     moved = 7;
+    bound = (klsm_dual_bound){7, 8};
     return call();
 }
 
@@ -88,15 +92,23 @@ static int inserts(uint64_t times) { return calls_alone(STUB_TRY_INSERT, times, 
 static int deletes(uint64_t times) { return calls_alone(STUB_TRY_DELETE_MIN, times, address(&item), 0); }
 static int deletes_alone(uint64_t times) { return calls_alone(STUB_TRY_DELETE_MIN_ALONE, times, address(&item), 0); }
 static int shares(uint64_t times) { return calls_alone(STUB_TRY_SHARE, times, address(&moved), 0); }
+static int bounds(uint64_t times) { return calls_alone(STUB_TRY_BOUND, times, address(&bound), 0); }
 
+static int bound_is(uint64_t queue, uint64_t items) { return bound.queue == queue && bound.items == items; }
 static int has_item(int32_t code) {
     int is_written = item.key == 101 && item.load == 102 && item.number == 103 && item.owner == 104;
-    return is_written == (code == KLSM_OK) && (is_written || item.key == 0) && moved == 7;
+    return is_written == (code == KLSM_OK) && (is_written || item.key == 0) && moved == 7 &&
+           bound_is(7, 8);
 }
-static int has_count(int32_t code) { return moved == (code == KLSM_OK ? 105 : 7) && item.key == 0; }
+static int has_count(int32_t code) {
+    return moved == (code == KLSM_OK ? 105 : 7) && item.key == 0 && bound_is(7, 8);
+}
+static int has_bound(int32_t code) {
+    return (code == KLSM_OK ? bound_is(106, 107) : bound_is(7, 8)) && moved == 7 && item.key == 0;
+}
 static int has_none(int32_t code) {
     (void)code;
-    return moved == 7 && item.key == 0;
+    return moved == 7 && item.key == 0 && bound_is(7, 8);
 }
 
 /* What a call asks of the library, and what it writes with a code. */
@@ -110,6 +122,7 @@ static const struct {
     {"delete_min", delete_min, try_delete_min, deletes, has_item},
     {"delete_min_alone", delete_min_alone, try_delete_min_alone, deletes_alone, has_item},
     {"share", share, try_share, shares, has_count},
+    {"bound", find_bound, try_bound, bounds, has_bound},
 };
 
 static void waiting_calls(void) {

@@ -69,7 +69,7 @@ headers_without_warnings_by() {
     headers_without_warnings "$@"
 }
 
-# A compiler warns of each opening, insertion, deletion, sharing, closing and piece of work whose code is dropped.
+# A compiler warns of each opening, insertion, deletion, sharing, bound, closing and piece of work whose code is dropped.
 dropped_codes() {
     cat >"$work/$1" <<'END'
 #include <klsm.h>
@@ -78,6 +78,7 @@ static klsm_account account;
 static klsm_item item;
 static klsm_work work;
 static uint64_t moved;
+static klsm_dual_bound bound;
 void each(void *context, const klsm_item *left);
 void drop(const klsm_options *options);
 void drop(const klsm_options *options) {
@@ -95,6 +96,8 @@ void drop(const klsm_options *options) {
     klsm_try_delete_min_alone(&queue.members[0], &item);
     klsm_share(&queue.members[0], &moved);
     klsm_try_share(&queue.members[0], &moved);
+    klsm_bound(&queue.members[0], &bound);
+    klsm_try_bound(&queue.members[0], &bound);
     klsm_close(&queue, &account, &item, 1);
     klsm_close_into(&queue, &account, &item, 1);
     klsm_close_each(&queue, &account, each, NULL);
@@ -102,7 +105,7 @@ void drop(const klsm_options *options) {
     klsm_work_next(&work, &queue.members[0], &item);
 }
 END
-    warned_of "$1" unused-result 19
+    warned_of "$1" unused-result 21
 }
 
 # warned_of SOURCE WARNING LINES: of so many lines of what lies in the temporary folder.
@@ -126,6 +129,7 @@ uint64_t null(void);
 uint64_t null(void) {
     klsm_member *member = &queue.members[0];
     uint64_t moved;
+    klsm_dual_bound bound;
     int32_t codes[42] = {
         klsm_open(NULL, 2, 8, KLSM_FIRST, 0),
         klsm_open_with_refill(NULL, 2, 8, KLSM_FIRST, 0, 4),
@@ -147,6 +151,10 @@ uint64_t null(void) {
         klsm_share(member, NULL),
         klsm_try_share(NULL, &moved),
         klsm_try_share(member, NULL),
+        klsm_bound(NULL, &bound),
+        klsm_bound(member, NULL),
+        klsm_try_bound(NULL, &bound),
+        klsm_try_bound(member, NULL),
         klsm_close(NULL, &account, &item, 1),
         klsm_close(&queue, NULL, &item, 1),
         klsm_close_into(NULL, &account, &item, 1),
@@ -181,7 +189,7 @@ uint64_t null(void) {
     return codes[0] == 0 ? counts[0] : counts[1];
 }
 END
-    warned_of "$1" nonnull 48
+    warned_of "$1" nonnull 52
 }
 
 # What a part of a program in C++ has of klsm.h it keeps for itself.
@@ -190,9 +198,11 @@ hidden_functions() {
 #include <klsm.h>
 extern "C" int32_t use(klsm_queue *queue, klsm_options options, klsm_item item) {
     klsm_work work = {};
+    klsm_dual_bound bound;
     if (klsm_open_with(queue, &options) != KLSM_OK) return klsm_text(1)[0];
     if (klsm_work_insert(&work, &queue->members[0], klsm_key_of_double(2.5), 1) != KLSM_OK) return 1;
     if (klsm_share(&queue->members[0], &item.key) != KLSM_OK) return 1;
+    if (klsm_bound(&queue->members[0], &bound) != KLSM_OK) return 1;
     if (klsm_delete_min_alone(&queue->members[0], &item) != KLSM_OK) return 1;
     return klsm_work_next(&work, &queue->members[0], &item) + klsm_delete_min(&queue->members[0], &item);
 }

@@ -157,6 +157,9 @@ static uint64_t calls_without(void) {
     codes = codes && klsm_open(&queue, 1, 1, KLSM_FIRST, 1) == KLSM_OPEN;
     codes = codes && klsm_open(&closed, KLSM_MAX_THREADS + 1, 1, KLSM_FIRST, 1) == KLSM_BAD_COUNT;
     check("calls that are refused for another reason", without(codes));
+    klsm_dual_bound bound;
+    codes = klsm_bound(&queue.members[1], &bound) == KLSM_OK && klsm_try_bound(&queue.members[2], &bound) == KLSM_OK;
+    check("bounds", without(codes && bound.items == ITEMS - 2));
     check("counts", without(klsm_left(&queue) == ITEMS - 2));
     klsm_drop(&roomy);
     check("drop", without(1));

@@ -77,10 +77,12 @@ static void *insert_and_delete_all(void *none) {
 static void *share_and_delete_all(void *none) {
     klsm_item item;
     uint64_t moved;
+    klsm_dual_bound bound;
     for (uint64_t i = 0; i < MOST_THREADS * K; i++)
         failed = failed || klsm_try_insert(&queue.members[i % MOST_THREADS], i * 7919 % 100003, i) != KLSM_OK;
     for (uint64_t i = 0; i < MOST_THREADS * K; i++) {
         failed = failed || klsm_try_share(&queue.members[i % MOST_THREADS], &moved) != KLSM_OK;
+        failed = failed || klsm_try_bound(&queue.members[i % MOST_THREADS], &bound) != KLSM_OK;
         failed = failed || klsm_try_delete_min_alone(&queue.members[i * i % MOST_THREADS], &item) != KLSM_OK;
     }
     return none;

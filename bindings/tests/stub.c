@@ -123,6 +123,13 @@ int32_t klsm_try_share(klsm_member *member, uint64_t *moved) {
     return code;
 }
 
+int32_t klsm_try_bound(klsm_member *member, klsm_dual_bound *bound) {
+    int32_t code = answer_code(STUB_TRY_BOUND, (arguments){{address(member), address(bound)}});
+    if (code == KLSM_OK)
+        *bound = (klsm_dual_bound){106, 107};
+    return code;
+}
+
 uint64_t klsm_front(klsm_member *member) { return answer(STUB_FRONT, (arguments){{address(member)}}); }
 
 uint64_t klsm_inserted(klsm_member *member) {

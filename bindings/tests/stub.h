@@ -23,6 +23,7 @@ enum stub_call {
     STUB_FRONT,
     STUB_TRY_DELETE_MIN_ALONE,
     STUB_TRY_SHARE,
+    STUB_TRY_BOUND,
     STUB_VERSION,
     STUB_CALLS
 };
@@ -32,7 +33,8 @@ enum stub_call {
 void stub_begin(void);
 
 /* What a call answers from now on: a code, a count or a version. A count of a closed member stays 0. With
- * KLSM_OK an opening opens members, a deletion writes the item {101, 102, 103, 104}, and a sharing the number 105. */
+ * KLSM_OK an opening opens members, a deletion writes the item {101, 102, 103, 104}, a sharing the number 105, and a
+ * bound {106, 107}. */
 void stub_answer(uint32_t call, uint64_t answer);
 
 /* A lock is held for so many calls: they are KLSM_BUSY, and the next one has the answer above. From the 1001st

@@ -26,6 +26,10 @@ static int32_t share(void) {
     uint64_t moved;
     return klsm_try_share(&queue.members[0], &moved);
 }
+static int32_t bound(void) {
+    klsm_dual_bound found;
+    return klsm_try_bound(&queue.members[0], &found);
+}
 static int32_t front(void) { return klsm_front(&queue.members[0]) != 1; }
 static int32_t inserted(void) { return klsm_inserted(&queue.members[0]) != 1; }
 static int32_t deleted(void) { return klsm_deleted(&queue.members[0]) != 1; }
@@ -46,9 +50,9 @@ static const struct {
     {"open", open},         {"open_with_balance", open_with_balance},
     {"insert", insert},     {"delete_min", delete_min},
     {"share", share},       {"delete_min_alone", delete_min_alone},
-    {"front", front},       {"inserted", inserted},
-    {"deleted", deleted},   {"close_into", close_into},
-    {"drop", drop},
+    {"bound", bound},       {"front", front},
+    {"inserted", inserted}, {"deleted", deleted},
+    {"drop", drop},         {"close_into", close_into},
 };
 
 typedef struct step {
