@@ -82,6 +82,7 @@ enum class code : std::int32_t {
 enum class pick : std::uint32_t { first = KLSM_FIRST, last = KLSM_LAST, random = KLSM_RANDOM };
 
 using item = klsm_item;
+using dual_bound = klsm_dual_bound;
 
 // Keys for a search by bounds, and the bound of one: klsm.h says what they are good for. The turn is the
 // inserted() of the member that inserts, or another count of its thread.
@@ -224,6 +225,22 @@ public:
     }
     [[nodiscard]] klsm::code try_share(std::uint64_t &moved) noexcept {
         return at_ == nullptr ? code::not_open : code(klsm_try_share(at_, &moved));
+    }
+    // The bound: the smallest key of all items that live, in all parts together, and how many live. It waits while a
+    // lock is held, and needs all of them at once: now and then, and not at each item. None where the queue is closed.
+    // klsm.h says more at klsm_try_bound.
+    [[nodiscard]] std::optional<dual_bound> bound() noexcept {
+        dual_bound found;
+        if (bound(found) != code::ok) return std::nullopt;
+        return found;
+    }
+    // The same with a code. `found` is written exactly with code::ok.
+    [[nodiscard]] klsm::code bound(dual_bound &found) noexcept {
+        return at_ == nullptr ? code::not_open : code(klsm_bound(at_, &found));
+    }
+    // The same, and never blocks.
+    [[nodiscard]] klsm::code try_bound(dual_bound &found) noexcept {
+        return at_ == nullptr ? code::not_open : code(klsm_try_bound(at_, &found));
     }
     // The front: the key of the smallest shared item. klsm.h says more at klsm_front.
     [[nodiscard]] std::uint64_t front() const noexcept { return at_ == nullptr ? UINT64_MAX : klsm_front(at_); }

@@ -220,6 +220,10 @@ public:
     [[nodiscard]] klsm::code share(std::uint64_t &moved) noexcept { return member_.share(moved); }
     [[nodiscard]] klsm::code try_share() noexcept { return member_.try_share(); }
     [[nodiscard]] klsm::code try_share(std::uint64_t &moved) noexcept { return member_.try_share(moved); }
+    // The bound of all items that live, as klsm::member has it.
+    [[nodiscard]] std::optional<dual_bound> bound() noexcept { return member_.bound(); }
+    [[nodiscard]] klsm::code bound(dual_bound &found) noexcept { return member_.bound(found); }
+    [[nodiscard]] klsm::code try_bound(dual_bound &found) noexcept { return member_.try_bound(found); }
     [[nodiscard]] std::uint64_t front() const noexcept { return member_.front(); }
     // How many insertions and deletions were made by this number since the queue was opened.
     [[nodiscard]] std::uint64_t inserted() const noexcept { return member_.inserted(); }

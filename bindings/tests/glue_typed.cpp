@@ -134,6 +134,31 @@ static void sharings() {
     begin(STUB_TRY_DELETE_MIN, 0, code::nothing); // by which the queue ends
 }
 
+// So is a bound.
+static void bounds() {
+    klsm::typed_queue<counted> queue(2);
+    auto member = queue.member(1).value();
+    for (code why : {code::ok, code::not_open}) {
+        for (std::uint64_t held : {0u, 1u, 45u}) {
+            const code tried = held == 0 ? why : code::busy;
+            klsm::dual_bound bound{7, 8}, also{7, 8};
+            begin(STUB_TRY_BOUND, held, why);
+            check("bound waits for this code", member.bound(bound) == why && stub_asked(STUB_TRY_BOUND) == held + 1);
+            begin(STUB_TRY_BOUND, held, why);
+            check("try_bound has this code, or meets a held lock",
+                  member.try_bound(also) == tried && stub_asked(STUB_TRY_BOUND) == 1);
+            check("they write with ok alone", bound.queue == (why == code::ok ? 106u : 7u) &&
+                                                  also.queue == (tried == code::ok ? 106u : 7u));
+            begin(STUB_TRY_BOUND, held, why);
+            const auto found = member.bound();
+            check("it has one with ok alone",
+                  found.has_value() == (why == code::ok) && stub_asked(STUB_TRY_BOUND) == held + 1);
+            check("which is that", !found || (found->queue == 106 && found->items == 107));
+        }
+    }
+    begin(STUB_TRY_DELETE_MIN, 0, code::nothing); // by which the queue ends
+}
+
 // Whether it was tried so often, with its key. What is inserted is taken out of the stub, which forgets it.
 static bool is_inserted(std::uint64_t times, code why) {
     bool is_told = stub_asked(STUB_TRY_INSERT) == times && stub_repeats(STUB_TRY_INSERT) != 0 &&
@@ -406,6 +431,7 @@ int main() {
     deletions<refilling>();
     deletions<alone>();
     sharings();
+    bounds();
     work();
     insertions_of_work();
     return check_status();

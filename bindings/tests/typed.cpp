@@ -261,6 +261,8 @@ static void sharings() {
     check("none", one.share(moved) == klsm::code::ok && moved == 0);
     for (std::uint64_t i = 0; i < 8; i++)
         check_or_stop("insert", one.insert(7 - i, counted(7 - i)) == klsm::code::ok);
+    klsm::dual_bound bound{};
+    check("a bound of them", other.bound(bound) == klsm::code::ok && bound.queue == 0 && bound.items == 8 && alive == 8);
     check("all of an own part", one.try_share(moved) == klsm::code::ok && moved == 8 && alive == 8);
     auto item = other.delete_min_alone();
     check("a deletion alone", item && item->key == 0 && item->payload.is_whole() && other.front() == 1);

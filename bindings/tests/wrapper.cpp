@@ -143,6 +143,30 @@ static void sharings() {
     check("nor deleted", first.delete_min_alone(item) == klsm::code::not_open && item.key == 2);
 }
 
+// Whether each form of a bound has this key, and so many items.
+static bool bound_is(klsm::member &member, std::uint64_t key, std::uint64_t items) {
+    klsm::dual_bound one{7, 7}, other{7, 7};
+    const auto found = member.bound();
+    const bool codes = member.bound(one) == klsm::code::ok && member.try_bound(other) == klsm::code::ok;
+    return codes && found && found->queue == key && found->items == items && one.queue == key && one.items == items &&
+           other.queue == key && other.items == items;
+}
+
+// Items of each part count, whoever asks.
+static void bounds() {
+    klsm::queue queue(klsm::options{2, 8, klsm::pick::first, 0, 4});
+    klsm::member first = queue.member(0).value(), second = queue.member(1).value();
+    check("nothing lives", bound_is(first, UINT64_MAX, 0));
+    check_or_stop("insert", first.insert(5, 50) == klsm::code::ok && second.insert(3, 30) == klsm::code::ok);
+    check("what others keep counts", bound_is(first, 3, 2) && bound_is(second, 3, 2));
+    check("what is shared, too", second.share() == klsm::code::ok && bound_is(first, 3, 2));
+    check("what was deleted does not", first.delete_min()->key == 3 && bound_is(second, 5, 1));
+    static_cast<void>(queue.close());
+    klsm::dual_bound bound{7, 8};
+    check("after the end there is none", !first.bound() && first.bound(bound) == klsm::code::not_open &&
+                                             first.try_bound(bound) == klsm::code::not_open && bound.items == 8);
+}
+
 static void members() {
     klsm::queue queue(2);
     {
@@ -294,6 +318,7 @@ int main() {
     refills();
     balances();
     sharings();
+    bounds();
     members();
     calls();
     moves();
