@@ -204,6 +204,6 @@ pub use keys::{
 pub use member::{Member, Members};
 pub use owned::OwnedMember;
 pub use queue::{Account, Pick, Queue};
-pub use sys::Item;
+pub use sys::{Bound, Item};
 pub use typed::{OwnedTypedMember, TypedItem, TypedMember, TypedMembers, TypedQueue};
 pub use work::{DeleteMin, Insert, Piece, Work};

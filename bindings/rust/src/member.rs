@@ -2,7 +2,7 @@
 
 use crate::errors::{Busy, InsertError, ShareError, TryInsertError, TryShareError};
 use crate::pause::until_free;
-use crate::sys::{self, code, Item, Load, RawItem, Slot};
+use crate::sys::{self, code, Bound, Item, Load, RawItem, Slot};
 use crate::work::{DeleteMin, Insert};
 use std::fmt;
 use std::iter::{Enumerate, FusedIterator};
@@ -202,6 +202,48 @@ impl<'queue> Member<'queue> {
         }
     }
 
+    /// The smallest key of all items that live, in all parts together, and how many live. It waits while a lock is held.
+    ///
+    /// It needs the locks of all members and the shared one at once, and tries again where one is held: now and then,
+    /// and not at each item. There is a moment in the call of which it is exact. Each item that is in the queue later was
+    /// inserted since, or has a key of at least `queue`. What was deleted is not in the queue, however long its thread
+    /// works at it: `docs/C-INTERFACE.md` of the repository has how a search keeps those keys itself.
+    ///
+    /// ```
+    /// # fn main() -> Result<(), Box<dyn std::error::Error>> {
+    /// let mut queue = klsm::Queue::new(2)?;
+    /// let mut members = queue.members();
+    /// let mut member = members.next().ok_or("no member")?;
+    /// let mut other = members.next().ok_or("no other member")?;
+    /// member.insert(7, 0)?;
+    /// other.insert(5, 0)?;
+    /// assert_eq!(member.bound(), klsm::Bound { queue: 5, items: 2 });
+    /// # Ok(())
+    /// # }
+    /// ```
+    #[must_use]
+    pub fn bound(&mut self) -> Bound {
+        let mut bound = Bound::default();
+        match until_free(|| self.bounding(&mut bound)) {
+            code::OK => bound,
+            other => sys::unexpected("klsm_try_bound", other),
+        }
+    }
+
+    /// The smallest key of all items that live, and how many live, as [`bound`](Member::bound), and waits for nobody.
+    ///
+    /// # Errors
+    ///
+    /// [`Busy`] where one of the locks is held.
+    pub fn try_bound(&mut self) -> Result<Bound, Busy> {
+        let mut bound = Bound::default();
+        match self.bounding(&mut bound) {
+            code::OK => Ok(bound),
+            code::BUSY => Err(Busy),
+            other => sys::unexpected("klsm_try_bound", other),
+        }
+    }
+
     /// The front: the key of the smallest shared item, and `u64::MAX` where no item is shared.
     ///
     /// Items that members keep for themselves may have smaller keys, those of the others at most (T-1)·k, and
@@ -246,6 +288,12 @@ impl<'queue> Member<'queue> {
     fn sharing(&mut self, moved: &mut u64) -> i32 {
         // SAFETY: as in `insertion`; and `moved` is a place for a number outside of the queue.
         unsafe { sys::klsm_try_share(self.slot, moved) }
+    }
+
+    #[inline]
+    fn bounding(&mut self, bound: &mut Bound) -> i32 {
+        // SAFETY: as in `insertion`; and `bound` is a place for a bound outside of the queue.
+        unsafe { sys::klsm_try_bound(self.slot, bound) }
     }
 }
 

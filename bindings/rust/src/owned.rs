@@ -3,7 +3,7 @@
 use crate::errors::{Busy, InsertError, ShareError, TryInsertError, TryShareError};
 use crate::member::{deleted_by, inserted_by, Member};
 use crate::queue::Queue;
-use crate::sys::{Item, Slot};
+use crate::sys::{Bound, Item, Slot};
 use crate::work::{DeleteMin, Insert};
 use std::fmt;
 use std::ptr::NonNull;
@@ -184,6 +184,21 @@ impl OwnedMember {
     /// Those of [`Member::try_share`].
     pub fn try_share(&mut self) -> Result<usize, TryShareError> {
         self.lend().try_share()
+    }
+
+    /// The smallest key of all items that live, and how many live; waits while a lock is held: [`Member::bound`].
+    #[must_use]
+    pub fn bound(&mut self) -> Bound {
+        self.lend().bound()
+    }
+
+    /// The same, and never blocks: [`Member::try_bound`].
+    ///
+    /// # Errors
+    ///
+    /// Those of [`Member::try_bound`].
+    pub fn try_bound(&mut self) -> Result<Bound, Busy> {
+        self.lend().try_bound()
     }
 
     /// The front, the key of the smallest shared item: [`Member::front`].

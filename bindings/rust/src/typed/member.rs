@@ -4,7 +4,7 @@ use super::payload::{load_of, payload_of};
 use super::{TypedItem, TypedQueue};
 use crate::errors::{Busy, InsertError, Refused, ShareError, TryInsertError, TryShareError};
 use crate::member::{Member, Members, ALONE, REFILLING};
-use crate::sys::Load;
+use crate::sys::{Bound, Load};
 use crate::work::{DeleteMin, Insert};
 use std::fmt;
 use std::iter::FusedIterator;
@@ -130,6 +130,21 @@ impl<'queue, T> TypedMember<'queue, T> {
     /// Those of [`Member::try_share`].
     pub fn try_share(&mut self) -> Result<usize, TryShareError> {
         self.member.try_share()
+    }
+
+    /// The smallest key of all items that live, and how many live; waits while a lock is held: [`Member::bound`].
+    #[must_use]
+    pub fn bound(&mut self) -> Bound {
+        self.member.bound()
+    }
+
+    /// The same, and never blocks: [`Member::try_bound`].
+    ///
+    /// # Errors
+    ///
+    /// Those of [`Member::try_bound`].
+    pub fn try_bound(&mut self) -> Result<Bound, Busy> {
+        self.member.try_bound()
     }
 
     /// The front, the key of the least shared item: [`Member::front`].

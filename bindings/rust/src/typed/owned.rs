@@ -3,6 +3,7 @@
 use super::{TypedItem, TypedMember, TypedQueue};
 use crate::errors::{Busy, InsertError, Refused, ShareError, TryInsertError, TryShareError};
 use crate::owned::Part;
+use crate::sys::Bound;
 use crate::work::{DeleteMin, Insert};
 use std::fmt;
 
@@ -115,6 +116,22 @@ impl<T> OwnedTypedMember<T> {
     /// Those of [`TypedMember::try_share`].
     pub fn try_share(&mut self) -> Result<usize, TryShareError> {
         self.lend().try_share()
+    }
+
+    /// The smallest key of all items that live, and how many live; waits while a lock is held:
+    /// [`Member::bound`](crate::Member::bound).
+    #[must_use]
+    pub fn bound(&mut self) -> Bound {
+        self.lend().bound()
+    }
+
+    /// The same, and never blocks: [`Member::try_bound`](crate::Member::try_bound).
+    ///
+    /// # Errors
+    ///
+    /// Those of [`Member::try_bound`](crate::Member::try_bound).
+    pub fn try_bound(&mut self) -> Result<Bound, Busy> {
+        self.lend().try_bound()
     }
 
     /// The front, the key of the least shared item: [`Member::front`](crate::Member::front).

@@ -1,7 +1,7 @@
 //! The calls of a member: what waits and what does not, each code, and the counts.
 
 use crate::stub::{self, Call};
-use klsm::{Item, Queue};
+use klsm::{Bound, Item, Queue};
 use std::fmt::Debug;
 
 const SLOT: u64 = 128;
@@ -11,6 +11,11 @@ const WRITTEN: Item = Item {
     load: 102,
     number: 103,
     owner: 104,
+};
+
+const FOUND: Bound = Bound {
+    queue: 106,
+    items: 107,
 };
 
 /// What a call by member 2 says.
@@ -69,6 +74,14 @@ fn of_sharing(name: &str, code: i32) -> String {
     }
 }
 
+/// What a bound is to say, where its answer is shown so.
+fn of_bound(name: &str, code: i32, shown: fn(Bound) -> String) -> String {
+    match name {
+        "OK" => shown(FOUND),
+        _ => stub::never("klsm_try_bound", code),
+    }
+}
+
 /// All codes but that of a held lock.
 fn codes() -> impl Iterator<Item = (&'static str, i32)> {
     let codes = stub::codes().into_iter();
@@ -95,6 +108,10 @@ fn what_waits_waits() {
             stub::answer_code(Call::TryShare, held, code);
             assert_eq!(said(|member| member.share()), of_sharing(name, code));
             assert_asked(Call::TryShare, held + 1);
+            stub::answer_code(Call::TryBound, held, code);
+            let bound = of_bound(name, code, |bound| format!("{bound:?}"));
+            assert_eq!(said(|member| member.bound()), bound);
+            assert_asked(Call::TryBound, held + 1);
         }
     }
 }
@@ -121,6 +138,10 @@ fn what_does_not_wait_asks_once() {
         stub::answer_code(Call::TryShare, 0, code);
         assert_eq!(said(|member| member.try_share()), of_sharing(name, code));
         assert_asked(Call::TryShare, 1);
+        stub::answer_code(Call::TryBound, 0, code);
+        let bound = of_bound(name, code, |bound| format!("Ok({bound:?})"));
+        assert_eq!(said(|member| member.try_bound()), bound);
+        assert_asked(Call::TryBound, 1);
     }
 }
 
@@ -138,6 +159,9 @@ fn a_held_lock_is_busy() {
     stub::answer_code(Call::TryShare, 1, stub::code("OK"));
     assert_eq!(said(|member| member.try_share()), "Err(Busy)");
     assert_asked(Call::TryShare, 1);
+    stub::answer_code(Call::TryBound, 1, stub::code("OK"));
+    assert_eq!(said(|member| member.try_bound()), "Err(Busy)");
+    assert_asked(Call::TryBound, 1);
 }
 
 #[test]

@@ -59,15 +59,20 @@ fn what_waits_waits() {
         stub::answer_code(Call::TryShare, held, stub::code("NO_MEMORY"));
         assert_eq!(stub::said(|| member().share()), "Err(NoMemory)");
         assert_asked(Call::TryShare, held + 1);
+        stub::answer_code(Call::TryBound, held, stub::code("OK"));
+        let bound = member().bound();
+        assert_eq!((bound.queue, bound.items), (106, 107));
+        assert_asked(Call::TryBound, held + 1);
     }
 }
 
 #[test]
 fn what_does_not_wait_asks_once() {
     let busy = "Err(Busy)";
-    for (held, inserted, deleted, shared) in [
-        (0, "Ok(())", "Ok(None)", "Ok(105)"),
-        (1, busy, busy, busy),
+    let bounded = "Ok(Bound { queue: 106, items: 107 })";
+    for (held, inserted, deleted, shared, bound) in [
+        (0, "Ok(())", "Ok(None)", "Ok(105)", bounded),
+        (1, busy, busy, busy, busy),
     ] {
         stub::answer_code(Call::TryInsert, held, stub::code("OK"));
         assert_eq!(stub::said(|| member().try_insert(5, 6)), inserted);
@@ -81,6 +86,9 @@ fn what_does_not_wait_asks_once() {
         stub::answer_code(Call::TryShare, held, stub::code("OK"));
         assert_eq!(stub::said(|| member().try_share()), shared);
         assert_asked(Call::TryShare, 1);
+        stub::answer_code(Call::TryBound, held, stub::code("OK"));
+        assert_eq!(stub::said(|| member().try_bound()), bound);
+        assert_asked(Call::TryBound, 1);
     }
 }
 

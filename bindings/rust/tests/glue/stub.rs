@@ -18,6 +18,7 @@ pub enum Call {
     Front,
     TryDeleteMinAlone,
     TryShare,
+    TryBound,
 }
 
 mod declared {

@@ -2,7 +2,7 @@
 
 use crate::blocks::BLOCKS;
 use crate::stub::{self, Call};
-use klsm::{Pick, Refused, ShareError, TryShareError, TypedItem, TypedQueue};
+use klsm::{Bound, Busy, Pick, Refused, ShareError, TryShareError, TypedItem, TypedQueue};
 use std::cell::Cell;
 
 thread_local! {
@@ -242,6 +242,13 @@ fn an_owned_member_deletes_alone_and_shares() {
     stub::answer_code(Call::TryShare, 1, ok);
     assert_eq!(member.share(), Ok(105));
     assert_eq!(stub::asked(Call::TryShare), 2);
+    let found = Bound { queue: 106, items: 107 };
+    stub::answer_code(Call::TryBound, 1, ok);
+    assert_eq!(member.try_bound(), Err(Busy));
+    assert_eq!(member.try_bound(), Ok(found));
+    stub::answer_code(Call::TryBound, 1, ok);
+    assert_eq!(member.bound(), found);
+    assert_eq!(stub::asked(Call::TryBound), 2);
 }
 
 #[test]
