@@ -27,11 +27,21 @@ LITERAL = re.compile(r"\b(1024|1_024|67108864|67_108_864|64 21)\b|(Board|Members
                      r"|(?<!<)< (16|21|129)\b|(?<![*^<>] )\b(16|21|64|128|129) (≤|<(?!<))")
 
 
+@functools.cache
+def sources():
+    """The files of the repository, without what is built."""
+    found = []
+    for folder, folders, files in os.walk(ROOT):
+        folders[:] = [name for name in folders if name not in ("out", "target", ".git", "__pycache__")]
+        found.extend(pathlib.Path(folder, file) for file in files)
+    return found
+
+
+@functools.cache
 def pages():
     """Each page, with what it says outside its blocks of code."""
-    for page in sorted(ROOT.rglob("*.md")):
-        if "out" not in page.relative_to(ROOT).parts:
-            yield page, re.sub(r"^```.*?^```$", "", page.read_text(), flags=re.MULTILINE | re.DOTALL)
+    return [(page, re.sub(r"^```.*?^```$", "", page.read_text(), flags=re.MULTILINE | re.DOTALL))
+            for page in sorted(sources()) if page.suffix == ".md"]
 
 
 @functools.cache
@@ -83,13 +93,6 @@ def definitions():
             if led.exists() and not words(led).issuperset(re.findall(r"\w+", name)):
                 absent.append(f"{page.relative_to(ROOT)}: {name} in {path}")
     return f"do not stand there: {absent}" if absent else None
-
-
-def sources():
-    """The files of the repository, without what is built."""
-    for folder, folders, files in os.walk(ROOT):
-        folders[:] = [name for name in folders if name not in ("out", "target", ".git", "__pycache__")]
-        yield from (pathlib.Path(folder, file) for file in files)
 
 
 def quoted():
