@@ -150,33 +150,13 @@ chosen those_at_worst(const bench &with) {
     return found;
 }
 
-// A job that measures rank errors and speed with so many threads, which may be more than there are processors.
-job crowded_job(const bench &with, const chosen &some, std::size_t threads) {
-    const workload load{pattern::hold, threads, with.given.setting_items, 0};
-    const cell in{threads, "crowded hold", load.items};
-    const double seconds = double(load.items + with.given.rank_calls) * costs::recorded_call;
-    return {"worst: " + in_words(threads),
-            seconds_of(with, some, seconds + seconds_of_a_timed_round(with, load.items)), [=, &with] {
+// A job that measures rank errors of threads, of which one is stopped for so many seconds.
+job worst_ranks_job(const bench &with, const std::string &name, const workload &load, const chosen &some, double stop) {
+    const cell in{load.threads, name, load.items};
+    const double seconds = double(load.items + with.given.rank_calls) * costs::recorded_call + stop;
+    return {"rank errors: " + name + ", " + in_words(load.threads), seconds_of(with, some, seconds), [=, &with] {
                 add_bounds(with, some, in);
-                measure_ranks_in_threads(with, load, some, in, 0);
-                with.to.compare(some, in, with.given.rounds, [&](const subject &one, std::size_t round) {
-                    workload other = load;
-                    other.seed = round;
-                    const double speed = one.throughput(other, with.given.seconds_of_a_round(), with.where);
-                    return std::vector<figure>{{"throughput", "operations/s", speed}};
-                });
-            }};
-}
-
-// One that measures rank errors while one thread is stopped.
-job stopped_job(const bench &with, const chosen &some) {
-    const std::size_t threads = with.given.most_threads();
-    const workload load{pattern::hold, threads, with.given.setting_items, 0};
-    const cell in{threads, "stopped hold", load.items};
-    const double seconds = double(load.items + with.given.rank_calls) * costs::recorded_call + with.given.stop;
-    return {"worst: a thread is stopped", seconds_of(with, some, seconds), [=, &with] {
-                add_bounds(with, some, in);
-                measure_ranks_in_threads(with, load, some, in, with.given.stop);
+                measure_ranks_in_threads(with, load, some, in, stop);
             }};
 }
 
@@ -247,11 +227,17 @@ std::vector<job> rank_jobs(const bench &with) {
 
 std::vector<job> worst_jobs(const bench &with) {
     const chosen some = those_at_worst(with);
+    const std::size_t threads = with.given.most_threads();
+    const workload load{pattern::hold, threads, with.given.setting_items, 0};
     std::vector<job> jobs;
-    for (std::size_t times : {2, 4})
-        if (with.given.most_threads() * times <= KLSM_MAX_THREADS)
-            jobs.push_back(crowded_job(with, some, with.given.most_threads() * times));
-    if (with.given.most_threads() > 1) jobs.push_back(stopped_job(with, some));
+    for (std::size_t times : {2, 4}) {
+        if (threads * times > KLSM_MAX_THREADS) continue;
+        workload crowded = load;
+        crowded.threads *= times;
+        jobs.push_back(worst_ranks_job(with, "crowded hold", crowded, some, 0));
+        jobs.push_back(throughput_job(with, "crowded hold", crowded, some));
+    }
+    if (threads > 1) jobs.push_back(worst_ranks_job(with, "stopped hold", load, some, with.given.stop));
     return jobs;
 }
 

@@ -13,6 +13,7 @@ class Medians:
         self.values = {}
         self.spreads = {}
         self.rounds = 0
+        self.everywhere = None  # the settings that are measured with each number of threads, once asked for
         with open(path, encoding="utf-8") as file:
             for row in csv.DictReader(line for line in file if not line.startswith("#")):
                 self.add(row)
@@ -41,7 +42,10 @@ class Medians:
 
     def shown(self, queue):
         """The setting of a queue that is measured with each number of threads; none where there is none."""
-        return next(iter(self.all("parameter", what="throughput", queue=queue, threads=1)), None)
+        if self.everywhere is None:
+            pairs = self.all("queue", "parameter", what="throughput", threads=1)
+            self.everywhere = {queue: parameter for queue, parameter in reversed(pairs)}
+        return self.everywhere.get(queue)
 
     def all(self, *names, **given):
         """The different entries at these places of the keys, in the order of the file, where others are as given."""

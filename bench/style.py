@@ -66,12 +66,19 @@ def plot(axes, name, xs, ys, spreads, has_line=True):
     axes.plot(xs, ys, **line_of(name, has_line))
 
 
+def panels(count, title, *more):
+    """A figure of so many panels, with a title and lines below it."""
+    figure, grid = plt.subplots(1, count, figsize=(WIDTH, 3.5))
+    figure.text(0.015, 0.955, title, fontsize=10.5, fontweight="bold", va="center")
+    for number, line in enumerate(more):
+        figure.text(0.015, 0.9 - 0.055 * number, line, color=GREY, va="center")
+    return figure, grid
+
+
 def two_panels(title, more, names):
     """A figure of two panels, with a title, a line below it, and the names of the lines: name and what is written."""
-    figure, grid = plt.subplots(1, 2, figsize=(WIDTH, 3.5))
+    figure, grid = panels(2, title, more)
     figure.subplots_adjust(left=0.09, right=0.985, top=0.645, bottom=0.125, wspace=0.17)
-    figure.text(0.015, 0.955, title, fontsize=10.5, fontweight="bold", va="center")
-    figure.text(0.015, 0.9, more, color=GREY, va="center")
     for i, (name, written) in enumerate(names):
         x, y = 0.015 + i % 3 * 0.32, 0.838 - i // 3 * 0.062
         style = line_of(name) | {"markevery": [1]}
@@ -83,11 +90,8 @@ def two_panels(title, more, names):
 
 def one_panel(title, *more):
     """A figure of one panel, with a title and lines below it."""
-    figure, axes = plt.subplots(1, 1, figsize=(WIDTH, 3.5))
+    figure, axes = panels(1, title, *more)
     figure.subplots_adjust(left=0.255, right=0.92, top=0.8, bottom=0.13)
-    figure.text(0.015, 0.955, title, fontsize=10.5, fontweight="bold", va="center")
-    for number, line in enumerate(more):
-        figure.text(0.015, 0.9 - 0.055 * number, line, color=GREY, va="center")
     return figure, axes
 
 
@@ -137,7 +141,8 @@ def short(value, _):
 
 def set_threads(axes, threads):
     axes.set_xticks(threads)
-    axes.set_xlim(threads[0] - 0.1 * threads[-1] / 4, threads[-1] + 0.1 * threads[-1] / 4)
+    margin = threads[-1] / 40
+    axes.set_xlim(threads[0] - margin, threads[-1] + margin)
     axes.set_xlabel("threads", labelpad=1)
 
 
