@@ -3,15 +3,13 @@
 //! A crate with tests is proved twice, with them and without, so they stand here, above all that they
 //! test. `program` has what no table of words, scripts and answers can show: faults in mid-stream, the
 //! order of what is read and written, and threads that wait. The tables stand in the folder `tests`.
-//! `knapsack` has the client beside a plain loop over all selections. `three` and `sixteen` are gates at which so
-//! many workers meet, for both.
+//! `knapsack` has the client beside a plain loop over all selections. `crowd` is a gate at which three or sixteen
+//! workers meet, for both.
 #![tactic(auto)]
 
+#[cfg(test)]
+mod crowd;
 #[cfg(test)]
 mod knapsack;
 #[cfg(test)]
 mod program;
-#[cfg(test)]
-mod sixteen;
-#[cfg(test)]
-mod three;

@@ -2,7 +2,7 @@
 //! others have passed, or until one of them has told how far the search has come.
 
 use super::worked::{BEST, worked};
-use crate::three::Three;
+use crate::crowd::Crowd;
 use klsm_board::Gate;
 use klsm_knapsack::{Best, Instance, Listeners, SearchOptions, solve_to_the_end};
 use klsm_test_support::{LOOKS, Meeting};
@@ -38,7 +38,7 @@ fn two_workers_run_side_by_side(rt: HostRuntime) {
 
 #[test]
 fn three_workers_run_side_by_side(rt: HostRuntime) {
-    let gate = Three::new();
+    let gate = Crowd::of_three();
     let answer = found_behind(&rt, rt.alloc(), &gate, &SearchOptions::new(3, 1, 8));
     assert!(rt; answer == Some(BEST));
     assert!(rt; gate.took_place());

@@ -3,8 +3,7 @@
 
 use super::worked::SCRIPT;
 use super::{Told, all_go};
-use crate::sixteen::Sixteen;
-use crate::three::Three;
+use crate::crowd::Crowd;
 use klsm_test_support::{Counting, Meeting};
 use klsm_tool::{End, Listeners, Pick, Report, Settings, Silent, live_over};
 
@@ -112,7 +111,7 @@ const OF_THREE: Settings = Settings {
 // Two threads at a time would do for a meeting of two.
 #[test]
 fn three_threads_run_side_by_side(rt: HostRuntime) {
-    let gate = Three::new();
+    let gate = Crowd::of_three();
     let mut text = Vec::new(rt.alloc());
     let script: &[u8] = b"0,i,1,0\n1,i,2,0\n2,i,3,0\n";
     let listeners = Listeners {
@@ -136,7 +135,7 @@ const OF_SIXTEEN: Settings = Settings {
 // Most of the sixteen have no row.
 #[test]
 fn sixteen_threads_pass_the_gate_side_by_side(rt: HostRuntime) {
-    let gate = Sixteen::new();
+    let gate = Crowd::of_sixteen();
     let mut text = Vec::new(rt.alloc());
     let script: &[u8] = b"0,i,1,0\n15,i,2,0\n7,d,,\n";
     let listeners = Listeners {

@@ -5,7 +5,7 @@ use super::knapsack::{INSTANCE, LINE};
 use super::process::{Input, Output};
 use super::repeated::repeated;
 use super::run;
-use crate::sixteen::Sixteen;
+use crate::crowd::Crowd;
 use klsm_board::Gate;
 use klsm_test_support::{Counting, Meeting};
 use klsm_tool::{
@@ -173,7 +173,7 @@ fn each_worker_of_a_search_passes_the_gate_once(rt: HostRuntime) {
 // Five threads in the place of sixteen would not do.
 #[test]
 fn sixteen_workers_of_a_search_pass_the_gate_side_by_side(rt: HostRuntime) {
-    let gate = Sixteen::new();
+    let gate = Crowd::of_sixteen();
     let mut text = Vec::new(rt.alloc());
     let listeners = Listeners {
         gate: &gate,
