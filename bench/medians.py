@@ -1,4 +1,4 @@
-"""The figures of a CSV of bench/run: medians, and between what the rounds lie."""
+"""The figures of a CSV of bench/run: medians, and the least and the greatest round of each."""
 
 import csv
 import os
@@ -12,7 +12,6 @@ class Medians:
     def __init__(self, path):
         self.values = {}
         self.spreads = {}
-        self.rounds = 0
         self.everywhere = None  # the settings that are measured with each number of threads, once asked for
         with open(path, encoding="utf-8") as file:
             for row in csv.DictReader(line for line in file if not line.startswith("#")):
@@ -20,13 +19,8 @@ class Medians:
 
     def add(self, row):
         key = tuple(int(row[name]) if name in ("threads", "items") else row[name] for name in PLACES)
-        value = float(row["value"])
-        if row["round"] in ("median", "-"):
-            self.values[key] = value
-        else:
-            self.rounds = max(self.rounds, int(row["round"]))
-            least, greatest = self.spreads.get(key, (value, value))
-            self.spreads[key] = min(least, value), max(greatest, value)
+        self.values[key] = float(row["value"])
+        self.spreads[key] = float(row["least"]), float(row["greatest"])
 
     def get(self, *key):
         return self.values.get(key)
