@@ -26,7 +26,7 @@ use Rattle.klsm_knapsack.specs.declared.search_state.NoRoom.TheVariants.{Refuses
 use Rattle.klsm_knapsack.specs.declared.search_state.Worker.{Worker}
 use Rattle.klsm_knapsack.specs.declared.errors.Refusal.{Refusal}
 use Rattle.klsm_knapsack.specs.declared.errors.Refusal.TheVariants as refusal
-use Rattle.klsm_knapsack.specs.declared.errors.SolveError.TheVariants.{BadThreads, BadK, BadRefill, NoMemory}
+use Rattle.klsm_knapsack.specs.declared.errors.SolveError.TheVariants.{BadThreads, BadK, BadRefill, Full, NoMemory}
 use Rattle.klsm_instance.specs.Selections.{Problem}
 use Rattle.klsm_knapsack.specs.IncumbentSeats.{IsSeatAt, found_by}
 use Rattle.klsm_knapsack.specs.Work.{HasNode, HasWorked, all_inserted, all_deleted}
@@ -74,6 +74,9 @@ memory_is_not_k is = cc
 
 pub memory_is_not_refill : NoMemory ≡ BadRefill → ⊥
 memory_is_not_refill is = cc
+
+pub memory_is_not_full : NoMemory ≡ Full → ⊥
+memory_is_not_full is = cc
 
 -- which lists a schedule leads to, and how workers end, has nothing to do with how many items deletions
 -- move

@@ -1,6 +1,8 @@
 -- Workers, and how the work of one of them grows.
-use Rattle.std.specs.Prelude.{ℕ, ◌≡◌, ◌+◌, ◌≤◌, ◌<◌, ◌⊎◌, List, [], None, Some, All, length, map, slice_get}
+use Rattle.std.specs.Prelude.{ℕ, ◌≡◌, ◌+◌, ◌≤◌, ◌<◌, ◌⊎◌, List, [], None, Some, IfSome, All, length, map, slice_get}
 use Rattle.std.specs.List.{AllByRecursion, Contains, flat_map}
+use mathlib.Core.Option.{some}
+use lib.ListN.{get_elem?}
 use Rattle.rand_pcg.specs.Lcg.{Lcg}
 use Rattle.klsm_run.specs.declared.item.Item.{Item}
 use Rattle.klsm_parts.specs.Generators.{generator_of}
@@ -9,13 +11,15 @@ use Rattle.klsm_world.specs.OwnSteps.{inserted, deleted}
 use Rattle.klsm_board.specs.Boards.{AreMembersOf, IsOf, IsSame, own_steps}
 use Rattle.klsm_knapsack.specs.declared.search_state.SearchState.{SearchState}
 use Rattle.klsm_knapsack.specs.declared.search_state.NoRoom.{NoRoom}
-use Rattle.klsm_knapsack.specs.declared.search_state.NoRoom.TheVariants.{Refuses}
+use Rattle.klsm_knapsack.specs.declared.search_state.NoRoom.TheVariants.{Refuses, SearchesAlone}
+use Rattle.klsm_knapsack.specs.declared.errors.Refusal.{Refusal}
+use Rattle.klsm_knapsack.specs.declared.errors.Refusal.TheVariants.{NoMemory}
 use Rattle.klsm_knapsack.specs.declared.search_state.Worker.{Worker}
 use Rattle.klsm_instance.specs.Selections.{Problem}
 use Rattle.klsm_instance.specs.Nodes.{NoneAbove, level_in, picks_in}
 use Rattle.klsm_knapsack.specs.IncumbentSeats.{IsSeatAt, found_by}
 use Rattle.klsm_knapsack.specs.Work.{Work, HasNode, HasWorked, IsNodeItem, all_inserted, all_deleted}
-use Rattle.klsm_knapsack.specs.Ends.{EndsAnswered, HasEnded}
+use Rattle.klsm_knapsack.specs.Ends.{EndsAnswered, EndsRefused, HasEnded}
 use Rattle.klsm_knapsack.specs.Answers.{EndsIdle}
 use Rattle.klsm_knapsack.specs.Courses.{CallsOfWorker, IsOnCourse}
 
@@ -61,6 +65,17 @@ module _ {LEVELS : ℕ} where
   HasEndedSo no_room w = no_room ≡ Refuses
       → HasEnded LEVELS w.member.sizes.k w.member.number (own_steps w.member) w.refused
 
+  -- where it was refused, memory was wanted, and no room
+  abbrev pub LacksNoRoom : Worker LEVELS → Type 0
+  LacksNoRoom w = IfSome w.refused (λ why. why ≡ NoMemory)
+
+  -- its last insertion was refused for this reason, and it has made none
+  pub record WasRefusedFirst (w : Worker LEVELS) : Type 0 where
+    pub why : Refusal
+    pub refused : w.refused ≡ Some why
+    pub ended : EndsRefused LEVELS w.member.sizes.k w.member.number (own_steps w.member) why
+    pub none_inserted : inserted (own_steps w.member) ≡ []
+
   -- since its list was this one, the worker took nodes until it was answered "nothing" n times in a
   -- row, or had no two insertions left
   abbrev pub IsIdle : ℕ → List Entry → Worker LEVELS → Type 0
@@ -84,6 +99,7 @@ module _ {LEVELS : ℕ} where
   pub record HasRun (no_room : NoRoom) (p : Problem) (idle : ℕ) (before after : Worker LEVELS) : Type 0 where
     pub same : IsSameWorker before after
     pub ended : HasEndedSo no_room after
+    pub room : no_room ≡ SearchesAlone → LacksNoRoom after
     pub course : KeepsCourse before after
     pub worked : after.refused ≡ None → HasWorked p (work_of after)
     pub inserts : after.refused ≡ None
@@ -102,6 +118,17 @@ module _ {LEVELS : ℕ} where
     pub steps : own_steps w.member ≡ []
     pub found : found_by w.seat ≡ 0
     pub refused : w.refused ≡ None
+
+  -- the first worker was refused the root, and no worker has inserted a node
+  pub record RootWasRefused (crew : List (Worker LEVELS)) : Type 0 where
+    pub first : Worker LEVELS
+    pub there : get_elem? crew 0 ≡ some first
+    pub was_refused : WasRefusedFirst first
+    pub none_inserted : All (λ w. inserted (own_steps w.member) ≡ []) crew
+
+  -- workers that go on without room did not lack it, unless the root was refused
+  abbrev pub GoOnWithoutRoom : NoRoom → List (Worker LEVELS) → Type 0
+  GoOnWithoutRoom no_room crew = no_room ≡ SearchesAlone → All LacksNoRoom crew ⊎ RootWasRefused crew
 
   -- no worker was refused, and together they are done with all nodes but those left, the root first
   pub record HaveWorked (p : Problem) (crew : List (Worker LEVELS)) : Type 0 where

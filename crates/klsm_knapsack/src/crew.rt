@@ -7,7 +7,7 @@ ghost use Rattle.klsm_world.specs.OwnSteps.{inserted};
 ghost use Rattle.klsm_knapsack.specs.declared.search_state.Worker.{Worker};
 ghost use Rattle.klsm_knapsack.specs.IncumbentSeats.{IsSeatAt, found_by, problem_of};
 ghost use Rattle.klsm_knapsack.specs.Ends.{first_refusal};
-ghost use Rattle.klsm_knapsack.specs.Workers.{HasEndedSo, HasRun, HaveWorked, IsAtWork, AreWorkersOf, IsIdle, HasNotBegun, IsWorkerOf, GoesByItsSeed};
+ghost use Rattle.klsm_knapsack.specs.Workers.{GoOnWithoutRoom, HasEndedSo, HasRun, HaveWorked, IsAtWork, AreWorkersOf, IsIdle, HasNotBegun, IsWorkerOf, GoesByItsSeed};
 
 use crate::errors::Refusal;
 use crate::incumbent::{Incumbent, IncumbentSeat};
@@ -74,6 +74,7 @@ pub(crate) fn search<R: Threads + Wait + Clock + Sync, G: Gate, P: Progress, con
     requires pickers { All (λ w. w.picker ≡ generator_of w.member.number) crew.old }
     ensures crew { AreWorkersOf state.now crew.new }
     ensures ended { All (HasEndedSo state.now.no_room) crew.new }
+    ensures room { GoOnWithoutRoom state.now.no_room crew.new }
     ensures worked { All (λ w. w.refused ≡ None) crew.new → HaveWorked instance.now crew.new }
     ensures idle { All (λ w. w.refused ≡ None) crew.new → All (λ w. IsIdle idle [] w) crew.new }
     ensures course { All GoesByItsSeed crew.new }
@@ -129,7 +130,7 @@ pub(crate) fn join_workers<const LEVELS: usize>(
     requires empty { back.old.items ≡ [] }
     requires room { length crew.items ≤ vec_capacity back.old }
     ensures first { IsSeatAt incumbent.now first.new }
-    ensures members { IfOk result (λ _. back.new.items ≡ map (λ w. w.member) crew.entry.items) }
+    ensures members { back.new.items ≡ map (λ w. w.member) crew.entry.items }
     ensures found { IfOk result (λ _.
         All (λ w. found_by w.seat ≤ found_by first.new) crew.entry.items) }
     ensures none { IfOk result (λ _.

@@ -15,9 +15,9 @@
 //! let best = solve_to_the_end::<_, _, 21>(&rt, alloc, &instance, &options, &listeners)?;   // and never full
 //! ```
 //!
-//! `klsm knapsack` calls `solve_to_the_end`, which searches by `solve_in_turn` where not even the root finds room.
-//! `solve` is for a caller that wants to hear of a board that was full: it is the same search but for that, and no
-//! crate here calls it but that of the tests, which see by it where workers leave nodes that they could close.
+//! `klsm knapsack` calls `solve_to_the_end`. `solve` is for a caller that wants to hear of a board that was full: it is
+//! the same search but for that, and no crate here calls it but that of the tests, which see by it where workers leave
+//! nodes that they could close.
 //!
 //! The search goes over the things in the order of its instance: `Instance::steepest_first` gives the
 //! one in which fewest nodes wait.
@@ -31,7 +31,10 @@
 //!   that answer.
 //! - **No want of room ends `solve_to_the_end`**, whose error has no Full. A worker of it that finds no
 //!   room for a child searches the node depth first, and each node that it takes from then on: clause
-//!   `covers` of `Incumbent::search_alone`, which is private.
+//!   `covers` of `Incumbent::search_alone`, which is private. The root always finds room, as it is the first item
+//!   of its board: clause `never_full` of the private `solve_on_board`.
+//! - **An answer is that of the search that the options name**: clause `ran` of both says that there are lists of so
+//!   many workers, over a board of that k and refill, each by a generator of its own, and idle as often as they say.
 //! - **The incumbent is never lowered.** It is one word of a table of its own, whose rule every step
 //!   keeps: the word is the greatest of the numbers that the seats raised it by, and never below one
 //!   that a seat found there: `Highest`, and clause `rule` of `Incumbent::finish`.

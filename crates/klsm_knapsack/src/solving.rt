@@ -1,17 +1,18 @@
 //! The whole search.
-ghost use Rattle.std.specs.Prelude.{All, ◌≡◌, ◌≤◌, ◌<◌, ◌⊎◌, ◌↔◌, List, IfOk, IfErr, IsErrAnd, length};
+ghost use Rattle.std.specs.Prelude.{All, ◌≡◌, ◌≢◌, ◌≤◌, ◌<◌, ◌⊎◌, ◌↔◌, List, IfOk, IfErr, IsErrAnd, length};
 ghost use Rattle.klsm_run.specs.declared.limits.TheConstants.{MOST_THREADS, PROGRAM_K};
 ghost use Rattle.klsm_parts.specs.Limit.{IsLevelCount};
 ghost use Rattle.klsm_board.specs.Members.{sizes_of};
-ghost use Rattle.klsm_board.specs.Boards.{AreNewMembersOf, IsOf};
+ghost use Rattle.klsm_board.specs.Boards.{AreMembersOf, AreNewMembersOf, IsOf};
+ghost use Rattle.klsm_board.specs.Finishing.{AreListsAtEnd, lists_of};
 ghost use Rattle.klsm_instance.specs.Answers.{IsBestAnswer};
 ghost use Rattle.klsm_world.specs.declared.step.Entry.{Entry};
-ghost use Rattle.klsm_knapsack.specs.Refusals.{RefusesSearch};
+ghost use Rattle.klsm_knapsack.specs.Refusals.{RefusesSearch, error_of};
 ghost use Rattle.klsm_knapsack.specs.Searches.{HasSearched};
 
 use crate::crew::{join_workers, make_workers, search};
 use crate::ending::conclude;
-use crate::errors::SolveError;
+use crate::errors::{Refusal, SolveError};
 use crate::incumbent::Incumbent;
 use crate::options::SearchOptions;
 use crate::search_state::{Listeners, NoRoom, SearchState};
@@ -68,6 +69,7 @@ pub(crate) fn solve_on_board<G: Gate, P: Progress, const LEVELS: usize>(
     ensures ran { IfOk result (λ _. (lists : List (List Entry)) × HasSearched LEVELS options.now lists) }
     ensures refused { IfErr result (λ why. no_room ≡ NoRoom.Refuses
         → RefusesSearch LEVELS options.now.threads options.now.k options.now.refill why) }
+    ensures never_full { IfErr result (λ why. no_room ≡ NoRoom.SearchesAlone → why ≢ SolveError.Full) }
     ensures bad_threads { IsErrAnd result (λ why. why ≡ SolveError.BadThreads)
         ↔ ((options.now.threads ≡ 0) ⊎ (MOST_THREADS < options.now.threads)) }
     ensures bad_k { IsErrAnd result (λ why. why ≡ SolveError.BadK)
@@ -100,7 +102,7 @@ pub(crate) fn solve_on_board<G: Gate, P: Progress, const LEVELS: usize>(
     };
     search(rt, &state, instance, crew.as_mut_slice(), idle, listeners);
     if let Err(why) = join_workers(&state.incumbent, &mut first, crew, &mut back) {
-        return Err(why.error());
+        return Err(error_in_one_hand(&state.board, back, no_room, why));
     }
     let SearchState {
         board,
@@ -130,6 +132,7 @@ fn board_for<const LEVELS: usize>(
     ensures count { IfOk result (λ made. length made.1.items ≡ threads) }
     ensures crew { IfOk result (λ made. AreNewMembersOf made.0 made.1.items) }
     ensures refused { IfErr result (λ why. RefusesSearch LEVELS threads k refill why) }
+    ensures never_full { IfErr result (λ why. why ≢ SolveError.Full) }
     ensures bad_threads { IsErrAnd result (λ why. why ≡ SolveError.BadThreads)
         ↔ ((threads ≡ 0) ⊎ (MOST_THREADS < threads)) }
     ensures bad_k { IsErrAnd result (λ why. why ≡ SolveError.BadK)
@@ -144,5 +147,48 @@ fn board_for<const LEVELS: usize>(
         Err(MakeError::BadQuota) => unreachable!(),
         Err(MakeError::BadRefill) => Err(SolveError::BadRefill),
         Err(MakeError::NoMemory) => Err(SolveError::NoMemory),
+    }
+}
+
+// The error of a search of which a worker was refused for this reason. Workers that go on without room did not
+// lack it.
+fn error_in_one_hand<const LEVELS: usize>(
+    board: &Board<PROGRAM_K, LEVELS>,
+    members: Vec<Member<PROGRAM_K, LEVELS>>,
+    no_room: NoRoom,
+    why: Refusal,
+) -> SolveError
+    requires crew { AreMembersOf board.now members.items }
+    requires room { no_room ≡ NoRoom.SearchesAlone → why ≡ Refusal.Full
+        → ¬ (AreListsAtEnd board.now.sizes (lists_of board.now.sizes.threads members.items)) }
+    ensures error { result ≡ error_of why }
+    ensures never_full { no_room ≡ NoRoom.SearchesAlone → result ≢ SolveError.Full }
+{
+    match no_room {
+        NoRoom::Refuses => why.error(),
+        NoRoom::SearchesAlone => memory_in_one_hand(board, members, why),
+    }
+}
+
+// Why a worker was refused that goes on without room: memory was wanted. Once all members are in one hand, their
+// lists are those of one schedule, by which the root, the first item of its board, found room.
+fn memory_in_one_hand<const LEVELS: usize>(
+    board: &Board<PROGRAM_K, LEVELS>,
+    members: Vec<Member<PROGRAM_K, LEVELS>>,
+    why: Refusal,
+) -> SolveError
+    requires crew { AreMembersOf board.now members.items }
+    requires room { why ≡ Refusal.Full
+        → ¬ (AreListsAtEnd board.now.sizes (lists_of board.now.sizes.threads members.items)) }
+    ensures error { result ≡ error_of why }
+    ensures memory { result ≡ SolveError.NoMemory }
+{
+    // All members are back.
+    let Ok(_all) = board.gather(members) else {
+        unreachable!();
+    };
+    match why {
+        Refusal::Full => unreachable!(),
+        Refusal::NoMemory => SolveError::NoMemory,
     }
 }

@@ -11,7 +11,7 @@ ghost use Rattle.klsm_knapsack.specs.IncumbentSeats.{problem_of};
 ghost use Rattle.klsm_knapsack.specs.Work.{ClosesBounded, HasNode, IsNodeItem, IsSplit, IsDone, HasWorked};
 ghost use Rattle.klsm_knapsack.specs.Ends.{EndsAnswered, EndsRefused};
 ghost use Rattle.klsm_knapsack.specs.Answers.{GainsNothing, GainsOthers, GainsSome};
-ghost use Rattle.klsm_knapsack.specs.Workers.{Extends, HasEndedSo, HasRun, InsertsNodes, IsAtWork, IsIdle, HasNotBegun, IsSameWorker, IsWorkerOf, KeepsCourse, work_of};
+ghost use Rattle.klsm_knapsack.specs.Workers.{Extends, HasEndedSo, HasRun, InsertsNodes, IsAtWork, IsIdle, HasNotBegun, IsSameWorker, IsWorkerOf, KeepsCourse, WasRefusedFirst, work_of};
 
 use crate::errors::Refusal;
 use crate::passing::Passed;
@@ -39,6 +39,7 @@ impl<const LEVELS: usize> Worker<LEVELS> {
         ensures begun { MatchBool result
             (IsAtWork state.now.no_room instance.now self.new × HasNode (work_of self.new).inserted 0 0)
             (self.new.refused ≡ None → ⊥) }
+        ensures refused { result ≡ false → WasRefusedFirst self.new }
         ensures gains { IsTrue result →
             GainsOthers (own_steps self.old.member) (own_steps self.new.member) }
     {
@@ -95,6 +96,8 @@ impl<const LEVELS: usize> Worker<LEVELS> {
         ensures idle { IfOk result (λ _. IsIdle idle (own_steps self.old.member) self.new) }
         ensures refused { IfErr result (λ why. EndsRefused LEVELS self.new.member.sizes.k
             self.new.member.number (own_steps self.new.member) why) }
+        ensures memory { state.now.no_room ≡ NoRoom.SearchesAlone
+            → IfErr result (λ why. why ≡ Refusal.NoMemory) }
     {
         // For the proof: that the gate was passed is a premise alone.
         let _ = passed;
@@ -144,6 +147,8 @@ impl<const LEVELS: usize> Worker<LEVELS> {
             (GainsNothing (own_steps self.old.member) (own_steps self.new.member))) }
         ensures refused { IfErr result (λ why. EndsRefused LEVELS self.new.member.sizes.k
             self.new.member.number (own_steps self.new.member) why) }
+        ensures memory { state.now.no_room ≡ NoRoom.SearchesAlone
+            → IfErr result (λ why. why ≡ Refusal.NoMemory) }
     {
         let Some(item) = self.member.delete_min(rt, &state.board, &mut self.picker) else {
             return Ok(false);
@@ -189,6 +194,8 @@ impl<const LEVELS: usize> Worker<LEVELS> {
             GainsOthers (own_steps self.old.member) (own_steps self.new.member)) }
         ensures refused { IfErr result (λ why. EndsRefused LEVELS self.new.member.sizes.k
             self.new.member.number (own_steps self.new.member) why) }
+        ensures memory { state.now.no_room ≡ NoRoom.SearchesAlone
+            → IfErr result (λ why. why ≡ Refusal.NoMemory) }
     {
         let Some(node) = instance.node_of(load) else {
             return Ok(());

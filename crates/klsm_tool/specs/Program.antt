@@ -60,7 +60,7 @@ RunsLive settings input before after result =
 -- the instance of the input is solved, and the status is that of the end
 abbrev pub RunsKnapsack : Search → Option (List ℕ) → Option (List ℕ) → Option (List ℕ) → ℕ → Type 0
 RunsKnapsack search input before after result =
-    (report : Report) × Solves search.threads search.k input before after report
+    (report : Report) × Solves search input before after report
     × (result ≡ status_of report.end)
 
 -- a script is run by its settings, unless deletions were to move more items to a thread than it keeps

@@ -3,7 +3,7 @@ ghost use Rattle.std.specs.Prelude.{◌≡◌, ◌≤◌, Option, ℕ, List, IfE
 ghost use Rattle.klsm_run.specs.declared.limits.TheConstants.{PROGRAM_K, PROGRAM_THREADS};
 ghost use Rattle.klsm_instance.specs.Answers.{IsBestAnswer};
 ghost use Rattle.klsm_instance.specs.Format.{IsProblemIn, RefusesInput};
-ghost use Rattle.klsm_tool.specs.Knapsack.{Solves, SolvesProblem, RefusesIn, WritesBest};
+ghost use Rattle.klsm_tool.specs.Knapsack.{IsSearchedBy, Solves, SolvesProblem, RefusesIn, WritesBest};
 
 use crate::advising::advise_on_instance;
 use klsm_board::Gate;
@@ -34,8 +34,7 @@ pub fn knapsack_over<
     requires some_thread { 1 ≤ search.now.threads }
     requires threads { search.now.threads ≤ PROGRAM_THREADS }
     requires k { search.now.k ≤ PROGRAM_K }
-    ensures { Solves search.now.threads search.now.k (R.remaining reader) (W.contents writer.old)
-        (W.contents writer.new) result }
+    ensures { Solves search.now (R.remaining reader) (W.contents writer.old) (W.contents writer.new) result }
 {
     match Instance::read(rt.alloc(), reader) {
         Ok(instance) => solve_read(rt, writer, &instance, search, listeners),
@@ -58,7 +57,7 @@ fn solve_read<P: AllocGlobal + Wait + Clock + Threads + Sync, W: Write, G: Gate,
     requires some_thread { 1 ≤ search.now.threads }
     requires threads { search.now.threads ≤ PROGRAM_THREADS }
     requires k { search.now.k ≤ PROGRAM_K }
-    ensures { SolvesProblem instance.now (W.contents writer.old) (W.contents writer.new) result }
+    ensures { SolvesProblem search.now instance.now (W.contents writer.old) (W.contents writer.new) result }
 {
     match solve_reordered(rt, instance, search, listeners) {
         Ok(best) => write_selection(rt.alloc(), writer, instance, &best),
@@ -78,6 +77,7 @@ fn solve_reordered<P: AllocGlobal + Wait + Clock + Threads + Sync, G: Gate, H: P
     requires threads { search.now.threads ≤ PROGRAM_THREADS }
     requires k { search.now.k ≤ PROGRAM_K }
     ensures best { IfOk result (λ best. IsBestAnswer instance.now best) }
+    ensures ran { IfOk result (λ _. IsSearchedBy search.now) }
     ensures memory { IfErr result (λ why. why ≡ UnsolvedError.NoMemory) }
 {
     let Ok(steepest) = instance.steepest_first(rt.alloc()) else {
@@ -96,6 +96,7 @@ fn solve_heard<P: AllocGlobal + Wait + Clock + Threads + Sync, G: Gate, H: Progr
     listeners: &Listeners<G, H>,
 ) -> Result<Best, UnsolvedError>
     ensures best { IfOk result (λ best. IsBestAnswer instance.now best) }
+    ensures ran { IfOk result (λ _. IsSearchedBy search.now) }
     ensures memory { 1 ≤ search.now.threads → search.now.threads ≤ PROGRAM_THREADS → search.now.k ≤ PROGRAM_K
         → IfErr result (λ why. why ≡ UnsolvedError.NoMemory) }
 {

@@ -46,15 +46,16 @@
 //! - **A replay waits for no lock, and returns**: one thread makes the calls of all members, so none is held.
 //! - **The totals of rows that threads run are those of some schedule**, which answers each thread's
 //!   rows in their order, and the shared part has room for all of them: `Lives`, the clause of `live_over`.
-//! - **The selection that is written is a best one**: `Solves`, the clause of `knapsack_over`.
+//! - **The selection that is written is a best one**, and a search as the words say has found it: `Solves`, the clause
+//!   of `knapsack_over`.
 //! - **Words are a run or are answered with one text**, and each end has its status: clauses `runs` and
 //!   `replays` of `run_words`.
 //! - **The process ends with that status.** Nothing outside this crate makes a `Status`, and
 //!   `Status::report` says that the process ends with its number.
 //! - **Calls obey the settings**: the refill of the board, each thread's one picker, and the balances that are
 //!   due: clause `course` of `replay_script`, and `course` of `ReplaysAlone` and of `RunsAll`.
-//! - **What no contract says**: that the process's words are those that the system gave, what
-//!   standard input and output carried, and how a search found its answer.
+//! - **What no contract says**: that the process's words are those that the system gave, and what
+//!   standard input and output carried.
 #![tactic(auto)]
 
 mod advising;

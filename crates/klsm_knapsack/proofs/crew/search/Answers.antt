@@ -1,4 +1,4 @@
-use Rattle.std.proofs.Common.{◌≡◌, ◌<◌, ◌≤◌, arith, length, get_or-set_same, get_or, set, None, List, [], lit<, sym, subst, refl}
+use Rattle.std.proofs.Common.{◌≡◌, ◌<◌, ◌≤◌, inl, inr, arith, length, get_or-set_same, get_or, set, None, List, [], lit<, sym, subst, refl}
 use Rattle.std.proofs.lemmas.List.{length-set}
 use Rattle.klsm_knapsack.specs.declared.search_state.Worker.{Worker}
 use Rattle.klsm_board.specs.Boards.{own_steps}
@@ -9,6 +9,7 @@ use Rattle.klsm_knapsack.specs.Work.{HasNode}
 use Rattle.klsm_knapsack.specs.Workers.{work_of}
 use Rattle.klsm_knapsack.proofs.CourseLemmas.{all_go, begun_go}
 use Rattle.klsm_knapsack.proofs.CrewLemmas.{crew_begun, crew_ended, crew_ready, crew_run, all_worked, begun_gains, all_idle, each_worker}
+use Rattle.klsm_knapsack.proofs.RoomLemmas.{root_refused}
 use Rattle.klsm_knapsack.proofs.crew.search.Goals as goal
 
 pub begin-requires : goal.begin-requires
@@ -79,3 +80,9 @@ returns-then-begin-clause-course g c =
 
 pub returns-else-begin-clause-course : goal.returns-else-begin-clause-course
 returns-else-begin-clause-course g c = begun_go c.args.crew.now c.index-crew-0.result c.begin.new.self c.requires.new c.requires.pickers c.begin.ensures.same c.begin.ensures.course
+
+pub returns-then-begin-clause-room : goal.returns-then-begin-clause-room
+returns-then-begin-clause-room g c = λ alone. inl (λ k d lt. (c.run_all.ensures k d (omega (arith, lt, c.run_all.auto.crew))).room alone)
+
+pub returns-else-begin-clause-room : goal.returns-else-begin-clause-room
+returns-else-begin-clause-room g c = λ alone. inr (root_refused c.args.crew.now c.begin.new.self c.requires.crew.some_worker c.requires.new (c.if-begin.ensures.refused refl))

@@ -3,7 +3,7 @@ use Rattle.klsm_run.specs.declared.limits.TheConstants.{PROGRAM_K}
 use Rattle.klsm_board.specs.declared.board.Member.{Member}
 use Rattle.klsm_board.specs.declared.sizes.Sizes.{Sizes}
 use Rattle.klsm_board.specs.Members.{most_insertions, sizes_of}
-use Rattle.klsm_board.specs.Boards.{IsOf}
+use Rattle.klsm_board.specs.Boards.{AreMembersOf, IsOf}
 use Rattle.klsm_knapsack.specs.declared.search_state.SearchState.{SearchState}
 use Rattle.klsm_knapsack.specs.declared.search_state.NoRoom.{NoRoom}
 use Rattle.klsm_knapsack.specs.declared.search_state.Worker.{Worker}
@@ -15,7 +15,8 @@ use Rattle.klsm_knapsack.specs.Refusals.{RefusesSearch}
 use Rattle.klsm_knapsack.specs.Workers.{AreWorkersOf, HasEndedSo, HasNotBegun, HaveWorked, IsSearched}
 use Rattle.klsm_knapsack.proofs.CrewLemmas.{none_refused, so_many_workers}
 use Rattle.klsm_parts.proofs.FitLemmas.{shared_fits}
-use Rattle.klsm_knapsack.proofs.FinishLemmas.{good_threads, good_k, good_refill, memory_is_not_threads, memory_is_not_k, memory_is_not_refill, whole, refuses, refused_too, workers_made, are_new, members_of, least_refusal, searched}
+use Rattle.klsm_knapsack.proofs.FinishLemmas.{good_threads, good_k, good_refill, memory_is_not_threads, memory_is_not_k, memory_is_not_refill, memory_is_not_full, whole, refuses, refused_too, workers_made, are_new, members_of, least_refusal, searched}
+use Rattle.klsm_knapsack.proofs.RoomLemmas.{never_full}
 use Rattle.klsm_knapsack.proofs.SearchLemmas.{has_searched}
 use Rattle.klsm_knapsack.proofs.solving.solve_on_board.Goals as goal
 
@@ -65,7 +66,7 @@ returns-in-Err-clause-refused g c = λ not_alone.
     let first = rw is at c.in-Err.ensures.refused in
     let least : IsLeastRefusal g.row.LEVELS c.in_ok-board.board.sizes c.in-Err.why = least_refusal state after c.search.ensures.crew c.in-Err.why (subst (λ (m : NoRoom). All (HasEndedSo m) after) not_alone c.search.ensures.ended) first in
     let told = refused_too g.row.LEVELS (sizes_of c.args.options.now.threads c.args.options.now.k) c.args.options.now.refill c.in-Err.why (subst (λ (m : Sizes). IsLeastRefusal g.row.LEVELS m c.in-Err.why) c.in_ok-board.ensures.sizes least) in
-    subst (λ (why : SolveError). RefusesSearch g.row.LEVELS c.args.options.now.threads c.args.options.now.k c.args.options.now.refill why) (sym c.error.ensures)
+    subst (λ (why : SolveError). RefusesSearch g.row.LEVELS c.args.options.now.threads c.args.options.now.k c.args.options.now.refill why) (sym c.error_in_one_hand.ensures.error)
     (refuses g.row.LEVELS c.args.options.now.threads c.args.options.now.k c.args.options.now.refill c.in-Err.why c.in_ok-board.ensures.in_range told)
 
 pub finish-requires : goal.finish-requires
@@ -110,9 +111,6 @@ drop-members-requires-in_default-with_capacity-room-T-Destruct g c κs = lit< tt
 
 pub drop-back-requires-room-T-Destruct : goal.drop-back-requires-room-T-Destruct
 drop-back-requires-room-T-Destruct g c κs = lit< tt
-
-pub drop-back-requires-in-Err-room-T-Destruct : goal.drop-back-requires-in-Err-room-T-Destruct
-drop-back-requires-in-Err-room-T-Destruct g c κs = lit< tt
 
 pub drop-requires-in_default-finish-room-T-Destruct : goal.drop-requires-in_default-finish-room-T-Destruct
 drop-requires-in_default-finish-room-T-Destruct g c κs = lit< tt
@@ -218,3 +216,30 @@ returns-clause-bad_k g c = good_k _ _ (λ none. none) c.in_ok-board.ensures.in_r
 
 pub returns-clause-bad_refill : goal.returns-clause-bad_refill
 returns-clause-bad_refill g c = good_refill _ _ _ (λ none. none) c.in_ok-board.ensures.refill
+
+pub error_in_one_hand-requires : goal.error_in_one_hand-requires
+error_in_one_hand-requires g c =
+    let state : SearchState g.row.LEVELS = record { board = c.in_ok-board.board; incumbent = c.in-Ok.incumbent; no_room = c.args.no_room } in
+    let after : List (Worker g.row.LEVELS) = c.search.new.crew in
+    let as_long : c.in-Ok-make_workers.crew.len ≡ length after = search rules in
+    let is : take c.in-Ok-make_workers.crew.len (after ++ drop (length after) c.in-Ok-make_workers.crew.items) ≡ after = whole c.in-Ok-make_workers.crew.len after (drop (length after) c.in-Ok-make_workers.crew.items) as_long in
+    let back = rw is at c.in-Err.ensures.members in
+    let first = rw is at c.in-Err.ensures.refused in
+    let crew : AreWorkersOf state after = c.search.ensures.crew in
+    let members : AreMembersOf c.in_ok-board.board c.join_workers.new.back.items = subst (λ (ms : List (Member PROGRAM_K g.row.LEVELS)). AreMembersOf c.in_ok-board.board ms) (sym back) crew.members in
+    (lit< tt, (lit< tt, (members, λ alone full ended. never_full state after c.join_workers.new.back.items c.in-Err.why crew back first (c.search.ensures.room alone) full ended)))
+
+pub returns-in-Err-clause-never_full : goal.returns-in-Err-clause-never_full
+returns-in-Err-clause-never_full g c = c.error_in_one_hand.ensures.never_full
+
+pub returns-in_default-clause-never_full : goal.returns-in_default-clause-never_full
+returns-in_default-clause-never_full g c = λ alone. memory_is_not_full
+
+pub returns-in_default-with_capacity-clause-never_full : goal.returns-in_default-with_capacity-clause-never_full
+returns-in_default-with_capacity-clause-never_full g c = λ alone. memory_is_not_full
+
+pub returns-in_default-make_workers-clause-never_full : goal.returns-in_default-make_workers-clause-never_full
+returns-in_default-make_workers-clause-never_full g c = λ alone. memory_is_not_full
+
+pub returns-in_default-finish-clause-never_full : goal.returns-in_default-finish-clause-never_full
+returns-in_default-finish-clause-never_full g c = λ alone. memory_is_not_full

@@ -1,7 +1,10 @@
-use Rattle.std.proofs.Common.{◌≡◌, ◌<◌, ◌≤◌, ◌⊎◌, ◌↔◌, inl, inr, ℕ, Result, Ok, Err, IfErr, refl, ap, arith}
+use Rattle.std.proofs.Common.{◌≡◌, ◌<◌, ◌≤◌, ◌⊎◌, ◌↔◌, inl, inr, ℕ, List, Result, Ok, Err, IfOk, IfErr, refl, ap, subst, arith}
 use Rattle.std.specs.Prelude.{IsErrAnd}
-use Rattle.klsm_run.specs.declared.limits.TheConstants.{MOST_THREADS, PROGRAM_K}
+use Rattle.klsm_run.specs.declared.limits.TheConstants.{MOST_THREADS, PROGRAM_K, PROGRAM_LEVELS}
 use Rattle.klsm_instance.specs.declared.search.Best.{Best}
+use Rattle.klsm_world.specs.declared.step.Entry.{Entry}
+use Rattle.klsm_knapsack.specs.declared.options.SearchOptions.{SearchOptions}
+use Rattle.klsm_knapsack.specs.Searches.{HasSearched}
 use Rattle.klsm_knapsack.specs.declared.errors.UnsolvedError.{UnsolvedError}
 use Rattle.klsm_knapsack.specs.declared.errors.UnsolvedError.TheVariants.{BadThreads, BadK, BadRefill, NoMemory}
 use Rattle.klsm_tool.proofs.knapsack.solve_heard.Goals as goal
@@ -25,3 +28,7 @@ returns-clause-memory g c = λ some few small.
     let threads = ap (λ o. o.threads) options in let k = ap (λ o. o.k) options in let refill = ap (λ o. o.refill) options in
     only_memory c.new-options.result.threads c.new-options.result.k c.new-options.result.refill c.solve_to_the_end-answer.result told.bad_threads told.bad_k told.bad_refill
     (omega (arith, k, refill)) (omega (arith, threads, some)) (omega (arith, threads, few)) (omega (arith, k, small))
+
+pub returns-clause-ran : goal.returns-clause-ran
+returns-clause-ran g c =
+    subst (λ (options : SearchOptions). IfOk c.solve_to_the_end-answer.result (λ best. (lists : List (List Entry)) × HasSearched PROGRAM_LEVELS options lists)) c.new-options.ensures c.solve_to_the_end-answer.ensures.ran

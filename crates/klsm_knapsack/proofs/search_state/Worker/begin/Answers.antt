@@ -1,4 +1,5 @@
-use Rattle.std.proofs.Common.{◌∙◌, lit<}
+use Rattle.std.proofs.Common.{◌≡◌, ◌∙◌, ap, false, true, refl, lit<}
+use Rattle.klsm_world.specs.OwnSteps.{inserted}
 use Rattle.klsm_knapsack.proofs.CrewLemmas.{new_room, root_at_work}
 use Rattle.klsm_knapsack.proofs.search_state.Worker.begin.Goals as goal
 
@@ -16,3 +17,11 @@ returns-in-Ok-clause-course g c first on = c.in-Ok.ensures.course first on
 
 pub returns-in-Err-clause-course : goal.returns-in-Err-clause-course
 returns-in-Err-clause-course g c first on = c.in-Err.ensures.course first on
+
+pub returns-in-Ok-clause-refused : goal.returns-in-Ok-clause-refused
+returns-in-Ok-clause-refused g c = λ not. let bad : true ≡ false = not in absurd (let none : ⊥ = cc in none)
+
+pub returns-in-Err-clause-refused : goal.returns-in-Err-clause-refused
+returns-in-Err-clause-refused g c = λ not.
+    let told = c.in-Err.ensures in
+    record { why = c.in-Err.why; refused = refl; ended = told.refused; none_inserted = told.refuses ∙ ap inserted c.requires.new.steps }

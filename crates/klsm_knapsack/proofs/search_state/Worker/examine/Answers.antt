@@ -102,3 +102,6 @@ returns-then-node-len-clause-course g c = λ first on. on
 
 pub returns-clause-course : goal.returns-clause-course
 returns-clause-course g c = λ first on. c.expand.ensures.course first on
+
+pub returns-clause-memory : goal.returns-clause-memory
+returns-clause-memory g c = c.expand.ensures.goes_on
