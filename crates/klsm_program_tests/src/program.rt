@@ -5,6 +5,7 @@
 
 mod faults;
 mod knapsack;
+mod large;
 mod live;
 mod order;
 mod process;
