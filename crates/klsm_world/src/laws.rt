@@ -3,6 +3,7 @@
 ghost use Rattle.klsm_world.specs.Laws.{AccountsAddUp, AccountsLeaveLive, AcquiresFindContents, DeletionsAreFew, EarliesKeepOwnOrder, EarliesSkipFew, FirstWorldIsLawful, ListsHaveEvents, ListsTellFronts, LiveItemsDiffer, LooksTellFronts, NothingLeavesFew, PartsShareNone, SchedulesAreRuns, SchedulesKeepLawful, StepsKeepLawful, TakesKeepOwnOrder, TakesSkipFew};
 ghost use Rattle.klsm_world.specs.LiveLaws.{FullHandsHaveLive, LaterItemsLived, LeastKeysHold};
 ghost use Rattle.klsm_world.specs.OwnListLaws.{HandsAreApart, ListsKeepOwnOrder, ListsKeepOwnOrderEarly, ListsLeaveFew, ListsSkipFew, ListsSkipFewEarly, NextIsNewInHand, OwnDeletionsAreFew, RefilledMayFollowEarly};
+ghost use Rattle.klsm_world.specs.OrderLaws.{ContentsAscend, FirstAreLeast, FoundAscends, HandsAscend, StepsKeepOrder};
 ghost use Rattle.klsm_world.specs.Reached.{ReachesMostLeft, ReachesMostLeftRefilled, ReachesMostSkipped, ReachesMostSkippedEarly, ReachesMostSkippedEarlyRefilled, ReachesMostSkippedRefilled, two_threads};
 
 /// The first world is lawful.
@@ -98,6 +99,16 @@ pub fn full_hands_have_live()
 pub fn least_keys_hold()
     ensures items { LaterItemsLived }
     ensures keys { LeastKeysHold }
+{}
+
+/// In each world to which a schedule leads the content of each part ascends, at home and in a hand, and so does what
+/// an acquire found. The first n items of such a content are its least n.
+pub fn contents_ascend()
+    ensures steps { StepsKeepOrder }
+    ensures contents { ContentsAscend }
+    ensures hands { HandsAscend }
+    ensures found { FoundAscends }
+    ensures first { FirstAreLeast }
 {}
 
 /// A thread's own steps have its events of the schedule, in their order.

@@ -11,3 +11,4 @@ pub mod OwnListLemmas  -- what a list of own steps tells
 pub mod OwnEventLemmas  -- lists have the events of a schedule
 pub mod AccountLemmas  -- the account
 pub mod LiveLemmas  -- what lives, by a hand with all parts, and later
+pub mod OrderLemmas  -- contents ascend

@@ -116,6 +116,11 @@ two_count w x (suc n) p q apart less less' =
       ]
     ]
 
+-- nor has a part an item twice
+pub content_is_once : (limits : Limits) (w : World) (p : ℕ) (x : Item) → IsLawful limits w → p ≤ limits.threads → times x (content_of w p) ≤ 1
+content_is_once limits w p x lawful within =
+    omega (arith, part_counts w x (length w.homes) p (omega (arith, within, lawful.agreed.homes_are)), live_items_differ limits w x lawful)
+
 -- no two parts share an item
 pub parts_share_none : PartsShareNone
 parts_share_none limits w p q lawful within within' apart x here there =
