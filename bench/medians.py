@@ -5,6 +5,9 @@ import os
 
 PLACES = ("what", "queue", "parameter", "threads", "workload", "items")
 
+# In what the greatest rank error is measured: the workload, and by how many times as many threads as the other figures.
+SITUATIONS = [("hold", 1), ("crowded hold", 2), ("crowded hold", 4), ("stopped hold", 1)]
+
 
 class Medians:
     """The medians, and what is not measured, by what, queue, parameter, threads, workload and items."""
@@ -27,8 +30,12 @@ class Medians:
 
     def spread(self, *key):
         """The least and the greatest of all rounds."""
-        value = self.values.get(key)
-        return self.spreads.get(key, (value, value))
+        return self.spreads.get(key, (None, None))
+
+    def greatest_error(self, queue, parameter, threads, items, situation):
+        """The greatest rank error of all rounds that was certain in threads; none where it was not measured."""
+        workload, times = situation
+        return self.spread("rank_certain_max", queue, parameter, times * threads, workload, items)[1]
 
     def heap_alone(self, what, workload, items):
         """The median of a heap without a lock, by one thread."""

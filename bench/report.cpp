@@ -8,12 +8,6 @@
 
 namespace {
 
-// The median; of an even number, the lower of the two in the middle.
-double median(std::vector<double> values) {
-    std::sort(values.begin(), values.end());
-    return values[(values.size() - 1) / 2];
-}
-
 // What stands after the mark in the first line of a file that begins with the name, without quotes.
 std::string field(const char *path, const std::string &name, char mark) {
     std::ifstream file(path);
@@ -35,14 +29,16 @@ report::~report() { std::fclose(file_); }
 
 void report::comment(const std::string &line) { std::fprintf(file_, "# %s\n", line.c_str()); }
 
-void report::head() { std::fprintf(file_, "what,queue,parameter,threads,workload,items,round,value,unit\n"); }
+void report::head() { std::fprintf(file_, "what,queue,parameter,threads,workload,items,value,least,greatest,unit\n"); }
 
-void report::row(const subject &of, const cell &in, const std::string &round, const figure &one) {
-    std::fprintf(file_, "%s,%s,%s,%zu,%s,%zu,%s,%.6g,%s\n", one.what.c_str(), of.queue.c_str(), of.parameter.c_str(),
-                 in.threads, in.workload.c_str(), in.items, round.c_str(), one.value, one.unit.c_str());
+// The median is, of an even number, the lower of the two in the middle.
+void report::row(const subject &of, const cell &in, const figure &one, const std::vector<double> &rounds) {
+    std::fprintf(file_, "%s,%s,%s,%zu,%s,%zu,%.6g,%.6g,%.6g,%s\n", one.what.c_str(), of.queue.c_str(),
+                 of.parameter.c_str(), in.threads, in.workload.c_str(), in.items, rounds[(rounds.size() - 1) / 2],
+                 rounds.front(), rounds.back(), one.unit.c_str());
 }
 
-void report::add(const subject &of, const cell &in, const figure &one) { row(of, in, "-", one); }
+void report::add(const subject &of, const cell &in, const figure &one) { row(of, in, one, {one.value}); }
 
 void report::compare(const std::vector<const subject *> &all, const cell &in, std::size_t rounds,
                      const measuring &measured) {
@@ -51,17 +47,14 @@ void report::compare(const std::vector<const subject *> &all, const cell &in, st
         for (std::size_t turn = 0; turn < all.size(); turn++) {
             const std::size_t s = (turn + round * 7) % all.size();
             figures[s].push_back(measured(*all[s], round));
-            for (const figure &one : figures[s].back())
-                row(*all[s], in, std::to_string(round + 1), one);
         }
     for (std::size_t s = 0; s < all.size(); s++)
         for (std::size_t i = 0; i < figures[s].front().size(); i++) {
             std::vector<double> values;
             for (const std::vector<figure> &one_round : figures[s])
                 values.push_back(one_round[i].value);
-            figure middle = figures[s].front()[i];
-            middle.value = median(values);
-            row(*all[s], in, "median", middle);
+            std::sort(values.begin(), values.end());
+            row(*all[s], in, figures[s].front()[i], values);
         }
     std::fflush(file_);
 }

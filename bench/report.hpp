@@ -1,4 +1,4 @@
-// The CSV: lines of comment about the run, and a row for each figure of each round, and for its median.
+// The CSV: lines of comment about the run, and a row for each figure: its median, its least and its greatest round.
 #ifndef BENCH_REPORT_HPP
 #define BENCH_REPORT_HPP
 
@@ -44,7 +44,8 @@ public:
                  const measuring &measured);
 
 private:
-    void row(const subject &of, const cell &in, const std::string &round, const figure &one);
+    // A figure with all its rounds, the least first.
+    void row(const subject &of, const cell &in, const figure &one, const std::vector<double> &rounds);
 
     std::FILE *file_;
 };
