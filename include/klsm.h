@@ -139,9 +139,10 @@ typedef struct klsm_item {
     uint32_t owner;  /* the number of the member that inserted it */
 } klsm_item;
 
-/* What lives in a queue at one moment, in all parts together. */
+/* What is open in a queue at one moment: what lives in all parts together, and what members work at. */
 typedef struct klsm_dual_bound {
     uint64_t queue; /* the smallest key of all items that live, and UINT64_MAX where none lives */
+    uint64_t work;  /* that of the items that members work at, and UINT64_MAX where none works: see klsm_try_rest */
     uint64_t items; /* how many items live */
 } klsm_dual_bound;
 
@@ -170,8 +171,8 @@ KLSM_ASSERT(sizeof(klsm_queue) == 8192 && offsetof(klsm_queue, members) == 0);
 KLSM_ASSERT(sizeof(klsm_item) == 32);
 KLSM_ASSERT(offsetof(klsm_item, key) == 0 && offsetof(klsm_item, load) == 8);
 KLSM_ASSERT(offsetof(klsm_item, number) == 16 && offsetof(klsm_item, owner) == 24);
-KLSM_ASSERT(sizeof(klsm_dual_bound) == 16);
-KLSM_ASSERT(offsetof(klsm_dual_bound, queue) == 0 && offsetof(klsm_dual_bound, items) == 8);
+KLSM_ASSERT(sizeof(klsm_dual_bound) == 24 && offsetof(klsm_dual_bound, queue) == 0);
+KLSM_ASSERT(offsetof(klsm_dual_bound, work) == 8 && offsetof(klsm_dual_bound, items) == 16);
 KLSM_ASSERT(sizeof(klsm_account) == 24 && offsetof(klsm_account, inserted) == 0);
 KLSM_ASSERT(offsetof(klsm_account, deleted) == 8 && offsetof(klsm_account, left) == 16);
 #ifdef __cplusplus
@@ -304,20 +305,31 @@ int32_t klsm_try_delete_min_alone(klsm_member *member, klsm_item *item);
 KLSM_MUST_USE KLSM_NOT_NULL(1, 2)
 int32_t klsm_try_share(klsm_member *member, uint64_t *moved);
 
-/* The bound: the smallest key of all items that live, in all parts together, and how many live. It inserts and deletes
- * nothing, and no item moves. Never blocks. The member's thread, one call at a time: now and then, since it takes the
- * lock of each member, in the order of their numbers, and then the shared one, and while it has a part nobody else can
- * use that. Allocates nothing.
- * There is a moment in the call when the member has all parts, and of that moment it is exact. Each item that lives
- * later was inserted since, or has a key of at least `queue`. An item that was deleted lives no more, however long its
- * thread works at it: C-INTERFACE.md, "A search that stops at a gap", has how a search keeps those keys itself, and
- * what it may conclude.
+/* The bound: the smallest key of all items that live, in all parts together, how many live, and the smallest key of the
+ * items that members work at. A member works at the item that it deleted last, until a deletion answers KLSM_NOTHING or
+ * it rests (klsm_try_rest). It inserts and deletes nothing, and no item moves. Never blocks. The member's thread, one
+ * call at a time: now and then, since it takes the lock of each member, in the order of their numbers, and then the
+ * shared one, and while it has a part nobody else can use that. Allocates nothing.
+ * There is a moment in the call when the member has all parts, and of that moment all three numbers are exact. Where
+ * from then on each insertion is made by a member that works at an item, with a key that is not less than that item's,
+ * no item that is deleted later has a key below the smaller one of `queue` and `work`: C-INTERFACE.md, "A search that
+ * stops at a gap", says what a search does for that, and what it may conclude.
  * KLSM_OK            *bound is written
  * KLSM_BUSY          one of the locks is held by another member
  * KLSM_NOT_OPEN      the member is not open
  * After all but KLSM_OK *bound is unchanged. */
 KLSM_MUST_USE KLSM_NOT_NULL(1, 2)
 int32_t klsm_try_bound(klsm_member *member, klsm_dual_bound *bound);
+
+/* Rests: the member has done with the item that it deleted last, and works at none until its next deletion. A bound
+ * tells it, and nothing else changes. Never blocks, and allocates nothing. The member's thread, one call at a time:
+ * once all is inserted that its item leads to, where it leaves, or where its next deletion will be long in coming.
+ * Costs the member's own lock.
+ * KLSM_OK            done
+ * KLSM_BUSY          that lock is held by another member, and the member works at its item as before
+ * KLSM_NOT_OPEN      the member is not open */
+KLSM_MUST_USE KLSM_NOT_NULL(1)
+int32_t klsm_try_rest(klsm_member *member);
 
 /* The front: the key of the smallest shared item, and UINT64_MAX where no item is shared, or the member is not
  * open. Items in members' own parts may have smaller keys, of which others have at most (T-1)*k, and a smaller one
@@ -493,125 +505,7 @@ KLSM_INLINE const char *klsm_text(int32_t code) {
     }
 }
 
-/* What a thread does after KLSM_BUSY: it backs off, longer each time, then lets other threads run too, and
- * after many misses sleeps, so that the thread that has the lock finds a processor also where there are
- * fewer of these than threads. For a waiting loop of one's own over the calls klsm_try_..; klsm_insert
- * and klsm_delete_min show how. The lengths are those of the library's own waiting calls in Rattle. */
-typedef struct klsm_pause {
-    uint32_t length; /* of the next pause, in nanoseconds */
-    uint32_t misses; /* how many pauses came before, as far as it matters */
-} klsm_pause;
-
-KLSM_INLINE klsm_pause klsm_first_pause(void) {
-    klsm_pause first = {50, 0};
-    return first;
-}
-
-/* By time, since a pause instruction takes 5 nanoseconds on one processor and 60 on another. The time-stamp
- * counter makes two to four ticks a nanosecond, and three are taken for one here. */
-KLSM_INLINE void klsm_look_away(uint32_t nanoseconds) {
-    const uint64_t begin = __builtin_ia32_rdtsc();
-    do
-        __builtin_ia32_pause();
-    while (__builtin_ia32_rdtsc() - begin < UINT64_C(3) * nanoseconds);
-}
-
-/* For less than a second. select is declared under each standard. */
-KLSM_INLINE void klsm_sleep(long microseconds) {
-    struct timeval length = {0, microseconds};
-    select(0, NULL, NULL, NULL, &length);
-}
-
-KLSM_INLINE void klsm_wait(klsm_pause *pause) {
-    if (pause->misses >= 200) {
-        klsm_sleep(50);
-        return;
-    }
-    klsm_look_away(pause->length);
-    if (pause->misses >= 7)
-        sched_yield();
-    pause->misses++;
-    pause->length = pause->length < 400 ? 2 * pause->length : 800;
-}
-
-/* The calls that come after a first one was KLSM_BUSY. */
-KLSM_COLD int32_t klsm_insert_after_pauses(klsm_member *member, uint64_t key, uint64_t load) {
-    klsm_pause pause = klsm_first_pause();
-    int32_t code;
-    do {
-        klsm_wait(&pause);
-        code = klsm_try_insert(member, key, load);
-    } while (code == KLSM_BUSY);
-    return code;
-}
-
-KLSM_COLD int32_t klsm_delete_after_pauses(int32_t (*delete_by)(klsm_member *, klsm_item *), klsm_member *member,
-                                           klsm_item *item) {
-    klsm_pause pause = klsm_first_pause();
-    int32_t code;
-    do {
-        klsm_wait(&pause);
-        code = delete_by(member, item);
-    } while (code == KLSM_BUSY);
-    return code;
-}
-
-KLSM_COLD int32_t klsm_share_after_pauses(klsm_member *member, uint64_t *moved) {
-    klsm_pause pause = klsm_first_pause();
-    int32_t code;
-    do {
-        klsm_wait(&pause);
-        code = klsm_try_share(member, moved);
-    } while (code == KLSM_BUSY);
-    return code;
-}
-
-KLSM_COLD int32_t klsm_bound_after_pauses(klsm_member *member, klsm_dual_bound *bound) {
-    klsm_pause pause = klsm_first_pause();
-    int32_t code;
-    do {
-        klsm_wait(&pause);
-        code = klsm_try_bound(member, bound);
-    } while (code == KLSM_BUSY);
-    return code;
-}
-
-/* klsm_try_insert, again and again while it is KLSM_BUSY. How long it may wait is not promised. */
-KLSM_MUST_USE KLSM_NOT_NULL(1)
-KLSM_INLINE int32_t klsm_insert(klsm_member *member, uint64_t key, uint64_t load) {
-    int32_t code = klsm_try_insert(member, key, load);
-    return __builtin_expect(code == KLSM_BUSY, 0) ? klsm_insert_after_pauses(member, key, load) : code;
-}
-
-/* klsm_try_delete_min, again and again while it is KLSM_BUSY. It does not wait for an item. */
-KLSM_MUST_USE KLSM_NOT_NULL(1, 2)
-KLSM_INLINE int32_t klsm_delete_min(klsm_member *member, klsm_item *item) {
-    int32_t code = klsm_try_delete_min(member, item);
-    return __builtin_expect(code == KLSM_BUSY, 0) ? klsm_delete_after_pauses(klsm_try_delete_min, member, item) : code;
-}
-
-/* klsm_try_delete_min_alone, again and again while it is KLSM_BUSY. It does not wait for an item. */
-KLSM_MUST_USE KLSM_NOT_NULL(1, 2)
-KLSM_INLINE int32_t klsm_delete_min_alone(klsm_member *member, klsm_item *item) {
-    int32_t code = klsm_try_delete_min_alone(member, item);
-    return __builtin_expect(code == KLSM_BUSY, 0) ? klsm_delete_after_pauses(klsm_try_delete_min_alone, member, item)
-                                                  : code;
-}
-
-/* klsm_try_share, again and again while it is KLSM_BUSY. How long it may wait is not promised. */
-KLSM_MUST_USE KLSM_NOT_NULL(1, 2)
-KLSM_INLINE int32_t klsm_share(klsm_member *member, uint64_t *moved) {
-    int32_t code = klsm_try_share(member, moved);
-    return __builtin_expect(code == KLSM_BUSY, 0) ? klsm_share_after_pauses(member, moved) : code;
-}
-
-/* klsm_try_bound, again and again while it is KLSM_BUSY. Each try needs all locks at once and keeps none for the next
- * one, so where many threads do little but insert and delete it may take long. How long is not promised. */
-KLSM_MUST_USE KLSM_NOT_NULL(1, 2)
-KLSM_INLINE int32_t klsm_bound(klsm_member *member, klsm_dual_bound *bound) {
-    int32_t code = klsm_try_bound(member, bound);
-    return __builtin_expect(code == KLSM_BUSY, 0) ? klsm_bound_after_pauses(member, bound) : code;
-}
+#include "klsm_wait.h"
 
 #include "klsm_work.h"
 

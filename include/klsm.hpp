@@ -226,9 +226,9 @@ public:
     [[nodiscard]] klsm::code try_share(std::uint64_t &moved) noexcept {
         return at_ == nullptr ? code::not_open : code(klsm_try_share(at_, &moved));
     }
-    // The bound: the smallest key of all items that live, in all parts together, and how many live. It waits while a
-    // lock is held, and needs all of them at once: now and then, and not at each item. None where the queue is closed.
-    // klsm.h says more at klsm_try_bound.
+    // The bound: the smallest key of all items that live, in all parts together, that of the items that members work
+    // at, and how many live. It waits while a lock is held, and needs all of them at once: now and then, and not at
+    // each item. None where the queue is closed. klsm.h says more at klsm_try_bound.
     [[nodiscard]] std::optional<dual_bound> bound() noexcept {
         dual_bound found;
         if (bound(found) != code::ok) return std::nullopt;
@@ -241,6 +241,13 @@ public:
     // The same, and never blocks.
     [[nodiscard]] klsm::code try_bound(dual_bound &found) noexcept {
         return at_ == nullptr ? code::not_open : code(klsm_try_bound(at_, &found));
+    }
+    // Rests: it has done with the item that it deleted last, and works at none until its next deletion. It waits while
+    // its lock is held. For a thread that leaves, or will not delete for a while: klsm.h says more at klsm_try_rest.
+    klsm::code rest() noexcept { return at_ == nullptr ? code::not_open : code(klsm_rest(at_)); }
+    // The same, and never blocks.
+    [[nodiscard]] klsm::code try_rest() noexcept {
+        return at_ == nullptr ? code::not_open : code(klsm_try_rest(at_));
     }
     // The front: the key of the smallest shared item. klsm.h says more at klsm_front.
     [[nodiscard]] std::uint64_t front() const noexcept { return at_ == nullptr ? UINT64_MAX : klsm_front(at_); }

@@ -95,10 +95,16 @@ KLSM_INLINE int32_t klsm_tsan_try_share(klsm_member *member, uint64_t *moved) {
 
 KLSM_MUST_USE KLSM_NOT_NULL(1, 2)
 KLSM_INLINE int32_t klsm_tsan_try_bound(klsm_member *member, klsm_dual_bound *bound) {
-    klsm_dual_bound found = {0, 0};
+    klsm_dual_bound found = {0, 0, 0};
     KLSM_TSAN(klsm_tsan_use(member), int32_t code = klsm_try_bound(member, &found));
     if (code == KLSM_OK)
         *bound = found;
+    return code;
+}
+
+KLSM_MUST_USE KLSM_NOT_NULL(1)
+KLSM_INLINE int32_t klsm_tsan_try_rest(klsm_member *member) {
+    KLSM_TSAN(klsm_tsan_use(member), int32_t code = klsm_try_rest(member));
     return code;
 }
 
@@ -134,6 +140,7 @@ KLSM_END_INLINE
 #define klsm_try_delete_min_alone klsm_tsan_try_delete_min_alone
 #define klsm_try_share klsm_tsan_try_share
 #define klsm_try_bound klsm_tsan_try_bound
+#define klsm_try_rest klsm_tsan_try_rest
 #define klsm_front klsm_tsan_front
 #define klsm_inserted klsm_tsan_inserted
 #define klsm_deleted klsm_tsan_deleted

@@ -220,10 +220,12 @@ public:
     [[nodiscard]] klsm::code share(std::uint64_t &moved) noexcept { return member_.share(moved); }
     [[nodiscard]] klsm::code try_share() noexcept { return member_.try_share(); }
     [[nodiscard]] klsm::code try_share(std::uint64_t &moved) noexcept { return member_.try_share(moved); }
-    // The bound of all items that live, as klsm::member has it.
+    // The bound of all items that live and of those that members work at, and a rest, as klsm::member has them.
     [[nodiscard]] std::optional<dual_bound> bound() noexcept { return member_.bound(); }
     [[nodiscard]] klsm::code bound(dual_bound &found) noexcept { return member_.bound(found); }
     [[nodiscard]] klsm::code try_bound(dual_bound &found) noexcept { return member_.try_bound(found); }
+    klsm::code rest() noexcept { return member_.rest(); }
+    [[nodiscard]] klsm::code try_rest() noexcept { return member_.try_rest(); }
     [[nodiscard]] std::uint64_t front() const noexcept { return member_.front(); }
     // How many insertions and deletions were made by this number since the queue was opened.
     [[nodiscard]] std::uint64_t inserted() const noexcept { return member_.inserted(); }

@@ -16,7 +16,7 @@
  *
  * A deletion may have brought more items home than the one that it gave, and the others come to these last. So a thread
  * calls klsm_share before it works on a piece for long, and before it leaves the crew while work is open; where it
- * leaves since the crew was stopped, it need not.
+ * leaves since the crew was stopped, it need not. Where others ask for a bound, it calls klsm_rest before it leaves.
  *
  * A klsm_work is all bytes 0 at first and aligned to 128 bytes, as a klsm_queue is, and is neither copied nor written
  * otherwise while threads use it. Any thread may make these calls, at any time, but for klsm_work_insert and

@@ -8,8 +8,8 @@
 //         piece.done();                                    // one that is left before is given up
 //     }
 //
-// A thread calls member.share() before it works on a piece for long, and before it leaves while work is open:
-// klsm_work.h says why.
+// A thread calls member.share() before it works on a piece for long, and before it leaves while work is open, and
+// member.rest() before it leaves where others ask for a bound: klsm_work.h says why.
 #ifndef KLSM_WORK_HPP
 #define KLSM_WORK_HPP
 

@@ -51,6 +51,13 @@ static void insert_and_delete(void) {
     result = sum;
 }
 
+static void rest(void) {
+    uint64_t sum = 0;
+    for (uint64_t i = 0; i < CALLS; i++)
+        sum += (uint64_t)klsm_rest(&queue.members[0]);
+    result = sum;
+}
+
 static void print(const char *name, void (*calls)(void)) {
     uint64_t times[ROUNDS];
     calls();
@@ -75,6 +82,7 @@ int main(void) {
     print("deletion-on-closed", delete_closed);
     print("deletion-from-empty", delete_from_empty);
     print("insertion-and-deletion", insert_and_delete);
+    print("rest", rest);
     klsm_drop(&queue);
     return 0;
 }

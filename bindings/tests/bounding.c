@@ -7,9 +7,9 @@ enum { K = 8, REFILL = 4, ITEMS = 100, THREADS = 4, ROUNDS = 2000 };
 
 static klsm_queue queue;
 
-/* Whether the member's bound is this one, by either call. */
+/* Whether the member's bound has this key and so many items, by either call. resting.c has what members work at. */
 static int bound_is(uint32_t member, uint64_t key, uint64_t items) {
-    klsm_dual_bound one = {7, 7}, other = {7, 7};
+    klsm_dual_bound one = {7, 7, 7}, other = {7, 7, 7};
     return klsm_bound(&queue.members[member], &one) == KLSM_OK &&
            klsm_try_bound(&queue.members[member], &other) == KLSM_OK && one.queue == key && one.items == items &&
            other.queue == key && other.items == items;
@@ -149,7 +149,7 @@ static void while_threads_drain(void) {
     working = THREADS;
     for (int t = 0; t < THREADS; t++)
         check_or_stop("a thread", pthread_create(&threads[t], NULL, drain, &queue.members[t]) == 0);
-    klsm_dual_bound last = {0, MANY}, bound;
+    klsm_dual_bound last = {0, 0, MANY}, bound;
     int rises = 1;
     do {
         check_or_stop("bound", klsm_bound(&queue.members[THREADS], &bound) == KLSM_OK);

@@ -61,10 +61,12 @@ static int32_t share(void) { return klsm_share(member(), &moved); }
 static int32_t try_share(void) { return klsm_try_share(member(), &moved); }
 static int32_t find_bound(void) { return klsm_bound(member(), &bound); }
 static int32_t try_bound(void) { return klsm_try_bound(member(), &bound); }
+static int32_t rest(void) { return klsm_rest(member()); }
+static int32_t try_rest(void) { return klsm_try_rest(member()); }
 
 /* Their exports. */
 static const enum stub_call exports[] = {STUB_TRY_INSERT, STUB_TRY_DELETE_MIN, STUB_TRY_DELETE_MIN_ALONE,
-                                         STUB_TRY_SHARE, STUB_TRY_BOUND};
+                                         STUB_TRY_SHARE, STUB_TRY_BOUND, STUB_TRY_REST};
 enum { EXPORTS = sizeof exports / sizeof exports[0] };
 
 /* The answer of such a call where a lock is held for so many tries. */
@@ -76,7 +78,7 @@ static int32_t after(int32_t (*call)(void), uint64_t held, int32_t code) {
     }
     memset(&item, 0, sizeof item);
     moved = 7;
-    bound = (klsm_dual_bound){7, 8};
+    bound = (klsm_dual_bound){7, 8, 9};
     return call();
 }
 
@@ -93,22 +95,25 @@ static int deletes(uint64_t times) { return calls_alone(STUB_TRY_DELETE_MIN, tim
 static int deletes_alone(uint64_t times) { return calls_alone(STUB_TRY_DELETE_MIN_ALONE, times, address(&item), 0); }
 static int shares(uint64_t times) { return calls_alone(STUB_TRY_SHARE, times, address(&moved), 0); }
 static int bounds(uint64_t times) { return calls_alone(STUB_TRY_BOUND, times, address(&bound), 0); }
+static int rests(uint64_t times) { return calls_alone(STUB_TRY_REST, times, 0, 0); }
 
-static int bound_is(uint64_t queue, uint64_t items) { return bound.queue == queue && bound.items == items; }
+/* Whether the bound has this number and the next two. */
+static int bound_is(uint64_t first) {
+    return bound.queue == first && bound.work == first + 1 && bound.items == first + 2;
+}
 static int has_item(int32_t code) {
     int is_written = item.key == 101 && item.load == 102 && item.number == 103 && item.owner == 104;
-    return is_written == (code == KLSM_OK) && (is_written || item.key == 0) && moved == 7 &&
-           bound_is(7, 8);
+    return is_written == (code == KLSM_OK) && (is_written || item.key == 0) && moved == 7 && bound_is(7);
 }
 static int has_count(int32_t code) {
-    return moved == (code == KLSM_OK ? 105 : 7) && item.key == 0 && bound_is(7, 8);
+    return moved == (code == KLSM_OK ? 105 : 7) && item.key == 0 && bound_is(7);
 }
 static int has_bound(int32_t code) {
-    return (code == KLSM_OK ? bound_is(106, 107) : bound_is(7, 8)) && moved == 7 && item.key == 0;
+    return bound_is(code == KLSM_OK ? 106 : 7) && moved == 7 && item.key == 0;
 }
 static int has_none(int32_t code) {
     (void)code;
-    return moved == 7 && item.key == 0 && bound_is(7, 8);
+    return moved == 7 && item.key == 0 && bound_is(7);
 }
 
 /* What a call asks of the library, and what it writes with a code. */
@@ -123,6 +128,7 @@ static const struct {
     {"delete_min_alone", delete_min_alone, try_delete_min_alone, deletes_alone, has_item},
     {"share", share, try_share, shares, has_count},
     {"bound", find_bound, try_bound, bounds, has_bound},
+    {"rest", rest, try_rest, rests, has_none},
 };
 
 static void waiting_calls(void) {

@@ -248,9 +248,9 @@ static void sharings() {
 
 // Whether a bound had its code by so many tries, and wrote with ok alone.
 static bool has_bounded(klsm::code answer, klsm::code expected, std::uint64_t times, const klsm::dual_bound &bound) {
-    const bool wrote = expected == klsm::code::ok;
-    return answer == expected && opened::asked(STUB_TRY_BOUND, times) && bound.queue == (wrote ? 106u : 7u) &&
-           bound.items == (wrote ? 107u : 8u);
+    const std::uint64_t first = expected == klsm::code::ok ? 106 : 7;
+    return answer == expected && opened::asked(STUB_TRY_BOUND, times) && bound.queue == first &&
+           bound.work == first + 1 && bound.items == first + 2;
 }
 
 static void bounds() {
@@ -258,7 +258,7 @@ static void bounds() {
         for (unsigned held : {0u, 1u, 2u, 45u}) {
             if (number == KLSM_BUSY) continue;
             klsm::code tried = held == 0 ? code : klsm::code::busy, answer;
-            klsm::dual_bound bound{7, 8};
+            klsm::dual_bound bound{7, 8, 9};
             begin(STUB_TRY_BOUND, held, number);
             answer = opened().member.bound(bound);
             check("bound waits for this code", has_bounded(answer, code, held + 1, bound));
@@ -266,11 +266,26 @@ static void bounds() {
             std::optional<klsm::dual_bound> found = opened().member.bound();
             check("and has one with ok alone",
                   found.has_value() == (number == KLSM_OK) && opened::asked(STUB_TRY_BOUND, held + 1));
-            check("which is that", !found || (found->queue == 106 && found->items == 107));
+            check("which is that", !found || (found->queue == 106 && found->work == 107 && found->items == 108));
             begin(STUB_TRY_BOUND, held, number);
-            bound = {7, 8};
+            bound = {7, 8, 9};
             answer = opened().member.try_bound(bound);
             check("try_bound has this code, or meets a held lock", has_bounded(answer, tried, 1, bound));
+        }
+    }
+}
+
+static void rests() {
+    for (auto [code, number] : codes) {
+        for (unsigned held : {0u, 1u, 2u, 45u}) {
+            if (number == KLSM_BUSY) continue;
+            begin(STUB_TRY_REST, held, number);
+            klsm::code answer = opened().member.rest();
+            check("rest waits for this code", answer == code && opened::asked(STUB_TRY_REST, held + 1));
+            begin(STUB_TRY_REST, held, number);
+            answer = opened().member.try_rest();
+            check("try_rest has this code, or meets a held lock",
+                  answer == (held == 0 ? code : klsm::code::busy) && opened::asked(STUB_TRY_REST, 1));
         }
     }
 }
@@ -287,14 +302,16 @@ static void moved_from() {
     check("a member that was moved from shares nothing", member.share() == closed && member.try_share() == closed &&
                                                              member.share(moved) == closed &&
                                                              member.try_share(moved) == closed && moved == 7);
-    klsm::dual_bound bound{7, 8};
+    klsm::dual_bound bound{7, 8, 9};
     check("and bounds nothing", member.bound(bound) == closed && member.try_bound(bound) == closed &&
-                                    !member.bound() && bound.queue == 7 && bound.items == 8);
+                                    !member.bound() && bound.queue == 7 && bound.work == 8 && bound.items == 9);
+    check("nor does it rest", member.rest() == closed && member.try_rest() == closed);
     check("and deletes nothing alone", member.delete_min_alone(item) == closed &&
                                            member.try_delete_min_alone(item) == closed &&
                                            !member.delete_min_alone() && item.key == 1);
-    check("by no call",
-          stub_asked(STUB_TRY_SHARE) + stub_asked(STUB_TRY_BOUND) + stub_asked(STUB_TRY_DELETE_MIN_ALONE) == 0);
+    check("by no call", stub_asked(STUB_TRY_SHARE) + stub_asked(STUB_TRY_BOUND) + stub_asked(STUB_TRY_REST) +
+                                stub_asked(STUB_TRY_DELETE_MIN_ALONE) ==
+                            0);
 }
 
 static void counts() {
@@ -389,6 +406,7 @@ int main() {
     deletions<alone>();
     sharings();
     bounds();
+    rests();
     moved_from();
     counts();
     members();

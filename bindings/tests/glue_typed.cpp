@@ -134,14 +134,14 @@ static void sharings() {
     begin(STUB_TRY_DELETE_MIN, 0, code::nothing); // by which the queue ends
 }
 
-// So is a bound.
-static void bounds() {
+// So are a bound and a rest.
+static void bounds_and_rests() {
     klsm::typed_queue<counted> queue(2);
     auto member = queue.member(1).value();
     for (code why : {code::ok, code::not_open}) {
         for (std::uint64_t held : {0u, 1u, 45u}) {
             const code tried = held == 0 ? why : code::busy;
-            klsm::dual_bound bound{7, 8}, also{7, 8};
+            klsm::dual_bound bound{7, 8, 9}, also{7, 8, 9};
             begin(STUB_TRY_BOUND, held, why);
             check("bound waits for this code", member.bound(bound) == why && stub_asked(STUB_TRY_BOUND) == held + 1);
             begin(STUB_TRY_BOUND, held, why);
@@ -153,7 +153,12 @@ static void bounds() {
             const auto found = member.bound();
             check("it has one with ok alone",
                   found.has_value() == (why == code::ok) && stub_asked(STUB_TRY_BOUND) == held + 1);
-            check("which is that", !found || (found->queue == 106 && found->items == 107));
+            check("which is that", !found || (found->queue == 106 && found->work == 107 && found->items == 108));
+            begin(STUB_TRY_REST, held, why);
+            check("rest waits for this code", member.rest() == why && stub_asked(STUB_TRY_REST) == held + 1);
+            begin(STUB_TRY_REST, held, why);
+            check("try_rest has this code, or meets a held lock",
+                  member.try_rest() == tried && stub_asked(STUB_TRY_REST) == 1);
         }
     }
     begin(STUB_TRY_DELETE_MIN, 0, code::nothing); // by which the queue ends
@@ -431,7 +436,7 @@ int main() {
     deletions<refilling>();
     deletions<alone>();
     sharings();
-    bounds();
+    bounds_and_rests();
     work();
     insertions_of_work();
     return check_status();

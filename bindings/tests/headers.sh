@@ -69,7 +69,8 @@ headers_without_warnings_by() {
     headers_without_warnings "$@"
 }
 
-# A compiler warns of each opening, insertion, deletion, sharing, bound, closing and piece of work whose code is dropped.
+# A compiler warns of each opening, insertion, deletion, sharing, bound, closing and piece of work whose code is
+# dropped, and of a rest that waits for nobody.
 dropped_codes() {
     cat >"$work/$1" <<'END'
 #include <klsm.h>
@@ -98,6 +99,8 @@ void drop(const klsm_options *options) {
     klsm_try_share(&queue.members[0], &moved);
     klsm_bound(&queue.members[0], &bound);
     klsm_try_bound(&queue.members[0], &bound);
+    klsm_try_rest(&queue.members[0]);
+    klsm_rest(&queue.members[0]);
     klsm_close(&queue, &account, &item, 1);
     klsm_close_into(&queue, &account, &item, 1);
     klsm_close_each(&queue, &account, each, NULL);
@@ -105,7 +108,7 @@ void drop(const klsm_options *options) {
     klsm_work_next(&work, &queue.members[0], &item);
 }
 END
-    warned_of "$1" unused-result 21
+    warned_of "$1" unused-result 22
 }
 
 # warned_of SOURCE WARNING LINES: of so many lines of what lies in the temporary folder.
@@ -130,7 +133,7 @@ uint64_t null(void) {
     klsm_member *member = &queue.members[0];
     uint64_t moved;
     klsm_dual_bound bound;
-    int32_t codes[42] = {
+    int32_t codes[44] = {
         klsm_open(NULL, 2, 8, KLSM_FIRST, 0),
         klsm_open_with_refill(NULL, 2, 8, KLSM_FIRST, 0, 4),
         klsm_open_with_balance(NULL, 2, 8, KLSM_FIRST, 0, 4, 1),
@@ -155,6 +158,8 @@ uint64_t null(void) {
         klsm_bound(member, NULL),
         klsm_try_bound(NULL, &bound),
         klsm_try_bound(member, NULL),
+        klsm_rest(NULL),
+        klsm_try_rest(NULL),
         klsm_close(NULL, &account, &item, 1),
         klsm_close(&queue, NULL, &item, 1),
         klsm_close_into(NULL, &account, &item, 1),
@@ -189,7 +194,7 @@ uint64_t null(void) {
     return codes[0] == 0 ? counts[0] : counts[1];
 }
 END
-    warned_of "$1" nonnull 52
+    warned_of "$1" nonnull 54
 }
 
 # What a part of a program in C++ has of klsm.h it keeps for itself.
@@ -203,6 +208,7 @@ extern "C" int32_t use(klsm_queue *queue, klsm_options options, klsm_item item) 
     if (klsm_work_insert(&work, &queue->members[0], klsm_key_of_double(2.5), 1) != KLSM_OK) return 1;
     if (klsm_share(&queue->members[0], &item.key) != KLSM_OK) return 1;
     if (klsm_bound(&queue->members[0], &bound) != KLSM_OK) return 1;
+    if (klsm_rest(&queue->members[0]) != KLSM_OK) return 1;
     if (klsm_delete_min_alone(&queue->members[0], &item) != KLSM_OK) return 1;
     return klsm_work_next(&work, &queue->members[0], &item) + klsm_delete_min(&queue->members[0], &item);
 }

@@ -45,6 +45,7 @@ files() {
 ./include/klsm_keys.h
 ./include/klsm_tsan.h
 ./include/klsm_typed.hpp
+./include/klsm_wait.h
 ./include/klsm_work.h
 ./include/klsm_work.hpp
 ./lib/cmake/klsm/klsm-config-version.cmake

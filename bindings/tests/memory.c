@@ -160,6 +160,8 @@ static uint64_t calls_without(void) {
     klsm_dual_bound bound;
     codes = klsm_bound(&queue.members[1], &bound) == KLSM_OK && klsm_try_bound(&queue.members[2], &bound) == KLSM_OK;
     check("bounds", without(codes && bound.items == ITEMS - 2));
+    codes = klsm_rest(&queue.members[1]) == KLSM_OK && klsm_try_rest(&queue.members[2]) == KLSM_OK;
+    check("rests", without(codes));
     check("counts", without(klsm_left(&queue) == ITEMS - 2));
     klsm_drop(&roomy);
     check("drop", without(1));

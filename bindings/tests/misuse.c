@@ -19,7 +19,7 @@ static void not_open(void) {
     klsm_item item, same;
     klsm_account account = {1, 2, 3};
     uint64_t moved = 7;
-    klsm_dual_bound bound = {7, 8};
+    klsm_dual_bound bound = {7, 8, 9};
     memset(&item, 0x5a, sizeof item);
     memcpy(&same, &item, sizeof item);
     check_code("try_insert, never opened", klsm_try_insert(&queue.members[0], 1, 2), KLSM_NOT_OPEN);
@@ -32,7 +32,9 @@ static void not_open(void) {
     check_code("share, never opened", klsm_share(&queue.members[KLSM_MAX_THREADS - 1], &moved), KLSM_NOT_OPEN);
     check_code("try_bound, never opened", klsm_try_bound(&queue.members[0], &bound), KLSM_NOT_OPEN);
     check_code("bound, never opened", klsm_bound(&queue.members[KLSM_MAX_THREADS - 1], &bound), KLSM_NOT_OPEN);
-    check("no bound is written", bound.queue == 7 && bound.items == 8);
+    check("no bound is written", bound.queue == 7 && bound.work == 8 && bound.items == 9);
+    check_code("try_rest, never opened", klsm_try_rest(&queue.members[0]), KLSM_NOT_OPEN);
+    check_code("rest, never opened", klsm_rest(&queue.members[KLSM_MAX_THREADS - 1]), KLSM_NOT_OPEN);
     check("the item and the number are as they were", memcmp(&same, &item, sizeof item) == 0 && moved == 7);
     check("inserted, never opened", klsm_inserted(&queue.members[0]) == 0);
     check("deleted, never opened", klsm_deleted(&queue.members[0]) == 0);
@@ -82,6 +84,7 @@ static void opening_twice(void) {
     check_code("alone", klsm_try_delete_min_alone(&queue.members[2], &item), KLSM_NOT_OPEN);
     check_code("nor does it share", klsm_try_share(&queue.members[2], &moved), KLSM_NOT_OPEN);
     check("and no number is written", moved == 7);
+    check_code("nor does it rest", klsm_try_rest(&queue.members[2]), KLSM_NOT_OPEN);
     check_code("delete_min", klsm_delete_min(&queue.members[0], &item), KLSM_OK);
     check("it is the item", item.key == 3 && item.load == 30 && item.owner == 1 && item.number == 0);
 }
@@ -101,9 +104,10 @@ static void closing_twice(void) {
     check_code("delete_min after close", klsm_delete_min(&queue.members[1], &item), KLSM_NOT_OPEN);
     check_code("the same alone", klsm_delete_min_alone(&queue.members[1], &item), KLSM_NOT_OPEN);
     check_code("share after close", klsm_share(&queue.members[0], &account.left), KLSM_NOT_OPEN);
-    klsm_dual_bound bound = {7, 8};
+    klsm_dual_bound bound = {7, 8, 9};
     check_code("bound after close", klsm_bound(&queue.members[0], &bound), KLSM_NOT_OPEN);
-    check("they write nothing", bound.items == 8 && account.left == 77 && item.key == 1 && item.owner == 4);
+    check_code("rest after close", klsm_rest(&queue.members[0]), KLSM_NOT_OPEN);
+    check("they write nothing", bound.items == 9 && account.left == 77 && item.key == 1 && item.owner == 4);
     check("counts after close", klsm_inserted(&queue.members[1]) == 0 && klsm_deleted(&queue.members[0]) == 0);
 }
 

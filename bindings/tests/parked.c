@@ -1,6 +1,7 @@
 /* A crew of which one thread works on a piece for long. The others pass over the next pieces, which a refill brought
  * home with it, and over those that it has inserted, as long as they find greater ones. Once it has shared they find
- * them within milliseconds, while it still works, and see what it wrote. sharing.c has which items move. */
+ * them within milliseconds, while it still works, and see what it wrote; within one where they wait and find nothing
+ * else. sharing.c has which items move. */
 #include "check.h"
 #include <pthread.h>
 #include <string.h>
@@ -91,8 +92,28 @@ static void *work_on_others(void *arg) {
     return NULL;
 }
 
-/* All pieces are shared at first. A balance would let the others find some that are parked before they are shared. */
-static void begin(void) {
+/* Its piece is in no part. The others wait until it has worked on it for a second; then it inserts what that led to, of
+ * which they may steal some already, and shares what is left. */
+static void *work_while_others_wait(void *unused) {
+    klsm_member *member = crew[0].member;
+    uint64_t moved = 0;
+    __atomic_store_n(&is_taken, 1, __ATOMIC_RELAXED);
+    for (int half = 0; half < 2; half++) /* a sleep is for less than a second */
+        klsm_sleep(500000);
+    as_told = 1;
+    for (uint64_t child = 0; child < CHILDREN; child++)
+        as_told = as_told && insert(member, 0, ITEMS + child) == KLSM_OK;
+    shared_at = check_now();
+    as_told = as_told && klsm_share(member, &moved) == KLSM_OK && moved <= CHILDREN;
+    while (value_of(&found) < parked && check_now() < shared_at + 1)
+        work_for_a_while();
+    klsm_work_stop(&work);
+    klsm_work_done(&work);
+    return unused;
+}
+
+/* So many pieces are shared at first. A balance would let the others find some that are parked before they are shared. */
+static void begin(uint64_t pieces) {
     uint64_t moved;
     memset(&work, 0, sizeof work);
     is_taken = is_shared = 0;
@@ -100,20 +121,31 @@ static void begin(void) {
     check_or_stop("open", klsm_open_with_refill(&queue, THREADS, KLSM_DEFAULT_K, KLSM_FIRST, 0, REFILL) == KLSM_OK);
     for (size_t t = 0; t < THREADS; t++)
         crew[t] = (thread){.member = &queue.members[t], .is_right = 1};
-    for (uint64_t i = 0; i < ITEMS; i++)
+    for (uint64_t i = 0; i < pieces; i++)
         check_or_stop("insert", insert(crew[1].member, i, i) == KLSM_OK);
     check_or_stop("share", klsm_share(crew[1].member, &moved) == KLSM_OK);
 }
 
-static void run(int alone) {
+/* The first thread does this, and the others work on what they find. */
+static void run(void *(*busy)(void *), void *of) {
     pthread_t threads[THREADS];
-    begin();
-    check_or_stop("a thread", pthread_create(&threads[0], NULL, work_for_long, alone ? &work : NULL) == 0);
+    check_or_stop("a thread", pthread_create(&threads[0], NULL, busy, of) == 0);
     for (size_t t = 1; t < THREADS; t++)
         check_or_stop("a thread", pthread_create(&threads[t], NULL, work_on_others, &crew[t]) == 0);
     for (size_t t = 0; t < THREADS; t++)
         pthread_join(threads[t], NULL);
     klsm_drop(&queue);
+}
+
+/* When the last of the parked pieces was found, and whether each was as it was written. */
+static double last_found(int *is_right, uint64_t *early) {
+    double last = 0;
+    for (size_t t = 1; t < THREADS; t++) {
+        *early += crew[t].early;
+        *is_right = *is_right && crew[t].is_right;
+        last = crew[t].last > last ? crew[t].last : last;
+    }
+    return last;
 }
 
 /* Soon is within ten milliseconds in the best of some rounds, since other programs run too. */
@@ -123,13 +155,9 @@ static void finds(const char *name, int alone) {
     greatest = alone ? 0 : REFILL;
     parked = greatest + CHILDREN;
     for (int round = 0; round < ROUNDS && all && !is_soon; round++) {
-        double last = 0;
-        run(alone);
-        for (size_t t = 1; t < THREADS; t++) {
-            early += crew[t].early;
-            is_right = is_right && crew[t].is_right;
-            last = crew[t].last > last ? crew[t].last : last;
-        }
+        begin(ITEMS);
+        run(work_for_long, alone ? &work : NULL);
+        const double last = last_found(&is_right, &early);
         all = as_told && found == parked;
         is_soon = all && last < shared_at + 0.01;
     }
@@ -139,8 +167,28 @@ static void finds(const char *name, int alone) {
     check("each as it was written", is_right);
 }
 
+static void finds_while_waiting(void) {
+    int is_soon = 0, all = 1, is_right = 1;
+    uint64_t early = 0;
+    greatest = 0;
+    parked = CHILDREN;
+    for (int round = 0; round < ROUNDS && all && !is_soon; round++) {
+        begin(0);
+        is_shared = 1;
+        klsm_work_open(&work, 1);
+        run(work_while_others_wait, NULL);
+        const double last = last_found(&is_right, &early);
+        all = as_told && found == parked;
+        is_soon = all && last < shared_at + 0.001;
+    }
+    check("a thread works for a second while the others wait: all that it shares is found", all);
+    check("within a millisecond", is_soon);
+    check("and is as it was written", is_right);
+}
+
 int main(void) {
     finds("a refill and some insertions: all that is kept is shared", 0);
     finds("a deletion alone: what was inserted is shared, and no more was kept", 1);
+    finds_while_waiting();
     return check_status();
 }

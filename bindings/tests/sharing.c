@@ -91,7 +91,7 @@ static void a_deletion_alone(int waits) {
     begin();
     int32_t code = waits ? klsm_delete_min_alone(&queue.members[1], &item)
                          : klsm_try_delete_min_alone(&queue.members[1], &item);
-    check_code(waits ? "a deletion alone" : "one that waits for nobody", code, KLSM_OK);
+    check_code(waits ? "a deletion alone" : "one that never blocks", code, KLSM_OK);
     check("gives the smallest item", item.key == 0 && item.load == 0 && item.number == 0 && item.owner == 0);
     check("brings nothing home", klsm_front(&queue.members[1]) == 1 && shares(1, 0));
     check("and counts as a deletion", klsm_deleted(&queue.members[1]) == 1 && klsm_left(&queue) == ITEMS - 1);

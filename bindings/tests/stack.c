@@ -83,6 +83,7 @@ static void *share_and_delete_all(void *none) {
     for (uint64_t i = 0; i < MOST_THREADS * K; i++) {
         failed = failed || klsm_try_share(&queue.members[i % MOST_THREADS], &moved) != KLSM_OK;
         failed = failed || klsm_try_bound(&queue.members[i % MOST_THREADS], &bound) != KLSM_OK;
+        failed = failed || klsm_try_rest(&queue.members[i % MOST_THREADS]) != KLSM_OK;
         failed = failed || klsm_try_delete_min_alone(&queue.members[i * i % MOST_THREADS], &item) != KLSM_OK;
     }
     return none;

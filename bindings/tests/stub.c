@@ -126,9 +126,11 @@ int32_t klsm_try_share(klsm_member *member, uint64_t *moved) {
 int32_t klsm_try_bound(klsm_member *member, klsm_dual_bound *bound) {
     int32_t code = answer_code(STUB_TRY_BOUND, (arguments){{address(member), address(bound)}});
     if (code == KLSM_OK)
-        *bound = (klsm_dual_bound){106, 107};
+        *bound = (klsm_dual_bound){106, 107, 108};
     return code;
 }
+
+int32_t klsm_try_rest(klsm_member *member) { return answer_code(STUB_TRY_REST, (arguments){{address(member)}}); }
 
 uint64_t klsm_front(klsm_member *member) { return answer(STUB_FRONT, (arguments){{address(member)}}); }
 

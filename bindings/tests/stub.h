@@ -24,6 +24,7 @@ enum stub_call {
     STUB_TRY_DELETE_MIN_ALONE,
     STUB_TRY_SHARE,
     STUB_TRY_BOUND,
+    STUB_TRY_REST,
     STUB_VERSION,
     STUB_CALLS
 };
@@ -34,7 +35,7 @@ void stub_begin(void);
 
 /* What a call answers from now on: a code, a count or a version. A count of a closed member stays 0. With
  * KLSM_OK an opening opens members, a deletion writes the item {101, 102, 103, 104}, a sharing the number 105, and a
- * bound {106, 107}. */
+ * bound {106, 107, 108}. */
 void stub_answer(uint32_t call, uint64_t answer);
 
 /* A lock is held for so many calls: they are KLSM_BUSY, and the next one has the answer above. From the 1001st

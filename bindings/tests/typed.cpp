@@ -2,6 +2,7 @@
 #include "klsm.hpp"
 
 #include "check.h"
+#include <algorithm>
 #include <atomic>
 #include <memory>
 #include <stdexcept>
@@ -229,6 +230,55 @@ static void a_crew() {
     check("and none was given up", work.given_up() == 0);
 }
 
+// The greatest bound that was found so far, and whether one was below it.
+struct best_bound {
+    std::atomic<std::uint64_t> found{0};
+    std::atomic<bool> fell{false};
+
+    template <class Member> void ask(Member &member) {
+        std::uint64_t known = found;
+        const klsm::dual_bound now = member.bound().value();
+        const std::uint64_t least = std::min(now.queue, now.work);
+        if (least < known) fell = true;
+        while (known < least && !found.compare_exchange_weak(known, least)) {
+        }
+    }
+};
+
+// Sixteen threads whose pieces lead to two of the same key or a greater one: no bound is below one that was found
+// before, and no piece below one that was found before it was asked for.
+static void bounds_of_a_crew() {
+    klsm::typed_queue<std::string> queue(klsm::options{16, 8, klsm::pick::first, 0, 4});
+    klsm::work work;
+    best_bound best;
+    {
+        auto first = queue.member(0).value();
+        for (std::uint64_t root = 0; root < 30; root++)
+            check_or_stop("insert", work.insert(first, 1 + root * 7919 % 1009, std::string(6, 'x')) == klsm::code::ok);
+    }
+    std::vector<std::thread> crew;
+    for (std::size_t t = 0; t < 16; t++)
+        crew.emplace_back([&work, &best, member = queue.member(t).value()]() mutable {
+            for (std::uint64_t pieces = 1;; pieces++) {
+                const std::uint64_t known = best.found;
+                auto piece = work.next(member);
+                if (!piece) break;
+                if (piece->key < known) best.fell = true;
+                std::this_thread::yield(); // with an item in hand
+                for (std::uint64_t child = 0; child < 2 && !piece->payload.empty(); child++)
+                    check_or_stop("insert", work.insert(member, piece->key + (pieces + child) % 50,
+                                                        piece->payload.substr(1)) == klsm::code::ok);
+                piece.done();
+                if (pieces % 20 == 0) best.ask(member);
+            }
+        });
+    for (std::thread &thread : crew) thread.join();
+    auto last = queue.member(1).value();
+    best.ask(last);
+    check("no bound of a crew falls, and no piece is below one", !best.fell && work.left() == 0);
+    check("at last nothing is open", best.found == UINT64_MAX && queue.left() == 0);
+}
+
 // Copies: what is copied stays, and where that throws nothing is inserted.
 static void copies() {
     klsm::typed_queue<shared> queue(1);
@@ -266,8 +316,10 @@ static void sharings() {
     check("all of an own part", one.try_share(moved) == klsm::code::ok && moved == 8 && alive == 8);
     auto item = other.delete_min_alone();
     check("a deletion alone", item && item->key == 0 && item->payload.is_whole() && other.front() == 1);
+    check("is work", one.bound(bound) == klsm::code::ok && bound.queue == 1 && bound.work == 0 && bound.items == 7);
+    check("until a rest", other.rest() == klsm::code::ok && one.bound()->work == UINT64_MAX && alive == 8);
     check("brings none home", other.share(moved) == klsm::code::ok && moved == 0);
-    check("one that waits for nobody", one.try_delete_min_alone(item) == klsm::code::ok && item->key == 1);
+    check("one that never blocks", one.try_delete_min_alone(item) == klsm::code::ok && item->key == 1);
     check("one with a code", other.delete_min_alone(item) == klsm::code::ok && item->key == 2 && one.front() == 3);
     check("a deletion with a refill", one.delete_min()->key == 3 && other.front() == UINT64_MAX);
     check("what it brought home goes back", one.share() == klsm::code::ok && other.front() == 4 && alive == 5);
@@ -301,6 +353,7 @@ int main() {
     copies();
     sharings();
     a_crew();
+    bounds_of_a_crew();
     items_go_before_their_pieces();
     check("none is left over", alive == 0);
     return check_status();

@@ -74,7 +74,7 @@ static void opens_before_it_inserts(int32_t code, uint64_t left) {
 int main(void) {
     klsm_item item = {0, 0, 0, 0};
     uint64_t moved = 0;
-    klsm_dual_bound bound = {0, 0};
+    klsm_dual_bound bound = {0, 0, 0};
     int once = 1, waited = 1, told = 1;
     for (int count = 0; count < 220; count++) {
         begin(STUB_TRY_INSERT, count, KLSM_FULL);
@@ -100,6 +100,9 @@ int main(void) {
         bound.queue = 0;
         once = once && klsm_bound(&queue.members[3], &bound) == KLSM_OK && has_tried(STUB_TRY_BOUND, count) &&
                bound.queue == 106;
+        waited = waited && has_waited(count, 50);
+        begin(STUB_TRY_REST, count, KLSM_OK);
+        once = once && klsm_rest(&queue.members[3]) == KLSM_OK && has_tried(STUB_TRY_REST, count);
         waited = waited && has_waited(count, 50);
     }
     for (int sleep = 1; sleep < 10; sleep++)

@@ -143,28 +143,40 @@ static void sharings() {
     check("nor deleted", first.delete_min_alone(item) == klsm::code::not_open && item.key == 2);
 }
 
-// Whether each form of a bound has this key, and so many items.
-static bool bound_is(klsm::member &member, std::uint64_t key, std::uint64_t items) {
-    klsm::dual_bound one{7, 7}, other{7, 7};
-    const auto found = member.bound();
-    const bool codes = member.bound(one) == klsm::code::ok && member.try_bound(other) == klsm::code::ok;
-    return codes && found && found->queue == key && found->items == items && one.queue == key && one.items == items &&
-           other.queue == key && other.items == items;
+static bool are(const klsm::dual_bound &found, std::uint64_t key, std::uint64_t work, std::uint64_t items) {
+    return found.queue == key && found.work == work && found.items == items;
 }
 
-// Items of each part count, whoever asks.
+// Whether each form of a bound has these numbers.
+static bool bound_is(klsm::member &member, std::uint64_t key, std::uint64_t work, std::uint64_t items) {
+    klsm::dual_bound one{7, 7, 7}, other{7, 7, 7};
+    const auto found = member.bound();
+    const bool codes = member.bound(one) == klsm::code::ok && member.try_bound(other) == klsm::code::ok;
+    return codes && found && are(*found, key, work, items) && are(one, key, work, items) &&
+           are(other, key, work, items);
+}
+
+// Items of each part count, and those that members work at, whoever asks.
 static void bounds() {
+    const std::uint64_t none = UINT64_MAX;
     klsm::queue queue(klsm::options{2, 8, klsm::pick::first, 0, 4});
     klsm::member first = queue.member(0).value(), second = queue.member(1).value();
-    check("nothing lives", bound_is(first, UINT64_MAX, 0));
+    check("nothing lives", bound_is(first, none, none, 0));
     check_or_stop("insert", first.insert(5, 50) == klsm::code::ok && second.insert(3, 30) == klsm::code::ok);
-    check("what others keep counts", bound_is(first, 3, 2) && bound_is(second, 3, 2));
-    check("what is shared, too", second.share() == klsm::code::ok && bound_is(first, 3, 2));
-    check("what was deleted does not", first.delete_min()->key == 3 && bound_is(second, 5, 1));
+    check("what others keep counts", bound_is(first, 3, none, 2) && bound_is(second, 3, none, 2));
+    check("what is shared, too", second.share() == klsm::code::ok && bound_is(first, 3, none, 2));
+    check("what was deleted is work", first.delete_min()->key == 3 && bound_is(second, 5, 3, 1));
+    check("until a rest", first.rest() == klsm::code::ok && bound_is(second, 5, none, 1));
+    check("or another deletion", first.delete_min()->key == 5 && bound_is(second, none, 5, 0));
+    check("or a rest that never blocks", first.try_rest() == klsm::code::ok && bound_is(second, none, none, 0));
+    check_or_stop("insert", second.insert(7, 70) == klsm::code::ok && second.delete_min()->key == 7);
+    check("and who finds nothing works at nothing",
+          bound_is(first, none, 7, 0) && !second.delete_min() && bound_is(first, none, none, 0));
     static_cast<void>(queue.close());
-    klsm::dual_bound bound{7, 8};
+    klsm::dual_bound bound{7, 8, 9};
     check("after the end there is none", !first.bound() && first.bound(bound) == klsm::code::not_open &&
-                                             first.try_bound(bound) == klsm::code::not_open && bound.items == 8);
+                                             first.try_bound(bound) == klsm::code::not_open && bound.items == 9);
+    check("nor a rest", first.rest() == klsm::code::not_open && first.try_rest() == klsm::code::not_open);
 }
 
 static void members() {

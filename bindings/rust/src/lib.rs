@@ -174,7 +174,8 @@
 //! # What is left to the caller
 //!
 //! Others find the items that a member keeps for itself late, as a rule only once they find nothing else. So a thread
-//! calls [`share`](Member::share) before it works for long, and before it drops its member.
+//! calls [`share`](Member::share) before it works for long, and before it drops its member. Where others ask for a
+//! [`bound`](Member::bound), it [rests](Member::rest) before it drops its member, too.
 //!
 //! No call from a signal handler but [`Work::stop`], and none in a forked child of a process that had several
 //! threads.
@@ -187,7 +188,7 @@ mod member;
 mod owned;
 mod pause;
 mod queue;
-mod rest;
+mod remaining;
 mod sys;
 mod typed;
 mod work;

@@ -136,7 +136,7 @@ impl<'queue> Member<'queue> {
             .map(|item| unsafe { item.with_number() })
     }
 
-    /// Deletes a small item alone, as [`delete_min_alone`](Member::delete_min_alone) does, and waits for nobody.
+    /// Deletes a small item alone, as [`delete_min_alone`](Member::delete_min_alone) does, and never blocks.
     ///
     /// # Errors
     ///
@@ -185,7 +185,7 @@ impl<'queue> Member<'queue> {
     }
 
     /// Moves all items of the member's own part to the part that all share, as [`share`](Member::share) does, and
-    /// waits for nobody.
+    /// never blocks.
     ///
     /// # Errors
     ///
@@ -202,12 +202,15 @@ impl<'queue> Member<'queue> {
         }
     }
 
-    /// The smallest key of all items that live, in all parts together, and how many live. It waits while a lock is held.
+    /// The smallest key of all items that live, in all parts together, that of the items that members work at, and how
+    /// many live. It waits while a lock is held.
     ///
     /// It needs the locks of all members and the shared one at once, and tries again where one is held: now and then,
-    /// and not at each item. There is a moment in the call of which it is exact. Each item that is in the queue later was
-    /// inserted since, or has a key of at least `queue`. What was deleted is not in the queue, however long its thread
-    /// works at it: `docs/C-INTERFACE.md` of the repository has how a search keeps those keys itself.
+    /// and not at each item. There is a moment in the call of which it is exact. A member works at the item that it
+    /// deleted last, until a deletion finds nothing or it [rests](Member::rest). Where from then on each insertion is
+    /// made by a member that works at an item, with a key that is not less than that item's, nothing that is deleted
+    /// later has a key below the smaller one of `queue` and `work`: so a search knows how good its best answer is.
+    /// `docs/C-INTERFACE.md` of the repository says more.
     ///
     /// ```
     /// # fn main() -> Result<(), Box<dyn std::error::Error>> {
@@ -215,9 +218,13 @@ impl<'queue> Member<'queue> {
     /// let mut members = queue.members();
     /// let mut member = members.next().ok_or("no member")?;
     /// let mut other = members.next().ok_or("no other member")?;
-    /// member.insert(7, 0)?;
     /// other.insert(5, 0)?;
-    /// assert_eq!(member.bound(), klsm::Bound { queue: 5, items: 2 });
+    /// let item = other.delete_min().ok_or("no item")?; // from which two others follow
+    /// other.insert(item.key + 2, 0)?;
+    /// assert_eq!(member.bound(), klsm::Bound { queue: 7, work: 5, items: 1 });
+    /// other.insert(item.key + 1, 0)?;
+    /// other.rest();
+    /// assert_eq!(member.bound(), klsm::Bound { queue: 6, work: u64::MAX, items: 2 });
     /// # Ok(())
     /// # }
     /// ```
@@ -230,7 +237,8 @@ impl<'queue> Member<'queue> {
         }
     }
 
-    /// The smallest key of all items that live, and how many live, as [`bound`](Member::bound), and waits for nobody.
+    /// The smallest key of all items that live and of those that members work at, and how many live, as
+    /// [`bound`](Member::bound), and never blocks.
     ///
     /// # Errors
     ///
@@ -241,6 +249,32 @@ impl<'queue> Member<'queue> {
             code::OK => Ok(bound),
             code::BUSY => Err(Busy),
             other => sys::unexpected("klsm_try_bound", other),
+        }
+    }
+
+    /// Says that the member has done with the item that it deleted last: it works at none until its next deletion. It
+    /// waits while its lock is held.
+    ///
+    /// A [`bound`](Member::bound) tells it, and nothing else changes. So a thread rests once all is inserted that its
+    /// item leads to, where it drops its member, or where its next deletion will be long in coming.
+    pub fn rest(&mut self) {
+        match until_free(|| self.resting()) {
+            code::OK => {}
+            other => sys::unexpected("klsm_try_rest", other),
+        }
+    }
+
+    /// Says that the member has done with the item that it deleted last, as [`rest`](Member::rest), and waits for
+    /// nobody.
+    ///
+    /// # Errors
+    ///
+    /// [`Busy`] where its lock is held. The member works at its item as before then.
+    pub fn try_rest(&mut self) -> Result<(), Busy> {
+        match self.resting() {
+            code::OK => Ok(()),
+            code::BUSY => Err(Busy),
+            other => sys::unexpected("klsm_try_rest", other),
         }
     }
 
@@ -294,6 +328,12 @@ impl<'queue> Member<'queue> {
     fn bounding(&mut self, bound: &mut Bound) -> i32 {
         // SAFETY: as in `insertion`; and `bound` is a place for a bound outside of the queue.
         unsafe { sys::klsm_try_bound(self.slot, bound) }
+    }
+
+    #[inline]
+    fn resting(&mut self) -> i32 {
+        // SAFETY: as in `insertion`.
+        unsafe { sys::klsm_try_rest(self.slot) }
     }
 }
 

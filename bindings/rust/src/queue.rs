@@ -4,7 +4,7 @@ use crate::builder::Builder;
 use crate::errors::{FinishError, OpenError};
 use crate::member::{deleted_by, inserted_by, Members};
 use crate::owned::{HasQueue, OwnedMember};
-use crate::rest::Rest;
+use crate::remaining::Remaining;
 use crate::sys::{self, code, Item, Slot, Slots, Totals};
 use std::fmt;
 use std::ptr::NonNull;
@@ -142,8 +142,8 @@ impl Queue {
     }
 
     /// Takes out what is left, in no order and with no memory.
-    pub(crate) fn rest(&mut self) -> Rest<'_> {
-        Rest::of(self)
+    pub(crate) fn remaining(&mut self) -> Remaining<'_> {
+        Remaining::of(self)
     }
 
     /// Where the slots of the members are, in the order of their numbers.
@@ -204,6 +204,7 @@ impl Drop for Queue {
 }
 
 impl fmt::Debug for Queue {
+    // How many items are left it cannot say: the counts are read by who has the queue for itself, as `left` has.
     fn fmt(&self, to: &mut fmt::Formatter<'_>) -> fmt::Result {
         to.debug_struct("Queue")
             .field("threads", &self.threads)

@@ -91,7 +91,8 @@ pub struct Item {
     pub owner: u32,
 }
 
-/// What lives in a queue at one moment, in all parts together: what [`Member::bound`] gives.
+/// What is open in a queue at one moment: what lives in all parts together, and what members work at. [`Member::bound`]
+/// gives it.
 ///
 /// [`Member::bound`]: crate::Member::bound
 #[repr(C)]
@@ -99,6 +100,9 @@ pub struct Item {
 pub struct Bound {
     /// The smallest key of all items that live, and `u64::MAX` where none lives.
     pub queue: u64,
+    /// The smallest key of the items that members work at, and `u64::MAX` where none works: of those that each of them
+    /// deleted last, until a deletion finds nothing or it rests.
+    pub work: u64,
     /// How many items live.
     pub items: u64,
 }
@@ -175,8 +179,9 @@ const _: () = {
     assert!(size_of::<RawItem>() == 32 && align_of::<RawItem>() == 8);
     assert!(offset_of!(RawItem, key) == 0 && offset_of!(RawItem, load) == 8);
     assert!(offset_of!(RawItem, number) == 16 && offset_of!(RawItem, owner) == 24);
-    assert!(size_of::<Bound>() == 16 && align_of::<Bound>() == 8);
-    assert!(offset_of!(Bound, queue) == 0 && offset_of!(Bound, items) == 8);
+    assert!(size_of::<Bound>() == 24 && align_of::<Bound>() == 8);
+    assert!(offset_of!(Bound, queue) == 0 && offset_of!(Bound, work) == 8);
+    assert!(offset_of!(Bound, items) == 16);
     assert!(size_of::<Totals>() == 24 && align_of::<Totals>() == 8);
     assert!(offset_of!(Totals, inserted) == 0 && offset_of!(Totals, deleted) == 8);
     assert!(offset_of!(Totals, left) == 16);
@@ -205,6 +210,7 @@ extern "C" {
     pub(crate) fn klsm_try_delete_min_alone(member: *mut Slot, item: *mut RawItem) -> i32;
     pub(crate) fn klsm_try_share(member: *mut Slot, moved: *mut u64) -> i32;
     pub(crate) fn klsm_try_bound(member: *mut Slot, bound: *mut Bound) -> i32;
+    pub(crate) fn klsm_try_rest(member: *mut Slot) -> i32;
     pub(crate) fn klsm_front(member: *mut Slot) -> u64;
     pub(crate) fn klsm_inserted(member: *const Slot) -> u64;
     pub(crate) fn klsm_deleted(member: *const Slot) -> u64;

@@ -24,7 +24,8 @@ use std::sync::atomic::{AtomicBool, AtomicU64, AtomicUsize};
 ///
 /// A deletion may have brought more items home than the one that it gave, and the others come to these last. So a
 /// thread calls [`share`](crate::Member::share) of its member before it works on a piece for long, and before it leaves
-/// while work is open; where it leaves since the crew was stopped, it need not.
+/// while work is open; where it leaves since the crew was stopped, it need not. Where others ask for a
+/// [`bound`](crate::Member::bound), it calls [`rest`](crate::Member::rest) before it leaves.
 ///
 /// ```
 /// use klsm::{InsertError, Member, Queue, Work};

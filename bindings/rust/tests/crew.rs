@@ -1,6 +1,6 @@
 //! A crew that counts its open work ends when all is done, and not before.
 
-use klsm::{End, Queue, TypedQueue, Work};
+use klsm::{End, Queue, Work};
 use std::sync::Arc;
 use std::thread;
 

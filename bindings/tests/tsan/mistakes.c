@@ -30,6 +30,7 @@ static int32_t bound(void) {
     klsm_dual_bound found;
     return klsm_try_bound(&queue.members[0], &found);
 }
+static int32_t rest(void) { return klsm_try_rest(&queue.members[0]); }
 static int32_t front(void) { return klsm_front(&queue.members[0]) != 1; }
 static int32_t inserted(void) { return klsm_inserted(&queue.members[0]) != 1; }
 static int32_t deleted(void) { return klsm_deleted(&queue.members[0]) != 1; }
@@ -50,9 +51,10 @@ static const struct {
     {"open", open},         {"open_with_balance", open_with_balance},
     {"insert", insert},     {"delete_min", delete_min},
     {"share", share},       {"delete_min_alone", delete_min_alone},
-    {"bound", bound},       {"front", front},
+    {"bound", bound},       {"rest", rest},
+    {"front", front},       {"close_into", close_into},
     {"inserted", inserted}, {"deleted", deleted},
-    {"drop", drop},         {"close_into", close_into},
+    {"drop", drop},
 };
 
 typedef struct step {

@@ -43,7 +43,7 @@ static void hands_on(int32_t (*by)(klsm_member *member, klsm_item *item)) {
 static int are(const klsm_item *item, uint64_t moved, klsm_dual_bound bound, int is_written) {
     const uint64_t by = is_written ? 100 : 0;
     return item->key == by + 1 && item->load == by + 2 && item->number == by + 3 && item->owner == by + 4 &&
-           moved == by + 5 && bound.queue == by + 6 && bound.items == by + 7;
+           moved == by + 5 && bound.queue == by + 6 && bound.work == by + 7 && bound.items == by + 8;
 }
 
 static void calls_write_with_ok_alone(void) {
@@ -51,20 +51,23 @@ static void calls_write_with_ok_alone(void) {
     for (int i = 0; i < 6; i++) {
         klsm_item item = {1, 2, 3, 4}, alone = {1, 2, 3, 4};
         uint64_t moved = 5;
-        klsm_dual_bound bound = {6, 7};
+        klsm_dual_bound bound = {6, 7, 8};
         stub_answer(STUB_TRY_DELETE_MIN, (uint64_t)codes[i]);
         stub_answer(STUB_TRY_DELETE_MIN_ALONE, (uint64_t)codes[i]);
         stub_answer(STUB_TRY_SHARE, (uint64_t)codes[i]);
         stub_answer(STUB_TRY_BOUND, (uint64_t)codes[i]);
+        stub_answer(STUB_TRY_REST, (uint64_t)codes[i]);
         check_code("delete", klsm_try_delete_min(&queue.members[0], &item), codes[i]);
         check_code("delete alone", klsm_try_delete_min_alone(&queue.members[0], &alone), codes[i]);
         check_code("share", klsm_try_share(&queue.members[0], &moved), codes[i]);
         check_code("bound", klsm_try_bound(&queue.members[0], &bound), codes[i]);
+        check_code("rest", klsm_try_rest(&queue.members[0]), codes[i]);
         check("they write with KLSM_OK alone", are(&item, moved, bound, codes[i] == KLSM_OK));
         check("alone, too", are(&alone, moved, bound, codes[i] == KLSM_OK));
     }
     check("each by its export", stub_asked(STUB_TRY_DELETE_MIN) == 6 && stub_asked(STUB_TRY_DELETE_MIN_ALONE) == 6 &&
-                                    stub_asked(STUB_TRY_SHARE) == 6 && stub_asked(STUB_TRY_BOUND) == 6);
+                                    stub_asked(STUB_TRY_SHARE) == 6 && stub_asked(STUB_TRY_BOUND) == 6 &&
+                                    stub_asked(STUB_TRY_REST) == 6);
 }
 
 int main(void) {

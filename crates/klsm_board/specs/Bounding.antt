@@ -1,12 +1,13 @@
--- What a bound adds to its member's list, and in which world it is the least key of all live items.
-use Rattle.std.specs.Prelude.{◌≡◌, ℕ, zero, suc, ◌≤◌, List, [], ◌∷◌, ◌++◌, length, ltb, if◌then◌else◌}
+-- What a bound adds to its member's list, and in which world it is the least key of all live items, and of all in work.
+use Rattle.std.specs.Prelude.{◌≡◌, ℕ, zero, suc, ◌≤◌, List, [], ◌∷◌, ◌++◌, length, ltb, if◌then◌else◌, min}
 use Rattle.klsm_run.specs.declared.item.Item.{Item}
 use Rattle.klsm_parts.specs.Events.{front_of}
 use Rattle.klsm_world.specs.declared.step.Entry.{Entry}
-use Rattle.klsm_world.specs.declared.step.Entry.TheVariants.{Acquired, Released, Missed}
-use Rattle.klsm_world.specs.OwnSteps.{Hand, hand_of, own_part, shared_part}
+use Rattle.klsm_world.specs.declared.step.Entry.TheVariants.{Acquired, Released, Missed, Saw}
+use Rattle.klsm_world.specs.OwnSteps.{Hand, hand_of, no_key, own_part, shared_part}
 use Rattle.klsm_world.specs.Worlds.{live}
 use Rattle.klsm_world.specs.LiveLaws.{HasAllParts}
+use Rattle.klsm_world.specs.WorkLaws.{least_work}
 use Rattle.klsm_board.specs.declared.bounding.Bound.{Bound}
 use Rattle.klsm_board.specs.declared.errors.Busy.{Busy}
 use Rattle.klsm_board.specs.declared.rule.Own.{Own}
@@ -53,17 +54,31 @@ owns_released (suc n) = Released (own_part n) ∷ owns_released n
 abbrev pub all_released : ℕ → List Entry
 all_released threads = Released shared_part ∷ owns_released threads
 
--- All parts were acquired, found with these contents, and then released.
+-- A list of keys stands for those that threads 0, 1 and so on work at, that of the last one first: they were seen in
+-- the order of the threads' numbers
+abbrev pub keys_seen : List ℕ → List Entry
+keys_seen [] = []
+keys_seen (key ∷ keys) = keys_seen keys ++ Saw (length keys) key ∷ []
+
+-- the least of them, and the greatest number where there is none
+abbrev pub least_key : List ℕ → ℕ
+least_key [] = no_key
+least_key (key ∷ keys) = min key (least_key keys)
+
+-- All parts were acquired, found with these contents, and then released. Between, the keys in work were seen.
 pub record Bounds (threads : ℕ) (es es' : List Entry) (bound : Bound) : Type 0 where
   pub owns : List (List Item)
   pub shared : List Item
+  pub keys : List ℕ
   pub all : length owns ≡ threads
+  pub each : length keys ≡ threads
   pub is : IsBoundOf (all_items owns shared) bound
-  pub steps : es' ≡ (es ++ all_acquired owns shared) ++ all_released threads
+  pub work : bound.work ≡ least_key keys
+  pub steps : es' ≡ ((es ++ all_acquired owns shared) ++ keys_seen keys) ++ all_released threads
 
 -- Thread t's list went from es to es'. Between, when it had `added` behind es and had committed no event since, the
 -- thread had all parts in hand: that list, and those of the other threads that the seat knows, were then those of one
--- world to which a schedule leads, and this is the bound of the items that lived there.
+-- world to which a schedule leads, and this is the bound of the items that lived there, and of the keys in work.
 pub record SeesAllLive (m : Sizes) (t : ℕ) (behind : List Own) (es es' : List Entry) (bound : Bound) : Type 0 where
   pub added : List Entry
   pub after : List Entry
@@ -72,6 +87,7 @@ pub record SeesAllLive (m : Sizes) (t : ℕ) (behind : List Own) (es es' : List 
   pub in_hand : HasAllParts m.threads (hand_of t (es ++ added))
   pub reached : AreReached m t (view (own t (es ++ added) ∷ behind))
   pub is : IsBoundOf (live reached.world) bound
+  pub work : bound.work ≡ least_work reached.world.lists
 
 -- the lock that is tried behind those of n own parts
 abbrev pub lock_behind : ℕ → ℕ → ℕ

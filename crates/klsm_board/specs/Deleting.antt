@@ -7,11 +7,11 @@ use Rattle.klsm_parts.specs.Refilling.{refill_of}
 use Rattle.klsm_world.specs.declared.step.Event.TheVariants.{Take, Early, Nothing, Spy, Refill}
 use Rattle.klsm_world.specs.declared.step.Entry.{Entry}
 use Rattle.klsm_world.specs.declared.step.Entry.TheVariants.{Acquired, Committed, Released, Missed}
-use Rattle.klsm_world.specs.OwnSteps.{own_part}
+use Rattle.klsm_world.specs.OwnSteps.{no_key, own_part}
 use Rattle.klsm_world.specs.OwnListLaws.{SkipsFew, SkipsFewBy, KeepsOwnOrder, KeepsOwnOrderBy, LeavesFew}
 use Rattle.klsm_board.specs.declared.sizes.Sizes.{Sizes}
 use Rattle.klsm_board.specs.Rule.{world_limits}
-use Rattle.klsm_board.specs.Entries.{own_acquired, both_released, both_looked}
+use Rattle.klsm_board.specs.Entries.{own_acquired, own_marked, both_marked, both_looked}
 use Rattle.klsm_board.specs.declared.errors.Busy.{Busy}
 use Rattle.klsm_board.specs.Inserting.{Misses, Waits}
 use Rattle.klsm_board.specs.Choosing.{Chooses}
@@ -61,12 +61,12 @@ refilled_after most k own shared x =
 
 -- From the list `acquired`, with both parts in hand: the item was taken out of one of them. It skips at
 -- most T·k items, and none of the two parts that the thread inserted. Where it was a shared one, the
--- own part is filled again, with no more items than the board says.
+-- own part is filled again, with no more items than the board says. The thread then works at the item's key.
 pub record TakesOut (m : Sizes) (t : ℕ) (own shared : List Item) (acquired es' : List Entry) (x : Item) : Type 0 where
   pub may : MayTake m.k t own shared x
   pub skips : SkipsFew (world_limits m) t acquired x
   pub keeps : KeepsOwnOrder (world_limits m) t acquired x
-  pub steps : es' ≡ acquired ++ Committed (Take x) ∷ (refilled_after m.refill m.k own shared x ++ both_released t)
+  pub steps : es' ≡ acquired ++ Committed (Take x) ∷ (refilled_after m.refill m.k own shared x ++ both_marked t x.key)
 
 -- From the list `acquired`, with the own part in hand: the least own item was deleted, as its key is
 -- below the front that was read. In the worlds of that front it skips at most (T-1)·k items, and none
@@ -76,7 +76,7 @@ pub record TakesEarly (m : Sizes) (t : ℕ) (own : List Item) (acquired es' : Li
   pub may : MayTakeEarly own x front
   pub skips : SkipsFewBy front (world_limits m) t acquired x
   pub keeps : KeepsOwnOrderBy front (world_limits m) t acquired x
-  pub steps : es' ≡ acquired ++ Committed (Early x front) ∷ Released (own_part t) ∷ []
+  pub steps : es' ≡ acquired ++ Committed (Early x front) ∷ own_marked t x.key
 
 -- With the own part in hand a deletion did not go by the front: it looked at none, as the part was empty, or the
 -- front that it loaded was not above the least key there.
@@ -96,16 +96,17 @@ pub record TakesSpied (m : Sizes) (t : ℕ) (own shared : List Item) (acquired e
   pub spies : SpiesAfter m.threads t acquired spied moved
   pub skips : SkipsFew (world_limits m) t spied x
   pub keeps : KeepsOwnOrder (world_limits m) t spied x
-  pub steps : es' ≡ spied ++ Committed (Take x) ∷ both_released t
+  pub steps : es' ≡ spied ++ Committed (Take x) ∷ both_marked t x.key
 
--- Both parts were found empty, and all victims were passed by. At most (T-1)·k items live.
+-- Both parts were found empty, and all victims were passed by. At most (T-1)·k items live. The thread then works at
+-- no item.
 pub record FindsNothing (m : Sizes) (t : ℕ) (own shared : List Item) (acquired es' : List Entry) : Type 0 where
   pub own_empty : own ≡ []
   pub shared_empty : shared ≡ []
   pub added : List Entry
   pub passes : Passes m.threads t (m.threads - 1) added
   pub leaves : LeavesFew (world_limits m) t (acquired ++ added)
-  pub steps : es' ≡ (acquired ++ added) ++ Committed Nothing ∷ both_released t
+  pub steps : es' ≡ (acquired ++ added) ++ Committed Nothing ∷ both_marked t no_key
 
 -- The item x was deleted by a member that found these contents, and the picker went from `before`
 -- to `after`.

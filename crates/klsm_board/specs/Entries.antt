@@ -2,7 +2,7 @@
 use Rattle.std.specs.Prelude.{ℕ, List, [], ◌∷◌, ◌++◌, Option, Some, None}
 use Rattle.klsm_run.specs.declared.item.Item.{Item}
 use Rattle.klsm_world.specs.declared.step.Entry.{Entry}
-use Rattle.klsm_world.specs.declared.step.Entry.TheVariants.{Acquired, Released, Looked}
+use Rattle.klsm_world.specs.declared.step.Entry.TheVariants.{Acquired, Released, Looked, Marked}
 use Rattle.klsm_world.specs.OwnSteps.{own_part, shared_part}
 
 -- thread t acquired its own part
@@ -29,3 +29,11 @@ both_looked t own look shared es = own_looked t own look es ++ Acquired shared_p
 -- both parts are released
 abbrev pub both_released : ℕ → List Entry
 both_released t = Released shared_part ∷ Released (own_part t) ∷ []
+
+-- a thread marks the key that it works at, and releases its own part
+abbrev pub own_marked : ℕ → ℕ → List Entry
+own_marked t key = Marked key ∷ Released (own_part t) ∷ []
+
+-- and before that the shared part
+abbrev pub both_marked : ℕ → ℕ → List Entry
+both_marked t key = Released shared_part ∷ own_marked t key

@@ -92,7 +92,7 @@ pub record Waits (t : ℕ) (Found : List Item → Option ℕ → Type 0) (es es'
 abbrev pub FindsFull : ℕ → List Item → Option ℕ → Type 0
 FindsFull k own look = (length own ≡ k) × (look ≡ None)
 
--- why an insertion that waits for nobody is refused
+-- why an insertion that never blocks is refused
 abbrev pub RefusesInsert : Type 0 → ℕ → ℕ → ℕ → List Entry → List Entry → TryInsertError → Type 0
 RefusesInsert IsSpent levels k t es es' try_insert.Spent = IsSpent × (es' ≡ es)
 RefusesInsert IsSpent levels k t es es' (try_insert.Busy busy) =
@@ -100,7 +100,7 @@ RefusesInsert IsSpent levels k t es es' (try_insert.Busy busy) =
 RefusesInsert IsSpent levels k t es es' try_insert.Full = GivesUp k t es es' (LacksRoom levels k)
 RefusesInsert IsSpent levels k t es es' try_insert.NoMemory = GivesUp k t es es' (IsBelowLimit levels)
 
--- a cause that is no lock, as a call that waits for nobody has it
+-- a cause that is no lock, as a call that never blocks has it
 abbrev pub as_tried : InsertError → TryInsertError
 as_tried insert.Spent = try_insert.Spent
 as_tried insert.Full = try_insert.Full

@@ -8,10 +8,12 @@ use Rattle.klsm_board.specs.declared.board.Member.{Member}
 use Rattle.klsm_board.specs.Finishing.{AreAll, steps_among}
 use Rattle.klsm_board.specs.Turning.{steps_known, HasList}
 use Rattle.klsm_board.specs.Members.{most_deletions}
+use Rattle.klsm_board.specs.Seats.{IsMarked}
 
 -- a thread's list between two of its calls: it holds no part, and has so many insertions and deletions
 pub record IsAtRest (m : Sizes) (t : ℕ) (es : List Entry) (insertions deletions : ℕ) : Type 0 where
   pub hand_is : hand_of t es ≡ []
+  pub marked : IsMarked es
   pub insertions_are : length (inserted es) ≡ insertions
   pub deletions_are : length (deleted es) ≡ deletions
   pub within : insertions ≤ m.quota

@@ -9,7 +9,8 @@ pub mod Stealing  -- what a steal adds
 pub mod Sharing  -- what the sharing of all own items adds
 pub mod Balancing  -- when a member balances, and with which other one
 pub mod Effects  -- where a deletion takes effect, and in which world
-pub mod Bounding  -- what a bound adds, and in which world it is that of all live items
+pub mod Bounding  -- what a bound adds, and in which world it is that of all live items and of all keys in work
+pub mod Resting  -- what a rest adds
 pub mod Boards  -- boards, their members, and what a member holds
 pub mod Finishing  -- how a board ends
 pub mod Turning  -- lists of several threads, of which one comes to the front

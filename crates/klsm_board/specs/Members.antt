@@ -9,7 +9,7 @@ use Rattle.klsm_board.specs.declared.sizes.Sizes.{Sizes}
 use Rattle.klsm_board.specs.declared.rule.View.{View}
 use Rattle.klsm_board.specs.declared.slot.Slot.{Slot}
 use Rattle.klsm_board.specs.Steps.{mine, IsMine, AreReached}
-use Rattle.klsm_board.specs.Seats.{contents, AreSuited}
+use Rattle.klsm_board.specs.Seats.{contents, AreSuited, IsMarked}
 use Rattle.klsm_board.specs.Slots.{slot_content, IsSlotOf}
 
 -- the most insertions that a board can be made for, of each member: 2^48
@@ -38,6 +38,7 @@ pub record IsResting (m : Sizes) (number insertions deletions : ℕ) (me : Me (S
   pub acts : IsMine me.0 number
   pub carries_none : me.1 ≡ []
   pub hand_is : hand_of number (mine me.0) ≡ []
+  pub marked : IsMarked (mine me.0)
   pub insertions_are : length (inserted (mine me.0)) ≡ insertions
   pub deletions_are : length (deleted (mine me.0)) ≡ deletions
   pub within : insertions ≤ m.quota
@@ -51,6 +52,7 @@ pub record IsHolding (m : Sizes) (number insertions deletions lock count : ℕ) 
   pub contents_are : contents slot_content IsSlotOf m number me.1 ≡ hand_of number (mine me.0)
   pub suited : ∥ AreSuited slot_content IsSlotOf m number me.1 ∥₁
   pub hand_is : hand_of number (mine me.0) ≡ (lock, content_in (hand_of number (mine me.0)) lock) ∷ []
+  pub marked : IsMarked (mine me.0)
   pub insertions_are : length (inserted (mine me.0)) ≡ insertions
   pub deletions_are : length (deleted (mine me.0)) ≡ deletions
   pub reached : ∥ AreReached m number me.0 ∥₁

@@ -4,7 +4,7 @@ use Rattle.klsm_board.specs.declared.pausing.Rest.{Rest}
 use Rattle.klsm_board.specs.declared.pausing.Rest.TheVariants.{LookAway, Sleep}
 use Rattle.klsm_board.specs.Rule.{place}
 
--- for how many nanoseconds a member looks away after so many misses: 50 at first, and twice as long each time, up to 800
+-- for how many nanoseconds a member backs off after so many misses: 50 at first, and twice as long each time, up to 800
 abbrev pub nanos_after : ℕ → ℕ
 nanos_after misses = 50 * 2 ^ min misses 4
 

@@ -10,7 +10,7 @@ use Rattle.klsm_run.specs.declared.item.Item.{Item}
 use Rattle.klsm_run.specs.declared.limits.TheConstants.{MOST_THREADS}
 use Rattle.klsm_world.specs.declared.step.Entry.{Entry}
 use Rattle.klsm_world.specs.declared.step.Step.{Step as WorldStep}
-use Rattle.klsm_world.specs.OwnSteps.{inserted}
+use Rattle.klsm_world.specs.OwnSteps.{found_in, hand_of, inserted, mark_of, no_key, own_part, work_of}
 use Rattle.klsm_world.specs.Laws.{IsWithinQuota}
 use Rattle.klsm_world.specs.Worlds.{Limits, World, steps_of}
 use Rattle.klsm_world.specs.Schedules.{Leads}
@@ -33,6 +33,10 @@ world_limits m = record { threads = m.threads; k = m.k }
 -- the word of the table that is the lock of a part; behind them comes the front word
 abbrev pub place : ℕ → ℕ
 place p = p * STRIDE
+
+-- the word of a thread's mark, which comes right behind the lock of its own part
+abbrev pub mark_place : ℕ → ℕ
+mark_place t = place (own_part t) + 1
 
 -- the lock words of n parts, from part p on
 abbrev pub locks_from : ℕ → ℕ → List ℕ → List ℕ
@@ -79,8 +83,8 @@ pub record Ruled {S : Type 0} (content : S → List Item) (suits : ℕ → ℕ �
   pub lists : List (List Entry)
   pub schedule : List WorldStep
   pub wide : length s.words ≡ place (m.threads + 2)
-  -- a word that is no lock and not the front stays 0
-  pub between : (i : ℕ) → ((p : ℕ) → i ≢ place p) → slice_index s.words i ≡ 0
+  -- a word that is no lock, not the front and no mark stays 0
+  pub between : (i : ℕ) → ((p : ℕ) → i ≢ place p) → ((t : ℕ) → i ≢ mark_place t) → slice_index s.words i ≡ 0
   -- the schedule leads to this world
   pub leads : Leads (world_limits m) schedule (board_world content (lock_words m s.words) (front_word m s.words) s.homes lists)
   -- the views have the world's lists, and together each of them once
@@ -90,6 +94,12 @@ pub record Ruled {S : Type 0} (content : S → List Item) (suits : ℕ → ℕ �
   pub once : (t : ℕ) → t < m.threads → list_count_in t s.views ≡ 1
   -- each part that is at home is in its slot
   pub suited : (p : ℕ) (y : S) → get_elem? s.homes p ≡ some (some y) → suits m.k p y
+  -- the word of a thread's mark says how far the mark is below the greatest number
+  pub marks : (t : ℕ) (es : List Entry) → get_elem? lists t ≡ some es
+      → slice_index s.words (mark_place t) + mark_of es ≡ no_key
+  -- and who does not have its own part in hand has marked the key that it works at
+  pub marked : (t : ℕ) (es : List Entry) → get_elem? lists t ≡ some es
+      → found_in (hand_of t es) (own_part t) ≡ None → mark_of es ≡ work_of es
   -- no list has more insertions than the quota
   pub within : (t : ℕ) (es : List Entry) → get_elem? lists t ≡ some es
       → length (inserted es) ≤ m.quota

@@ -7,7 +7,7 @@ use Rattle.klsm_parts.specs.Events.{front_of}
 use Rattle.klsm_world.specs.declared.step.Event.{Event}
 use Rattle.klsm_world.specs.declared.step.Event.TheVariants.{Put, Flush, Take, Early, Nothing, Spy, Refill, Steal, Share}
 use Rattle.klsm_world.specs.declared.step.Entry.{Entry}
-use Rattle.klsm_world.specs.OwnSteps.{Hand, own_part, shared_part, content_in, hand_of, after_event, inserted, inserted_by}
+use Rattle.klsm_world.specs.OwnSteps.{Hand, own_part, shared_part, content_in, hand_of, after_event, inserted, inserted_by, mark_of, work_of}
 use Rattle.klsm_world.specs.LegalSteps.{MayCommit}
 use Rattle.klsm_board.specs.declared.sizes.Sizes.{Sizes}
 use Rattle.klsm_board.specs.declared.rule.View.{View}
@@ -35,6 +35,22 @@ last_arriving_or arriving before (x ∷ xs) = last_arriving_or arriving (arrivin
 abbrev pub last_arriving : {S : Type 0} → (S → List Item) → List (ℕ × S) → List Item
 last_arriving arriving xs = last_arriving_or arriving [] xs
 
+-- by its list a thread has marked the key that it works at
+abbrev pub IsMarked : List Entry → Type 0
+IsMarked es = mark_of es ≡ work_of es
+
+-- an event by which nobody's work changes: no deletion, and no answer of nothing
+abbrev pub LeavesWork : Event → Type 0
+LeavesWork (Put x) = ⊤
+LeavesWork (Flush x moved) = ⊤
+LeavesWork (Take x) = ⊥
+LeavesWork (Early x front) = ⊥
+LeavesWork Nothing = ⊥
+LeavesWork (Spy victim moved) = ⊤
+LeavesWork (Steal victim moved) = ⊤
+LeavesWork (Refill moved) = ⊤
+LeavesWork (Share moved) = ⊤
+
 -- the seat is one of this table, for thread t
 abbrev pub IsSeatOf : TableId → TableId → Sizes → ℕ → Type 0
 IsSeatOf seat table m t = (seat ≡ table) × IsSized table m × (t < m.threads)
@@ -56,15 +72,17 @@ module _ {S : Type 0} (content : S → List Item) (suits : ℕ → ℕ → S →
     pub contents_are : contents me.1 ≡ hand
     pub suited : AreSuited me.1
 
-  -- they are thread t's hand by its list
+  -- they are thread t's hand by its list, and it has marked the key that it works at
   pub record Stands (hand : Hand) (me : Me S View) : Type 0 where
     pub carries : Carries hand me
     pub hand_is : hand_of t (mine me.0) ≡ hand
+    pub marked : IsMarked (mine me.0)
 
   -- and the lists that it knows are those of their threads in some world to which a schedule leads
   pub record Has (hand : Hand) (me : Me S View) : Type 0 where
     pub carries : Carries hand me
     pub hand_is : hand_of t (mine me.0) ≡ hand
+    pub marked : IsMarked (mine me.0)
     pub reached : AreReached m t me.0
 
   -- thread t may commit the event, and has carried it out in the parts
@@ -72,6 +90,7 @@ module _ {S : Type 0} (content : S → List Item) (suits : ℕ → ℕ → S →
     pub carries : Carries hand me
     pub may : MayCommit m.k t (hand_of t (mine me.0)) (length (inserted (mine me.0))) event
     pub done : after_event t (hand_of t (mine me.0)) event ≡ hand
+    pub marked : IsMarked (mine me.0)
 
 module _ {S : Type 0} (content : S → List Item) (suits : ℕ → ℕ → S → Type 0) (is_vacant : S → Type 0) (m : Sizes) (t : ℕ) where
   -- the seat carries thread t's own part, and a vacant slot in place of the shared one

@@ -53,13 +53,13 @@ HasRoomFor levels own shared = length shared + length own ≤ limit_of levels he
 abbrev pub FindsSome : List Item → Option ℕ → Type 0
 FindsSome own look = (0 < length own) × (look ≡ None)
 
--- why a sharing that waits for nobody is refused
+-- why a sharing that never blocks is refused
 abbrev pub RefusesShare : ℕ → ℕ → List Entry → List Entry → TryShareError → Type 0
 RefusesShare levels t es es' (try_share.Busy busy) = Misses t FindsSome es es' busy
 RefusesShare levels t es es' try_share.Full = KeepsAll t es es' (LacksRoomFor levels)
 RefusesShare levels t es es' try_share.NoMemory = KeepsAll t es es' (HasRoomFor levels)
 
--- a cause that is no lock, as a call that waits for nobody has it
+-- a cause that is no lock, as a call that never blocks has it
 abbrev pub as_tried_share : ShareError → TryShareError
 as_tried_share share.Full = try_share.Full
 as_tried_share share.NoMemory = try_share.NoMemory

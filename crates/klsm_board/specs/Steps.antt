@@ -8,16 +8,16 @@ use Rattle.klsm_parts.specs.Events.{front_of}
 use Rattle.klsm_world.specs.declared.step.Event.{Event}
 use Rattle.klsm_world.specs.declared.step.Event.TheVariants.{Early}
 use Rattle.klsm_world.specs.declared.step.Entry.{Entry}
-use Rattle.klsm_world.specs.declared.step.Entry.TheVariants.{Acquired, Committed, Released, Missed, Looked}
+use Rattle.klsm_world.specs.declared.step.Entry.TheVariants.{Acquired, Committed, Released, Missed, Looked, Marked, Saw}
 use Rattle.klsm_world.specs.declared.step.Step.{Step as WorldStep}
 use Rattle.klsm_world.specs.Laws.{IsWithinQuota}
-use Rattle.klsm_world.specs.OwnSteps.{HoldsSome, shared_part}
+use Rattle.klsm_world.specs.OwnSteps.{HoldsSome, no_key, shared_part}
 use Rattle.klsm_world.specs.Worlds.{World, steps_of, hand_in, content_of}
 use Rattle.klsm_world.specs.Schedules.{Leads}
 use Rattle.klsm_board.specs.declared.sizes.Sizes.{Sizes}
 use Rattle.klsm_board.specs.declared.rule.Own.{Own}
 use Rattle.klsm_board.specs.declared.rule.View.{View}
-use Rattle.klsm_board.specs.Rule.{own, view, place, world_limits}
+use Rattle.klsm_board.specs.Rule.{own, view, place, mark_place, world_limits}
 use Rattle.klsm_board.specs.Turning.{turned}
 
 -- the first list gains an entry
@@ -84,6 +84,11 @@ module _ {S : Type 0} where
   on_part then st me n me' = (p : ℕ) → place p ≡ st.word
       → then (step st.slots p st.first st.second st.said) me n me'
 
+  -- what a step on the word of a thread's mark tells, with the thread in place of the word
+  abbrev pub on_mark : (Step S → Me S View → ℕ → Me S View → Type 0) → Step S → Me S View → ℕ → Me S View → Type 0
+  on_mark then st me n me' = (u : ℕ) → mark_place u ≡ st.word
+      → then (step st.slots u st.first st.second st.said) me n me'
+
   -- the lists are those of their threads in a world to which a schedule leads
   abbrev pub is_reached : Sizes → ℕ → Me S View → Type 0
   is_reached m t me' = AreReached m t me'.0
@@ -125,6 +130,14 @@ module _ {S : Type 0} where
   -- the front was loaded, in a world of that front, and that was noted
   abbrev pub glanced : Sizes → ℕ → Step S → Me S View → ℕ → Me S View → Type 0
   glanced m t st me n me' = (me' ≡ (gain me.0 (Looked n), me.1)) × is_reached m t me' × HasFront m t me.0 n
+
+  -- thread t's mark was set to what the word stored is below the greatest number
+  abbrev pub mark_stored : Sizes → ℕ → Step S → Me S View → ℕ → Me S View → Type 0
+  mark_stored m t st me n me' = (me' ≡ (gain me.0 (Marked (no_key - n)), me.1)) × is_reached m t me'
+
+  -- the key that a thread works at was seen, by its mark
+  abbrev pub saw : Sizes → ℕ → Step S → Me S View → ℕ → Me S View → Type 0
+  saw m t st me n me' = (me' ≡ (gain me.0 (Saw st.word (no_key - n)), me.1)) × is_reached m t me'
 
   -- thread t's list came to the front of those that the seat knows, and they are of one world
   abbrev pub turned_to : Sizes → ℕ → Step S → Me S View → ℕ → Me S View → Type 0

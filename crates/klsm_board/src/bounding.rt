@@ -1,20 +1,23 @@
-//! The least key of all live items, and how many live. All parts are in hand for a moment, and each is read when it is
-//! released: what it has is what it had since it was acquired.
-ghost use Rattle.std.specs.Prelude.{◌≡◌, ◌≤◌, ◌+◌, ◌++◌, List, [], ◌∷◌, length, slice_get, IfErr, IfOk, OnOk, None, Option};
+//! The least key of all live items, how many live, and the least key in work. All parts are in hand for a moment, in
+//! which the keys in work are seen, and each part is read when it is released: what it has is what it had since it was
+//! acquired.
+ghost use Rattle.std.specs.Prelude.{◌≡◌, ◌≤◌, ◌+◌, ◌++◌, ℕ, List, [], ◌∷◌, length, slice_get, IfErr, IfOk, OnOk, None, Option};
 ghost use Rattle.klsm_run.specs.declared.item.Item.{Item};
 ghost use Rattle.klsm_run.specs.Content.{sorted};
 ghost use Rattle.klsm_parts.specs.Events.{front_of};
 ghost use Rattle.klsm_world.specs.declared.step.Entry.TheVariants.{Released};
+ghost use Rattle.klsm_world.specs.LiveLaws.{HasAllParts};
 ghost use Rattle.klsm_world.specs.OwnSteps.{Hand, found_in};
 ghost use Rattle.klsm_board.specs.Steps.{mine, rest_of};
 ghost use Rattle.klsm_board.specs.Seats.{Stands, Has, IsSeatOf};
 ghost use Rattle.klsm_board.specs.Effects.{MeetsHolder};
 ghost use Rattle.klsm_board.specs.Members.{most_deletions, most_insertions};
-ghost use Rattle.klsm_board.specs.Bounding.{Bounds, IsBoundOf, MissesSome, SeesAllLive, all_in_hand, all_items, all_released, owns_acquired, owns_in_hand, owns_items, owns_released};
+ghost use Rattle.klsm_board.specs.Bounding.{Bounds, IsBoundOf, MissesSome, SeesAllLive, all_in_hand, all_items, all_released, keys_seen, least_key, owns_acquired, owns_in_hand, owns_items, owns_released};
 
 use crate::acquiring::try_acquire;
 use crate::errors::Busy;
 use crate::held::look;
+use crate::marking::see_work;
 use crate::rule::{Locks, MemberSeat};
 use crate::slot::PartSlot;
 use crate::steps::release_part;
@@ -25,6 +28,9 @@ use klsm_run::Item;
 pub struct Bound {
     /// The least key of all live items, and the greatest number where none lives.
     pub queue: u64,
+    /// The least key of the items that members work at, which are those that each deleted last, unless it has been
+    /// answered nothing since, or rested. It is the greatest number where none works.
+    pub work: u64,
     /// How many items live.
     pub items: usize,
 }
@@ -55,7 +61,8 @@ pub(crate) fn bound_now<S: PartSlot>(
         release_owns(table, seat, thread, threads);
         return Err(busy);
     }
-    Ok(read_all(table, seat, thread, threads))
+    let work = see_all_work(table, seat, thread, threads);
+    Ok(read_all(table, seat, thread, threads, work))
 }
 
 // Acquires the own parts of all members, in the order of their numbers; where one of them is held, none.
@@ -109,12 +116,39 @@ fn release_owns<S: PartSlot>(
     }
 }
 
-// Reads all parts, which the seat has, and releases them, the shared one first.
+// The least of the keys that all threads work at, whose own parts the seat has.
+fn see_all_work<S: PartSlot>(
+    table: &Locks<S>,
+    seat: &mut MemberSeat<S>,
+    thread: usize,
+    threads: usize,
+) -> u64
+    requires seat { IsSeatOf seat.old.table_id table.now.table_id table.now.key thread }
+    requires threads { threads ≡ table.now.key.threads }
+    requires has { (hand : Hand) × Has S.content S.suits table.now.key thread hand seat.old.me
+        × HasAllParts threads hand }
+    ensures same { seat.new.table_id ≡ seat.old.table_id }
+    ensures others { rest_of seat.new.me.0 ≡ rest_of seat.old.me.0 }
+    ensures has { (hand : Hand) → Has S.content S.suits table.now.key thread hand seat.old.me
+        → Has S.content S.suits table.now.key thread hand seat.new.me }
+    ensures seen { (keys : List ℕ) × (length keys ≡ threads) × (result ≡ least_key keys)
+        × (mine seat.new.me.0 ≡ mine seat.old.me.0 ++ keys_seen keys) }
+{
+    let mut least = u64::MAX;
+    for other in 0..threads {
+        let key = see_work(table, seat, thread, other);
+        least = key.min(least);
+    }
+    least
+}
+
+// Reads all parts, which the seat has, and releases them, the shared one first. The least key in work is known.
 fn read_all<S: PartSlot>(
     table: &Locks<S>,
     seat: &mut MemberSeat<S>,
     thread: usize,
     threads: usize,
+    work: u64,
 ) -> Bound
     requires seat { IsSeatOf seat.old.table_id table.now.table_id table.now.key thread }
     requires threads { threads ≡ table.now.key.threads }
@@ -128,9 +162,11 @@ fn read_all<S: PartSlot>(
     ensures read { (owns : List (List Item)) → (shared : List Item) → length owns ≡ threads
         → Has S.content S.suits table.now.key thread (all_in_hand owns shared) seat.old.me
         → IsBoundOf (all_items owns shared) result }
+    ensures work { result.work ≡ work }
 {
     let none = Bound {
         queue: u64::MAX,
+        work,
         items: 0,
     };
     let shared = read_part(table, seat, thread, 0, none);
@@ -158,6 +194,7 @@ fn read_owns<S: PartSlot>(
     ensures read { (owns : List (List Item)) → (read : List Item) → length owns ≡ threads
         → Has S.content S.suits table.now.key thread (owns_in_hand owns) seat.old.me
         → IsBoundOf read before → IsBoundOf (read ++ owns_items owns) result }
+    ensures work { result.work ≡ before.work }
 {
     let mut bound = before;
     for done in 0..threads {
@@ -189,16 +226,21 @@ fn read_part<S: PartSlot>(
     ensures read { (found : List Item) → (hand : Hand) → (read : List Item)
         → Has S.content S.suits table.now.key thread ((part, found) ∷ hand) seat.old.me
         → IsBoundOf read before → IsBoundOf (read ++ found) result }
+    ensures work { result.work ≡ before.work }
 {
     let (len, least) = look(table, seat, part, thread);
     release_part(table, seat, part, thread);
     let items = before.items + len;
-    let queue = least_key(before.queue, least);
-    Bound { queue, items }
+    let queue = least_read(before.queue, least);
+    Bound {
+        queue,
+        work: before.work,
+        items,
+    }
 }
 
 // The least key of some items and of others, of which these are the least key and the least item.
-fn least_key(key: u64, least: Option<Item>) -> u64
+fn least_read(key: u64, least: Option<Item>) -> u64
     ensures { (read : List Item) → (found : List Item) → key ≡ front_of read
         → least ≡ slice_get (sorted found) 0 → result ≡ front_of (read ++ found) }
 {

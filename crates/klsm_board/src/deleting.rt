@@ -7,12 +7,12 @@ ghost use Rattle.klsm_parts.specs.Events.{MayTake, MayFindNothing, MayRefill, ow
 ghost use Rattle.klsm_parts.specs.Refilling.{refill_of};
 ghost use Rattle.klsm_world.specs.declared.step.Event.TheVariants.{Take, Refill};
 ghost use Rattle.klsm_world.specs.declared.step.Entry.TheVariants.{Committed};
-ghost use Rattle.klsm_world.specs.OwnSteps.{hand_of};
+ghost use Rattle.klsm_world.specs.OwnSteps.{hand_of, no_key, work_at, work_of};
 ghost use Rattle.klsm_world.specs.OwnListLaws.{SkipsFew, KeepsOwnOrder};
 ghost use Rattle.klsm_board.specs.Rule.{world_limits};
 ghost use Rattle.klsm_board.specs.Steps.{mine, rest_of, AreReached};
 ghost use Rattle.klsm_board.specs.Seats.{Carries, Stands, Has, CarriedOut, QuotaAllows, LeavesShared, SetsFront, IsSeatOf, own_in_hand, both_in_hand, last_arriving};
-ghost use Rattle.klsm_board.specs.Entries.{both_released};
+ghost use Rattle.klsm_board.specs.Entries.{both_marked};
 ghost use Rattle.klsm_board.specs.Choosing.{Chooses};
 ghost use Rattle.klsm_board.specs.Effects.{MeetsHolder, TakesEffect};
 ghost use Rattle.klsm_board.specs.TakingOut.{FetchesInHand, HasFetched, TakesTo};
@@ -22,11 +22,12 @@ use crate::acquiring::try_acquire;
 use crate::early::delete_early;
 use crate::errors::Busy;
 use crate::lending::{lend_shared, return_shared};
+use crate::marking::{release_both_marked, release_marked};
 use crate::rule::{Locks, MemberSeat};
 use crate::slot::PartSlot;
 use crate::spying::search_victims;
 use crate::steps::{
-    commit_by_front, commit_event, commit_refill, release_both, release_part, release_shared,
+    commit_by_front, commit_refill, commit_with_shared, release_part, release_shared,
 };
 use crate::taking::{Fronts, take_and_fetch};
 use klsm_parts::Picker;
@@ -106,7 +107,7 @@ fn delete_under_both<S: PartSlot, P: Picker>(
     if search_victims(table, seat, thread, threads) {
         return take_both_out(table, seat, thread, threads, refill, picker);
     }
-    release_committed(table, seat, thread, &Event::Nothing);
+    release_committed(table, seat, thread, &Event::Nothing, u64::MAX);
     None
 }
 
@@ -140,12 +141,13 @@ fn take_both_out<S: PartSlot, P: Picker>(
         × KeepsOwnOrder (world_limits table.now.key) thread (mine seat.old.me.0) item
         × (mine seat.new.me.0
         ≡ mine seat.old.me.0 ++ Committed (Take item)
-        ∷ (refilled_after refill table.now.key.k own shared item ++ both_released thread))) }
+        ∷ (refilled_after refill table.now.key.k own shared item
+        ++ both_marked thread item.key))) }
 {
     let (item, fronts) = take_out(table, seat, thread, refill, picker)?;
     match fronts {
         Some(fronts) => release_by_front(table, seat, threads, thread, fronts, item),
-        None => release_committed(table, seat, thread, &Event::Take(item)),
+        None => release_committed(table, seat, thread, &Event::Take(item), item.key),
     }
     Some(item)
 }
@@ -179,29 +181,32 @@ fn release_by_front<S: PartSlot>(
         (own_after_take own item) (shared_after_take own shared item) fronts.refilled seat.old.me
         → mine seat.new.me.0 ≡ mine seat.old.me.0 ++ Committed (Take item)
         ∷ (refilled (refill_of most table.now.key.k (own_after_take own item)
-        (shared_after_take own shared item)) ++ both_released thread) }
+        (shared_after_take own shared item)) ++ both_marked thread item.key) }
 {
     let Fronts { taken, refilled } = fronts;
     commit_by_front(table, seat, threads, thread, taken, &Event::Take(item));
     match refilled {
-        Some(front) => release_refilled(table, seat, threads, thread, front),
-        None => release_both(table, seat, thread),
+        Some(front) => release_refilled(table, seat, threads, thread, front, item.key),
+        None => release_both_marked(table, seat, thread, item.key),
     }
 }
 
 // Commits that the items on their way to the own part move there, by setting the front, and releases the shared part.
-// Only then, when others may have that, are they merged into the own part, which is released last.
+// Only then, when others may have that, are they merged into the own part, which is released last, when the key that the
+// thread works at is marked.
 fn release_refilled<S: PartSlot>(
     table: &Locks<S>,
     seat: &mut MemberSeat<S>,
     threads: usize,
     thread: usize,
     front: u64,
+    key: u64,
 )
     requires sized { S.is_sized }
     requires seat { IsSeatOf seat.old.table_id table.now.table_id table.now.key thread }
     requires threads { threads ≡ table.now.key.threads }
     requires reached { AreReached table.now.key thread seat.old.me.0 }
+    requires key { key ≡ work_of (mine seat.old.me.0) }
     requires fetched { (own : List Item) × (shared : List Item)
         × (hand_of thread (mine seat.old.me.0) ≡ both_in_hand thread own shared)
         × HasFetched S.content S.suits S.arriving table.now.key thread own shared seat.old.me
@@ -211,12 +216,12 @@ fn release_refilled<S: PartSlot>(
     ensures others { rest_of seat.new.me.0 ≡ rest_of seat.old.me.0 }
     ensures has { Has S.content S.suits table.now.key thread [] seat.new.me }
     ensures list { mine seat.new.me.0 ≡ mine seat.old.me.0
-        ++ Committed (Refill (last_arriving S.arriving seat.old.me.1)) ∷ both_released thread }
+        ++ Committed (Refill (last_arriving S.arriving seat.old.me.1)) ∷ both_marked thread key }
 {
     commit_refill(table, seat, threads, thread, front);
     release_shared(table, seat, thread);
     take_fetched_in(table, seat, thread);
-    release_part(table, seat, thread + 1, thread);
+    release_marked(table, seat, thread, key);
 }
 
 // Merges the items that are on their way to the own part, which the seat carries, into it.
@@ -238,16 +243,18 @@ fn take_fetched_in<S: PartSlot>(table: &Locks<S>, seat: &mut MemberSeat<S>, thre
 }
 
 // Commits an event that inserts nothing, leaves the shared part and was carried out in the two parts in
-// hand, and releases them.
+// hand, and releases them. The key is the one that the thread then works at.
 fn release_committed<S: PartSlot>(
     table: &Locks<S>,
     seat: &mut MemberSeat<S>,
     thread: usize,
     event: &Event,
+    key: u64,
 )
     requires seat { IsSeatOf seat.old.table_id table.now.table_id table.now.key thread }
     requires room { QuotaAllows table.now.key.quota (mine seat.old.me.0) event.now }
     requires leaves { LeavesShared thread (hand_of thread (mine seat.old.me.0)) event.now }
+    requires key { key ≡ work_at (work_of (mine seat.old.me.0)) event.now }
     requires out { (own : List Item) × (shared : List Item)
         × CarriedOut S.content S.suits table.now.key thread event.now
         (both_in_hand thread own shared) seat.old.me }
@@ -255,10 +262,10 @@ fn release_committed<S: PartSlot>(
     ensures others { rest_of seat.new.me.0 ≡ rest_of seat.old.me.0 }
     ensures has { Has S.content S.suits table.now.key thread [] seat.new.me }
     ensures list { mine seat.new.me.0
-        ≡ mine seat.old.me.0 ++ Committed event.now ∷ both_released thread }
+        ≡ mine seat.old.me.0 ++ Committed event.now ∷ both_marked thread key }
 {
-    commit_event(table, seat, 0, thread, event);
-    release_part(table, seat, thread + 1, thread);
+    commit_with_shared(table, seat, thread, event);
+    release_marked(table, seat, thread, key);
 }
 
 // Takes an item out of the two parts that the seat carries. Where it was a shared one, the least shared items are then

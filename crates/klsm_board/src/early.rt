@@ -8,9 +8,10 @@ ghost use Rattle.klsm_board.specs.Deleting.{LooksInVain, TakesEarly};
 ghost use Rattle.klsm_board.specs.Entries.{with_look};
 ghost use Rattle.klsm_board.specs.Effects.{TakesEffect};
 
+use crate::marking::release_marked;
 use crate::rule::{Locks, MemberSeat};
 use crate::slot::PartSlot;
-use crate::steps::{look_at_front, release_part};
+use crate::steps::look_at_front;
 use klsm_run::Item;
 
 /// Deletes the least own item, with the own part in hand, where its key is below the front, and releases
@@ -43,7 +44,7 @@ pub(crate) fn delete_early<S: PartSlot>(
         return None;
     }
     let item = seat.slot_mut(table, thread + 1).take_least();
-    release_part(table, seat, thread + 1, thread);
+    release_marked(table, seat, thread, item.key);
     Some(item)
 }
 

@@ -32,7 +32,7 @@ pub enum MakeError {
     NoMemory,
 }
 
-/// Why an insertion that waits for nobody is refused. The causes are tried in this order.
+/// Why an insertion that never blocks is refused. The causes are tried in this order.
 #[derive(Clone, Copy, Debug, PartialEq, Eq, Error)]
 pub enum TryInsertError {
     /// The member has made all its insertions.
@@ -63,7 +63,7 @@ pub enum InsertError {
     NoMemory,
 }
 
-/// Why items are not shared by a call that waits for nobody. The causes are tried in this order.
+/// Why items are not shared by a call that never blocks. The causes are tried in this order.
 #[derive(Clone, Copy, Debug, PartialEq, Eq, Error)]
 pub enum TryShareError {
     /// A lock was not free.

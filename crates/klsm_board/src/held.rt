@@ -21,7 +21,7 @@ use klsm_run::Item;
 
 impl<const CAP: usize, const LEVELS: usize> Member<CAP, LEVELS> {
     /// Acquires any one part, in order to look at it: lock 0 has the shared part, and lock `t + 1` has
-    /// member t's own. It waits for nobody.
+    /// member t's own. It never blocks.
     pub fn try_hold(
         self,
         board: &Board<CAP, LEVELS>,

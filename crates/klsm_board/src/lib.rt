@@ -66,8 +66,8 @@
 //!   `Balances`.
 //! - **A sharing moves all own items or none**, by one event: clauses `ok` and `refused` of `Member::try_share` and
 //!   `Member::share`. Full or without memory it has changed nothing.
-//! - **A bound is exact** at one moment of the call, when the member has all parts in hand: clauses `ok` and `live` of
-//!   `Member::try_bound` and `Member::bound`, by `SeesAllLive`.
+//! - **A bound is exact** at one moment of the call, when the member has all parts in hand, of what lives and of what is
+//!   in work: clauses `ok` and `live` of `Member::try_bound` and `Member::bound`, by `SeesAllLive`.
 //! - **All members in one hand** (`Board::gather`, `AllMembers`) are of one world: `AllMembers::threads`, clause
 //!   `rule`. What is left is then what the calls made it, and no deletion skips more than T·k of that, nor more
 //!   than (T-1)·k where it went by the front, nor any where T is 1: clauses `left` and `few` of
@@ -91,7 +91,7 @@
 //! The files, from the atomic steps up: `rule` and `plays` (what always holds, and what a step tells), `steps`
 //! (acquire, release, the two commits, the look at the front), `slot` (what is done to the parts), `lending`,
 //! `acquiring` (one try, or as many as it needs), `inserting`, `spying`, `early` (deletions by the front),
-//! `taking`, `deleting`, `stealing` (balances), `sharing`, `bounding`, and the public calls in `making`, `member`, `held`, `together` and
+//! `taking`, `deleting`, `stealing` (balances), `sharing`, `marking` (the key in work), `resting`, `bounding`, and the public calls in `making`, `member`, `held`, `together` and
 //! `finishing`. `tally` has the counts of members that are in one hand. `gate` is for programs that run members in
 //! threads.
 #![tactic(auto)]
@@ -111,9 +111,11 @@ mod held;
 mod inserting;
 mod lending;
 mod making;
+mod marking;
 mod member;
 mod pausing;
 mod plays;
+mod resting;
 mod rule;
 mod sharing;
 mod sizes;

@@ -1,5 +1,5 @@
 //! What the members of a board do.
-ghost use Rattle.std.specs.Prelude.{◌≡◌, ◌≢◌, ◌<◌, ◌≤◌, ◌+◌, ◌++◌, ◌↔◌, ℕ, List, [], ◌∷◌, length, IfOk, IfErr, IsErrAnd, None};
+ghost use Rattle.std.specs.Prelude.{◌≡◌, ◌≢◌, ◌<◌, ◌≤◌, ◌+◌, ◌++◌, ◌↔◌, ℕ, List, [], ◌∷◌, length, IfOk, IfErr, OnOk, IsErrAnd, None};
 ghost use Rattle.std.specs.Option.{option_to_list};
 ghost use Rattle.klsm_run.specs.declared.item.Item.{Item};
 ghost use Rattle.klsm_world.specs.declared.step.Entry.TheVariants.{Looked};
@@ -14,6 +14,7 @@ ghost use Rattle.klsm_board.specs.Deleting.{AnswersDeletion, AnswersWaiting, Mis
 ghost use Rattle.klsm_board.specs.Sharing.{Shares, SharesWaiting, RefusesShare, RefusesShareWaiting};
 ghost use Rattle.klsm_board.specs.Stealing.{Balances};
 ghost use Rattle.klsm_board.specs.Bounding.{Bounds, BoundsWaiting, MissesSome, SeesAllLive};
+ghost use Rattle.klsm_board.specs.Resting.{MissesRest, Rests, RestsWaiting};
 
 use crate::board::{Board, Member};
 use crate::bounding::{Bound, bound_now};
@@ -21,6 +22,7 @@ use crate::deleting::delete_now;
 use crate::errors::{Busy, InsertError, ShareError, TryInsertError, TryShareError};
 use crate::inserting::insert_now;
 use crate::pausing::Pause;
+use crate::resting::rest_now;
 use crate::sharing::share_now;
 use crate::stealing::balance_now;
 use crate::steps::see_front;
@@ -59,7 +61,7 @@ impl<const CAP: usize, const LEVELS: usize> Member<CAP, LEVELS> {
     }
 
     /// The front: the key of the least shared item, and the greatest number where no item is shared. The items in
-    /// members' own parts may have lesser keys. It takes no lock, waits for nobody, and changes no part. The member's
+    /// members' own parts may have lesser keys. It takes no lock, never blocks, and changes no part. The member's
     /// list notes the look.
     ///
     /// The clauses say so of a lawful world in which the lists that the member knows are what they were. And by
@@ -97,7 +99,7 @@ impl<const CAP: usize, const LEVELS: usize> Member<CAP, LEVELS> {
         Item { key, stamp, load }
     }
 
-    /// Inserts a key with a load, and answers the item's stamp. It waits for nobody.
+    /// Inserts a key with a load, and answers the item's stamp. It never blocks.
     ///
     /// An insertion acquires the own lock and, where the own part has k items, the shared one, which
     /// items then move to.
@@ -176,7 +178,7 @@ impl<const CAP: usize, const LEVELS: usize> Member<CAP, LEVELS> {
         unreachable!()
     }
 
-    /// Deletes a small item and answers it. It waits for nobody. `None` where the own part, the
+    /// Deletes a small item and answers it. It never blocks. `None` where the own part, the
     /// shared one and each other part that could be looked into were empty.
     ///
     /// It acquires the own lock and, unless its least item has a key below the front, the shared one. At
@@ -391,23 +393,19 @@ impl<const CAP: usize, const LEVELS: usize> Member<CAP, LEVELS> {
         unreachable!()
     }
 
-    /// The least key of all live items, in all parts together, and how many live. It waits for nobody.
+    /// The least key of all live items, in all parts together, and how many live. It never blocks.
     ///
     /// It acquires the own locks of all members, in the order of their numbers, and then the shared one; `Busy` names the
     /// first that was not free. So there is a moment in the call when the member has all parts in hand, and what it answers
     /// is exact for that moment. Each item that lives later was inserted since, or has a key of at least `queue`
     /// (`laws::least_keys_hold` of `klsm_world`). It changes no part and takes no memory. It costs T+1 acquires and
-    /// releases, and a comparison for each block; as long as it has a part, nobody else can use that.
+    /// releases, a load for each member, and a comparison for each block; as long as it has a part, nobody else can use
+    /// that.
     ///
-    /// An item that was deleted is in no part, however long its thread still works at it, and `queue` says nothing of it.
-    /// A search that wants a bound of its open nodes keeps a word for each thread, and a count of its writes, which rises
-    /// behind each. The thread lowers its word to a number that is at most each key it may be given, as the last bound that
-    /// was found, before it calls for a deletion; it sets it to the key of the item once it has that; and it clears it, to
-    /// the greatest number, once it has inserted all that it made of the item, or if there was none. Somebody reads of each
-    /// thread the count and then the word, calls for a bound, and reads the counts again. Where none has changed, and what
-    /// is made of an item has no lesser key than that, the least of `queue` and of the words is at most the key of each
-    /// node that was open at that moment. Of a thread whose count has changed the word says nothing: only the number that
-    /// it is lowered to holds for it then.
+    /// An item that was deleted is in no part, however long its member still works at it: `work` is the least key of these.
+    /// Where members insert nothing but what they made of the item that they work at, with keys no less than its own, no
+    /// item that is deleted later has a key below the lesser of `queue` and `work` (`laws::work_holds` of `klsm_world`): the
+    /// bound of a search in which children are inserted before the next deletion, or the `rest`, of their member.
     pub fn try_bound(&mut self, board: &Board<CAP, LEVELS>) -> Result<Bound, Busy>
         requires { IsOf self.old board.now }
         ensures same { IsSame self.old self.new }
@@ -452,9 +450,46 @@ impl<const CAP: usize, const LEVELS: usize> Member<CAP, LEVELS> {
         unreachable!()
     }
 
+    /// Works at no item any more: the one that it deleted last is done with, for whoever asks for a bound. It waits for
+    /// nobody. An answer of nothing does the same, and a deletion sets another item in its place, so this is for a member
+    /// that pauses or leaves, once it has inserted all that it made of its item.
+    pub fn try_rest(&mut self, board: &Board<CAP, LEVELS>) -> Result<(), Busy>
+        requires { IsOf self.old board.now }
+        ensures same { IsSame self.old self.new }
+        ensures others { known_of_others self.new ≡ known_of_others self.old }
+        ensures ok { OnOk result (Rests self.old.number (own_steps self.old) (own_steps self.new)) }
+        ensures adds { Adds self.old self.new [] [] }
+        ensures busy { IfErr result (MissesRest self.old.number (own_steps self.old)
+            (own_steps self.new)) }
+        ensures holder { IfErr result (MeetsHolder self.old.sizes self.old.number
+            (known_of_others self.old) (own_steps self.new)) }
+    {
+        let thread = self.number as usize;
+        rest_now(&board.table.shared, &mut self.seat, thread)
+    }
+
+    /// Works at no item any more. It is `try_rest`, again and again, as long as another has the own part in hand, and it
+    /// waits between two tries as `insert` does.
+    pub fn rest(&mut self, rt: &(impl Wait + Clock), board: &Board<CAP, LEVELS>)
+        requires { IsOf self.old board.now }
+        ensures same { IsSame self.old self.new }
+        ensures others { known_of_others self.new ≡ known_of_others self.old }
+        ensures ok { RestsWaiting self.old.number (own_steps self.old) (own_steps self.new) }
+        ensures adds { Adds self.old self.new [] [] }
+    {
+        let mut pause = Pause::new();
+        for _ in rt.forever() {
+            match self.try_rest(board) {
+                Ok(()) => return,
+                Err(taken) => pause.wait(rt, &board.table.shared, taken),
+            }
+        }
+        unreachable!()
+    }
+
     /// Moves the least items of a victim's part to the own one, where the key of the least of them is below the
     /// front, and that item is smaller than the least own one: at most `most`, as half of what the victim has,
-    /// rounded up, and as many as the own part has room for. True where some moved. It waits for nobody.
+    /// rounded up, and as many as the own part has room for. True where some moved. It never blocks.
     ///
     /// It acquires the own lock, looks at the front, and tries the victim's lock once. A member that calls it now
     /// and then, each time for the next other member, takes a share of the small items of all. No bound changes:

@@ -115,7 +115,7 @@ fn rest_of_wait(misses: u32, busy: Busy) -> Rest
     }
 }
 
-// For how many nanoseconds it looks away after so many misses: twice as long each time, up to 800.
+// For how many nanoseconds it backs off after so many misses: twice as long each time, up to 800.
 fn nanos(misses: u32) -> u64
     ensures nanos { result ≡ nanos_after misses }
 {

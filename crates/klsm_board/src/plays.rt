@@ -108,6 +108,28 @@ impl<S: Holding, D: Intent> Play<S, View> for Glance<D> {
     ghost then = { glanced D.sizes D.thread };
 }
 
+/// A thread marks the key that it works at.
+pub(crate) struct Mark<D> {
+    of: PhantomData<D>,
+}
+
+impl<S: Holding, D: Intent> Play<S, View> for Mark<D> {
+    ghost use Rattle.klsm_board.specs.Steps.{mark_stored};
+
+    ghost then = { mark_stored D.sizes D.thread };
+}
+
+/// The key that a thread works at is seen, and that is noted.
+pub(crate) struct See<D> {
+    of: PhantomData<D>,
+}
+
+impl<S: Holding, D: Intent> Play<S, View> for See<D> {
+    ghost use Rattle.klsm_board.specs.Steps.{saw, on_mark};
+
+    ghost then = { on_mark (saw D.sizes D.thread) };
+}
+
 /// A thread's list comes to the front of those that the seat knows.
 pub(crate) struct Turn<D> {
     of: PhantomData<D>,

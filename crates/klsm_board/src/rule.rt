@@ -2,8 +2,9 @@
 //!
 //! Word `part * STRIDE` is the lock of a part: 0 while it is free, and `t + 1` while thread t holds
 //! it. The slot of that number has the part. Behind the locks, where that of one part more would be,
-//! is the front: the key of the shared part's least item. A seat knows the own steps of one thread,
-//! and at first and at last those of several.
+//! is the front: the key of the shared part's least item. Right behind the lock of a thread's own part
+//! is its mark: how far the key of the item that it works at is below the greatest number, so 0 where it
+//! works at none. A seat knows the own steps of one thread, and at first and at last those of several.
 ghost use Rattle.std.specs.Prelude.{ℕ, List};
 ghost use Rattle.klsm_run.specs.declared.item.Item.{Item};
 ghost use Rattle.klsm_board.specs.declared.sizes.Sizes.{Sizes};
@@ -15,7 +16,7 @@ use std::collections::LinkedList;
 use std::marker::PhantomData;
 
 /// How far the lock words and the front stand apart: two lines of the cache, which a processor fetches together.
-/// The words between stay 0, and no step is made on them.
+/// Of the words between only the marks are used, each in the line of the lock that its thread has in hand when it marks.
 pub(crate) const STRIDE: usize = 16;
 
 /// A thread's own steps. No value of it is made.

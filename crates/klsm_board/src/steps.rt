@@ -12,7 +12,7 @@ ghost use Rattle.klsm_board.specs.Rule.{place, view};
 ghost use Rattle.klsm_board.specs.Turning.{turned, HasList};
 ghost use Rattle.klsm_world.specs.LegalSteps.{MayCommit};
 ghost use Rattle.klsm_board.specs.Steps.{mine, rest_of, gain, IsMine, AreReached, HasFront, HasHolder, attempted, released, committed, looked, glanced, set_front, turned_to};
-ghost use Rattle.klsm_board.specs.Seats.{Carries, Stands, Has, CarriedOut, QuotaAllows, LeavesShared, SetsFront, IsSeatOf, own_in_hand, both_in_hand, last_arriving};
+ghost use Rattle.klsm_board.specs.Seats.{Carries, Stands, Has, CarriedOut, IsMarked, QuotaAllows, LeavesShared, LeavesWork, SetsFront, IsSeatOf, own_in_hand, both_in_hand, last_arriving};
 ghost use Rattle.klsm_board.specs.Entries.{both_released};
 
 use crate::plays::{Acquire, Commit, Glance, Intent, Look, Release, SetFront, Turn};
@@ -55,6 +55,7 @@ fn release<S: Holding, D: Intent>(
     requires carried { (y : S) × (seat.old.me.1 ≡ (part, y) ∷ rest seat.old.me.1)
         × S.suits table.now.key.k part y
         × Holds (hand_of thread (mine seat.old.me.0)) part (S.content y) }
+    requires marked { part ≡ own_part thread → IsMarked (mine seat.old.me.0) }
     ensures same { (seat.new.table_id ≡ seat.old.table_id) × (seat.new.id ≡ seat.old.id) }
     ensures outcome { released table.now.key thread (step table.now.table_id.slots part 0 0 none)
         seat.old.me 0 seat.new.me }
@@ -85,7 +86,8 @@ fn commit<S: Holding, D: Intent, T>(
         × LeavesShared thread (hand_of thread (mine seat.old.me.0)) e
         × ((y : S) × (seat.old.me.1 ≡ (part, y) ∷ rest seat.old.me.1)
         × S.suits table.now.key.k part y
-        × Holds (after_event thread (hand_of thread (mine seat.old.me.0)) e) part (S.content y)) }
+        × Holds (after_event thread (hand_of thread (mine seat.old.me.0)) e) part (S.content y))
+        × (part ≡ own_part thread → IsMarked (mine seat.old.me.0) × LeavesWork e) }
     ensures same { (seat.new.table_id ≡ seat.old.table_id) × (seat.new.id ≡ seat.old.id) }
     ensures outcome { committed D.fits table.now.key thread
         (step table.now.table_id.slots part 0 0 none) seat.old.me 0 seat.new.me }
@@ -274,8 +276,8 @@ pub(crate) fn release_shared<S: Holding>(table: &Locks<S>, seat: &mut MemberSeat
     release::<S, Brand>(table, seat, 0, thread);
 }
 
-/// Commits an event that was carried out in the parts that the seat carries, and releases the one that
-/// was acquired last.
+/// Commits an event that was carried out in the parts that the seat carries and is no deletion, and releases the one
+/// that was acquired last.
 pub(crate) fn commit_event<S: Holding>(
     table: &Locks<S>,
     seat: &mut MemberSeat<S>,
@@ -287,6 +289,7 @@ pub(crate) fn commit_event<S: Holding>(
     requires part { part ≤ table.now.key.threads }
     requires room { QuotaAllows table.now.key.quota (mine seat.old.me.0) event.now }
     requires leaves { LeavesShared thread (hand_of thread (mine seat.old.me.0)) event.now }
+    requires work { LeavesWork event.now }
     requires out { (left : List Item) × (hand : Hand)
         × CarriedOut S.content S.suits table.now.key thread event.now ((part, left) ∷ hand)
         seat.old.me
@@ -301,6 +304,33 @@ pub(crate) fn commit_event<S: Holding>(
         ≡ mine seat.old.me.0 ++ Committed event.now ∷ Released part ∷ [] }
 {
     commit::<S, Brand, Event>(table, seat, part, thread, event);
+}
+
+/// Commits an event that was carried out in the two parts that the seat carries, and releases the shared one, which it
+/// leaves as it was. Where it is a deletion, the key is still to be marked.
+pub(crate) fn commit_with_shared<S: Holding>(
+    table: &Locks<S>,
+    seat: &mut MemberSeat<S>,
+    thread: usize,
+    event: &Event,
+)
+    requires seat { IsSeatOf seat.old.table_id table.now.table_id table.now.key thread }
+    requires room { QuotaAllows table.now.key.quota (mine seat.old.me.0) event.now }
+    requires leaves { LeavesShared thread (hand_of thread (mine seat.old.me.0)) event.now }
+    requires out { (own : List Item) × (shared : List Item)
+        × CarriedOut S.content S.suits table.now.key thread event.now
+        (both_in_hand thread own shared) seat.old.me }
+    ensures same { (seat.new.table_id ≡ seat.old.table_id) × (seat.new.id ≡ seat.old.id) }
+    ensures others { rest_of seat.new.me.0 ≡ rest_of seat.old.me.0 }
+    ensures released { (own : List Item) → (shared : List Item)
+        → Carries S.content S.suits table.now.key thread (both_in_hand thread own shared)
+        seat.old.me
+        → Carries S.content S.suits table.now.key thread (own_in_hand thread own) seat.new.me
+        × (hand_of thread (mine seat.new.me.0) ≡ own_in_hand thread own) }
+    ensures list { mine seat.new.me.0
+        ≡ mine seat.old.me.0 ++ Committed event.now ∷ Released 0 ∷ [] }
+{
+    commit::<S, Brand, Event>(table, seat, 0, thread, event);
 }
 
 /// What an event is about by which items move from one part to another. No value names these items.
@@ -363,6 +393,7 @@ pub(crate) fn commit_moving<S: Holding, T: Moving>(
         → QuotaAllows table.now.key.quota (mine seat.old.me.0) (T.event about.now moved) }
     requires leaves { (moved : List Item)
         → LeavesShared thread (hand_of thread (mine seat.old.me.0)) (T.event about.now moved) }
+    requires work { (moved : List Item) → LeavesWork (T.event about.now moved) }
     requires out { (moved : List Item) × (left : List Item) × (hand : Hand)
         × CarriedOut S.content S.suits table.now.key thread (T.event about.now moved)
         ((part, left) ∷ hand) seat.old.me
@@ -449,6 +480,7 @@ pub(crate) fn commit_moving_by_front<S: Holding, T: Moving>(
     requires threads { threads ≡ table.now.key.threads }
     requires room { (moved : List Item)
         → QuotaAllows table.now.key.quota (mine seat.old.me.0) (T.event about.now moved) }
+    requires work { (moved : List Item) → LeavesWork (T.event about.now moved) }
     requires out { (moved : List Item) × (hand : Hand)
         × CarriedOut S.content S.suits table.now.key thread (T.event about.now moved) hand
         seat.old.me

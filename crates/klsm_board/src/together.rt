@@ -15,6 +15,7 @@ ghost use Rattle.klsm_board.specs.Inserting.{Inserts, RefusesInsert, as_tried, s
 ghost use Rattle.klsm_board.specs.Deleting.{AnswersDeletion};
 ghost use Rattle.klsm_board.specs.Bounding.{Bounds, IsBoundOf};
 ghost use Rattle.klsm_board.specs.Stealing.{Balances};
+ghost use Rattle.klsm_board.specs.Resting.{Rests};
 ghost use Rattle.klsm_board.specs.Sharing.{RefusesShare, Shares, as_tried_share};
 ghost use Rattle.klsm_board.specs.Finishing.{AreAll, AreListsAtEnd, IsLeastAbsent, lists_of};
 ghost use Rattle.klsm_board.specs.Knowing.{AreCounted, IsAtRest};
@@ -205,6 +206,24 @@ impl<const CAP: usize, const LEVELS: usize> AllMembers<CAP, LEVELS> {
             Ok(count) => Ok(count),
             Err(why) => Err(share_refusal_of(why)),
         }
+    }
+
+    /// Works at no item any more, as the member of this number (`Member::try_rest`). It meets no lock that is held.
+    pub fn rest(&mut self, board: &Board<CAP, LEVELS>, number: u32)
+        requires of { AreOf self.old board.now }
+        requires number { number < (sizes_of_all self.old).threads }
+        ensures same { ActsFor number self.old self.new }
+        ensures turn { turn_of self.new ≡ number }
+        ensures ok { Rests number (steps_for self.old number) (steps_for self.new number) }
+        ensures adds { Gains (steps_for self.old number) (steps_for self.new number) [] [] }
+        ensures left { left_of self.new ≡ left_of self.old }
+        ensures counts { (account (all_lists self.new)).inserted
+            ≡ (account (all_lists self.old)).inserted }
+    {
+        self.call(board, number);
+        let Ok(()) = self.acting.try_rest(board) else {
+            unreachable!();
+        };
     }
 
     /// The front that a member's own `front` would see now: the key of the least shared item, or the greatest number

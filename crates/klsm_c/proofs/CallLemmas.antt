@@ -11,8 +11,8 @@ use Rattle.klsm_c.specs.declared.bounding.PlainBound.{PlainBound}
 use Rattle.klsm_c.specs.declared.item.PlainItem.{PlainItem}
 use Rattle.klsm_owned.specs.declared.owned.OwnedMember.{OwnedMember}
 use Rattle.klsm_owned.specs.Owned.{IsSameOwned}
-use Rattle.klsm_owned.specs.Trying.{LooksAtFront, TriesBound, TriesInsert, TriesDelete, TriesDeleteAlone, TriesShare}
-use Rattle.klsm_c.specs.Calls.{InsertsBySlot, DeletesBySlot, DeletesAloneBySlot, SharesBySlot, BoundsBySlot, LooksAt, insert_code, delete_code, share_code, bound_code, written, count_written, bound_written}
+use Rattle.klsm_owned.specs.Trying.{LooksAtFront, TriesBound, TriesInsert, TriesDelete, TriesDeleteAlone, TriesRest, TriesShare}
+use Rattle.klsm_c.specs.Calls.{InsertsBySlot, DeletesBySlot, DeletesAloneBySlot, SharesBySlot, BoundsBySlot, RestsBySlot, LooksAt, insert_code, delete_code, share_code, bound_code, rest_code, written, count_written, bound_written}
 
 pub inserts_told : (old new : List OwnedMember) (x y : OwnedMember) (key load : ℕ) (code : ℤ) (answer : Result Stamp TryInsertError)
     → old ≡ x ∷ [] → new ≡ y ∷ [] → IsSameOwned x y → TriesInsert x y key load answer → code ≡ insert_code answer
@@ -49,6 +49,12 @@ pub bounds_told : (old new : List OwnedMember) (x y : OwnedMember) (bound bound'
     → BoundsBySlot old new bound bound' code
 bounds_told old new x y bound bound' code answer was is same tries code_is written_is =
     subst (λ (xs : List OwnedMember). BoundsBySlot xs new bound bound' code) (sym was) (y, is, same, answer, code_is, written_is, tries)
+
+pub rests_told : (old new : List OwnedMember) (x y : OwnedMember) (code : ℤ) (answer : Result Unit Busy)
+    → old ≡ x ∷ [] → new ≡ y ∷ [] → IsSameOwned x y → TriesRest x y answer → code ≡ rest_code answer
+    → RestsBySlot old new code
+rests_told old new x y code answer was is same tries code_is =
+    subst (λ (xs : List OwnedMember). RestsBySlot xs new code) (sym was) (y, is, same, answer, code_is, tries)
 
 pub looks_told : (old new : List OwnedMember) (x y : OwnedMember) (front : ℕ) → old ≡ x ∷ [] → new ≡ y ∷ [] → IsSameOwned x y → LooksAtFront x y front → LooksAt old new front
 looks_told old new x y front was is same looks = subst (λ (xs : List OwnedMember). LooksAt xs new front) (sym was) (y, is, same, looks)

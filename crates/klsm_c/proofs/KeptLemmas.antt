@@ -15,7 +15,7 @@ use Rattle.klsm_owned.proofs.ListLemmas.{unmapped}
 use Rattle.klsm_c.specs.declared.bounding.PlainBound.{PlainBound}
 use Rattle.klsm_c.specs.declared.item.PlainItem.{PlainItem}
 use Rattle.klsm_c.specs.declared.slot.Slot.{Slot}
-use Rattle.klsm_c.specs.Calls.{BoundsBySlot, DeletesAloneBySlot, DeletesBySlot, InsertsBySlot, LooksAt, SharesBySlot}
+use Rattle.klsm_c.specs.Calls.{BoundsBySlot, DeletesAloneBySlot, DeletesBySlot, InsertsBySlot, LooksAt, RestsBySlot, SharesBySlot}
 use Rattle.klsm_c.specs.Slots.{owned_in}
 use Rattle.klsm_c.proofs.ListLemmas.{map_behind}
 
@@ -70,6 +70,10 @@ kept_by_share (x ∷ xs) new moved moved' code told = (told.0, told.1, told.2)
 pub kept_by_bound : (old new : List OwnedMember) (bound bound' : PlainBound) (code : ℤ) → BoundsBySlot old new bound bound' code → IsKept old new
 kept_by_bound [] new bound bound' code told = told.1
 kept_by_bound (x ∷ xs) new bound bound' code told = (told.0, told.1, told.2)
+
+pub kept_by_rest : (old new : List OwnedMember) (code : ℤ) → RestsBySlot old new code → IsKept old new
+kept_by_rest [] new code told = told.1
+kept_by_rest (x ∷ xs) new code told = (told.0, told.1, told.2)
 
 pub kept_by_look : (old new : List OwnedMember) (front : ℕ) → LooksAt old new front → IsKept old new
 kept_by_look [] new front told = told.1

@@ -16,7 +16,7 @@ use Rattle.klsm_board.specs.declared.errors.TryShareError.{TryShareError}
 use Rattle.klsm_board.specs.declared.errors.TryShareError.TheVariants as try_share
 use Rattle.klsm_owned.specs.declared.owned.OwnedMember.{OwnedMember}
 use Rattle.klsm_owned.specs.Owned.{IsSameOwned, member_of}
-use Rattle.klsm_owned.specs.Trying.{LooksAtFront, TriesBound, TriesInsert, TriesDelete, TriesDeleteAlone, TriesShare}
+use Rattle.klsm_owned.specs.Trying.{LooksAtFront, TriesBound, TriesInsert, TriesDelete, TriesDeleteAlone, TriesRest, TriesShare}
 use Rattle.klsm_c.specs.declared.bounding.PlainBound.{PlainBound}
 use Rattle.klsm_c.specs.declared.item.PlainItem.{PlainItem}
 use Rattle.klsm_c.specs.declared.slot.Slot.{Slot}
@@ -108,6 +108,17 @@ BoundsBySlot [] new bound bound' code = (code ≡ codes.not_open) × (new ≡ []
 BoundsBySlot (x ∷ xs) new bound bound' code = (y : OwnedMember) × (new ≡ y ∷ []) × IsSameOwned x y
     × (answer : Result Bound IsBusy) × (code ≡ bound_code answer) × (bound' ≡ bound_written bound answer)
     × TriesBound x y answer
+
+-- the code of a rest's answer
+abbrev pub rest_code : Result Unit IsBusy → ℤ
+rest_code (Ok done) = codes.ok
+rest_code (Err busy) = codes.busy
+
+-- A rest, as an insertion. It writes nothing.
+abbrev pub RestsBySlot : List OwnedMember → List OwnedMember → ℤ → Type 0
+RestsBySlot [] new code = (code ≡ codes.not_open) × (new ≡ [])
+RestsBySlot (x ∷ xs) new code = (y : OwnedMember) × (new ≡ y ∷ []) × IsSameOwned x y
+    × (answer : Result Unit IsBusy) × (code ≡ rest_code answer) × TriesRest x y answer
 
 -- A look at the front: the greatest number where there is no member.
 abbrev pub LooksAt : List OwnedMember → List OwnedMember → ℕ → Type 0

@@ -13,4 +13,4 @@ abbrev pub IsCopied : List Item → List PlainItem → List PlainItem → Type 0
 IsCopied items old new = new ≡ take (length old) (map plain_of items) ++ drop (length items) old
 
 abbrev pub plain_bound_of : Bound → PlainBound
-plain_bound_of bound = record { queue = bound.queue; items = bound.items }
+plain_bound_of bound = record { queue = bound.queue; work = bound.work; items = bound.items }

@@ -3,16 +3,18 @@
 //! A queue is memory of the caller's: 64 slots of two cache lines each. A slot that is open has one
 //! member of a board, behind a pointer; a slot of zeros is closed. `klsm_open` makes a board and puts its
 //! members into the first slots; so does `klsm_open_with_balance`. From then on each thread uses one slot
-//! (`klsm_try_insert`, `klsm_try_delete_min`, `klsm_try_share`, `klsm_try_bound`), and once they are done, `klsm_close_into`
-//! ends the board with the account of all members and what is left. `klsm_drop` lets a queue go without an account.
+//! (`klsm_try_insert`, `klsm_try_delete_min`, `klsm_try_share`, `klsm_try_bound`, `klsm_try_rest`), and once they are
+//! done, `klsm_close_into` ends the board with the account of all members and what is left. `klsm_drop` lets a queue go
+//! without an account.
 //!
 //! What C gets is what `klsm_board` promises:
 //!
 //! - **A call of a slot is a call of the member behind it**, with all that `Member::try_insert`,
-//!   `Member::try_delete_min`, `Member::try_share` and `Member::try_bound` promise, and its code says which answer it was
-//!   (`InsertsBySlot`, `DeletesBySlot`, `SharesBySlot` and `BoundsBySlot` of `specs/Calls.antt`).
-//! - **A code comes exactly where its cause holds**; memory is refused only where `malloc` gives none. After
-//!   a refusal nothing has changed.
+//!   `Member::try_delete_min`, `Member::try_share`, `Member::try_bound` and `Member::try_rest` promise, and its code says
+//!   which answer it was (`InsertsBySlot`, `DeletesBySlot`, `SharesBySlot`, `BoundsBySlot` and `RestsBySlot` of
+//!   `specs/Calls.antt`).
+//! - **A code comes exactly where its cause holds**, and after a refusal nothing has changed. That memory is refused only
+//!   where `malloc` gave none is tested, and no clause says so.
 //! - **The members of an open queue are all those of one board.** That is part of the type `Queue`, each
 //!   call keeps it, and so `klsm_close_into` has no premise.
 //! - **At the end each item that was inserted was deleted, once, or is left, once** (`IsAccount` of
@@ -31,6 +33,7 @@ mod opening;
 mod queue;
 mod queue_calls;
 mod raw_box;
+mod resting;
 mod sharing;
 mod slot;
 
@@ -43,5 +46,6 @@ pub use item::PlainItem;
 pub use opening::{klsm_open, klsm_open_with_balance};
 pub use queue::Queue;
 pub use raw_box::RawBox;
+pub use resting::klsm_try_rest;
 pub use sharing::{klsm_try_delete_min_alone, klsm_try_share};
 pub use slot::Slot;

@@ -1,12 +1,13 @@
 //! The calls of one member of a queue, for a caller that has the whole queue.
 ghost use Rattle.std.specs.Prelude.{◌≡◌, ◌<◌};
 ghost use Rattle.klsm_run.specs.declared.limits.TheConstants.{MOST_THREADS};
-ghost use Rattle.klsm_c.specs.Calls.{BoundsBySlot, CallsSlot, DeletesAloneBySlot, DeletesBySlot, InsertsBySlot, LooksAt, SharesBySlot, deleted_in, inserted_in};
+ghost use Rattle.klsm_c.specs.Calls.{BoundsBySlot, CallsSlot, DeletesAloneBySlot, DeletesBySlot, InsertsBySlot, LooksAt, RestsBySlot, SharesBySlot, deleted_in, inserted_in};
 
 use crate::bounding::{PlainBound, klsm_try_bound};
 use crate::calls::{klsm_deleted, klsm_front, klsm_inserted, klsm_try_delete_min, klsm_try_insert};
 use crate::item::PlainItem;
 use crate::queue::Queue;
+use crate::resting::klsm_try_rest;
 use crate::sharing::{klsm_try_delete_min_alone, klsm_try_share};
 
 impl Queue {
@@ -58,6 +59,16 @@ impl Queue {
             (λ before after. BoundsBySlot before after bound.old bound.new result) }
     {
         klsm_try_bound(&mut self.slots[number], bound)
+    }
+
+    /// Says that the member of this number has done with the item that it deleted last, as C does by a pointer to its
+    /// slot. The members stay those of one board.
+    pub fn try_rest(&mut self, number: usize) -> i32
+        requires { number < MOST_THREADS }
+        ensures { CallsSlot number self.old.slots self.new.slots
+            (λ before after. RestsBySlot before after result) }
+    {
+        klsm_try_rest(&mut self.slots[number])
     }
 
     /// The front, as C asks for it by a pointer to this slot. The members stay those of one board.

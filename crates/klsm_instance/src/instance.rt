@@ -122,7 +122,7 @@ impl Instance {
         };
         let mut rest = picks;
         for thing in self.things.iter() {
-            // Without a jump, which nobody could foresee.
+            // Branch-free: no processor could predict the branch.
             let bit = rest % 2;
             totals.value += bit * thing.value;
             totals.weight += bit * thing.weight;

@@ -2,45 +2,62 @@
 use Rattle.std.proofs.Common.{◌≡◌, ◌≢◌, ℕ, suc, inl, inr, List, [], ◌∷◌, ◌++◌, Option, Some, None, sym, ap, ◌∙◌, append_assoc, arith}
 use Rattle.std.specs.List.{AllByRecursion}
 use Rattle.klsm_run.specs.declared.item.Item.{Item}
+use Rattle.klsm_world.specs.declared.step.Event.{Event}
 use Rattle.klsm_world.specs.declared.step.Event.TheVariants.{Put, Flush, Take, Early, Nothing, Spy, Refill}
 use Rattle.klsm_world.specs.declared.step.Entry.{Entry}
 use Rattle.klsm_world.specs.declared.step.Entry.TheVariants.{Committed, Released}
-use Rattle.klsm_world.specs.OwnSteps.{own_part}
+use Rattle.klsm_world.specs.OwnSteps.{no_key, own_part, work_at, work_of}
 use Rattle.klsm_board.specs.declared.sizes.Sizes.{Sizes}
 use Rattle.klsm_board.specs.Inserting.{FindsFull, GivesUp, Inserts, InsertsWaiting, Waits}
 use Rattle.klsm_board.specs.Deleting.{Deletes, FindsNothing, AnswersDeletion, AnswersWaiting, victim_of, refilled}
-use Rattle.klsm_board.specs.Entries.{own_acquired, both_acquired, both_looked, both_released}
+use Rattle.klsm_board.specs.Entries.{own_acquired, own_marked, both_acquired, both_looked, both_marked, both_released}
 use Rattle.klsm_board.proofs.lemmas.calls.AddLemmas.{goes_on, own_quiet, both_quiet, both_look_quiet}
 use Rattle.klsm_board.specs.Effects.{committed_in}
 use Rattle.klsm_board.proofs.lemmas.calls.MissLemmas.{waits_quiet}
 use Rattle.klsm_board.proofs.lemmas.calls.RefillLemmas.{is_refilled}
 use Rattle.klsm_board.proofs.lemmas.calls.DeletedLemmas.{takes_events, spied_events, nothing_events, early_events}
-use Rattle.klsm_knapsack.specs.Ends.{EndsAnswered}
+use Rattle.klsm_board.proofs.lemmas.hands.WorkLemmas.{work_more}
+use Rattle.klsm_knapsack.specs.Ends.{EndsAnswered, work_behind}
 use Rattle.klsm_knapsack.specs.Answers.{GainsNothing, GainsOthers, GainsSome}
 
 pub after_insertion : (levels k t : ℕ) (es es' : List Entry) (x : Item) → Inserts levels k t es es' x → EndsAnswered t es'
 after_insertion levels k t es es' x (inl puts) = inr (own_acquired t puts.own es, Put x, inl puts.steps)
-after_insertion levels k t es es' x (inr flushes) = inr (both_acquired t flushes.own flushes.shared es, Flush x flushes.moved, inr flushes.steps)
+after_insertion levels k t es es' x (inr flushes) = inr (both_acquired t flushes.own flushes.shared es, Flush x flushes.moved, inr (inl flushes.steps))
+
+-- what a thread works at behind an event is told by that
+works_behind : (before : List Entry) (event : Event) → work_behind before event ≡ work_at (work_of before) event
+works_behind before event = work_more before (Committed event)
+
+-- both parts were released behind an event, and between them the key marked that the thread then works at
+marked_behind : (t : ℕ) (before es' : List Entry) (event : Event) (key : ℕ) → work_behind before event ≡ key → es' ≡ before ++ Committed event ∷ both_marked t key → EndsAnswered t es'
+marked_behind t before es' event key works steps = inr (before, event, inr (inr (inr (steps ∙ ap (λ n. before ++ Committed event ∷ both_marked t n) (sym works)))))
 
 -- items may have moved behind a Take
-after_take : (t : ℕ) (taken es' : List Entry) (x : Item) (moved : List Item) → es' ≡ taken ++ Committed (Take x) ∷ (refilled moved ++ both_released t) → EndsAnswered t es'
-after_take t taken es' x [] steps = inr (taken, Take x, inr steps)
+after_take : (t : ℕ) (taken es' : List Entry) (x : Item) (moved : List Item) → es' ≡ taken ++ Committed (Take x) ∷ (refilled moved ++ both_marked t x.key) → EndsAnswered t es'
+after_take t taken es' x [] steps = marked_behind t taken es' (Take x) x.key (works_behind taken (Take x)) steps
 after_take t taken es' x (y ∷ moved) steps =
-    inr (taken ++ Committed (Take x) ∷ [], Refill (y ∷ moved), inr (steps ∙ sym (append_assoc taken (Committed (Take x) ∷ []) (Committed (Refill (y ∷ moved)) ∷ both_released t))))
+    let before : List Entry = taken ++ Committed (Take x) ∷ [] in
+    marked_behind t before es' (Refill (y ∷ moved)) x.key (works_behind before (Refill (y ∷ moved)) ∙ works_behind taken (Take x))
+    (steps ∙ sym (append_assoc taken (Committed (Take x) ∷ []) (Committed (Refill (y ∷ moved)) ∷ both_marked t x.key)))
 
 after_deletion : {P : Type 0} (may_pick : P → ℕ → ℕ → P → Type 0) (before after : P) (m : Sizes) (t : ℕ) (own shared : List Item) (taken es' : List Entry) (x : Item) → Deletes may_pick before after m t own shared taken es' x → EndsAnswered t es'
 after_deletion may_pick before after m t own shared taken es' x (inl takes) =
     let some = is_refilled m.refill m.k own shared x in
-    after_take t taken es' x some.0 (takes.0.steps ∙ ap (λ z. taken ++ Committed (Take x) ∷ (z ++ both_released t)) some.1)
-after_deletion may_pick before after m t own shared taken es' x (inr takes) = inr (takes.0.spied, Take x, inr takes.0.steps)
+    after_take t taken es' x some.0 (takes.0.steps ∙ ap (λ z. taken ++ Committed (Take x) ∷ (z ++ both_marked t x.key)) some.1)
+after_deletion may_pick before after m t own shared taken es' x (inr takes) =
+    marked_behind t takes.0.spied es' (Take x) x.key (works_behind takes.0.spied (Take x)) takes.0.steps
 
 after_nothing : (m : Sizes) (t : ℕ) (own shared : List Item) (taken es' : List Entry) → FindsNothing m t own shared taken es' → EndsAnswered t es'
-after_nothing m t own shared taken es' finds = inr (taken ++ finds.added, Nothing, inr finds.steps)
+after_nothing m t own shared taken es' finds =
+    marked_behind t (taken ++ finds.added) es' Nothing no_key (works_behind (taken ++ finds.added) Nothing) finds.steps
 
 -- the same of a deletion, however it went
 pub after_answer : {P : Type 0} (may_pick : P → ℕ → ℕ → P → Type 0) (before after : P) (m : Sizes) (t : ℕ) (es es' : List Entry) (answer : Option Item) → AnswersDeletion may_pick before after m t es es' answer → EndsAnswered t es'
 after_answer may_pick before after m t es es' None (own, inl early) = absurd early.0
-after_answer may_pick before after m t es es' (Some x) (own, inl early) = inr (own_acquired t own es, Early x early.0.front, inl early.0.steps)
+after_answer may_pick before after m t es es' (Some x) (own, inl early) =
+    let taken : List Entry = own_acquired t own es in
+    let works : work_behind taken (Early x early.0.front) ≡ x.key = works_behind taken (Early x early.0.front) in
+    inr (taken, Early x early.0.front, inr (inr (inl (early.0.steps ∙ ap (λ n. taken ++ Committed (Early x early.0.front) ∷ own_marked t n) (sym works)))))
 after_answer may_pick before after m t es es' None (own, inr both) = after_nothing m t own both.0 (both_looked t own both.1 both.0 es) es' both.3.0
 after_answer may_pick before after m t es es' (Some x) (own, inr both) =
     after_deletion may_pick before after m t own both.0 (both_looked t own both.1 both.0 es) es' x both.3
@@ -48,6 +65,10 @@ after_answer may_pick before after m t es es' (Some x) (own, inr both) =
 -- and of one that gave an item
 pub after_item : {P : Type 0} (may_pick : P → ℕ → ℕ → P → Type 0) (before after : P) (m : Sizes) (t : ℕ) (es es' : List Entry) (x : Item) → AnswersWaiting may_pick before after m t es es' (Some x) → EndsAnswered t es'
 after_item may_pick before after m t es es' x told = after_answer may_pick before after m t told.0 es' (Some x) told.2
+
+-- and of one that gave none
+pub after_none : {P : Type 0} (may_pick : P → ℕ → ℕ → P → Type 0) (before after : P) (m : Sizes) (t : ℕ) (es es' : List Entry) → AnswersWaiting may_pick before after m t es es' None → EndsAnswered t es'
+after_none may_pick before after m t es es' told = after_answer may_pick before after m t told.0 es' None told.2
 
 -- a list that goes on quietly gains what it gains later
 later : (es now es' : List Entry) → committed_in now ≡ committed_in es → GainsOthers now es' → GainsOthers es es'

@@ -25,7 +25,7 @@ use Rattle.klsm_knapsack.specs.IncumbentSeats.{found_by}
 use Rattle.klsm_knapsack.specs.Work.{HasNode, HasWorked, IsNodeItem}
 use Rattle.klsm_knapsack.specs.Ends.{EndsAnswered, HasEnded, first_refusal}
 use Rattle.klsm_knapsack.specs.Answers.{GainsOthers}
-use Rattle.klsm_knapsack.specs.Workers.{HasEndedSo, HasRun, HaveWorked, IsAtWork, AreWorkersOf, IsIdle, HasNotBegun, IsSameWorker, IsWorkerOf, work_of}
+use Rattle.klsm_knapsack.specs.Workers.{HasEndedSo, HasRun, HaveWorked, IsAtWork, AreWorkersOf, IsIdle, HasNotBegun, IsSameWorker, IsWorkerOf, work_by}
 use Rattle.klsm_knapsack.proofs.CoverageLemmas.{wider}
 use Rattle.klsm_knapsack.proofs.WorkLemmas.{inserts_one, has_last}
 use Rattle.klsm_knapsack.proofs.IdleLemmas.{gains_none, idle_after_others}
@@ -74,27 +74,27 @@ module _ {LEVELS : ℕ} where
       by_place (suc k) d lt = new_ended m (get_or crew k d) (new (suc k) d lt)
 
   -- it has room for its first insertion
-  pub new_room : (w : Worker LEVELS) → HasNotBegun w → 2 ≤ w.member.sizes.quota → length (work_of w).inserted < w.member.sizes.quota
+  pub new_room : (w : Worker LEVELS) → HasNotBegun w → 2 ≤ w.member.sizes.quota → length (work_by w).inserted < w.member.sizes.quota
   new_room w new room = subst (λ (es : List Entry). length (inserted es) < w.member.sizes.quota) (sym new.steps) (omega (arith, room))
 
   -- after which it is at work
-  pub root_at_work : (m : NoRoom) (p : Problem) (before after : Worker LEVELS) (x : Item) → HasNotBegun before → IsNodeItem p x → level_in x.load ≡ 0 → picks_in x.load ≡ 0 → (work_of after).inserted ≡ (work_of before).inserted ++ x ∷ []
-      → (work_of after).deleted ≡ (work_of before).deleted → EndsAnswered after.member.number (own_steps after.member) → IsAtWork m p after × HasNode (work_of after).inserted 0 0
+  pub root_at_work : (m : NoRoom) (p : Problem) (before after : Worker LEVELS) (x : Item) → HasNotBegun before → IsNodeItem p x → level_in x.load ≡ 0 → picks_in x.load ≡ 0 → (work_by after).inserted ≡ (work_by before).inserted ++ x ∷ []
+      → (work_by after).deleted ≡ (work_by before).deleted → EndsAnswered after.member.number (own_steps after.member) → IsAtWork m p after × HasNode (work_by after).inserted 0 0
   root_at_work m p before after x new node level picks is same answered = (record { worked = worked; answered = λ refuses. answered }, has_last _ _ x 0 0 is level picks)
     where
-      only : (work_of after).inserted ≡ x ∷ []
+      only : (work_by after).inserted ≡ x ∷ []
       only = is ∙ ap (λ (es : List Entry). inserted es ++ x ∷ []) new.steps
 
-      no_more : (work_of after).deleted ≡ []
+      no_more : (work_by after).deleted ≡ []
       no_more = same ∙ ap deleted new.steps
 
       by_place : (y : Item) → Contains [] y ⊎ IsNodeItem p y → IsNodeItem p y
       by_place y (inl there) = absurd (omega (arith, there.1))
       by_place y (inr here) = here
 
-      worked : HasWorked p (work_of after)
+      worked : HasWorked p (work_by after)
       worked = record {
-        inserts_nodes = λ y there. by_place y ((inserts_one p [] (work_of after).inserted x node only).nodes y there);
+        inserts_nodes = λ y there. by_place y ((inserts_one p [] (work_by after).inserted x node only).nodes y there);
         is_done = λ y there found. absurd (none_in y (subst (λ (ys : List Item). Contains ys y) no_more there));
       }
         where
@@ -150,15 +150,15 @@ module _ {LEVELS : ℕ} where
 
   -- where each worker ran and none was refused, they have worked
   pub all_worked : (m : NoRoom) (p : Problem) (idle : ℕ) (old new : List (Worker LEVELS)) (d : Worker LEVELS) → 0 < length old → length new ≡ length old
-      → ((i : ℕ) (e : Worker LEVELS) → i < length old → HasRun m p idle (get_or old i e) (get_or new i e)) → HasNode (work_of (get_or old 0 d)).inserted 0 0
+      → ((i : ℕ) (e : Worker LEVELS) → i < length old → HasRun m p idle (get_or old i e) (get_or new i e)) → HasNode (work_by (get_or old 0 d)).inserted 0 0
       → All (λ (w : Worker LEVELS). w.refused ≡ None) new → HaveWorked p new
   all_worked m p idle [] new d some_worker many runs root none = absurd (omega (arith, some_worker))
   all_worked m p idle (w ∷ old) [] d some_worker many runs root none = absurd (omega (arith, many))
   all_worked m p idle (w ∷ old) (v ∷ new) d some_worker many runs root none = record {
     root =
         let inserts = (runs 0 v (omega arith)).inserts (none 0 v (omega arith)) in
-        wider (work_of w).inserted (flat_map (λ (u : Worker LEVELS). (work_of u).inserted) (v ∷ new)) 0 0
-        (λ y there. Contains-append_left (work_of v).inserted (flat_map (λ (u : Worker LEVELS). (work_of u).inserted) new) y (inserts.kept y there)) root;
+        wider (work_by w).inserted (flat_map (λ (u : Worker LEVELS). (work_by u).inserted) (v ∷ new)) 0 0
+        (λ y there. Contains-append_left (work_by v).inserted (flat_map (λ (u : Worker LEVELS). (work_by u).inserted) new) y (inserts.kept y there)) root;
     each = λ k e lt. (runs k e (omega (arith, lt, many))).worked (none k e lt);
   }
 

@@ -31,7 +31,7 @@ use Rattle.klsm_instance.specs.Selections.{Problem}
 use Rattle.klsm_knapsack.specs.IncumbentSeats.{IsSeatAt, found_by}
 use Rattle.klsm_knapsack.specs.Work.{HasNode, HasWorked, all_inserted, all_deleted}
 use Rattle.klsm_knapsack.specs.Ends.{End, HasEnded, IsLeastRefusal, first_refusal}
-use Rattle.klsm_knapsack.specs.Workers.{HasEndedSo, HaveWorked, AreWorkersOf, HasNotBegun, IsSearched, IsWorkerOf, work_of}
+use Rattle.klsm_knapsack.specs.Workers.{HasEndedSo, HaveWorked, AreWorkersOf, HasNotBegun, IsSearched, IsWorkerOf, work_by}
 use Rattle.klsm_board.specs.Members.{sizes_of}
 use Rattle.klsm_knapsack.specs.Refusals.{RefusesSearch, error_of}
 use Rattle.klsm_knapsack.proofs.CrewLemmas.{each_worker, member_of, so_many_workers, stands_at, worker_number}
@@ -159,29 +159,29 @@ module _ {LEVELS : ℕ} where
         → AreEachOnce (lists_of state.board.sizes.threads members)
         → left ≡ (account (lists_of state.board.sizes.threads members)).left → IsSearched p number left
     searched p found number members left back worked below le once left_is = record {
-      works = map work_of crew;
-      root = subst (λ (xs : List Item). HasNode xs 0 0) (sym (flat_of_map work_of (λ w. w.inserted) crew)) worked.root;
+      works = map work_by crew;
+      root = subst (λ (xs : List Item). HasNode xs 0 0) (sym (flat_of_map work_by (λ w. w.inserted) crew)) worked.root;
       none_lost = none_lost;
-      have_worked = recursion_from_All (HasWorked p) (map work_of crew) (All-map (HasWorked p) work_of crew worked.each);
-      found = recursion_from_All (λ w. w.found ≤ number) (map work_of crew) (All-map (λ w. w.found ≤ number) work_of crew (λ k d lt. omega (arith, below k d lt, le)));
+      have_worked = recursion_from_All (HasWorked p) (map work_by crew) (All-map (HasWorked p) work_by crew worked.each);
+      found = recursion_from_All (λ w. w.found ≤ number) (map work_by crew) (All-map (λ w. w.found ≤ number) work_by crew (λ k d lt. omega (arith, below k d lt, le)));
     }
       where
         lists_are : map (λ (w : Worker LEVELS). own_steps w.member) crew ≡ lists_of state.board.sizes.threads members
         lists_are = mapped_twice member_of own_steps crew ∙ (lists_in_order state.board (map member_of crew) is.members ∙ ap (lists_of state.board.sizes.threads) (sym back))
 
-        inserted_are : all_inserted (map work_of crew) ≡ flat_map inserted (lists_of state.board.sizes.threads members)
-        inserted_are = flat_of_map work_of (λ w. w.inserted) crew ∙ (sym (flat_of_map (λ (w : Worker LEVELS). own_steps w.member) inserted crew) ∙ ap (λ ls. flat_map inserted ls) lists_are)
+        inserted_are : all_inserted (map work_by crew) ≡ flat_map inserted (lists_of state.board.sizes.threads members)
+        inserted_are = flat_of_map work_by (λ w. w.inserted) crew ∙ (sym (flat_of_map (λ (w : Worker LEVELS). own_steps w.member) inserted crew) ∙ ap (λ ls. flat_map inserted ls) lists_are)
 
-        deleted_are : all_deleted (map work_of crew) ≡ flat_map deleted (lists_of state.board.sizes.threads members)
-        deleted_are = flat_of_map work_of (λ w. w.deleted) crew ∙ (sym (flat_of_map (λ (w : Worker LEVELS). own_steps w.member) deleted crew) ∙ ap (λ ls. flat_map deleted ls) lists_are)
+        deleted_are : all_deleted (map work_by crew) ≡ flat_map deleted (lists_of state.board.sizes.threads members)
+        deleted_are = flat_of_map work_by (λ w. w.deleted) crew ∙ (sym (flat_of_map (λ (w : Worker LEVELS). own_steps w.member) deleted crew) ∙ ap (λ ls. flat_map deleted ls) lists_are)
 
-        by_count : (x : Item) (n : ℕ) → times x (all_deleted (map work_of crew)) ≡ n → 0 < n + times x left → Contains (all_deleted (map work_of crew)) x ⊎ Contains left x
+        by_count : (x : Item) (n : ℕ) → times x (all_deleted (map work_by crew)) ≡ n → 0 < n + times x left → Contains (all_deleted (map work_by crew)) x ⊎ Contains left x
         by_count x zero none some_left = inr (contained_if_counted x left (omega (arith, some_left)))
-        by_count x (suc n) some_deleted more = inl (contained_if_counted x (all_deleted (map work_of crew)) (omega (arith, some_deleted)))
+        by_count x (suc n) some_deleted more = inl (contained_if_counted x (all_deleted (map work_by crew)) (omega (arith, some_deleted)))
 
-        none_lost : (x : Item) → Contains (all_inserted (map work_of crew)) x → Contains (all_deleted (map work_of crew)) x ⊎ Contains left x
+        none_lost : (x : Item) → Contains (all_inserted (map work_by crew)) x → Contains (all_deleted (map work_by crew)) x ⊎ Contains left x
         none_lost x there =
-            let counted : 0 < times x (flat_map inserted (lists_of state.board.sizes.threads members)) = subst (λ (xs : List Item). 0 < times x xs) inserted_are (times_contained x (all_inserted (map work_of crew)) there) in
-            let gone : times x (all_deleted (map work_of crew)) ≡ times x (flat_map deleted (lists_of state.board.sizes.threads members)) = ap (times x) deleted_are in
+            let counted : 0 < times x (flat_map inserted (lists_of state.board.sizes.threads members)) = subst (λ (xs : List Item). 0 < times x xs) inserted_are (times_contained x (all_inserted (map work_by crew)) there) in
+            let gone : times x (all_deleted (map work_by crew)) ≡ times x (flat_map deleted (lists_of state.board.sizes.threads members)) = ap (times x) deleted_are in
             let rest : times x left ≡ times x (account (lists_of state.board.sizes.threads members)).left = ap (times x) left_is in
-            by_count x (times x (all_deleted (map work_of crew))) refl (omega (arith, counted, gone, rest, (once x).1))
+            by_count x (times x (all_deleted (map work_by crew))) refl (omega (arith, counted, gone, rest, (once x).1))

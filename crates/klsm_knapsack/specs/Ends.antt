@@ -5,21 +5,28 @@ use lib.ListN.{get_elem?}
 use Rattle.klsm_world.specs.declared.step.Event.{Event}
 use Rattle.klsm_world.specs.declared.step.Entry.{Entry}
 use Rattle.klsm_world.specs.declared.step.Entry.TheVariants.{Committed, Released}
-use Rattle.klsm_world.specs.OwnSteps.{own_part}
+use Rattle.klsm_world.specs.OwnSteps.{own_part, work_of}
 use Rattle.klsm_board.specs.declared.sizes.Sizes.{Sizes}
 use Rattle.klsm_board.specs.declared.errors.InsertError.TheVariants as insert
-use Rattle.klsm_board.specs.Entries.{both_released}
+use Rattle.klsm_board.specs.Entries.{both_marked, both_released, own_marked}
 use Rattle.klsm_board.specs.Inserting.{RefusesInsertWaiting}
 use Rattle.klsm_board.specs.Rule.{IsReached}
 use Rattle.klsm_knapsack.specs.declared.errors.Refusal.{Refusal}
 use Rattle.klsm_knapsack.specs.declared.errors.Refusal.TheVariants as refusal
 
--- A list of own steps is empty, or ends with an event that was committed, and the parts given back.
+-- the key that a thread works at once it committed an event
+abbrev pub work_behind : List Entry → Event → ℕ
+work_behind before event = work_of (before ++ Committed event ∷ [])
+
+-- A list of own steps is empty, or ends with an event that was committed, and the parts given back. Behind a deletion
+-- the key that the thread then works at is marked.
 abbrev pub EndsAnswered : ℕ → List Entry → Type 0
 EndsAnswered t es = (es ≡ [])
     ⊎ ((before : List Entry) × (event : Event)
     × ((es ≡ before ++ Committed event ∷ Released (own_part t) ∷ [])
-    ⊎ (es ≡ before ++ Committed event ∷ both_released t)))
+    ⊎ ((es ≡ before ++ Committed event ∷ both_released t)
+    ⊎ ((es ≡ before ++ Committed event ∷ own_marked t (work_behind before event))
+    ⊎ (es ≡ before ++ Committed event ∷ both_marked t (work_behind before event))))))
 
 -- it ends with an insertion that was given up: the shared part had no room, or a growth was refused
 abbrev pub EndsRefused : ℕ → ℕ → ℕ → List Entry → Refusal → Type 0

@@ -36,8 +36,8 @@ pub record Extends (p : Problem) (before after : Work) : Type 0 where
 
 module _ {LEVELS : ℕ} where
   -- what a worker's member inserted and deleted, and the greatest number that its seat found
-  abbrev pub work_of : Worker LEVELS → Work
-  work_of w = record {
+  abbrev pub work_by : Worker LEVELS → Work
+  work_by w = record {
     inserted = inserted (own_steps w.member);
     deleted = deleted (own_steps w.member);
     found = found_by w.seat;
@@ -56,7 +56,7 @@ module _ {LEVELS : ℕ} where
   -- the worker is done with all nodes that it deleted, and its last call was answered, where it does not
   -- go on without room
   pub record IsAtWork (no_room : NoRoom) (p : Problem) (w : Worker LEVELS) : Type 0 where
-    pub worked : HasWorked p (work_of w)
+    pub worked : HasWorked p (work_by w)
     pub answered : no_room ≡ Refuses → EndsAnswered w.member.number (own_steps w.member)
 
   -- where it does not go on without room, the worker's last call was answered, or its last insertion was
@@ -101,9 +101,9 @@ module _ {LEVELS : ℕ} where
     pub ended : HasEndedSo no_room after
     pub room : no_room ≡ SearchesAlone → LacksNoRoom after
     pub course : KeepsCourse before after
-    pub worked : after.refused ≡ None → HasWorked p (work_of after)
+    pub worked : after.refused ≡ None → HasWorked p (work_by after)
     pub inserts : after.refused ≡ None
-        → InsertsNodes p (work_of before).inserted (work_of after).inserted
+        → InsertsNodes p (work_by before).inserted (work_by after).inserted
     pub idles : after.refused ≡ None → IsIdle idle (own_steps before.member) after
 
   -- the workers of a search: theirs are the members of its board, in the order of their numbers, and seats
@@ -132,8 +132,8 @@ module _ {LEVELS : ℕ} where
 
   -- no worker was refused, and together they are done with all nodes but those left, the root first
   pub record HaveWorked (p : Problem) (crew : List (Worker LEVELS)) : Type 0 where
-    pub root : HasNode (flat_map (λ w. (work_of w).inserted) crew) 0 0
-    pub each : All (λ w. HasWorked p (work_of w)) crew
+    pub root : HasNode (flat_map (λ w. (work_by w).inserted) crew) 0 0
+    pub each : All (λ w. HasWorked p (work_by w)) crew
 
 -- the first n of the nodes left are finished: no completion is above the value
 abbrev pub AreFinished : Problem → List Item → ℕ → ℕ → Type 0

@@ -11,7 +11,7 @@ ghost use Rattle.klsm_knapsack.specs.IncumbentSeats.{problem_of};
 ghost use Rattle.klsm_knapsack.specs.Work.{ClosesBounded, HasNode, IsNodeItem, IsSplit, IsDone, HasWorked};
 ghost use Rattle.klsm_knapsack.specs.Ends.{EndsAnswered, EndsRefused};
 ghost use Rattle.klsm_knapsack.specs.Answers.{GainsNothing, GainsOthers, GainsSome};
-ghost use Rattle.klsm_knapsack.specs.Workers.{Extends, HasEndedSo, HasRun, InsertsNodes, IsAtWork, IsIdle, HasNotBegun, IsSameWorker, IsWorkerOf, KeepsCourse, WasRefusedFirst, work_of};
+ghost use Rattle.klsm_knapsack.specs.Workers.{Extends, HasEndedSo, HasRun, InsertsNodes, IsAtWork, IsIdle, HasNotBegun, IsSameWorker, IsWorkerOf, KeepsCourse, WasRefusedFirst, work_by};
 
 use crate::errors::Refusal;
 use crate::passing::Passed;
@@ -37,7 +37,7 @@ impl<const LEVELS: usize> Worker<LEVELS> {
         ensures course { KeepsCourse self.old self.new }
         ensures ended { HasEndedSo state.now.no_room self.new }
         ensures begun { MatchBool result
-            (IsAtWork state.now.no_room instance.now self.new × HasNode (work_of self.new).inserted 0 0)
+            (IsAtWork state.now.no_room instance.now self.new × HasNode (work_by self.new).inserted 0 0)
             (self.new.refused ≡ None → ⊥) }
         ensures refused { result ≡ false → WasRefusedFirst self.new }
         ensures gains { IsTrue result →
@@ -92,7 +92,7 @@ impl<const LEVELS: usize> Worker<LEVELS> {
         ensures course { KeepsCourse self.old self.new }
         ensures goes_on { IfOk result (λ _. IsAtWork state.now.no_room instance.now self.new) }
         ensures inserts { IfOk result (λ _. InsertsNodes instance.now
-            (work_of self.old).inserted (work_of self.new).inserted) }
+            (work_by self.old).inserted (work_by self.new).inserted) }
         ensures idle { IfOk result (λ _. IsIdle idle (own_steps self.old.member) self.new) }
         ensures refused { IfErr result (λ why. EndsRefused LEVELS self.new.member.sizes.k
             self.new.member.number (own_steps self.new.member) why) }
@@ -141,7 +141,7 @@ impl<const LEVELS: usize> Worker<LEVELS> {
         ensures course { KeepsCourse self.old self.new }
         ensures goes_on { IfOk result (λ _. IsAtWork state.now.no_room instance.now self.new) }
         ensures inserts { IfOk result (λ _. InsertsNodes instance.now
-            (work_of self.old).inserted (work_of self.new).inserted) }
+            (work_by self.old).inserted (work_by self.new).inserted) }
         ensures answers { IfOk result (λ some. MatchBool some
             (GainsSome (own_steps self.old.member) (own_steps self.new.member))
             (GainsNothing (own_steps self.old.member) (own_steps self.new.member))) }
@@ -178,16 +178,16 @@ impl<const LEVELS: usize> Worker<LEVELS> {
         ensures answered { IfOk result (λ _. state.now.no_room ≡ NoRoom.Refuses
             → EndsAnswered self.new.member.number (own_steps self.new.member)) }
         ensures extends { IfOk result (λ _.
-            Extends instance.now (work_of self.old) (work_of self.new)) }
+            Extends instance.now (work_by self.old) (work_by self.new)) }
         ensures done { IfOk result (λ _. (x : Item) → x.load ≡ load → IsNodeItem instance.now x
-            → IsDone instance.now (work_of self.new) x) }
+            → IsDone instance.now (work_by self.new) x) }
         ensures raises { IsNode instance.now (level_in load) (picks_in load)
-            → value_of instance.now (picks_in load) ≤ value_in (work_of self.new).found }
+            → value_of instance.now (picks_in load) ≤ value_in (work_by self.new).found }
         ensures closes { IsNode instance.now (level_in load) (picks_in load)
             → self.new.is_alone ≡ false
-            → ClosesBounded instance.now load (work_of self.old) (work_of self.new) }
+            → ClosesBounded instance.now load (work_by self.old) (work_by self.new) }
         ensures alone { IsTrue self.old.is_alone → IsTrue self.new.is_alone
-            × ((work_of self.new).inserted ≡ (work_of self.old).inserted) }
+            × ((work_by self.new).inserted ≡ (work_by self.old).inserted) }
         ensures keeps { state.now.no_room ≡ NoRoom.Refuses
             → self.new.is_alone ≡ self.old.is_alone }
         ensures gains { IfOk result (λ _.
@@ -231,15 +231,15 @@ impl<const LEVELS: usize> Worker<LEVELS> {
         ensures answered { IfOk result (λ _. state.now.no_room ≡ NoRoom.Refuses
             → EndsAnswered self.new.member.number (own_steps self.new.member)) }
         ensures extends { IfOk result (λ _.
-            Extends instance.now (work_of self.old) (work_of self.new)) }
+            Extends instance.now (work_by self.old) (work_by self.new)) }
         ensures done { IfOk result (λ _.
-            NoneAbove instance.now node.level node.picks (value_in (work_of self.new).found)
-            ⊎ IsSplit instance.now (work_of self.new).inserted node.level node.picks) }
-        ensures finds { (work_of self.old).found ≤ (work_of self.new).found }
+            NoneAbove instance.now node.level node.picks (value_in (work_by self.new).found)
+            ⊎ IsSplit instance.now (work_by self.new).inserted node.level node.picks) }
+        ensures finds { (work_by self.old).found ≤ (work_by self.new).found }
         ensures splits { self.new.is_alone ≡ false
-            → (work_of self.new).found ≡ (work_of self.old).found }
+            → (work_by self.new).found ≡ (work_by self.old).found }
         ensures alone { IsTrue self.old.is_alone → IsTrue self.new.is_alone
-            × ((work_of self.new).inserted ≡ (work_of self.old).inserted) }
+            × ((work_by self.new).inserted ≡ (work_by self.old).inserted) }
         ensures keeps { state.now.no_room ≡ NoRoom.Refuses
             → self.new.is_alone ≡ self.old.is_alone }
         ensures goes_on { state.now.no_room ≡ NoRoom.SearchesAlone
@@ -279,10 +279,10 @@ impl<const LEVELS: usize> Worker<LEVELS> {
         ensures course { KeepsCourse self.old self.new }
         ensures answered { IfOk result (λ _.
             EndsAnswered self.new.member.number (own_steps self.new.member)) }
-        ensures extends { Extends instance.now (work_of self.old) (work_of self.new) }
-        ensures split { IfOk result (λ _. IsSplit instance.now (work_of self.new).inserted
+        ensures extends { Extends instance.now (work_by self.old) (work_by self.new) }
+        ensures split { IfOk result (λ _. IsSplit instance.now (work_by self.new).inserted
             node.now.level node.now.picks) }
-        ensures finds { (work_of self.new).found ≡ (work_of self.old).found }
+        ensures finds { (work_by self.new).found ≡ (work_by self.old).found }
         ensures keeps { self.new.is_alone ≡ self.old.is_alone }
         ensures gains { GainsOthers (own_steps self.old.member) (own_steps self.new.member) }
         ensures refused { IfErr result (λ why. EndsRefused LEVELS self.new.member.sizes.k
@@ -311,11 +311,11 @@ impl<const LEVELS: usize> Worker<LEVELS> {
         ensures course { KeepsCourse self.old self.new }
         ensures inserts { IfOk result (λ _. (x : Item) × IsNodeItem instance.now x
             × (level_in x.load ≡ node.now.level) × (picks_in x.load ≡ node.now.picks)
-            × ((work_of self.new).inserted ≡ (work_of self.old).inserted ++ x ∷ [])) }
+            × ((work_by self.new).inserted ≡ (work_by self.old).inserted ++ x ∷ [])) }
         ensures refuses { IfErr result (λ why.
-            (work_of self.new).inserted ≡ (work_of self.old).inserted) }
-        ensures deletes { (work_of self.new).deleted ≡ (work_of self.old).deleted }
-        ensures finds { (work_of self.new).found ≡ (work_of self.old).found }
+            (work_by self.new).inserted ≡ (work_by self.old).inserted) }
+        ensures deletes { (work_by self.new).deleted ≡ (work_by self.old).deleted }
+        ensures finds { (work_by self.new).found ≡ (work_by self.old).found }
         ensures keeps { (self.new.refused ≡ self.old.refused)
             × (self.new.is_alone ≡ self.old.is_alone) }
         ensures answered { IfOk result (λ _.

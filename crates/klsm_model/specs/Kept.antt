@@ -7,7 +7,7 @@ use Rattle.klsm_world.specs.declared.step.Event.TheVariants as event
 use Rattle.klsm_world.specs.declared.step.Entry.{Entry}
 use Rattle.klsm_world.specs.declared.step.Entry.TheVariants as entry
 use Rattle.klsm_model.specs.declared.own_steps.KeptStep.{KeptStep}
-use Rattle.klsm_model.specs.declared.own_steps.KeptStep.TheVariants.{Acquired, Put, Flush, Take, Early, Nothing, Spy, Refill, Steal, Share, Released, Missed, Looked}
+use Rattle.klsm_model.specs.declared.own_steps.KeptStep.TheVariants.{Acquired, Put, Flush, Take, Early, Nothing, Spy, Refill, Steal, Share, Released, Missed, Looked, Marked, Saw}
 use Rattle.klsm_world.specs.Worlds.{Limits, World, word_of, content_of}
 use Rattle.klsm_world.specs.LawfulWorlds.{IsLawful}
 use Rattle.klsm_model.specs.WorldView.{AreLimits}
@@ -27,6 +27,8 @@ entry_of Share items = entry.Committed (event.Share items)
 entry_of (Released p) items = entry.Released p
 entry_of (Missed p by) items = entry.Missed p by
 entry_of (Looked front) items = entry.Looked front
+entry_of (Marked key) items = entry.Marked key
+entry_of (Saw u key) items = entry.Saw u key
 
 -- what is at home, by the words and what each part has now, free or held
 abbrev pub homes_of : List ℕ → List (List Item) → List (Option (List Item))

@@ -4,7 +4,7 @@ use Rattle.std.specs.List.{Contains}
 use Rattle.klsm_world.specs.declared.step.Event.{Event}
 use Rattle.klsm_world.specs.declared.step.Event.TheVariants.{Put, Flush, Take, Early, Nothing, Spy, Refill, Steal, Share}
 use Rattle.klsm_world.specs.declared.step.Step.{Step}
-use Rattle.klsm_world.specs.declared.step.Step.TheVariants.{Acquire, Commit, Release, Miss, Look}
+use Rattle.klsm_world.specs.declared.step.Step.TheVariants.{Acquire, Commit, Release, Miss, Look, Mark, See}
 use Rattle.klsm_model.specs.declared.errors.StepError.{StepError}
 use Rattle.klsm_model.specs.declared.errors.StepError.TheVariants.{NoSuchPart, Held, NotHeld, WrongEvent, NoMemory}
 use Rattle.klsm_world.specs.OwnSteps.{shared_part, own_part, found_in}
@@ -31,6 +31,8 @@ NamesNone limits (Commit t event) = (limits.threads ≤ t) ⊎ NamesNoVictim lim
 NamesNone limits (Release t p) = (limits.threads ≤ t) ⊎ (limits.threads < p)
 NamesNone limits (Miss t p) = (limits.threads ≤ t) ⊎ (limits.threads < p)
 NamesNone limits (Look t) = limits.threads ≤ t
+NamesNone limits (Mark t key) = limits.threads ≤ t
+NamesNone limits (See t u) = (limits.threads ≤ t) ⊎ (limits.threads ≤ u)
 
 -- the parts that thread t has to hold for an event
 abbrev pub parts_for : ℕ → Event → List ℕ
@@ -55,6 +57,8 @@ LacksPart w (Commit t event) = LacksOne w t (parts_for t event)
 LacksPart w (Release t p) = LacksOne w t (p ∷ [])
 LacksPart w (Miss t p) = ⊥
 LacksPart w (Look t) = ⊥
+LacksPart w (Mark t key) = LacksOne w t (own_part t ∷ [])
+LacksPart w (See t u) = LacksOne w t (own_part u ∷ [])
 
 -- the part to be acquired is held by this thread
 abbrev pub FindsHeld : World → Step → ℕ → Type 0
@@ -63,6 +67,8 @@ FindsHeld w (Commit t event) by = ⊥
 FindsHeld w (Release t p) by = ⊥
 FindsHeld w (Miss t p) by = ⊥
 FindsHeld w (Look t) by = ⊥
+FindsHeld w (Mark t key) by = ⊥
+FindsHeld w (See t u) by = ⊥
 
 -- a step is refused for this reason, which is the first in the order of the reasons
 abbrev pub Refuses : Limits → World → Step → StepError → Type 0

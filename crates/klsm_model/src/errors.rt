@@ -14,7 +14,8 @@ pub enum StepError {
     /// The thread does not hold a part that the step needs.
     #[error("the thread does not hold a part that it needs")]
     NotHeld,
-    /// The event may not be committed, or the part to be missed is not held by another thread.
+    /// The event may not be committed, the part to be missed is not held by another thread, or the
+    /// key to be marked is not that of the item that the thread works at.
     #[error("the event's condition fails")]
     WrongEvent,
     /// A growth was refused.

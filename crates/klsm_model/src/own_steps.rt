@@ -2,7 +2,8 @@
 ghost use Rattle.std.specs.Prelude.{◌≡◌, ◌++◌, ◌∷◌, [], List, length, IfErr, OnOk, OnErr};
 ghost use Rattle.klsm_world.specs.declared.step.Entry.{Entry};
 ghost use Rattle.klsm_model.specs.Kept.{entry_of};
-ghost use Rattle.klsm_world.specs.OwnSteps.{inserted};
+ghost use Rattle.klsm_run.specs.declared.item.Item.{Item};
+ghost use Rattle.klsm_world.specs.OwnSteps.{inserted, work_after, work_of};
 
 use crate::errors::StepError;
 use klsm_run::Item;
@@ -26,6 +27,8 @@ pub(crate) enum KeptStep {
     Released(u32),
     Missed(u32, u32),
     Looked(u64),
+    Marked(u64),
+    Saw(u32, u64),
 }
 
 /// A step of a thread's list.
@@ -42,11 +45,12 @@ impl<A: Allocator> Model for Kept<A> {
     ghost view = { λ kept. entry_of kept.step kept.items };
 }
 
-/// A thread's list, and how many insertions it has.
+/// A thread's list, with how many insertions it has, and the key of the item that the thread works at.
 #[derive(Drop)]
 pub(crate) struct OwnSteps<A: Allocator> {
     steps: Vec<Kept<A>, A>,
     insertions: u64,
+    work: u64,
 }
 
 impl<A: Allocator> Model for OwnSteps<A> {
@@ -54,7 +58,8 @@ impl<A: Allocator> Model for OwnSteps<A> {
 
     ghost view = { λ own. own.steps.items };
 
-    ghost invariant = { λ own. own.insertions ≡ length (inserted own.steps.items) };
+    ghost invariant = { λ own.
+        (own.insertions ≡ length (inserted own.steps.items)) × (own.work ≡ work_of own.steps.items) };
 }
 
 impl<A: Allocator> OwnSteps<A> {
@@ -65,6 +70,7 @@ impl<A: Allocator> OwnSteps<A> {
         OwnSteps {
             steps: Vec::new(alloc),
             insertions: 0,
+            work: u64::MAX,
         }
     }
 
@@ -73,6 +79,13 @@ impl<A: Allocator> OwnSteps<A> {
         ensures { result ≡ length (inserted self.now) }
     {
         self.insertions
+    }
+
+    /// The key of the item that the thread works at, and the greatest number where it works at none.
+    pub fn work(&self) -> u64
+        ensures { result ≡ work_of self.now }
+    {
+        self.work
     }
 
     /// Adds a step.
@@ -85,10 +98,25 @@ impl<A: Allocator> OwnSteps<A> {
             KeptStep::Put(_) | KeptStep::Flush(_) => self.insertions + 1,
             _ => self.insertions,
         };
+        let work = next_work(self.work, step);
         let Ok(()) = self.steps.push(Kept { step, items }) else {
             return Err(StepError::NoMemory);
         };
         self.insertions = insertions;
+        self.work = work;
         Ok(())
+    }
+}
+
+// The key of the item that a thread works at after a step, from that before it.
+fn next_work(work: u64, step: KeptStep) -> u64
+    ensures { (items : List Item) → result ≡ work_after work (entry_of step items) }
+{
+    match step {
+        KeptStep::Take(item) => item.key,
+        KeptStep::Early(item, _) => item.key,
+        KeptStep::Nothing => u64::MAX,
+        KeptStep::Marked(key) => key,
+        _ => work,
     }
 }

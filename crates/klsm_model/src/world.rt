@@ -102,6 +102,8 @@ impl<A: Allocator + Copy> World<A> {
             Step::Release { thread, part } => self.release(*thread, *part),
             Step::Miss { thread, part } => self.miss(*thread, *part),
             Step::Look { thread } => self.look(*thread),
+            Step::Mark { thread, key } => self.mark(*thread, *key),
+            Step::See { thread, of } => self.see(*thread, *of),
         }
     }
 

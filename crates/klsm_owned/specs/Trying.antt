@@ -1,5 +1,5 @@
 -- What the calls of a member that wait for nobody tell, in its own words.
-use Rattle.std.specs.Prelude.{◌≡◌, ◌↔◌, ℕ, List, [], ◌∷◌, ◌++◌, length, Result, Option, IfOk, IfErr, IsErrAnd}
+use Rattle.std.specs.Prelude.{◌≡◌, ◌↔◌, ℕ, List, [], ◌∷◌, ◌++◌, length, Result, Option, IfOk, IfErr, IsErrAnd, OnOk}
 use Rattle.std.specs.Option.{option_to_list}
 use Rattle.klsm_run.specs.declared.item.Item.{Item}
 use Rattle.klsm_run.specs.declared.item.Stamp.{Stamp}
@@ -18,9 +18,10 @@ use Rattle.klsm_board.specs.Balancing.{HasBalanced, after_deletion, after_turn, 
 use Rattle.klsm_board.specs.Boards.{Adds, known_of_others, own_steps}
 use Rattle.klsm_board.specs.Rule.{own, view}
 use Rattle.klsm_board.specs.Steps.{HasFront}
-use Rattle.klsm_board.specs.Inserting.{Inserts, RefusesInsert, stamp_of, stamped}
+use Rattle.klsm_board.specs.Inserting.{Inserts, MissesOwn, RefusesInsert, stamp_of, stamped}
 use Rattle.klsm_board.specs.Deleting.{AnswersDeletion, MissesDeletion, moving_at_most}
 use Rattle.klsm_board.specs.Bounding.{Bounds, MissesSome, SeesAllLive}
+use Rattle.klsm_board.specs.Resting.{Rests}
 use Rattle.klsm_board.specs.Sharing.{RefusesShare, Shares}
 use Rattle.klsm_owned.specs.declared.owned.OwnedMember.{OwnedMember}
 use Rattle.klsm_parts.specs.Choices.{may_choose}
@@ -95,8 +96,8 @@ pub record TriesShare (before after : OwnedMember) (result : Result ℕ TryShare
   pub choice : choice_of after ≡ choice_of before
   pub balancing : balancing_of after ≡ balancing_of before
 
--- A bound: all parts were in hand at one moment, and it is that of the items that lived then; or a lock was not free.
--- The picker stays.
+-- A bound: all parts were in hand at one moment, and it is that of the items that lived then and of the keys in work; or
+-- a lock was not free. The picker stays.
 pub record TriesBound (before after : OwnedMember) (result : Result Bound Busy) : Type 0 where
   pub ok : IfOk result (Bounds (member_of before).sizes.threads
       (own_steps (member_of before)) (own_steps (member_of after)))
@@ -104,6 +105,17 @@ pub record TriesBound (before after : OwnedMember) (result : Result Bound Busy) 
       (known_of_others (member_of before)) (own_steps (member_of before)) (own_steps (member_of after)))
   pub adds : Adds (member_of before) (member_of after) [] []
   pub busy : IfErr result (MissesSome (member_of before).sizes.threads
+      (own_steps (member_of before)) (own_steps (member_of after)))
+  pub choice : choice_of after ≡ choice_of before
+  pub balancing : balancing_of after ≡ balancing_of before
+
+-- A rest: with the own part in hand the member's mark was set to the greatest number, so that it works at no item; or its
+-- lock was not free, and the mark stays. The picker stays.
+pub record TriesRest (before after : OwnedMember) (result : Result Unit Busy) : Type 0 where
+  pub ok : OnOk result (Rests (member_of before).number
+      (own_steps (member_of before)) (own_steps (member_of after)))
+  pub adds : Adds (member_of before) (member_of after) [] []
+  pub busy : IfErr result (MissesOwn (member_of before).number
       (own_steps (member_of before)) (own_steps (member_of after)))
   pub choice : choice_of after ≡ choice_of before
   pub balancing : balancing_of after ≡ balancing_of before

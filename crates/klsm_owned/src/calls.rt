@@ -5,7 +5,7 @@ ghost use Rattle.klsm_world.specs.OwnSteps.{inserted, deleted};
 ghost use Rattle.klsm_board.specs.Boards.{IsOf, own_steps};
 ghost use Rattle.klsm_board.specs.Members.{most_deletions, most_insertions};
 ghost use Rattle.klsm_owned.specs.Owned.{IsSameOwned, board_of, member_of};
-ghost use Rattle.klsm_owned.specs.Trying.{BalancesFirst, LooksAtFront, TriesBound, TriesInsert, TriesDelete, TriesDeleteAlone, TriesShare};
+ghost use Rattle.klsm_owned.specs.Trying.{BalancesFirst, LooksAtFront, TriesBound, TriesInsert, TriesDelete, TriesDeleteAlone, TriesRest, TriesShare};
 
 use crate::owned::OwnedMember;
 use klsm_board::{
@@ -62,13 +62,22 @@ impl OwnedMember {
         self.member.try_share(&self.board)
     }
 
-    /// The least key of all live items, and how many live, as `Member::try_bound`.
+    /// The least key of all live items and that of the items in work, and how many live, as `Member::try_bound`.
     #[inline]
     pub fn try_bound(&mut self) -> Result<Bound, Busy>
         ensures same { IsSameOwned self.old self.new }
         ensures tries { TriesBound self.old self.new result }
     {
         self.member.try_bound(&self.board)
+    }
+
+    /// Is done with the item that it deleted last, and works at none any more, as `Member::try_rest`.
+    #[inline]
+    pub fn try_rest(&mut self) -> Result<(), Busy>
+        ensures same { IsSameOwned self.old self.new }
+        ensures tries { TriesRest self.old self.new result }
+    {
+        self.member.try_rest(&self.board)
     }
 
     // Balances with the member whose turn it is, where it is time. One whose lock is held is passed over.

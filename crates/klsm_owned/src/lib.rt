@@ -10,7 +10,8 @@
 //! member.try_insert(key, load)?;                                // as the member's own calls
 //! let item = member.try_delete_min()?;
 //! let count = member.try_share()?;                              // it will be busy: others find its items
-//! let bound = member.try_bound()?;                              // the least key of all live items
+//! let bound = member.try_bound()?;                              // the least key of all that is open
+//! member.try_rest()?;                                           // it has done with its item, and leaves
 //! ```
 //!
 //! The calls promise of the member inside all that `klsm_board` promises of it. A member that is dropped

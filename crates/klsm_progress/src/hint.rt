@@ -1,4 +1,4 @@
-//! What a terminal says beside an answer that refuses something.
+//! What a terminal says with a refusal.
 
 use std::{fmt, str};
 

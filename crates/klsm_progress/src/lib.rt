@@ -1,4 +1,4 @@
-//! What is told of a long run while it lasts.
+//! Progress reports of a long run, and their receivers.
 //!
 //! A run tells a value that it is handed how far it has come, from any of its threads. Each thread counts
 //! for itself and says so many at once, so that it costs little:
@@ -22,7 +22,7 @@
 //!   does not tell is not written: the contracts of the private calls there.
 //! - **The words behind a number** are those of what is counted: the contract of `Counted::words`.
 //!
-//! A progress also hears that rows are read from now on, and of a run that refuses something a `Hint`, which
+//! A progress also hears that rows are read from now on, and of a run that ends with a refusal a `Hint`, which
 //! says to a user what was expected. It goes to standard error where that is a terminal, and else nowhere.
 //!
 //! No contract speaks of what a progress does with what it hears. So it is tested only that a thread tells

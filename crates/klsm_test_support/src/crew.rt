@@ -72,7 +72,7 @@ impl<const LEVELS: usize> Crew<LEVELS> {
         }
     }
 
-    /// How a member's insertion ends that waits for nobody.
+    /// How a member's insertion ends that never blocks.
     pub fn try_insert(
         &mut self,
         member: usize,
@@ -95,7 +95,7 @@ impl<const LEVELS: usize> Crew<LEVELS> {
         Some(member.insert(rt, &self.board, key, load))
     }
 
-    /// How a member's deletion ends that waits for nobody.
+    /// How a member's deletion ends that never blocks.
     pub fn try_delete_min<P: Picker>(
         &mut self,
         member: usize,
@@ -105,7 +105,7 @@ impl<const LEVELS: usize> Crew<LEVELS> {
         Some(member.try_delete_min(&self.board, picker))
     }
 
-    /// The item that a member deletes, where it finds one and waits for nobody.
+    /// The item that a member deletes by the call that never blocks, where it finds one.
     pub fn deleted<P: Picker>(&mut self, member: usize, picker: &mut P) -> Option<Item> {
         self.try_delete_min(member, picker)?.ok()?
     }
@@ -116,7 +116,7 @@ impl<const LEVELS: usize> Crew<LEVELS> {
         Some(member.delete_min(rt, &self.board, &mut First))
     }
 
-    /// How a member's deletion ends that waits for nobody, and behind which no items move.
+    /// How a member's deletion ends that never blocks, and behind which no items move.
     pub fn try_delete_min_alone<P: Picker>(
         &mut self,
         member: usize,
@@ -136,7 +136,7 @@ impl<const LEVELS: usize> Crew<LEVELS> {
         Some(member.delete_min_alone(rt, &self.board, &mut First))
     }
 
-    /// How a member's sharing of its items ends that waits for nobody.
+    /// How a member's sharing of its items ends that never blocks.
     pub fn try_share(&mut self, member: usize) -> Option<Result<usize, TryShareError>> {
         let member = self.members.get_mut(member)?;
         Some(member.try_share(&self.board))
@@ -152,7 +152,7 @@ impl<const LEVELS: usize> Crew<LEVELS> {
         Some(member.share(rt, &self.board))
     }
 
-    /// How a member's bound ends that waits for nobody.
+    /// How a member's bound ends that never blocks.
     pub fn try_bound(&mut self, member: usize) -> Option<Result<Bound, Busy>> {
         let member = self.members.get_mut(member)?;
         Some(member.try_bound(&self.board))
@@ -162,6 +162,19 @@ impl<const LEVELS: usize> Crew<LEVELS> {
     pub fn bound(&mut self, rt: &(impl Wait + Clock), member: usize) -> Option<Bound> {
         let member = self.members.get_mut(member)?;
         Some(member.bound(rt, &self.board))
+    }
+
+    /// How a member's rest ends that never blocks.
+    pub fn try_rest(&mut self, member: usize) -> Option<Result<(), Busy>> {
+        let member = self.members.get_mut(member)?;
+        Some(member.try_rest(&self.board))
+    }
+
+    /// A member rests, and may wait.
+    pub fn rest(&mut self, rt: &(impl Wait + Clock), member: usize) -> Option<()> {
+        let member = self.members.get_mut(member)?;
+        member.rest(rt, &self.board);
+        Some(())
     }
 
     /// How a member's balance with a victim ends, where that is another member of the board.

@@ -31,7 +31,7 @@ impl WideCrew {
         Ok(WideCrew { board, members })
     }
 
-    /// How a member's insertion ends that waits for nobody.
+    /// How a member's insertion ends that never blocks.
     pub fn try_insert(
         &mut self,
         member: usize,
@@ -42,7 +42,7 @@ impl WideCrew {
         Some(member.try_insert(&self.board, key, load))
     }
 
-    /// How a member's deletion ends that waits for nobody.
+    /// How a member's deletion ends that never blocks.
     pub fn try_delete_min(&mut self, member: usize) -> Option<Result<Option<Item>, Busy>> {
         let member = self.members.get_mut(member)?;
         Some(member.try_delete_min(&self.board, &mut First))

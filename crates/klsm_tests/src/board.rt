@@ -16,3 +16,4 @@ mod skips;
 mod threads;
 mod together;
 mod worked;
+mod working;

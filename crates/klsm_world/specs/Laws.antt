@@ -7,7 +7,7 @@ use Rattle.klsm_parts.specs.Events.{times, front_of, SkipsNoneOf}
 use Rattle.klsm_world.specs.declared.step.Event.{Event}
 use Rattle.klsm_world.specs.declared.step.Event.TheVariants.{Take, Early, Nothing}
 use Rattle.klsm_world.specs.declared.step.Step.{Step}
-use Rattle.klsm_world.specs.declared.step.Step.TheVariants.{Acquire, Commit, Release, Miss, Look}
+use Rattle.klsm_world.specs.declared.step.Step.TheVariants.{Acquire, Commit, Release, Miss, Look, Mark, See}
 use Rattle.klsm_world.specs.declared.step.Entry.{Entry}
 use Rattle.klsm_world.specs.declared.step.Entry.TheVariants.{Looked}
 use Rattle.klsm_world.specs.OwnSteps.{shared_part, own_part, event_at, inserted}
@@ -136,6 +136,8 @@ event_by t (Commit u event) = if u == t then event ∷ [] else []
 event_by t (Release u p) = []
 event_by t (Miss u p) = []
 event_by t (Look u) = []
+event_by t (Mark u key) = []
+event_by t (See u v) = []
 
 -- a thread's own steps have its events of the schedule, in their order
 abbrev pub ListsHaveEvents : Type 0

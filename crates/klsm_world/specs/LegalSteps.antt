@@ -1,5 +1,5 @@
 -- Which events a thread may commit, and which lists of own steps are legal.
-use Rattle.std.specs.Prelude.{ℕ, ◌≡◌, ◌≢◌, ◌≤◌, List, length, take, slice_get, Some, None}
+use Rattle.std.specs.Prelude.{ℕ, ◌≡◌, ◌≢◌, ◌≤◌, ◌⊎◌, List, length, take, slice_get, Some, None}
 use Rattle.klsm_run.specs.declared.item.Item.{Item}
 use Rattle.klsm_parts.specs.Events.{MayPut, MayFlush, MayTake, MayTakeEarly, MayFindNothing, MaySpy, MayRefill}
 use Rattle.klsm_parts.specs.Stealing.{MaySteal}
@@ -7,8 +7,8 @@ use Rattle.klsm_parts.specs.Sharing.{MayShare}
 use Rattle.klsm_world.specs.declared.step.Event.{Event}
 use Rattle.klsm_world.specs.declared.step.Event.TheVariants.{Put, Flush, Take, Early, Nothing, Spy, Refill, Steal, Share}
 use Rattle.klsm_world.specs.declared.step.Entry.{Entry}
-use Rattle.klsm_world.specs.declared.step.Entry.TheVariants.{Acquired, Committed, Released, Missed, Looked}
-use Rattle.klsm_world.specs.OwnSteps.{Hand, Holds, HoldsSome, found_in, shared_part, own_part, hand_of, inserted}
+use Rattle.klsm_world.specs.declared.step.Entry.TheVariants.{Acquired, Committed, Released, Missed, Looked, Marked, Saw}
+use Rattle.klsm_world.specs.OwnSteps.{Hand, Holds, HoldsSome, found_in, shared_part, own_part, hand_of, inserted, no_key, work_of}
 
 -- an item bears the stamp of a thread's next insertion, after n of them
 pub record BearsStamp (t n : ℕ) (x : Item) : Type 0 where
@@ -70,6 +70,9 @@ MayFollow k t before (Committed event) =
 MayFollow k t before (Released p) = HoldsSome (hand_of t before) p
 MayFollow k t before (Missed p by) = found_in (hand_of t before) p ≡ None
 MayFollow k t before (Looked front) = Unit {0}
+MayFollow k t before (Marked key) =
+    HoldsSome (hand_of t before) (own_part t) × ((key ≡ work_of before) ⊎ (key ≡ no_key))
+MayFollow k t before (Saw u key) = HoldsSome (hand_of t before) (own_part u)
 
 -- each entry of thread t's list may follow those before it
 abbrev pub IsLegal : ℕ → ℕ → List Entry → Type 0

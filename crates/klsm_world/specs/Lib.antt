@@ -9,5 +9,6 @@ pub mod Account  -- what all threads inserted and deleted, and what is left
 pub mod Laws  -- what follows for worlds and schedules
 pub mod OwnListLaws  -- what a thread can know from its own list
 pub mod LiveLaws  -- what lives, for a thread that has all parts in hand, and later
+pub mod WorkLaws  -- the keys in work, and what is deleted later
 pub mod OrderLaws  -- contents ascend
 pub mod Reached  -- schedules that reach the bounds

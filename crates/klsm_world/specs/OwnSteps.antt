@@ -10,7 +10,7 @@ use Rattle.klsm_parts.specs.Sharing.{own_after_share, shared_after_share}
 use Rattle.klsm_world.specs.declared.step.Event.{Event}
 use Rattle.klsm_world.specs.declared.step.Event.TheVariants.{Put, Flush, Take, Early, Nothing, Spy, Refill, Steal, Share}
 use Rattle.klsm_world.specs.declared.step.Entry.{Entry}
-use Rattle.klsm_world.specs.declared.step.Entry.TheVariants.{Acquired, Committed, Released, Missed, Looked}
+use Rattle.klsm_world.specs.declared.step.Entry.TheVariants.{Acquired, Committed, Released, Missed, Looked, Marked, Saw}
 
 -- a hand: the parts held with their contents, the last acquired first
 abbrev pub Hand : Type 0
@@ -89,6 +89,8 @@ after_entry t hand (Committed event) = after_event t hand event
 after_entry t hand (Released p) = without_part hand p
 after_entry t hand (Missed p by) = hand
 after_entry t hand (Looked front) = hand
+after_entry t hand (Marked key) = hand
+after_entry t hand (Saw u key) = hand
 
 -- thread t's hand, which is empty at first, after all its own steps
 abbrev pub hand_of : ℕ → List Entry → Hand
@@ -124,6 +126,8 @@ event_at (Committed event) = event ∷ []
 event_at (Released p) = []
 event_at (Missed p by) = []
 event_at (Looked front) = []
+event_at (Marked key) = []
+event_at (Saw u key) = []
 
 -- the items that a thread inserted, and those that it deleted, in order
 abbrev pub inserted : List Entry → List Item
@@ -131,3 +135,62 @@ inserted own = flat_map inserted_by (flat_map event_at own)
 
 abbrev pub deleted : List Entry → List Item
 deleted own = flat_map deleted_by (flat_map event_at own)
+
+-- the key of no item: the greatest number, which is also the front of nothing
+abbrev pub no_key : ℕ
+no_key = 18446744073709551615
+
+-- the key of the item that a thread works at after an event: that of an item which it deletes, and none where it is
+-- answered nothing
+abbrev pub work_at : ℕ → Event → ℕ
+work_at work (Put x) = work
+work_at work (Flush x moved) = work
+work_at work (Take x) = x.key
+work_at work (Early x front) = x.key
+work_at work Nothing = no_key
+work_at work (Spy victim moved) = work
+work_at work (Refill moved) = work
+work_at work (Steal victim moved) = work
+work_at work (Share moved) = work
+
+-- and after one more of its own steps; a mark says which key counts from there on
+abbrev pub work_after : ℕ → Entry → ℕ
+work_after work (Acquired p found) = work
+work_after work (Committed event) = work_at work event
+work_after work (Released p) = work
+work_after work (Missed p by) = work
+work_after work (Looked front) = work
+work_after work (Marked key) = key
+work_after work (Saw u key) = work
+
+-- the key of the item that a thread works at, by its own steps: that of the one which it deleted last, until it is
+-- answered nothing or marks the greatest number
+abbrev pub work_of : List Entry → ℕ
+work_of own = fold work_after no_key own
+
+-- the key that a thread marked last, which others can see
+abbrev pub mark_after : ℕ → Entry → ℕ
+mark_after mark (Acquired p found) = mark
+mark_after mark (Committed event) = mark
+mark_after mark (Released p) = mark
+mark_after mark (Missed p by) = mark
+mark_after mark (Looked front) = mark
+mark_after mark (Marked key) = key
+mark_after mark (Saw u key) = mark
+
+abbrev pub mark_of : List Entry → ℕ
+mark_of own = fold mark_after no_key own
+
+-- what a thread saw of others' work while it has their parts in hand: the threads with their keys, that seen last first. A
+-- step by which it commits, releases or marks something ends that
+abbrev pub seen_after : List (ℕ × ℕ) → Entry → List (ℕ × ℕ)
+seen_after seen (Acquired p found) = seen
+seen_after seen (Committed event) = []
+seen_after seen (Released p) = []
+seen_after seen (Missed p by) = seen
+seen_after seen (Looked front) = seen
+seen_after seen (Marked key) = []
+seen_after seen (Saw u key) = (u, key) ∷ seen
+
+abbrev pub seen_of : List Entry → List (ℕ × ℕ)
+seen_of own = fold seen_after [] own

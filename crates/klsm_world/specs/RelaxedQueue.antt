@@ -9,7 +9,7 @@ use Rattle.klsm_parts.specs.Events.{plus}
 use Rattle.klsm_world.specs.declared.step.Event.{Event}
 use Rattle.klsm_world.specs.declared.step.Event.TheVariants.{Put, Flush, Take, Early, Nothing, Spy, Refill, Steal, Share}
 use Rattle.klsm_world.specs.declared.step.Step.{Step}
-use Rattle.klsm_world.specs.declared.step.Step.TheVariants.{Acquire, Commit, Release, Miss, Look}
+use Rattle.klsm_world.specs.declared.step.Step.TheVariants.{Acquire, Commit, Release, Miss, Look, Mark, See}
 use Rattle.klsm_world.specs.Worlds.{Limits}
 
 -- what an event does to the multiset: it inserts an item, deletes one, or leaves all as it is
@@ -54,6 +54,8 @@ event_of (Commit t event) = event ∷ []
 event_of (Release t p) = []
 event_of (Miss t p) = []
 event_of (Look t) = []
+event_of (Mark t key) = []
+event_of (See t u) = []
 
 abbrev pub events_of : List Step → List Event
 events_of steps = flat_map event_of steps

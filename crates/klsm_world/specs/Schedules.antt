@@ -1,14 +1,14 @@
 -- Steps of a world: which are legal, to which world each leads, and schedules of them.
-use Rattle.std.specs.Prelude.{ℕ, ◌≡◌, ◌≢◌, ◌+◌, ◌<◌, ◌≤◌, List, [], ◌∷◌, ◌++◌, length, slice_set, Some, None, unwrap_or}
+use Rattle.std.specs.Prelude.{ℕ, ◌≡◌, ◌≢◌, ◌+◌, ◌<◌, ◌≤◌, ◌⊎◌, List, [], ◌∷◌, ◌++◌, length, slice_set, Some, None, unwrap_or}
 use Rattle.klsm_run.specs.declared.item.Item.{Item}
 use Rattle.klsm_parts.specs.Events.{front_of}
 use Rattle.klsm_world.specs.declared.step.Event.{Event}
 use Rattle.klsm_world.specs.declared.step.Event.TheVariants.{Put, Flush, Take, Early, Nothing, Spy, Refill, Steal, Share}
 use Rattle.klsm_world.specs.declared.step.Step.{Step}
-use Rattle.klsm_world.specs.declared.step.Step.TheVariants.{Acquire, Commit, Release, Miss, Look}
+use Rattle.klsm_world.specs.declared.step.Step.TheVariants.{Acquire, Commit, Release, Miss, Look, Mark, See}
 use Rattle.klsm_world.specs.declared.step.Entry.{Entry}
-use Rattle.klsm_world.specs.declared.step.Entry.TheVariants.{Acquired, Committed, Released, Missed, Looked}
-use Rattle.klsm_world.specs.OwnSteps.{Hand, HoldsSome, shared_part, content_in, after_event, inserted}
+use Rattle.klsm_world.specs.declared.step.Entry.TheVariants.{Acquired, Committed, Released, Missed, Looked, Marked, Saw}
+use Rattle.klsm_world.specs.OwnSteps.{Hand, HoldsSome, own_part, shared_part, content_in, after_event, inserted, no_key, work_of}
 use Rattle.klsm_world.specs.LegalSteps.{MayCommit}
 use Rattle.klsm_world.specs.Worlds.{Limits, World, word_of, home_of, holder_of, steps_of, hand_in, first_world}
 
@@ -52,6 +52,18 @@ pub record MayMiss (limits : Limits) (w : World) (t p : ℕ) : Type 0 where
 pub record MayLook (limits : Limits) (w : World) (t : ℕ) : Type 0 where
   pub thread : t < limits.threads
 
+-- thread t may mark the key of the item that it works at, or that it works at none, while it holds its own part
+pub record MayMark (limits : Limits) (w : World) (t key : ℕ) : Type 0 where
+  pub thread : t < limits.threads
+  pub held : HoldsSome (hand_in w t) (own_part t)
+  pub key_is : (key ≡ work_of (steps_of w t)) ⊎ (key ≡ no_key)
+
+-- thread t may see the key of the item that thread u works at, while it holds the own part of that thread
+pub record MaySee (limits : Limits) (w : World) (t u : ℕ) : Type 0 where
+  pub thread : t < limits.threads
+  pub other : u < limits.threads
+  pub held : HoldsSome (hand_in w t) (own_part u)
+
 -- a step is legal in a world
 abbrev pub MayStep : Limits → World → Step → Type 0
 MayStep limits w (Acquire t p) = MayAcquire limits w t p
@@ -59,6 +71,8 @@ MayStep limits w (Commit t event) = MayTakeEffect limits w t event
 MayStep limits w (Release t p) = MayRelease limits w t p
 MayStep limits w (Miss t p) = MayMiss limits w t p
 MayStep limits w (Look t) = MayLook limits w t
+MayStep limits w (Mark t key) = MayMark limits w t key
+MayStep limits w (See t u) = MaySee limits w t u
 
 -- thread t's list gains an entry
 abbrev pub noted : World → ℕ → Entry → List (List Entry)
@@ -90,7 +104,8 @@ acquired w t p found = record {
   lists = noted w t (Acquired p found);
 }
 
--- the world after a step; an acquire records the content at home, and a look the front word
+-- the world after a step; an acquire records the content at home, a look the front word, and who sees another's work the
+-- key of that
 abbrev pub next : World → Step → World
 next w (Acquire t p) = acquired w t p (unwrap_or (home_of w p) [])
 next w (Commit t event) = record {
@@ -116,6 +131,18 @@ next w (Look t) = record {
   front = w.front;
   homes = w.homes;
   lists = noted w t (Looked w.front);
+}
+next w (Mark t key) = record {
+  words = w.words;
+  front = w.front;
+  homes = w.homes;
+  lists = noted w t (Marked key);
+}
+next w (See t u) = record {
+  words = w.words;
+  front = w.front;
+  homes = w.homes;
+  lists = noted w t (Saw u (work_of (steps_of w u)));
 }
 
 -- a legal step leads to this world from one of which this is true

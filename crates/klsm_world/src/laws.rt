@@ -5,6 +5,7 @@ ghost use Rattle.klsm_world.specs.LiveLaws.{FullHandsHaveLive, LaterItemsLived, 
 ghost use Rattle.klsm_world.specs.OwnListLaws.{HandsAreApart, ListsKeepOwnOrder, ListsKeepOwnOrderEarly, ListsLeaveFew, ListsSkipFew, ListsSkipFewEarly, NextIsNewInHand, OwnDeletionsAreFew, RefilledMayFollowEarly};
 ghost use Rattle.klsm_world.specs.OrderLaws.{ContentsAscend, FirstAreLeast, FoundAscends, HandsAscend, StepsKeepOrder};
 ghost use Rattle.klsm_world.specs.Reached.{ReachesMostLeft, ReachesMostLeftRefilled, ReachesMostSkipped, ReachesMostSkippedEarly, ReachesMostSkippedEarlyRefilled, ReachesMostSkippedRefilled, two_threads};
+ghost use Rattle.klsm_world.specs.WorkLaws.{ChildrenStayAbove, LeastOpenStaysAbove, SeenKeysHold, WorkHolds, WorkHoldsOfDeleted};
 
 /// The first world is lawful.
 pub fn first_world_is_lawful()
@@ -99,6 +100,23 @@ pub fn full_hands_have_live()
 pub fn least_keys_hold()
     ensures items { LaterItemsLived }
     ensures keys { LeastKeysHold }
+{}
+
+/// A key that is at most the lesser of the least key of all live items and the least one that a thread works at stays
+/// so, where no thread inserts an item below it while it works at none below it: no item that lives later or is deleted
+/// on the way is below it. Where whatever is inserted has a key no less than that of the item that its thread works
+/// at, that is so of each such key.
+pub fn work_holds()
+    ensures live { WorkHolds }
+    ensures deleted { WorkHoldsOfDeleted }
+    ensures least { LeastOpenStaysAbove }
+    ensures children { ChildrenStayAbove }
+{}
+
+/// What a thread saw of the keys that others work at, while it has their own parts in its hand, is so in each world to
+/// which a schedule leads with its list: of several threads at once, where it has all their parts.
+pub fn seen_keys_hold()
+    ensures { SeenKeysHold }
 {}
 
 /// In each world to which a schedule leads the content of each part ascends, at home and in a hand, and so does what

@@ -90,6 +90,20 @@ pub enum Step {
         /// The thread that steps.
         thread: u32,
     },
+    /// The thread marks the key of the item that it works at, or that it works at none.
+    Mark {
+        /// The thread that steps.
+        thread: u32,
+        /// The key of the item that it deleted last, or the greatest number.
+        key: u64,
+    },
+    /// The thread sees the key of the item that a thread works at, whose own part it holds.
+    See {
+        /// The thread that steps.
+        thread: u32,
+        /// The thread whose key it sees.
+        of: u32,
+    },
 }
 
 /// One of a thread's own steps, as its list has it.
@@ -115,4 +129,13 @@ pub enum Entry {
     },
     /// The front was loaded, and was this.
     Looked(u64),
+    /// This was marked as the key of the item that the thread works at.
+    Marked(u64),
+    /// This was seen as the key of the item that a thread works at.
+    Saw {
+        /// The thread that works at it.
+        of: u32,
+        /// The key, or the greatest number where that thread works at none.
+        key: u64,
+    },
 }

@@ -151,7 +151,7 @@ impl<T> TypedQueue<T> {
         {
             return Err(TypedFinishError(self));
         }
-        left.extend(self.rest());
+        left.extend(self.remaining());
         left.sort_unstable_by_key(|item: &TypedItem<T>| (item.key, item.owner, item.number));
         Ok(Account {
             inserted,
@@ -161,9 +161,9 @@ impl<T> TypedQueue<T> {
     }
 
     /// Takes out what is left, in no order and with no memory.
-    fn rest(&mut self) -> impl Iterator<Item = TypedItem<T>> + '_ {
+    fn remaining(&mut self) -> impl Iterator<Item = TypedItem<T>> + '_ {
         // SAFETY: these items are deleted, and each is given here once.
-        self.queue.rest().map(|item| unsafe { TypedItem::of(item) })
+        self.queue.remaining().map(|item| unsafe { TypedItem::of(item) })
     }
 }
 
@@ -178,9 +178,9 @@ impl<I: Iterator> Drop for Dropping<I> {
 
 impl<T> Drop for TypedQueue<T> {
     fn drop(&mut self) {
-        // Where the drop of a payload panics, this loop ends, and the drop of `rest` goes on.
-        let mut rest = Dropping(self.rest());
-        rest.0.by_ref().for_each(drop);
+        // Where the drop of a payload panics, this loop ends, and the drop of `remaining` goes on.
+        let mut remaining = Dropping(self.remaining());
+        remaining.0.by_ref().for_each(drop);
     }
 }
 

@@ -118,8 +118,8 @@ impl<T> OwnedTypedMember<T> {
         self.lend().try_share()
     }
 
-    /// The smallest key of all items that live, and how many live; waits while a lock is held:
-    /// [`Member::bound`](crate::Member::bound).
+    /// The smallest key of all items that live and of those that members work at, and how many live; waits while a lock
+    /// is held: [`Member::bound`](crate::Member::bound).
     #[must_use]
     pub fn bound(&mut self) -> Bound {
         self.lend().bound()
@@ -132,6 +132,21 @@ impl<T> OwnedTypedMember<T> {
     /// Those of [`Member::try_bound`](crate::Member::try_bound).
     pub fn try_bound(&mut self) -> Result<Bound, Busy> {
         self.lend().try_bound()
+    }
+
+    /// Has done with the item that it deleted last; waits while its lock is held:
+    /// [`Member::rest`](crate::Member::rest).
+    pub fn rest(&mut self) {
+        self.lend().rest();
+    }
+
+    /// The same, and never blocks: [`Member::try_rest`](crate::Member::try_rest).
+    ///
+    /// # Errors
+    ///
+    /// Those of [`Member::try_rest`](crate::Member::try_rest).
+    pub fn try_rest(&mut self) -> Result<(), Busy> {
+        self.lend().try_rest()
     }
 
     /// The front, the key of the least shared item: [`Member::front`](crate::Member::front).

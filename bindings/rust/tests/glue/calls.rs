@@ -15,7 +15,8 @@ const WRITTEN: Item = Item {
 
 const FOUND: Bound = Bound {
     queue: 106,
-    items: 107,
+    work: 107,
+    items: 108,
 };
 
 /// What a call by member 2 says.
@@ -82,6 +83,14 @@ fn of_bound(name: &str, code: i32, shown: fn(Bound) -> String) -> String {
     }
 }
 
+/// What a rest is to say, where its answer is shown so.
+fn of_rest(name: &str, code: i32, shown: &str) -> String {
+    match name {
+        "OK" => shown.to_string(),
+        _ => stub::never("klsm_try_rest", code),
+    }
+}
+
 /// All codes but that of a held lock.
 fn codes() -> impl Iterator<Item = (&'static str, i32)> {
     let codes = stub::codes().into_iter();
@@ -112,6 +121,9 @@ fn what_waits_waits() {
             let bound = of_bound(name, code, |bound| format!("{bound:?}"));
             assert_eq!(said(|member| member.bound()), bound);
             assert_asked(Call::TryBound, held + 1);
+            stub::answer_code(Call::TryRest, held, code);
+            assert_eq!(said(|member| member.rest()), of_rest(name, code, "()"));
+            assert_asked(Call::TryRest, held + 1);
         }
     }
 }
@@ -142,6 +154,10 @@ fn what_does_not_wait_asks_once() {
         let bound = of_bound(name, code, |bound| format!("Ok({bound:?})"));
         assert_eq!(said(|member| member.try_bound()), bound);
         assert_asked(Call::TryBound, 1);
+        stub::answer_code(Call::TryRest, 0, code);
+        let rest = of_rest(name, code, "Ok(())");
+        assert_eq!(said(|member| member.try_rest()), rest);
+        assert_asked(Call::TryRest, 1);
     }
 }
 
@@ -162,6 +178,9 @@ fn a_held_lock_is_busy() {
     stub::answer_code(Call::TryBound, 1, stub::code("OK"));
     assert_eq!(said(|member| member.try_bound()), "Err(Busy)");
     assert_asked(Call::TryBound, 1);
+    stub::answer_code(Call::TryRest, 1, stub::code("OK"));
+    assert_eq!(said(|member| member.try_rest()), "Err(Busy)");
+    assert_asked(Call::TryRest, 1);
 }
 
 #[test]

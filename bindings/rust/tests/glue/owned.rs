@@ -61,21 +61,24 @@ fn what_waits_waits() {
         assert_asked(Call::TryShare, held + 1);
         stub::answer_code(Call::TryBound, held, stub::code("OK"));
         let bound = member().bound();
-        assert_eq!((bound.queue, bound.items), (106, 107));
+        assert_eq!((bound.queue, bound.work, bound.items), (106, 107, 108));
         assert_asked(Call::TryBound, held + 1);
+        stub::answer_code(Call::TryRest, held, stub::code("OK"));
+        member().rest();
+        assert_asked(Call::TryRest, held + 1);
     }
 }
 
 #[test]
 fn what_does_not_wait_asks_once() {
     let busy = "Err(Busy)";
-    let bounded = "Ok(Bound { queue: 106, items: 107 })";
-    for (held, inserted, deleted, shared, bound) in [
+    let bounded = "Ok(Bound { queue: 106, work: 107, items: 108 })";
+    for (held, done, deleted, shared, bound) in [
         (0, "Ok(())", "Ok(None)", "Ok(105)", bounded),
         (1, busy, busy, busy, busy),
     ] {
         stub::answer_code(Call::TryInsert, held, stub::code("OK"));
-        assert_eq!(stub::said(|| member().try_insert(5, 6)), inserted);
+        assert_eq!(stub::said(|| member().try_insert(5, 6)), done);
         assert_asked(Call::TryInsert, 1);
         stub::answer_code(Call::TryDeleteMin, held, stub::code("NOTHING"));
         assert_eq!(stub::said(|| member().try_delete_min()), deleted);
@@ -89,6 +92,9 @@ fn what_does_not_wait_asks_once() {
         stub::answer_code(Call::TryBound, held, stub::code("OK"));
         assert_eq!(stub::said(|| member().try_bound()), bound);
         assert_asked(Call::TryBound, 1);
+        stub::answer_code(Call::TryRest, held, stub::code("OK"));
+        assert_eq!(stub::said(|| member().try_rest()), done);
+        assert_asked(Call::TryRest, 1);
     }
 }
 

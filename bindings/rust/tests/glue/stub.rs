@@ -19,6 +19,7 @@ pub enum Call {
     TryDeleteMinAlone,
     TryShare,
     TryBound,
+    TryRest,
 }
 
 mod declared {

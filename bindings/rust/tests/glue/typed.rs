@@ -242,13 +242,19 @@ fn an_owned_member_deletes_alone_and_shares() {
     stub::answer_code(Call::TryShare, 1, ok);
     assert_eq!(member.share(), Ok(105));
     assert_eq!(stub::asked(Call::TryShare), 2);
-    let found = Bound { queue: 106, items: 107 };
+    let found = Bound { queue: 106, work: 107, items: 108 };
     stub::answer_code(Call::TryBound, 1, ok);
     assert_eq!(member.try_bound(), Err(Busy));
     assert_eq!(member.try_bound(), Ok(found));
     stub::answer_code(Call::TryBound, 1, ok);
     assert_eq!(member.bound(), found);
     assert_eq!(stub::asked(Call::TryBound), 2);
+    stub::answer_code(Call::TryRest, 1, ok);
+    assert_eq!(member.try_rest(), Err(Busy));
+    assert_eq!(member.try_rest(), Ok(()));
+    stub::answer_code(Call::TryRest, 1, ok);
+    member.rest();
+    assert_eq!(stub::asked(Call::TryRest), 2);
 }
 
 #[test]

@@ -9,6 +9,8 @@ pub mod AddedLemmas  -- the events of each call
 pub mod RefillLemmas  -- what a refill adds
 pub mod StealLemmas  -- when a steal moves items
 pub mod BoundingLemmas  -- a bound, from what its acquires found to the world that it is of
+pub mod SeenLemmas  -- the keys in work that a bound saw are those of one world
+pub mod RestingLemmas  -- what a rest adds
 pub mod ReadingLemmas  -- parts that are acquired, read and released one after another
 pub mod SharingLemmas  -- what the sharing of all own items adds
 pub mod DeletedLemmas  -- those of a deletion

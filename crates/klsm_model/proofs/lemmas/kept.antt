@@ -2,7 +2,8 @@
 pub mod HomesLemmas  -- what is at home
 pub mod NewLemmas  -- a new world
 pub mod InsertionLemmas  -- how many items a list inserts
-pub mod KeptLemmas  -- after an acquire, a release and a miss
+pub mod WorkLemmas  -- the key that a list works at
+pub mod KeptLemmas  -- after a step that commits nothing
 pub mod KeptCommitLemmas  -- after a commit
 pub mod TakenLemmas  -- each kind of step, taken
 pub mod CommitTakenLemmas  -- each event, taken

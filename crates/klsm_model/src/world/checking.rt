@@ -1,11 +1,11 @@
 //! Whether a step of a world is legal, and why it is not.
 ghost use Rattle.std.specs.Prelude.{◌≡◌, ◌+◌, ◌<◌, ◌≤◌, ◌↔◌, IsTrue, length, OnOk, IfErr};
 ghost use Rattle.klsm_run.specs.Content.{sorted};
-ghost use Rattle.klsm_world.specs.declared.step.Step.TheVariants.{Acquire, Commit, Release, Miss, Look};
+ghost use Rattle.klsm_world.specs.declared.step.Step.TheVariants.{Acquire, Commit, Release, Miss, Look, Mark, See};
 ghost use Rattle.klsm_model.specs.Kept.{HoldsAll};
 ghost use Rattle.klsm_world.specs.LawfulWorlds.{IsLawful};
 ghost use Rattle.klsm_world.specs.LegalSteps.{BearsStamp, MayCommit};
-ghost use Rattle.klsm_world.specs.OwnSteps.{inserted};
+ghost use Rattle.klsm_world.specs.OwnSteps.{inserted, work_of};
 ghost use Rattle.klsm_model.specs.Refusals.{NamesNone, NamesNoVictim, Refuses, parts_for};
 ghost use Rattle.klsm_world.specs.Schedules.{MayStep, NamesFront};
 ghost use Rattle.klsm_world.specs.Worlds.{content_of, hand_in, steps_of, word_of};
@@ -45,6 +45,8 @@ impl<A: Allocator + Copy> World<A> {
             Step::Release { thread, part } => self.check_release(*thread, *part),
             Step::Miss { thread, part } => self.check_miss(*thread, *part),
             Step::Look { thread: _ } => Ok(()),
+            Step::Mark { thread, key } => self.check_mark(*thread, *key),
+            Step::See { thread, of } => self.check_see(*thread, *of),
         }
     }
 
@@ -61,6 +63,8 @@ impl<A: Allocator + Copy> World<A> {
                 *thread >= self.threads || self.names_no_victim(*thread, event)
             }
             Step::Look { thread } => *thread >= self.threads,
+            Step::Mark { thread, key: _ } => *thread >= self.threads,
+            Step::See { thread, of } => *thread >= self.threads || *of >= self.threads,
         }
     }
 
@@ -109,6 +113,33 @@ impl<A: Allocator + Copy> World<A> {
         let at = part as usize;
         if self.word(at) == 0 || self.holds(thread, at) {
             return Err(StepError::WrongEvent);
+        }
+        Ok(())
+    }
+
+    fn check_mark(&self, thread: u32, key: u64) -> Result<(), StepError>
+        requires { NamesNone self.now.limits (Mark thread key) → ⊥ }
+        ensures legal { OnOk result (MayStep self.now.limits self.now.world (Mark thread key)) }
+        ensures refused { IfErr result (λ why.
+            Refuses self.now.limits self.now.world (Mark thread key) why) }
+    {
+        if !self.holds(thread, own_part(thread)) {
+            return Err(StepError::NotHeld);
+        }
+        if key != self.work(thread) && key != u64::MAX {
+            return Err(StepError::WrongEvent);
+        }
+        Ok(())
+    }
+
+    fn check_see(&self, thread: u32, of: u32) -> Result<(), StepError>
+        requires { NamesNone self.now.limits (See thread of) → ⊥ }
+        ensures legal { OnOk result (MayStep self.now.limits self.now.world (See thread of)) }
+        ensures refused { IfErr result (λ why.
+            Refuses self.now.limits self.now.world (See thread of) why) }
+    {
+        if !self.holds(thread, own_part(of)) {
+            return Err(StepError::NotHeld);
         }
         Ok(())
     }
@@ -163,6 +194,14 @@ impl<A: Allocator + Copy> World<A> {
             ↔ BearsStamp thread (length (inserted (steps_of self.now.world thread))) item }
     {
         item.stamp.owner == thread && item.stamp.number == self.lists[thread as usize].insertions()
+    }
+
+    // The key of the item that a thread works at, and the greatest number where it works at none.
+    pub(super) fn work(&self, thread: u32) -> u64
+        requires { thread < self.now.limits.threads }
+        ensures { result ≡ work_of (steps_of self.now.world thread) }
+    {
+        self.lists[thread as usize].work()
     }
 
     // Whether a thread holds the parts that an event needs.

@@ -2,7 +2,7 @@
 ghost use Rattle.std.specs.Prelude.{◌≡◌, ◌<◌, ◌++◌, ◌∷◌, [], slice_index_or, slice_set, OnOk, OnErr, IfErr};
 ghost use Rattle.std.specs.Vec.{vec_len};
 ghost use Rattle.klsm_world.specs.declared.step.Event.TheVariants.{Put, Flush, Take, Early, Nothing, Spy, Refill, Steal, Share};
-ghost use Rattle.klsm_world.specs.declared.step.Step.TheVariants.{Acquire, Commit, Release, Miss, Look};
+ghost use Rattle.klsm_world.specs.declared.step.Step.TheVariants.{Acquire, Commit, Release, Miss, Look, Mark, See};
 ghost use Rattle.klsm_model.specs.Kept.{entry_of};
 ghost use Rattle.klsm_model.specs.WorldView.{IsStepped};
 ghost use Rattle.klsm_world.specs.Schedules.{MayStep};
@@ -72,6 +72,25 @@ impl<A: Allocator + Copy> World<A> {
         let front = self.front();
         let none = Items::new(Vec::new(self.alloc));
         note(&mut self.lists, thread, KeptStep::Looked(front), none)?;
+        Ok(())
+    }
+
+    pub(super) fn mark(&mut self, thread: u32, key: u64) -> Result<(), StepError>
+        requires { MayStep self.old.limits self.old.world (Mark thread key) }
+        ensures { IsStepped self.old (Mark thread key) result self.new }
+    {
+        let none = Items::new(Vec::new(self.alloc));
+        note(&mut self.lists, thread, KeptStep::Marked(key), none)?;
+        Ok(())
+    }
+
+    pub(super) fn see(&mut self, thread: u32, of: u32) -> Result<(), StepError>
+        requires { MayStep self.old.limits self.old.world (See thread of) }
+        ensures { IsStepped self.old (See thread of) result self.new }
+    {
+        let key = self.work(of);
+        let none = Items::new(Vec::new(self.alloc));
+        note(&mut self.lists, thread, KeptStep::Saw(of, key), none)?;
         Ok(())
     }
 

@@ -1,4 +1,4 @@
-//! What is told of a long run: each command says how far it has come, and the line of it is written
+//! Progress reports of long runs: each command says how far it has come, and the line of it is written
 //! where standard error is a terminal and the run has lasted for more than a second, and goes away at
 //! the end.
 

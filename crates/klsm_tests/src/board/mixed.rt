@@ -3,7 +3,7 @@
 
 use super::plain::Plain;
 use crate::rules::Pick;
-use klsm_board::{Bound, Busy, TryInsertError, TryShareError};
+use klsm_board::{Busy, TryInsertError, TryShareError};
 use klsm_parts::{First, Last, Picker, Random};
 use klsm_run::{Item, Stamp};
 use klsm_test_support::Crew;
@@ -139,11 +139,18 @@ impl Both {
         if self.crew.members.is_empty() {
             return Some(true);
         }
-        let want = match self.plain.bound()? {
-            Ok((queue, items)) => Ok(Bound { queue, items }),
-            Err(busy) => Err(busy),
-        };
-        Some(self.crew.try_bound(0)? == want)
+        Some(self.crew.try_bound(0)? == self.plain.bound()?)
+    }
+
+    // Whether a rest of a free member ends alike, each of them in its turn.
+    fn rest(&mut self, round: usize) -> Option<bool> {
+        let free = self.crew.members.len();
+        if free == 0 {
+            return Some(true);
+        }
+        let member = round % free;
+        let want = self.plain.rest(number_of(member)?)?;
+        Some(self.crew.try_rest(member)? == want)
     }
 
     // Whether a balance with some other member ends alike, and without others a deletion.
@@ -225,12 +232,13 @@ impl Both {
         }
     }
 
-    // Whether each of 1,200 calls does, and a bound behind each: for a while more insertions, and for as long more
-    // deletions.
+    // Whether each of 1,200 calls does, a rest behind each fifth, and a bound behind all: for a while more insertions, and
+    // for as long more deletions.
     fn steps(&mut self, turn: usize) -> Option<bool> {
         for round in 0..1200 {
             let bound = if round / turn.max(1) % 2 == 0 { 11 } else { 4 };
-            if !self.step(bound)? || !self.bound()? {
+            let rests = round % 5 == 4;
+            if !self.step(bound)? || (rests && !self.rest(round)?) || !self.bound()? {
                 return Some(false);
             }
         }
@@ -249,7 +257,7 @@ impl Both {
 
 // Whether all goes alike. Where there are others and own parts, some deletions have to go by the
 // front while the shared part is held, some have to spy, and some balances have to steal. With a refill some have to
-// move items. Where there are own parts some sharings have to move items.
+// move items. Where there are own parts some sharings have to move items. Some rests have to end a member's work.
 fn goes_alike(alloc: Global, kind: Kind, picks: Picks) -> Option<bool> {
     let mut both = both_of(alloc, kind, picks)?;
     let steps = both.steps(kind.turn)?;
@@ -258,7 +266,8 @@ fn goes_alike(alloc: Global, kind: Kind, picks: Picks) -> Option<bool> {
     let moves = (both.plain.refilled > 0) == (kind.refill > 0);
     let steals = (both.plain.stolen > 0) == others;
     let shares = (both.plain.given > 0) == (kind.k > 0);
-    Some(steps && ways && moves && steals && shares && both.ends_alike(alloc)?)
+    let rests = both.plain.rested > 4;
+    Some(steps && ways && moves && steals && shares && rests && both.ends_alike(alloc)?)
 }
 
 // Whether they do for one to four members and each way to pick.

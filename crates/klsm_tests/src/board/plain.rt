@@ -3,15 +3,17 @@
 
 use crate::owned::same_items;
 use crate::rules::{Blocks, Pick, add, chosen, remove, sorted, spied};
-use klsm_board::{Account, Busy, HoldError};
+use klsm_board::{Account, Bound, Busy, HoldError};
 use klsm_run::{Item, Stamp};
 use std::alloc::Global;
 
-/// What a member has for itself, and how many items it inserted.
+/// What a member has for itself, how many items it inserted, and the key of the item that it works at: the one that it
+// deleted last, unless it found none since, or rested. The greatest number stands for none.
 #[derive(Drop)]
 struct Own {
     blocks: Blocks,
     inserted: u64,
+    work: u64,
 }
 
 /// The members' own parts, the shared part, and which lock is held, if one is.
@@ -36,6 +38,8 @@ pub(super) struct Plain {
     pub stolen: u64,
     /// How often they moved to the shared part at a sharing.
     pub given: u64,
+    /// How often a member that worked at an item rested.
+    pub rested: u64,
 }
 
 impl Plain {
@@ -47,6 +51,7 @@ impl Plain {
             owns.push(Own {
                 blocks,
                 inserted: 0,
+                work: u64::MAX,
             })
             .ok()?;
         }
@@ -63,6 +68,7 @@ impl Plain {
             refilled: 0,
             stolen: 0,
             given: 0,
+            rested: 0,
         })
     }
 
@@ -82,10 +88,7 @@ impl Plain {
 
     // The key of the least shared item, and the greatest number where there is none.
     fn front(&self) -> u64 {
-        match self.shared.first() {
-            Some(item) => item.key,
-            None => u64::MAX,
-        }
+        key_of(self.shared.first().copied())
     }
 
     /// How a member's insertion ends.
@@ -196,10 +199,12 @@ impl Plain {
         add(&mut self.owns.get_mut(member as usize)?.blocks, moved).ok()
     }
 
-    // Takes an item out of the member's own part and the shared one, if there is one.
+    // Takes an item out of the member's own part and the shared one, if there is one. The member then works at it.
     fn take_out(&mut self, member: u32, item: Option<Item>) -> Option<Option<Item>> {
+        let own = self.owns.get_mut(member as usize)?;
+        own.work = key_of(item);
         if let Some(item) = item {
-            remove(&mut self.owns.get_mut(member as usize)?.blocks, item).ok()?;
+            remove(&mut own.blocks, item).ok()?;
             self.shared.retain(|other| *other != item);
             self.deleted = self.deleted.saturating_add(1);
         }
@@ -249,21 +254,39 @@ impl Plain {
         Some(Ok(items.len()))
     }
 
-    /// How a bound ends: the least key of all items, or the greatest number, and how many they are. It needs all locks.
-    pub(super) fn bound(&self) -> Option<Result<(u64, usize), Busy>> {
+    /// How a bound ends: the least key of all items, that of all items which members work at, and how many items there
+    /// are. It needs all locks.
+    pub(super) fn bound(&self) -> Option<Result<Bound, Busy>> {
         if let Some(busy) = self.held {
             return Some(Err(busy));
         }
-        let mut least = self.front();
+        let mut queue = self.front();
+        let mut work = u64::MAX;
         let mut count = self.shared.len();
         for own in self.owns.as_slice() {
-            let items = sorted(self.alloc, &own.blocks).ok()?;
-            if let Some(item) = items.first() {
-                least = least.min(item.key);
-            }
-            count = count.saturating_add(items.len());
+            let owned = sorted(self.alloc, &own.blocks).ok()?;
+            queue = queue.min(key_of(owned.first().copied()));
+            work = work.min(own.work);
+            count = count.saturating_add(owned.len());
         }
-        Some(Ok((least, count)))
+        Some(Ok(Bound {
+            queue,
+            work,
+            items: count,
+        }))
+    }
+
+    /// How a member's rest ends.
+    pub(super) fn rest(&mut self, member: u32) -> Option<Result<(), Busy>> {
+        if let Some(busy) = self.busy(own_lock(member)) {
+            return Some(Err(busy));
+        }
+        let own = self.owns.get_mut(member as usize)?;
+        if own.work < u64::MAX {
+            own.work = u64::MAX;
+            self.rested = self.rested.saturating_add(1);
+        }
+        Some(Ok(()))
     }
 
     /// How a member's balance with a victim ends that may move so many items.
@@ -359,6 +382,14 @@ impl Plain {
 // The lock of a member's own part.
 fn own_lock(member: u32) -> usize {
     (member as usize).saturating_add(1)
+}
+
+// The key of an item, and the greatest number where there is none.
+fn key_of(item: Option<Item>) -> u64 {
+    match item {
+        Some(item) => item.key,
+        None => u64::MAX,
+    }
 }
 
 // The stamp of a member's next insertion, which is counted.

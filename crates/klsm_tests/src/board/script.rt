@@ -38,10 +38,14 @@ pub(super) enum Step {
     Shares(u32, usize),
     /// A member that shares is refused.
     KeepsAll(u32, TryShareError),
-    /// A member finds this least key of all live items, and so many items.
-    Bounds(u32, u64, usize),
+    /// A member finds this least key of all live items, this one of all that members work at, and so many items.
+    Bounds(u32, u64, u64, usize),
     /// A member that asks for a bound misses a lock.
     CannotBound(u32, Busy),
+    /// A member works at no item any more.
+    Rests(u32),
+    /// A member that would misses its own lock.
+    CannotRest(u32, Busy),
     /// A member balances with a victim, and at most so many items may move: whether some did.
     Balances(u32, u32, usize, bool),
     /// A member that balances misses a lock.
@@ -79,7 +83,7 @@ fn as_tried(answer: Result<Stamp, InsertError>) -> Result<Stamp, TryInsertError>
     }
 }
 
-// How a member's insertion of a key ends, by the call that may wait or by the one that waits for nobody.
+// How a member's insertion of a key ends, by the call that may wait or by the one that never blocks.
 fn insert<const LEVELS: usize>(
     rt: &(impl Wait + Clock),
     crew: &mut Crew<LEVELS>,
@@ -189,6 +193,21 @@ fn bounds<const LEVELS: usize>(
     crew.try_bound(index) == Some(want)
 }
 
+// Whether a member's rest ends so, by either call likewise.
+fn rests<const LEVELS: usize>(
+    rt: &(impl Wait + Clock),
+    crew: &mut Crew<LEVELS>,
+    waits: bool,
+    member: u32,
+    want: Result<(), Busy>,
+) -> bool {
+    let index = member as usize;
+    if waits && want.is_ok() {
+        return crew.rest(rt, index).is_some();
+    }
+    crew.try_rest(index) == Some(want)
+}
+
 // Whether a member's balance with a victim ends so.
 fn balances<const LEVELS: usize>(
     crew: &mut Crew<LEVELS>,
@@ -240,10 +259,13 @@ fn goes<const LEVELS: usize>(
         Step::Misses(member, busy) => deletes(rt, crew, waits, member, Err(busy)),
         Step::Shares(member, count) => shares(rt, crew, waits, member, Ok(count)),
         Step::KeepsAll(member, why) => shares(rt, crew, waits, member, Err(why)),
-        Step::Bounds(member, queue, items) => {
-            bounds(rt, crew, waits, member, Ok(Bound { queue, items }))
+        Step::Bounds(member, queue, work, items) => {
+            let want = Bound { queue, work, items };
+            bounds(rt, crew, waits, member, Ok(want))
         }
         Step::CannotBound(member, busy) => bounds(rt, crew, waits, member, Err(busy)),
+        Step::Rests(member) => rests(rt, crew, waits, member, Ok(())),
+        Step::CannotRest(member, busy) => rests(rt, crew, waits, member, Err(busy)),
         Step::Balances(member, victim, most, moves) => {
             balances(crew, (member, victim), most, Ok(moves))
         }

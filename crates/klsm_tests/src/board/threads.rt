@@ -1,4 +1,4 @@
-//! Members in threads of their own, which insert, delete, ask for bounds, hold parts and put them back. What they
+//! Members in threads of their own, which insert, delete, ask for bounds, rest, hold parts and put them back. What they
 //! noted is compared with what is found on the board afterwards, and with its account.
 ghost use Rattle.std.specs.Prelude.{◌≡◌, All, IfSome};
 ghost use Rattle.klsm_board.specs.Boards.{IsOf};
@@ -189,6 +189,18 @@ impl Worker {
         };
     }
 
+    // Works at nothing any more, likewise.
+    fn rest(&mut self, rt: &(impl Wait + Clock), board: &StandardBoard, waits: bool)
+        requires { IsOf self.old.member board.now }
+        ensures { IsOf self.new.member board.now }
+    {
+        if waits {
+            self.member.rest(rt, board);
+        } else {
+            let _answer = self.member.try_rest(board);
+        }
+    }
+
     // Holds a part, if it is free, and puts it back.
     fn hold(self, board: &StandardBoard, lock: usize) -> Self
         requires { IsOf self.member board.now }
@@ -219,7 +231,7 @@ impl Worker {
         requires { IsOf self.member board.now }
         ensures { IsOf result.member board.now }
     {
-        match self.mix.next_u32() % 22 {
+        match self.mix.next_u32() % 24 {
             kind @ 0..=5 => {
                 let key = self.mix.next_u64() % 1000;
                 self.insert(rt, board, kind < 3, key);
@@ -228,6 +240,7 @@ impl Worker {
             kind @ 14..=15 => self.delete_alone(rt, board, kind < 15),
             kind @ 16..=17 => self.give_back(rt, board, kind < 17),
             kind @ 18..=19 => self.ask(rt, board, kind < 19),
+            kind @ 20..=21 => self.rest(rt, board, kind < 21),
             _ => {
                 let lock = self.mix.next_u32() as usize % (board.threads() + 1);
                 return self.hold(board, lock);
@@ -531,7 +544,7 @@ const FOUR_BESIDE_A_HOLDER: Team = Team {
     work: Work::BelowHeld,
 };
 
-// None of their calls is refused, though each waits for nobody and the shared part is held.
+// None of their calls is refused, though none of them waits and the shared part is held.
 #[test]
 fn four_threads_do_without_the_shared_part(rt: HostRuntime) {
     assert!(rt; each_once(&rt, rt.alloc(), &FOUR_BESIDE_A_HOLDER) == Some(true));

@@ -61,35 +61,54 @@ fn sees(board: &StandardBoard, all: &mut AllStandardMembers, front: u64) -> bool
     all.front(board) == front
 }
 
-// Whether this is the least key of what is left, and this how many items are.
-fn bounds(board: &StandardBoard, all: &mut AllStandardMembers, queue: u64, items: usize) -> bool
+// Whether this is the bound of what is left, and of what the members work at.
+fn bounds(board: &StandardBoard, all: &mut AllStandardMembers, bound: Bound) -> bool
     requires of { AreOf all.old board.now }
     ensures of { AreOf all.new board.now }
 {
-    all.bound(board) == Bound { queue, items }
+    all.bound(board) == bound
+}
+
+// Whether the bound is this once the member of this number rests.
+fn rests(board: &StandardBoard, all: &mut AllStandardMembers, number: u32, bound: Bound) -> bool
+    requires of { AreOf all.old board.now }
+    ensures of { AreOf all.new board.now }
+{
+    if number as usize >= all.threads() {
+        return false;
+    }
+    all.rest(board, number);
+    bounds(board, all, bound)
+}
+
+// A bound: the least key of what is left, that of what the members work at, and how many items are left.
+fn bound_of(queue: u64, work: u64, items: usize) -> Bound {
+    Bound { queue, work, items }
 }
 
 // Whether two members who keep one item each go by turns: one deletes what the other inserted, and who has
-// nothing spies. The one that is shared meanwhile is the front.
+// nothing spies. The one that is shared meanwhile is the front. Each works at what it deleted last.
 fn go_by_turns(board: &StandardBoard, all: &mut AllStandardMembers) -> bool
     requires of { AreOf all.old board.now }
     ensures of { AreOf all.new board.now }
 {
-    bounds(board, all, u64::MAX, 0)
+    bounds(board, all, bound_of(u64::MAX, u64::MAX, 0))
         && inserts(board, all, 0, 5)
         && sees(board, all, u64::MAX)
         && inserts(board, all, 0, 3)
         && inserts(board, all, 1, 9)
         && sees(board, all, 5)
-        && bounds(board, all, 3, 3)
+        && bounds(board, all, bound_of(3, u64::MAX, 3))
         && deletes(board, all, 1, Some(5))
         && sees(board, all, u64::MAX)
         && deletes(board, all, 0, Some(3))
-        && bounds(board, all, 9, 1)
+        && bounds(board, all, bound_of(9, 3, 1))
         && deletes(board, all, 0, Some(9))
         && deletes(board, all, 1, None)
         && inserts(board, all, 1, 4)
-        && bounds(board, all, 4, 1)
+        && bounds(board, all, bound_of(4, 9, 1))
+        && rests(board, all, 1, bound_of(4, 9, 1))
+        && rests(board, all, 0, bound_of(4, u64::MAX, 1))
 }
 
 // Whether two members who keep four items each balance by turns: half of what the other one has comes over, rounded

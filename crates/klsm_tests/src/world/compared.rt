@@ -80,13 +80,15 @@ fn run_same(alloc: Global, both: &Both) -> Option<bool> {
     )
 }
 
-// Whether there are many steps, and many deletions of each kind. With k = 0 no item is an own one,
-// so that none goes by the front, and none moves to an own part or back.
+// Whether there are many steps, many deletions of each kind, and many keys marked and seen. With k = 0
+// no item is an own one, so that none goes by the front, and none moves to an own part or back.
 fn are_many(both: &Both) -> bool {
     let deleted = both.plain.deleted.len();
     let early = both.plain.early;
     both.taken.len() > 300
         && deleted.saturating_sub(early) > 20
+        && both.plain.marked > 3
+        && both.plain.seen > 3
         && (early > 3) == (both.plain.k > 0)
         && (both.plain.refilled > 0) == (both.plain.k > 0)
         && (both.plain.given > 0) == (both.plain.k > 0)

@@ -27,13 +27,15 @@ pub(super) enum Moved {
     Two(Name, Name),
 }
 
-/// A step: its thread, and then the part, the items, the victim or the front.
+/// A step: its thread, and then the part, the key, the thread seen, the items, the victim or the front.
 #[derive(Clone, Copy)]
 pub(super) enum Row {
     Acquire(u32, u32),
     Release(u32, u32),
     Miss(u32, u32),
     Look(u32),
+    Mark(u32, u64),
+    See(u32, u32),
     Put(u32, Name),
     Flush(u32, Name, Moved),
     Take(u32, Name),
@@ -52,6 +54,8 @@ pub(super) fn step_of(alloc: Global, row: Row) -> Option<Step> {
         Row::Release(thread, part) => Step::Release { thread, part },
         Row::Miss(thread, part) => Step::Miss { thread, part },
         Row::Look(thread) => Step::Look { thread },
+        Row::Mark(thread, key) => Step::Mark { thread, key },
+        Row::See(thread, of) => Step::See { thread, of },
         Row::Put(thread, name) => commit(thread, Event::Put(item(name))),
         Row::Flush(thread, name, moved) => flush(thread, item(name), moved_items(alloc, moved)?),
         Row::Take(thread, name) => commit(thread, Event::Take(item(name))),

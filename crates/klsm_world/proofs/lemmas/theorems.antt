@@ -11,4 +11,6 @@ pub mod OwnListLemmas  -- what a list of own steps tells
 pub mod OwnEventLemmas  -- lists have the events of a schedule
 pub mod AccountLemmas  -- the account
 pub mod LiveLemmas  -- what lives, by a hand with all parts, and later
+pub mod WorkLemmas  -- the keys in work, and what is deleted later
+pub mod SeenLemmas  -- the keys that a thread saw, with the parts of those who work at them in hand
 pub mod OrderLemmas  -- contents ascend

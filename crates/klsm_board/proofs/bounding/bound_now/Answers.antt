@@ -1,11 +1,12 @@
 use Rattle.std.proofs.Common.{[], ◌∷◌, ◌++◌, sym, ap, ◌∙◌, subst, arith, append_assoc}
 use Rattle.klsm_world.specs.declared.step.Entry.TheVariants.{Acquired, Missed}
-use Rattle.klsm_board.specs.Bounding.{MissesSome, all_released, owns_acquired, owns_in_hand, owns_released}
+use Rattle.klsm_board.specs.Bounding.{MissesSome, all_acquired, all_in_hand, all_released, keys_seen, owns_acquired, owns_in_hand, owns_released}
 use Rattle.klsm_board.specs.Effects.{MeetsHolder}
 use Rattle.klsm_board.specs.Steps.{mine, rest_of}
 use Rattle.klsm_board.proofs.lemmas.calls.AddedLemmas.{passed_on}
-use Rattle.klsm_board.proofs.lemmas.calls.BoundingLemmas.{all_are_few, misses_some, owns_lack_shared, sees_all, shared_behind}
+use Rattle.klsm_board.proofs.lemmas.calls.BoundingLemmas.{all_are_few, all_has, misses_some, owns_lack_shared, sees_all, shared_behind}
 use Rattle.klsm_board.proofs.lemmas.calls.MissLemmas.{meets}
+use Rattle.klsm_board.proofs.lemmas.calls.SeenLemmas.{seen_is_least}
 use Rattle.klsm_board.proofs.lemmas.seats.StandLemmas.{stands}
 use Rattle.klsm_board.proofs.bounding.bound_now.Goals as goal
 
@@ -52,6 +53,11 @@ returns-in-Err-clause-holder g c =
     subst (λ z. MeetsHolder m t z es' busy) c.acquire_owns.ensures.others (meets m t 0 v es' (owns_released threads) busy carries.acts told.busy.0 told.holder steps)
 
 -- all were acquired
+pub see_all_work-work-requires-clause-has : goal.see_all_work-work-requires-clause-has
+see_all_work-work-requires-clause-has g c =
+    let owns = c.in_ok-acquire_owns.ensures.ok in let all = c.in_default.ensures.ok (owns_in_hand owns.0) (stands owns.2) in
+    (all_in_hand owns.0 all.0, all.1, λ p within. all_has owns.0 all.0 p (omega (arith, within, owns.1)))
+
 pub read_all-requires-clause-has : goal.read_all-requires-clause-has
 read_all-requires-clause-has g c =
     let m = c.args.table.now.key in let t = c.args.thread in
@@ -59,7 +65,7 @@ read_all-requires-clause-has g c =
       owns.0,
       all.0,
       owns.1,
-      has,
+      c.see_all_work-work.ensures.has (all_in_hand owns.0 all.0) has,
       all_are_few m t c.try_acquire.new.seat.me.0 owns.0 all.0 has.reached has.hand_is (owns.1 ∙ c.requires.threads) c.requires.seat.1.2 c.requires.quota,
     )
 
@@ -68,18 +74,26 @@ returns-clause-ok g c =
     let es = mine c.args.seat.now.me.0 in
     let owns = c.in_ok-acquire_owns.ensures.ok in let all = c.in_default.ensures.ok (owns_in_hand owns.0) (stands owns.2) in
     let list = all.2 ∙ (ap (λ z. z ++ Acquired 0 all.0 ∷ []) owns.3 ∙ append_assoc es (owns_acquired owns.0) (Acquired 0 all.0 ∷ [])) in
+    let seen = c.see_all_work-work.ensures.seen in
     record {
       owns = owns.0;
       shared = all.0;
+      keys = seen.0;
       all = owns.1;
-      is = c.read_all.ensures.read owns.0 all.0 owns.1 all.1;
-      steps = c.read_all.ensures.list ∙ ap (λ z. z ++ all_released c.args.threads) list;
+      each = seen.1;
+      is = c.read_all.ensures.read owns.0 all.0 owns.1 (c.see_all_work-work.ensures.has (all_in_hand owns.0 all.0) all.1);
+      work = c.read_all.ensures.work ∙ seen.2;
+      steps = c.read_all.ensures.list ∙ ap (λ z. z ++ all_released c.args.threads) (seen.3 ∙ ap (λ z. z ++ keys_seen seen.0) list);
     }
 
 pub returns-clause-live : goal.returns-clause-live
 returns-clause-live g c =
-    let m = c.args.table.now.key in let t = c.args.thread in let es = mine c.args.seat.now.me.0 in let v = c.try_acquire.new.seat.me.0 in
-    let owns = c.in_ok-acquire_owns.ensures.ok in let all = c.in_default.ensures.ok (owns_in_hand owns.0) (stands owns.2) in let has = all.1 in let carries = has.carries in
+    let m = c.args.table.now.key in let t = c.args.thread in let es = mine c.args.seat.now.me.0 in let v = c.see_all_work-work.new.seat.me.0 in
+    let owns = c.in_ok-acquire_owns.ensures.ok in let all = c.in_default.ensures.ok (owns_in_hand owns.0) (stands owns.2) in
+    let has = c.see_all_work-work.ensures.has (all_in_hand owns.0 all.0) all.1 in let carries = has.carries in
     let list = all.2 ∙ (ap (λ z. z ++ Acquired 0 all.0 ∷ []) owns.3 ∙ append_assoc es (owns_acquired owns.0) (Acquired 0 all.0 ∷ [])) in
-    sees_all m t v (rest_of c.args.seat.now.me.0) es (mine c.read_all.new.seat.me.0) (all_released c.args.threads) owns.0 all.0 c.read_all.result carries.acts (c.try_acquire.ensures.others ∙ c.acquire_owns.ensures.others) has.reached has.hand_is
-    (owns.1 ∙ c.requires.threads) list (c.read_all.ensures.list ∙ ap (λ z. z ++ all_released c.args.threads) list) (c.read_all.ensures.read owns.0 all.0 owns.1 has)
+    let seen = c.see_all_work-work.ensures.seen in let list' = seen.3 ∙ ap (λ z. z ++ keys_seen seen.0) list in
+    sees_all m t v (rest_of c.args.seat.now.me.0) es (mine c.read_all.new.seat.me.0) (all_released c.args.threads) owns.0 all.0 seen.0 c.read_all.result carries.acts
+    (c.see_all_work-work.ensures.others ∙ (c.try_acquire.ensures.others ∙ c.acquire_owns.ensures.others)) has.reached has.hand_is
+    (owns.1 ∙ c.requires.threads) list' (c.read_all.ensures.list ∙ ap (λ z. z ++ all_released c.args.threads) list') (c.read_all.ensures.read owns.0 all.0 owns.1 has)
+    (c.read_all.ensures.work ∙ (seen.2 ∙ seen_is_least m t v (es ++ all_acquired owns.0 all.0) seen.0 has.reached list' (seen.1 ∙ c.requires.threads)))

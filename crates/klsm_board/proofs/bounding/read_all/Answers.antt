@@ -20,6 +20,9 @@ returns-clause-list g c =
     let es = mine c.args.seat.now.me.0 in
     c.read_owns.ensures.list ∙ (ap (λ z. z ++ owns_released c.args.threads) c.read_part-shared.ensures.list ∙ append_assoc es (Released 0 ∷ []) (owns_released c.args.threads))
 
+pub returns-clause-work : goal.returns-clause-work
+returns-clause-work g c = c.read_owns.ensures.work ∙ c.read_part-shared.ensures.work
+
 pub returns-clause-read : goal.returns-clause-read
 returns-clause-read g c owns shared many has =
     let first = c.read_part-shared.ensures in

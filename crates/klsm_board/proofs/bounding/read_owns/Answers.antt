@@ -8,6 +8,7 @@ pub loop-done-init : goal.loop-done-init
 loop-done-init g c = record {
   same = refl;
   others = refl;
+  work = refl;
   reading = λ owns read many has is. reading_none g.S.Holding.content g.S.Holding.suits c.args.table.now.key c.args.thread c.args.threads owns read c.args.before c.args.seat.now.me many has is;
 }
 
@@ -36,6 +37,7 @@ loop-done-preserved g c =
     record {
       same = c.read_part-bound.ensures.same ∙ inv.same;
       others = c.read_part-bound.ensures.others ∙ inv.others;
+      work = c.read_part-bound.ensures.work ∙ inv.work;
       reading = λ owns read many has is.
           reading_more g.S.Holding.content g.S.Holding.suits c.args.table.now.key c.args.thread (mine c.args.seat.now.me.0) (read ++ owns_items owns) c.args.threads c.loop-done.done c.loop-done.bound c.read_part-bound.result c.loop-done.seat.me c.read_part-bound.new.seat.me less
           (inv.reading owns read many has is) c.read_part-bound.ensures.released c.read_part-bound.ensures.read c.read_part-bound.ensures.list;
@@ -55,6 +57,9 @@ pub returns-clause-read : goal.returns-clause-read
 returns-clause-read g c owns read many has is =
     let inv = c.loop-done.invariant in let ends : c.loop-done.done ≡ c.args.threads = search rules in
     (reading_all g.S.Holding.content g.S.Holding.suits c.args.table.now.key c.args.thread (mine c.args.seat.now.me.0) (read ++ owns_items owns) c.args.threads c.loop-done.done c.loop-done.bound c.loop-done.seat.me ends (inv.reading owns read many has is)).2
+
+pub returns-clause-work : goal.returns-clause-work
+returns-clause-work g c = let inv = c.loop-done.invariant in inv.work
 
 pub returns-clause-others : goal.returns-clause-others
 returns-clause-others g c = let inv = c.loop-done.invariant in inv.others

@@ -10,6 +10,7 @@ abbrev pub invariant-loop-done : goal.invariant-loop-done
 invariant-loop-done g l = record {
   same : l.seat.table_id ≡ l.initial.seat.table_id;
   others : rest_of l.seat.me.0 ≡ rest_of l.initial.seat.me.0;
+  work : l.bound.work ≡ l.initial.bound.work;
   reading : (owns : List (List Item)) → (read : List Item) → length owns ≡ l.threads → Has g.S.Holding.content g.S.Holding.suits l.table.key l.thread (owns_in_hand owns) l.initial.seat.me → IsBoundOf read l.initial.bound
       → Reading g.S.Holding.content g.S.Holding.suits l.table.key l.thread (mine l.initial.seat.me.0) (read ++ owns_items owns) l.threads l.done l.bound l.seat.me;
 }

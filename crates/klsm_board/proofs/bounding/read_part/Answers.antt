@@ -1,4 +1,4 @@
-use Rattle.std.proofs.Common.{[], ◌∷◌, ◌++◌, ap, ◌∙◌, arith, length-append}
+use Rattle.std.proofs.Common.{[], ◌∷◌, ◌++◌, refl, ap, ◌∙◌, arith, length-append}
 use Rattle.klsm_world.specs.declared.step.Entry.TheVariants.{Released}
 use Rattle.klsm_board.specs.Steps.{mine, rest_of}
 use Rattle.klsm_board.proofs.lemmas.calls.ReadingLemmas.{first_is_least}
@@ -42,6 +42,9 @@ returns-clause-read g c found hand read has bounds =
     let looked = c.look-len.ensures.looked found hand has.carries in
     let counted = bounds.counted in let both = length-append read found in
     record {
-      least = c.least_key-queue.ensures read found bounds.least (first_is_least c.look-len.result.1 found looked.2 looked.3);
+      least = c.least_read-queue.ensures read found bounds.least (first_is_least c.look-len.result.1 found looked.2 looked.3);
       counted = omega (arith, counted, both, looked.1);
     }
+
+pub returns-clause-work : goal.returns-clause-work
+returns-clause-work g c = refl

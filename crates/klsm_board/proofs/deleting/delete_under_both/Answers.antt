@@ -4,12 +4,12 @@ use Rattle.klsm_world.specs.declared.step.Entry.TheVariants.{Committed}
 use Rattle.klsm_world.specs.declared.step.Event.TheVariants.{Take, Nothing}
 use Rattle.std.specs.Prelude.{Some, None}
 use Rattle.std.specs.List.{flat_map}
-use Rattle.klsm_world.specs.OwnSteps.{inserted, inserted_by, deleted, deleted_by}
+use Rattle.klsm_world.specs.OwnSteps.{inserted, inserted_by, deleted, deleted_by, no_key}
 use Rattle.klsm_world.specs.OwnListLaws.{LeavesFew}
 use Rattle.klsm_board.specs.Effects.{committed_in}
 use Rattle.klsm_board.specs.Rule.{world_limits}
 use Rattle.klsm_board.specs.Steps.{mine, rest_of}
-use Rattle.klsm_board.specs.Entries.{both_released}
+use Rattle.klsm_board.specs.Entries.{both_marked}
 use Rattle.klsm_board.specs.Seats.{Has, both_in_hand}
 use Rattle.klsm_board.specs.Deleting.{Passes, SpiesAfter, refilled_after}
 use Rattle.klsm_board.proofs.lemmas.hands.PossibleLemmas.{nothing_leaves_few}
@@ -66,7 +66,7 @@ returns-then-search_victims-clause-done g c own shared has_both =
         spies = subst (λ n. SpiesAfter n t (mine me.0) (mine me2.0) spied.0) c.requires.threads (subst (λ es. SpiesAfter c.args.threads t es (mine me2.0) spied.0) none.2 spied.2);
         skips = took.3;
         keeps = took.4;
-        steps = took.5 ∙ ap (λ z. mine me2.0 ++ Committed (Take item) ∷ (z ++ both_released t)) (none_refilled_alone c.args.refill m.k spied.0 item (least_alone m.k t spied.0 item took.1));
+        steps = took.5 ∙ ap (λ z. mine me2.0 ++ Committed (Take item) ∷ (z ++ both_marked t item.key)) (none_refilled_alone c.args.refill m.k spied.0 item (least_alone m.k t spied.0 item took.1));
       },
       (chosen.unasked refl).0 ∙ none.3,
     ))
@@ -85,7 +85,7 @@ returns-clause-done g c own shared has_both =
         added = passed.1.0;
         passes = subst (λ n. Passes n t (n - 1) passed.1.0) c.requires.threads passed.1.1;
         leaves = subst (LeavesFew (world_limits m) t) list (nothing_leaves_few content suits m t [] [] c.search_victims.new.seat.me passed.0 (record { own_empty = refl; shared_empty = refl }));
-        steps = c.release_committed.ensures.list ∙ ap (λ z. z ++ Committed Nothing ∷ both_released t) list;
+        steps = c.release_committed.ensures.list ∙ ap (λ z. z ++ Committed Nothing ∷ both_marked t no_key) list;
       },
       none.3,
     )
@@ -109,7 +109,7 @@ returns-in-Some-clause-effect g c =
     let m = c.args.table.now.key in let t = c.args.thread in let me = c.args.seat.now.me in let item = c.in-Some.item in
     let k = c.requires.has in let has = k.2 in let reached = has.reached in let carries = has.carries in
     let took = c.in-Some.ensures.done k.0 k.1 k.2 in
-    effect_at m t me.0 (rest_of me.0) (mine me.0) (mine c.take_both_out.new.seat.me.0) (refilled_after c.args.refill m.k k.0 k.1 item ++ both_released t) (Take item) (Some item) carries.acts refl reached
+    effect_at m t me.0 (rest_of me.0) (mine me.0) (mine c.take_both_out.new.seat.me.0) (refilled_after c.args.refill m.k k.0 k.1 item ++ both_marked t item.key) (Take item) (Some item) carries.acts refl reached
     (took.3 reached.world (lawful_there m t me.0 reached) reached.list_is, alone_skips_none m t me.0 item reached (took.4 reached.world (lawful_there m t me.0 reached) reached.list_is)) took.5 refl refl refl
 
 pub returns-then-search_victims-clause-effect : goal.returns-then-search_victims-clause-effect
@@ -125,7 +125,7 @@ returns-then-search_victims-clause-effect g c =
     let es' = mine second.new.seat.me.0 in
     effect_of_some m t (rest_of me.0) (mine me.0) es' second.result _ _ (second.ensures.done spied.0 [] spied.1)
     (λ nothing. spies.may.some nothing.0.own_empty)
-    (λ item took. effect_at m t me2.0 (rest_of me.0) (mine me.0) es' (refilled_after c.args.refill m.k spied.0 [] item ++ both_released t) (Take item) (Some item) carries.acts (c.search_victims.ensures.others ∙ c.take_both_out.ensures.others) reached
+    (λ item took. effect_at m t me2.0 (rest_of me.0) (mine me.0) es' (refilled_after c.args.refill m.k spied.0 [] item ++ both_marked t item.key) (Take item) (Some item) carries.acts (c.search_victims.ensures.others ∙ c.take_both_out.ensures.others) reached
     (took.3 reached.world (lawful_there m t me2.0 reached) reached.list_is, alone_skips_none m t me2.0 item reached (took.4 reached.world (lawful_there m t me2.0 reached) reached.list_is)) took.5 refl (counts.0 ∙ ap inserted none.2) (counts.1 ∙ ap deleted none.2))
 
 pub returns-clause-effect : goal.returns-clause-effect
@@ -136,6 +136,6 @@ returns-clause-effect g c =
     let has : Has content suits m t (both_in_hand t [] []) me1 = subst (λ (z : List Item × List Item). Has content suits m t (both_in_hand t z.0 z.1) me1) (λ i. (empty.own_empty i, empty.shared_empty i)) none.1 in
     let passed = c.if-search_victims.ensures.done [] has in let has2 = passed.0 in let reached = has2.reached in let carries = has2.carries in
     let quiet : committed_in (mine me2.0) ≡ committed_in (mine me1.0) = same_events (mine me1.0) passed.1.0 (mine me2.0) passed.1.2 (passes_are_quiet c.args.threads t (c.args.threads - 1) passed.1.0 passed.1.1) in
-    effect_at m t me2.0 (rest_of me.0) (mine me.0) (mine c.release_committed.new.seat.me.0) (both_released t) Nothing None carries.acts (c.search_victims.ensures.others ∙ c.take_both_out.ensures.others) reached
+    effect_at m t me2.0 (rest_of me.0) (mine me.0) (mine c.release_committed.new.seat.me.0) (both_marked t no_key) Nothing None carries.acts (c.search_victims.ensures.others ∙ c.take_both_out.ensures.others) reached
     (nothing_leaves_few content suits m t [] [] me2 has2 (record { own_empty = refl; shared_empty = refl }) reached.world (lawful_there m t me2.0 reached) reached.list_is)
     c.release_committed.ensures.list refl (ap (flat_map inserted_by) quiet ∙ ap inserted none.2) (ap (flat_map deleted_by) quiet ∙ ap deleted none.2)

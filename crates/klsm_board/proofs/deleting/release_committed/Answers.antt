@@ -1,28 +1,28 @@
-use Rattle.std.proofs.Common.{◌+◌, ◌∷◌, ◌++◌, ◌∙◌, [], ap, refl, append_assoc}
+use Rattle.std.proofs.Common.{◌∷◌, ◌++◌, ◌∙◌, [], ap, sym, append_assoc, inl}
 use Rattle.klsm_world.specs.declared.step.Entry.TheVariants.{Committed, Released}
+use Rattle.klsm_world.specs.OwnSteps.{work_of}
 use Rattle.klsm_board.specs.Steps.{mine}
-use Rattle.klsm_board.specs.Seats.{own_in_hand}
-use Rattle.klsm_board.proofs.lemmas.seats.StandLemmas.{stands}
-use Rattle.klsm_board.proofs.lemmas.hands.EventLemmas.{shared_not_in_one}
+use Rattle.klsm_board.specs.Entries.{own_marked}
+use Rattle.klsm_board.proofs.lemmas.hands.WorkLemmas.{work_append}
 use Rattle.klsm_board.proofs.deleting.release_committed.Goals as goal
 
-pub commit_event-requires-clause-out : goal.commit_event-requires-clause-out
-commit_event-requires-clause-out g c =
-    let t = c.args.thread in let k = c.requires.out in
-    (k.1, own_in_hand t k.0, k.2, shared_not_in_one t k.0)
+pub release_marked-requires-clause-carries : goal.release_marked-requires-clause-carries
+release_marked-requires-clause-carries g c =
+    let k = c.requires.out in let out = k.2 in let left = c.commit_with_shared.ensures.released k.0 k.1 out.carries in
+    (k.0, left.0, left.1)
 
-pub release_part-requires-clause-has : goal.release_part-requires-clause-has
-release_part-requires-clause-has g c =
-    let t = c.args.thread in let k = c.requires.out in
-    (k.0, [], stands (c.commit_event.ensures.released k.1 (own_in_hand t k.0) k.2.carries (shared_not_in_one t k.0)), refl)
+pub release_marked-requires-clause-key : goal.release_marked-requires-clause-key
+release_marked-requires-clause-key g c =
+    let es = mine c.args.seat.now.me.0 in
+    inl (c.requires.key ∙ sym (ap work_of c.commit_with_shared.ensures.list ∙ work_append es (Committed c.args.event.now ∷ Released 0 ∷ [])))
 
 pub returns-clause-has : goal.returns-clause-has
 returns-clause-has g c =
-    let t = c.args.thread in let k = c.requires.out in
-    c.release_part.ensures.released k.0 [] (stands (c.commit_event.ensures.released k.1 (own_in_hand t k.0) k.2.carries (shared_not_in_one t k.0))) refl
+    let k = c.requires.out in let out = k.2 in let left = c.commit_with_shared.ensures.released k.0 k.1 out.carries in
+    c.release_marked.ensures.has
 
 pub returns-clause-list : goal.returns-clause-list
 returns-clause-list g c =
-    let t = c.args.thread in let event = c.args.event.now in
-    c.release_part.ensures.list ∙ (ap (λ z. z ++ Released (t + 1) ∷ []) c.commit_event.ensures.list
-    ∙ append_assoc (mine c.args.seat.now.me.0) (Committed event ∷ Released 0 ∷ []) (Released (t + 1) ∷ []))
+    let t = c.args.thread in let event = c.args.event.now in let key = c.args.key in
+    c.release_marked.ensures.list ∙ (ap (λ z. z ++ own_marked t key) c.commit_with_shared.ensures.list
+    ∙ append_assoc (mine c.args.seat.now.me.0) (Committed event ∷ Released 0 ∷ []) (own_marked t key))

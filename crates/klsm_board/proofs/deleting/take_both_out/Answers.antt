@@ -6,7 +6,7 @@ use Rattle.klsm_world.specs.declared.step.Event.TheVariants.{Take}
 use Rattle.klsm_world.specs.OwnSteps.{hand_of}
 use Rattle.klsm_board.specs.Steps.{mine}
 use Rattle.klsm_board.specs.Seats.{Carries, both_in_hand, last_arriving}
-use Rattle.klsm_board.specs.Entries.{both_released}
+use Rattle.klsm_board.specs.Entries.{both_marked}
 use Rattle.klsm_board.specs.Deleting.{refilled}
 use Rattle.klsm_board.specs.TakingOut.{TakesTo}
 use Rattle.klsm_board.proofs.lemmas.hands.EventLemmas.{own_in_both, shared_in_both, not_shared}
@@ -67,8 +67,8 @@ returns-in-Some-clause-done g c own shared has =
       take_skips_few content suits m t own shared me item has done.0,
       take_keeps_order content suits m t own shared me item has done.0,
       c.release_by_front.ensures.list c.args.refill own shared (ap (λ v. hand_of t (mine v)) same ∙ has.hand_is) (left.0, left.1, took.2)
-          ∙ (ap (λ v. mine v ++ Committed (Take item) ∷ (refilled (refill_of c.args.refill m.k own' shared') ++ both_released t)) same
-          ∙ ap (λ z. mine me.0 ++ Committed (Take item) ∷ (z ++ both_released t)) (sym (then_refilled c.args.refill m.k own shared item took.0))),
+          ∙ (ap (λ v. mine v ++ Committed (Take item) ∷ (refilled (refill_of c.args.refill m.k own' shared') ++ both_marked t item.key)) same
+          ∙ ap (λ z. mine me.0 ++ Committed (Take item) ∷ (z ++ both_marked t item.key)) (sym (then_refilled c.args.refill m.k own shared item took.0))),
     )
 
 pub returns-in-None-clause-done : goal.returns-in-None-clause-done
@@ -83,6 +83,6 @@ returns-in-None-clause-done g c own shared has =
       take_skips_few content suits m t own shared me item has done.0,
       take_keeps_order content suits m t own shared me item has done.0,
       c.release_committed.ensures.list
-          ∙ (ap (λ v. mine v ++ Committed (Take item) ∷ both_released t) c.take_out.ensures.same.2
-          ∙ ap (λ z. mine me.0 ++ Committed (Take item) ∷ (z ++ both_released t)) (sym (none_refilled c.args.refill m.k t own shared item done.0 took.0))),
+          ∙ (ap (λ v. mine v ++ Committed (Take item) ∷ both_marked t item.key) c.take_out.ensures.same.2
+          ∙ ap (λ z. mine me.0 ++ Committed (Take item) ∷ (z ++ both_marked t item.key)) (sym (none_refilled c.args.refill m.k t own shared item done.0 took.0))),
     )

@@ -7,10 +7,11 @@ use Rattle.std.proofs.Math.Nat.{mul-le-mul_left, mul-le-mul_right}
 use Rattle.klsm_run.specs.declared.item.Item.{Item}
 use Rattle.klsm_run.specs.declared.limits.TheConstants.{MOST_THREADS}
 use Rattle.klsm_world.specs.declared.step.Entry.{Entry}
-use Rattle.klsm_world.specs.declared.step.Entry.TheVariants.{Acquired, Missed, Released}
+use Rattle.klsm_world.specs.declared.step.Entry.TheVariants.{Acquired, Missed, Released, Saw}
 use Rattle.klsm_world.specs.OwnSteps.{Hand, Holds, HoldsSome, content_in, found_in, hand_of, shared_part}
 use Rattle.klsm_world.specs.Worlds.{hand_in, live}
 use Rattle.klsm_world.specs.LiveLaws.{HasAllParts, held_below}
+use Rattle.klsm_world.specs.WorkLaws.{least_work}
 use Rattle.klsm_world.proofs.lemmas.hands.HandLemmas.{found_behind, found_first}
 use Rattle.klsm_world.proofs.lemmas.theorems.LiveLemmas.{full_hands_have_live, live_are_few}
 use Rattle.klsm_board.specs.declared.bounding.Bound.{Bound}
@@ -19,7 +20,7 @@ use Rattle.klsm_board.specs.declared.rule.Own.{Own}
 use Rattle.klsm_board.specs.declared.rule.View.{View}
 use Rattle.klsm_board.specs.declared.sizes.Sizes.{Sizes}
 use Rattle.klsm_board.specs.Boards.{Gains}
-use Rattle.klsm_board.specs.Bounding.{Bounds, IsBoundOf, MissesSome, MissesSomeTimes, SeesAllLive, all_acquired, all_in_hand, all_items, all_released, lock_behind, owns_acquired, owns_in_hand, owns_items, owns_released}
+use Rattle.klsm_board.specs.Bounding.{Bounds, IsBoundOf, MissesSome, MissesSomeTimes, SeesAllLive, all_acquired, all_in_hand, all_items, all_released, keys_seen, lock_behind, owns_acquired, owns_in_hand, owns_items, owns_released}
 use Rattle.klsm_board.specs.Effects.{committed_in}
 use Rattle.klsm_board.specs.Members.{most_deletions, most_insertions}
 use Rattle.klsm_board.specs.Rule.{own, view, world_limits}
@@ -95,11 +96,18 @@ released_quiet : (n : ℕ) → IsQuiet (owns_released n)
 released_quiet zero = refl
 released_quiet (suc n) = quiet_append (Released (n + 1) ∷ []) (owns_released n) refl (released_quiet n)
 
+-- nor do keys that are seen
+keys_quiet : (keys : List ℕ) → IsQuiet (keys_seen keys)
+keys_quiet [] = refl
+keys_quiet (key ∷ keys) = quiet_append (keys_seen keys) (Saw (length keys) key ∷ []) (keys_quiet keys) refl
+
 -- so a bound commits nothing
 bounds_quiet : (threads : ℕ) (es es' : List Entry) (bound : Bound) → Bounds threads es es' bound → committed_in es' ≡ committed_in es
 bounds_quiet threads es es' bound did =
-    same_events (es ++ all_acquired did.owns did.shared) (all_released threads) es' did.steps (quiet_append (Released shared_part ∷ []) (owns_released threads) refl (released_quiet threads))
-    ∙ same_events es (all_acquired did.owns did.shared) (es ++ all_acquired did.owns did.shared) refl (all_quiet did.owns did.shared)
+    let acquired = es ++ all_acquired did.owns did.shared in
+    same_events (acquired ++ keys_seen did.keys) (all_released threads) es' did.steps (quiet_append (Released shared_part ∷ []) (owns_released threads) refl (released_quiet threads))
+    ∙ (same_events acquired (keys_seen did.keys) (acquired ++ keys_seen did.keys) refl (keys_quiet did.keys)
+    ∙ same_events es (all_acquired did.owns did.shared) acquired refl (all_quiet did.owns did.shared))
 
 -- what a refused try adds
 missed_entries : (threads : ℕ) (es es' : List Entry) (busy : Busy) → MissesSome threads es es' busy → (more : List Entry) × (es' ≡ es ++ more) × IsQuiet more
@@ -151,31 +159,37 @@ module _ (m : Sizes) (t : ℕ) where
       let same : length (all_items owns shared) ≡ length (live r.world) = ap length (all_are_live v owns shared r hand_is many) in
       omega (arith, few, same, a, b)
 
-  -- the bound of what is in hand is that of what lives then
-  pub sees_all : (v : View) (behind : List Own) (es es' after : List Entry) (owns : List (List Item)) (shared : List Item) (bound : Bound) → IsMine v t → rest_of v ≡ behind → (r : AreReached m t v)
-      → hand_of t (mine v) ≡ all_in_hand owns shared → length owns ≡ m.threads → mine v ≡ es ++ all_acquired owns shared → es' ≡ (es ++ all_acquired owns shared) ++ after → IsBoundOf (all_items owns shared) bound
+  -- the bound of what is in hand, and of the keys that were seen, is that of what lives and is in work then
+  pub sees_all : (v : View) (behind : List Own) (es es' after : List Entry) (owns : List (List Item)) (shared : List Item) (keys : List ℕ) (bound : Bound) → IsMine v t → rest_of v ≡ behind → (r : AreReached m t v)
+      → hand_of t (mine v) ≡ all_in_hand owns shared → length owns ≡ m.threads → mine v ≡ (es ++ all_acquired owns shared) ++ keys_seen keys → es' ≡ ((es ++ all_acquired owns shared) ++ keys_seen keys) ++ after → IsBoundOf (all_items owns shared) bound
+      → bound.work ≡ least_work r.world.lists
       → SeesAllLive m t behind es es' bound
-  sees_all v behind es es' after owns shared bound acts same r hand_is many list steps bounds =
-      let at : List Entry = es ++ all_acquired owns shared in
-      let is : v ≡ view (own t at ∷ behind) = (λ i. view ((acts ∙ (λ j. own t (list j) ∷ same j)) i)) in
+  sees_all v behind es es' after owns shared keys bound acts same r hand_is many list steps bounds work =
+      let more : List Entry = all_acquired owns shared ++ keys_seen keys in
+      let joined : (es ++ all_acquired owns shared) ++ keys_seen keys ≡ es ++ more = append_assoc es (all_acquired owns shared) (keys_seen keys) in
+      let list' : mine v ≡ es ++ more = list ∙ joined in
+      let at : List Entry = es ++ more in
+      let is : v ≡ view (own t at ∷ behind) = (λ i. view ((acts ∙ (λ j. own t (list' j) ∷ same j)) i)) in
       let lives : IsBoundOf (live r.world) bound = subst (λ items. IsBoundOf items bound) (all_are_live v owns shared r hand_is many) bounds in
-      let moved : (z : AreReached m t (view (own t at ∷ behind))) × IsBoundOf (live z.world) bound = subst (λ (w : View). (z : AreReached m t w) × IsBoundOf (live z.world) bound) is (r, lives) in
+      let moved : (z : AreReached m t (view (own t at ∷ behind))) × IsBoundOf (live z.world) bound × (bound.work ≡ least_work z.world.lists) =
+      subst (λ (w : View). (z : AreReached m t w) × IsBoundOf (live z.world) bound × (bound.work ≡ least_work z.world.lists)) is (r, lives, work) in
       record {
-        added = all_acquired owns shared;
+        added = more;
         after = after;
-        steps = steps;
-        none = all_quiet owns shared;
-        in_hand = subst (λ z. HasAllParts m.threads (hand_of t z)) list (subst (HasAllParts m.threads) (sym hand_is) (λ p within. all_has owns shared p (omega (arith, within, many))));
+        steps = steps ∙ ap (λ z. z ++ after) joined;
+        none = quiet_append (all_acquired owns shared) (keys_seen keys) (all_quiet owns shared) (keys_quiet keys);
+        in_hand = subst (λ z. HasAllParts m.threads (hand_of t z)) list' (subst (HasAllParts m.threads) (sym hand_is) (λ p within. all_has owns shared p (omega (arith, within, many))));
         reached = moved.0;
         is = moved.1;
+        work = moved.2;
       }
 
   -- the call may have begun earlier
   pub sees_since : (behind : List Own) (es more now es' : List Entry) (bound : Bound) → now ≡ es ++ more → IsQuiet more → SeesAllLive m t behind now es' bound → SeesAllLive m t behind es es' bound
   sees_since behind es more now es' bound is quiet sees =
       let same : now ++ sees.added ≡ es ++ (more ++ sees.added) = ap (λ z. z ++ sees.added) is ∙ append_assoc es more sees.added in
-      let moved : (z : AreReached m t (view (own t (es ++ (more ++ sees.added)) ∷ behind))) × IsBoundOf (live z.world) bound =
-      subst (λ at. (z : AreReached m t (view (own t at ∷ behind))) × IsBoundOf (live z.world) bound) same (sees.reached, sees.is) in
+      let moved : (z : AreReached m t (view (own t (es ++ (more ++ sees.added)) ∷ behind))) × IsBoundOf (live z.world) bound × (bound.work ≡ least_work z.world.lists) =
+      subst (λ at. (z : AreReached m t (view (own t at ∷ behind))) × IsBoundOf (live z.world) bound × (bound.work ≡ least_work z.world.lists)) same (sees.reached, sees.is, sees.work) in
       record {
         added = more ++ sees.added;
         after = sees.after;
@@ -184,6 +198,7 @@ module _ (m : Sizes) (t : ℕ) where
         in_hand = subst (λ at. HasAllParts m.threads (hand_of t at)) same sees.in_hand;
         reached = moved.0;
         is = moved.1;
+        work = moved.2;
       }
 
 -- the lock behind n own parts: the next own one, or behind all of them the shared one

@@ -10,11 +10,11 @@ use Rattle.klsm_world.specs.declared.step.Event.{Event}
 use Rattle.klsm_world.specs.declared.step.Event.TheVariants.{Take, Early, Nothing, Spy}
 use Rattle.klsm_world.specs.declared.step.Entry.{Entry}
 use Rattle.klsm_world.specs.declared.step.Entry.TheVariants.{Acquired, Committed, Released}
-use Rattle.klsm_world.specs.OwnSteps.{own_part, event_at, inserted, inserted_by, deleted, deleted_by}
+use Rattle.klsm_world.specs.OwnSteps.{no_key, own_part, event_at, inserted, inserted_by, deleted, deleted_by}
 use Rattle.klsm_board.specs.Effects.{committed_in}
 use Rattle.klsm_board.specs.declared.sizes.Sizes.{Sizes}
 use Rattle.klsm_board.specs.declared.errors.Busy.{Busy}
-use Rattle.klsm_board.specs.Entries.{own_acquired, both_released, both_looked}
+use Rattle.klsm_board.specs.Entries.{own_acquired, own_marked, both_marked, both_looked}
 use Rattle.klsm_board.specs.Deleting.{Passes, PassesBy, SpiesAfter, TakesOut, TakesEarly, TakesSpied, FindsNothing, Deletes, AnswersDeletion, MissesDeletion, victim_of, refilled, refilled_after, moving_at_most}
 use Rattle.klsm_board.proofs.lemmas.calls.EventLemmas.{IsQuiet, events_append, quiet_append, same_events}
 use Rattle.klsm_board.proofs.lemmas.calls.AddLemmas.{goes_on, inserts, deletes, own_quiet, both_look_quiet}
@@ -65,9 +65,9 @@ module _ (m : Sizes) (t : ℕ) (own shared : List Item) (es acquired es' : List 
   pub takes_events : (x : Item) → TakesOut m t own shared acquired es' x → committed_in es' ≡ committed_in es ++ Take x ∷ committed_in (refilled_after m.refill m.k own shared x)
   takes_events x takes =
       let added : List Entry = refilled_after m.refill m.k own shared x in
-      let behind : committed_in (added ++ both_released t) ≡ committed_in added = events_append added (both_released t) ∙ append-nil (committed_in added) in
-      goes_on es acquired (Committed (Take x) ∷ (added ++ both_released t)) es' quiet takes.steps
-      ∙ ap (λ z. committed_in es ++ z) (flat_map-cons event_at (Committed (Take x)) (added ++ both_released t) ∙ ap (λ z. Take x ∷ z) behind)
+      let behind : committed_in (added ++ both_marked t x.key) ≡ committed_in added = events_append added (both_marked t x.key) ∙ append-nil (committed_in added) in
+      goes_on es acquired (Committed (Take x) ∷ (added ++ both_marked t x.key)) es' quiet takes.steps
+      ∙ ap (λ z. committed_in es ++ z) (flat_map-cons event_at (Committed (Take x)) (added ++ both_marked t x.key) ∙ ap (λ z. Take x ∷ z) behind)
 
   takes_gain : (x : Item) → TakesOut m t own shared acquired es' x → Gains es es' [] (x ∷ [])
   takes_gain x takes =
@@ -80,7 +80,7 @@ module _ (m : Sizes) (t : ℕ) (own shared : List Item) (es acquired es' : List 
       let spies = takes.spies in
       let v : ℕ = victim_of m.threads t (suc spies.passed) in
       let spied : committed_in takes.spied ≡ committed_in es ++ Spy v takes.moved ∷ [] = spies_events m.threads t acquired takes.spied takes.moved spies ∙ ap (λ z. z ++ Spy v takes.moved ∷ []) quiet in
-      ap committed_in takes.steps ∙ (events_append takes.spied (Committed (Take x) ∷ both_released t) ∙ (ap (λ z. z ++ Take x ∷ []) spied ∙ append_assoc (committed_in es) (Spy v takes.moved ∷ []) (Take x ∷ [])))
+      ap committed_in takes.steps ∙ (events_append takes.spied (Committed (Take x) ∷ both_marked t x.key) ∙ (ap (λ z. z ++ Take x ∷ []) spied ∙ append_assoc (committed_in es) (Spy v takes.moved ∷ []) (Take x ∷ [])))
 
   spied_gain : (x : Item) → TakesSpied m t own shared acquired es' x → Gains es es' [] (x ∷ [])
   spied_gain x takes = gained es es' (Spy (victim_of m.threads t (suc takes.spies.passed)) takes.moved ∷ Take x ∷ []) [] (x ∷ []) (spied_events x takes) refl refl
@@ -88,7 +88,7 @@ module _ (m : Sizes) (t : ℕ) (own shared : List Item) (es acquired es' : List 
   pub nothing_events : FindsNothing m t own shared acquired es' → committed_in es' ≡ committed_in es ++ Nothing ∷ []
   nothing_events finds =
       let passed : committed_in (acquired ++ finds.added) ≡ committed_in es = same_events acquired finds.added (acquired ++ finds.added) refl (passes_are_quiet m.threads t (m.threads - 1) finds.added finds.passes) ∙ quiet in
-      goes_on es (acquired ++ finds.added) (Committed Nothing ∷ both_released t) es' passed finds.steps
+      goes_on es (acquired ++ finds.added) (Committed Nothing ∷ both_marked t no_key) es' passed finds.steps
 
   nothing_gains : FindsNothing m t own shared acquired es' → Gains es es' [] []
   nothing_gains finds = gained es es' (Nothing ∷ []) [] [] (nothing_events finds) refl refl
@@ -104,7 +104,7 @@ module _ (m : Sizes) (t : ℕ) (own shared : List Item) (es acquired es' : List 
   answer_gains may_pick before after (Some x) outcome = deletes_gain may_pick before after x outcome
 
 pub early_events : (m : Sizes) (t : ℕ) (own : List Item) (es acquired es' : List Entry) (x : Item) → committed_in acquired ≡ committed_in es → (outcome : TakesEarly m t own acquired es' x) → committed_in es' ≡ committed_in es ++ Early x outcome.front ∷ []
-early_events m t own es acquired es' x quiet outcome = goes_on es acquired (Committed (Early x outcome.front) ∷ Released (own_part t) ∷ []) es' quiet outcome.steps
+early_events m t own es acquired es' x quiet outcome = goes_on es acquired (Committed (Early x outcome.front) ∷ own_marked t x.key) es' quiet outcome.steps
 
 early_gains : (m : Sizes) (t : ℕ) (own : List Item) (es acquired es' : List Entry) (answer : Option Item) → committed_in acquired ≡ committed_in es → IsSomeAnd answer (λ x. TakesEarly m t own acquired es' x) → Gains es es' [] (option_to_list answer)
 early_gains m t own es acquired es' None quiet outcome = absurd outcome

@@ -8,12 +8,13 @@ use Rattle.klsm_parts.specs.Least.{IsLeast}
 use Rattle.klsm_parts.specs.Events.{MayTakeEarly, own_after_early}
 use Rattle.klsm_world.specs.declared.step.Event.TheVariants.{Early}
 use Rattle.klsm_world.specs.declared.step.Entry.{Entry}
-use Rattle.klsm_world.specs.declared.step.Entry.TheVariants.{Committed, Released, Looked}
-use Rattle.klsm_world.specs.OwnSteps.{own_part}
+use Rattle.klsm_world.specs.declared.step.Entry.TheVariants.{Committed, Looked}
+use Rattle.klsm_world.specs.OwnSteps.{hand_of, own_part, work_of}
 use Rattle.klsm_board.specs.declared.sizes.Sizes.{Sizes}
 use Rattle.klsm_board.specs.declared.rule.View.{View}
 use Rattle.klsm_board.specs.Steps.{gain, mine, rest_of, AreReached}
-use Rattle.klsm_board.specs.Seats.{Has, own_in_hand}
+use Rattle.klsm_board.specs.Seats.{Carries, Has, own_in_hand}
+use Rattle.klsm_board.specs.Entries.{own_marked}
 use Rattle.klsm_board.specs.Deleting.{TakesEarly}
 use Rattle.klsm_board.specs.Effects.{TakesEffect}
 use Rattle.klsm_board.proofs.lemmas.calls.EffectLemmas.{alone_skips_none, effect_at, lawful_there}
@@ -21,7 +22,8 @@ use Rattle.klsm_board.proofs.lemmas.seats.CarryLemmas.{first_of, first_here, fir
 use Rattle.klsm_board.proofs.lemmas.seats.TurnLemmas.{as_rest}
 use Rattle.klsm_board.proofs.lemmas.hands.CommitLemmas.{early_done}
 use Rattle.klsm_board.proofs.lemmas.hands.PossibleLemmas.{early_skips_few, early_keeps_order}
-use Rattle.klsm_board.proofs.lemmas.table.SeatLemmas.{has_set, mine_set, noted_others, set_others}
+use Rattle.klsm_board.proofs.lemmas.hands.WorkLemmas.{work_append}
+use Rattle.klsm_board.proofs.lemmas.table.SeatLemmas.{mine_set, noted_others, set_carries, set_hand, set_others}
 
 module _ {S : Type 0} (content : S → List Item) (suits : ℕ → ℕ → S → Type 0) (m : Sizes) (t : ℕ) where
   -- what a look at the front tells that deletes an item
@@ -55,30 +57,39 @@ module _ {S : Type 0} (content : S → List Item) (suits : ℕ → ℕ → S →
       by_test false same = noted_others content suits m t (Looked n) me me' same.0
 
   module _ (own : List Item) (x : Item) (n : ℕ) (me me' : Me S View) (has : Has content suits m t (own_in_hand t own) me) (least : IsLeast x own) (below : x.key < n) (outcome : LooksAt x n me me') where
-    -- what the seat has, once the item is out of the part
+    -- what the seat carries, once the item is out of the part, which is then its hand by the list
     pub early_out : (y' : S) → content y' ≡ own_after_early own x → suits m.k (own_part t) y'
-        → Has content suits m t (own_in_hand t (own_after_early own x)) (me'.0, (own_part t, y') ∷ rest me'.1)
+        → Carries content suits m t (own_in_hand t (own_after_early own x)) (me'.0, (own_part t, y') ∷ rest me'.1)
+        × (hand_of t (mine me'.0) ≡ own_in_hand t (own_after_early own x))
     early_out y' is suit =
         let now : Me S View = (me.0, (own_part t, y') ∷ rest me.1) in
+        let later : Me S View = (me'.0, (own_part t, y') ∷ rest me'.1) in
         let carries = first_changed content suits m t (own_part t) own (own_after_early own x) [] me y' has.carries is suit in
         let out = early_done content suits m t own x n me now has refl (record { least = least; below = below }) carries in
         let took = looked_below x n me me' below outcome in
-        has_set content suits m t (Early x n) (own_in_hand t (own_after_early own x)) now (me'.0, (own_part t, y') ∷ rest me'.1) out
-        (ap (λ (z : Me S View). (z.0, (own_part t, y') ∷ rest z.1)) took.0) took.1
+        let goes : later ≡ (gain now.0 (Committed (Early x n)), now.1) = ap (λ (z : Me S View). (z.0, (own_part t, y') ∷ rest z.1)) took.0 in (
+          set_carries content suits m t (Early x n) (own_in_hand t (own_after_early own x)) now later carries goes,
+          set_hand content suits m t (Early x n) now later carries.acts goes ∙ out.done,
+        )
+
+    -- and that the thread then works at the item
+    pub early_work : x.key ≡ work_of (mine me'.0)
+    early_work = let acts = has.carries.acts in
+        sym (ap work_of (mine_set content suits m t (Early x n) me me' acts (looked_below x n me me' below outcome).0) ∙ work_append (mine me.0) (Committed (Early x n) ∷ []))
 
     -- and what the deletion adds to the list
-    pub takes_early : (es' : List Entry) → es' ≡ mine me'.0 ++ Released (own_part t) ∷ [] → TakesEarly m t own (mine me.0) es' x
+    pub takes_early : (es' : List Entry) → es' ≡ mine me'.0 ++ own_marked t x.key → TakesEarly m t own (mine me.0) es' x
     takes_early es' released = let may : MayTakeEarly own x n = record { least = least; below = below } in let acts = has.carries.acts in record {
       front = n;
       may = may;
       skips = early_skips_few content suits m t own me x n has may;
       keeps = early_keeps_order content suits m t own me x n has may;
-      steps = released ∙ (ap (λ z. z ++ Released (own_part t) ∷ []) (mine_set content suits m t (Early x n) me me' acts (looked_below x n me me' below outcome).0)
-          ∙ append_assoc (mine me.0) (Committed (Early x n) ∷ []) (Released (own_part t) ∷ []));
+      steps = released ∙ (ap (λ z. z ++ own_marked t x.key) (mine_set content suits m t (Early x n) me me' acts (looked_below x n me me' below outcome).0)
+          ∙ append_assoc (mine me.0) (Committed (Early x n) ∷ []) (own_marked t x.key));
     }
 
     -- and where it takes effect
-    pub early_effect : (es' : List Entry) → es' ≡ mine me'.0 ++ Released (own_part t) ∷ [] → TakesEffect m t (rest_of me.0) (mine me.0) es' (Some x)
+    pub early_effect : (es' : List Entry) → es' ≡ mine me'.0 ++ own_marked t x.key → TakesEffect m t (rest_of me.0) (mine me.0) es' (Some x)
     unfolding takes_early
     early_effect es' released =
         let took = looked_below x n me me' below outcome in
@@ -86,7 +97,7 @@ module _ {S : Type 0} (content : S → List Item) (suits : ℕ → ℕ → S →
         let skips = early_skips_few content suits m t own me x n has (record { least = least; below = below }) in
         let keeps = early_keeps_order content suits m t own me x n has (record { least = least; below = below }) in
         let takes = takes_early es' released in
-        effect_at m t me.0 (rest_of me.0) (mine me.0) es' (Released (own_part t) ∷ []) (Early x n) (Some x) has.carries.acts refl before (skips before.world (lawful_there m t me.0 before) before.list_is took.2.1, alone_skips_none m t me.0 x before (keeps before.world (lawful_there m t me.0 before) before.list_is took.2.1)) takes.steps refl refl refl
+        effect_at m t me.0 (rest_of me.0) (mine me.0) es' (own_marked t x.key) (Early x n) (Some x) has.carries.acts refl before (skips before.world (lawful_there m t me.0 before) before.list_is took.2.1, alone_skips_none m t me.0 x before (keeps before.world (lawful_there m t me.0 before) before.list_is took.2.1)) takes.steps refl refl refl
 
     slots_same : me'.1 ≡ me.1
     slots_same = ap (λ (z : Me S View). z.1) (looked_below x n me me' below outcome).0

@@ -128,7 +128,7 @@ module _ {S : Type 0} (content : S → List Item) (suits : ℕ → ℕ → S →
 
   -- at the end the seat has them
   pub acquiring_all : (es : List Entry) (number : ℕ) (me : Me S View) → 0 < number → (a : Acquiring es number me) → Has content suits m t (owns_in_hand a.owns) me
-  acquiring_all es number me some a = let with_all = a.stands_with in record { carries = with_all.carries; hand_is = with_all.hand_is; reached = a.reached some }
+  acquiring_all es number me some a = let with_all = a.stands_with in record { carries = with_all.carries; hand_is = with_all.hand_is; marked = with_all.marked; reached = a.reached some }
 
   -- the part that is released next, behind so many
   pub record Next (part : ℕ) (left : List (List Item)) (me : Me S View) : Type 0 where

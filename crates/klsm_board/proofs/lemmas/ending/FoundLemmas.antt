@@ -12,10 +12,10 @@ use Rattle.atomic_table.proofs.Lists.{at_snoc}
 use Rattle.klsm_run.specs.declared.item.Item.{Item}
 use Rattle.klsm_run.proofs.SortedLemmas.{length_sorted}
 use Rattle.klsm_world.specs.declared.step.Step.{Step}
-use Rattle.klsm_world.specs.declared.step.Step.TheVariants.{Acquire, Commit, Release, Miss, Look}
+use Rattle.klsm_world.specs.declared.step.Step.TheVariants.{Acquire, Commit, Release, Miss, Look, Mark, See}
 use Rattle.klsm_world.specs.declared.step.Entry.{Entry}
-use Rattle.klsm_world.specs.declared.step.Entry.TheVariants.{Acquired, Committed, Released, Missed, Looked}
-use Rattle.klsm_world.specs.OwnSteps.{content_in, inserted}
+use Rattle.klsm_world.specs.declared.step.Entry.TheVariants.{Acquired, Committed, Released, Missed, Looked, Marked, Saw}
+use Rattle.klsm_world.specs.OwnSteps.{content_in, inserted, work_of}
 use Rattle.klsm_world.specs.Worlds.{Limits, World, content_of, hand_in, holder_of, home_of, live, live_below, steps_of}
 use Rattle.klsm_world.specs.LawfulWorlds.{IsLawful}
 use Rattle.klsm_world.specs.Schedules.{Leads, MayAcquire, MayStep, next, noted}
@@ -69,6 +69,8 @@ IsAcquired (Committed event) = ⊥
 IsAcquired (Released p) = ⊥
 IsAcquired (Missed p by) = ⊥
 IsAcquired (Looked front) = ⊥
+IsAcquired (Marked key) = ⊥
+IsAcquired (Saw u key) = ⊥
 
 -- what one of them found
 abbrev found_by : Entry → List Item
@@ -77,6 +79,8 @@ found_by (Committed event) = []
 found_by (Released p) = []
 found_by (Missed p by) = []
 found_by (Looked front) = []
+found_by (Marked key) = []
+found_by (Saw u key) = []
 
 -- what stands in a list that gained an entry stood there, or is that entry
 in_noted : (lists : List (List Entry)) (u t i : ℕ) (entry e : Entry) → u < length lists → get_elem? (get_or (set lists u (get_or lists u [] ++ entry ∷ [])) t []) i ≡ some e
@@ -127,3 +131,5 @@ found_few limits (step ∷ before) w led t i p found there =
     after (Release u q) may is old = by_entry u (Released q) may.thread (ap (λ (z : World). z.lists) is) (λ n same. absurd (subst IsAcquired (sym same) tt)) old
     after (Miss u q) may is old = by_entry u (Missed q (holder_of v q)) may.thread (ap (λ (z : World). z.lists) is) (λ n same. absurd (subst IsAcquired (sym same) tt)) old
     after (Look u) may is old = by_entry u (Looked v.front) may.thread (ap (λ (z : World). z.lists) is) (λ n same. absurd (subst IsAcquired (sym same) tt)) old
+    after (Mark u key) may is old = by_entry u (Marked key) may.thread (ap (λ (z : World). z.lists) is) (λ n same. absurd (subst IsAcquired (sym same) tt)) old
+    after (See u other) may is old = by_entry u (Saw other (work_of (steps_of v other))) may.thread (ap (λ (z : World). z.lists) is) (λ n same. absurd (subst IsAcquired (sym same) tt)) old

@@ -42,6 +42,7 @@ use Rattle.klsm_board.specs.Finishing.{AreAll, AreListsAtEnd, HasMember, Knows, 
 use Rattle.klsm_board.specs.Knowing.{AreCounted, IsAtRest, IsWhole}
 use Rattle.klsm_board.specs.Members.{IsResting}
 use Rattle.klsm_board.specs.Rule.{own, view, world_limits}
+use Rattle.klsm_board.specs.Seats.{IsMarked}
 use Rattle.klsm_board.specs.Steps.{mine, rest_of, IsMine, AreReached, HasFront}
 use Rattle.klsm_board.specs.Together.{IsFrontOf, PassesFewLeft}
 use Rattle.klsm_board.specs.Turning.{steps_known, lists_known, HasList, left_behind, turned}
@@ -197,6 +198,7 @@ rests_at_turn m t i d me me' has is none reached rest =
       acts = acts;
       carries_none = none;
       hand_is = ap (hand_of t) list ∙ rest.hand_is;
+      marked = subst IsMarked (sym list) rest.marked;
       insertions_are = ap (λ es. length (inserted es)) list ∙ rest.insertions_are;
       deletions_are = ap (λ es. length (deleted es)) list ∙ rest.deletions_are;
       within = rest.within;
@@ -229,6 +231,7 @@ rests_alone m t i d lists me has is reached rest =
       acts = refl;
       carries_none = refl;
       hand_is = rest.hand_is;
+      marked = rest.marked;
       insertions_are = rest.insertions_are;
       deletions_are = rest.deletions_are;
       within = rest.within;
@@ -241,6 +244,7 @@ rests_alone m t i d lists me has is reached rest =
 pub rests_as : (m : Sizes) (t i d : ℕ) (me : Me (Slot PartState PartState) View) → IsResting m t i d me → IsAtRest m t (steps_known me.0.lists t) i d
 rests_as m t i d me rests = subst (λ es. IsAtRest m t es i d) (sym (known_mine t me.0 rests.acts)) (record {
   hand_is = rests.hand_is;
+  marked = rests.marked;
   insertions_are = rests.insertions_are;
   deletions_are = rests.deletions_are;
   within = rests.within;
@@ -345,6 +349,7 @@ module _ {CAP LEVELS : ℕ} where
       let quota : member.sizes.quota ≡ m.quota = ap (λ (z : Sizes). z.quota) (sizes first.0 member first.2) in
       record {
         hand_is = ap (hand_of t) is ∙ (ap (λ n. hand_of n (own_steps member)) (sym first.3) ∙ rests.hand_is);
+        marked = subst IsMarked (sym is) rests.marked;
         insertions_are = ap (λ es. length (inserted es)) is ∙ counted;
         deletions_are = ap (λ es. length (deleted es)) is ∙ counted';
         within = omega (arith, rests.within, rests.insertions_are, counted, quota);

@@ -18,7 +18,7 @@ use Rattle.std.proofs.lemmas.Option.{same_Some}
 use Rattle.klsm_board.specs.declared.sizes.Sizes.{Sizes}
 use Rattle.klsm_board.specs.declared.rule.View.{View}
 use Rattle.klsm_board.specs.Steps.{mine, AreReached}
-use Rattle.klsm_board.specs.Seats.{Carries, Has, CarriedOut, LeavesShared, SetsFront, own_in_hand, both_in_hand, three_in_hand, victim_in_hand}
+use Rattle.klsm_board.specs.Seats.{Carries, Has, CarriedOut, IsMarked, LeavesShared, SetsFront, own_in_hand, both_in_hand, three_in_hand, victim_in_hand}
 use Rattle.klsm_board.proofs.lemmas.hands.EventLemmas.{own_in_one, own_in_both, shared_in_both, own_in_three, victim_in_three, put_leaves, flush_leaves, take_leaves, early_leaves, spy_leaves, refill_leaves, share_leaves, own_beside_victim, victim_beside_own, steal_leaves}
 
 -- the content of the part that was acquired last
@@ -42,11 +42,15 @@ module _ {S : Type 0} (content : S → List Item) (suits : ℕ → ℕ → S →
   still : (hand : Hand) (me me' : Me S View) → Has content suits m t hand me → me'.0 ≡ me.0 → hand_of t (mine me'.0) ≡ hand
   still hand me me' has same = ap (λ v. hand_of t (mine v)) same ∙ has.hand_is
 
+  marked_still : (hand : Hand) (me me' : Me S View) → Has content suits m t hand me → me'.0 ≡ me.0 → IsMarked (mine me'.0)
+  marked_still hand me me' has same = subst (λ v. IsMarked (mine v)) (sym same) has.marked
+
   -- a seat that carries what it did still has it
   pub has_still : (hand : Hand) (me me' : Me S View) → Has content suits m t hand me → me'.0 ≡ me.0 → Carries content suits m t hand me' → Has content suits m t hand me'
   has_still hand me me' has same carries = record {
     carries = carries;
     hand_is = still hand me me' has same;
+    marked = marked_still hand me me' has same;
     reached = subst (λ v. AreReached m t v) (sym same) has.reached;
   }
 
@@ -65,6 +69,7 @@ module _ {S : Type 0} (content : S → List Item) (suits : ℕ → ℕ → S →
       stamp = bears_still me me' x same bears;
     };
     done = put_leaves t (hand_of t (mine me'.0)) own x (still (own_in_hand t own) me me' has same);
+    marked = marked_still (own_in_hand t own) me me' has same;
   }
 
   pub flush_out : (own shared : List Item) (x : Item) (moved : List Item) (me me' : Me S View) → Has content suits m t (both_in_hand t own shared) me → me'.0 ≡ me.0 → BearsStamp t (length (inserted (mine me.0))) x → MayFlush m.k own x moved
@@ -83,6 +88,7 @@ module _ {S : Type 0} (content : S → List Item) (suits : ℕ → ℕ → S →
       stamp = bears_still me me' x same bears;
     };
     done = flush_leaves t (hand_of t (mine me'.0)) own shared (still (both_in_hand t own shared) me me' has same) x moved;
+    marked = marked_still (both_in_hand t own shared) me me' has same;
   }
 
   -- what is known of the items that a commit names as moved: as many moved as were moved
@@ -111,6 +117,7 @@ module _ {S : Type 0} (content : S → List Item) (suits : ℕ → ℕ → S →
       fits = may;
     };
     done = take_leaves t (hand_of t (mine me'.0)) own shared (still (both_in_hand t own shared) me me' has same) x;
+    marked = marked_still (both_in_hand t own shared) me me' has same;
   }
 
   -- a Take may be committed by whoever has both parts in hand
@@ -148,6 +155,7 @@ module _ {S : Type 0} (content : S → List Item) (suits : ℕ → ℕ → S →
       fits = may;
     };
     done = share_leaves t (hand_of t (mine me'.0)) own shared (still (both_in_hand t own shared) me me' has same) moved;
+    marked = marked_still (both_in_hand t own shared) me me' has same;
   }
 
   -- the items that a Share names are the ones that the shared part gained
@@ -168,6 +176,7 @@ module _ {S : Type 0} (content : S → List Item) (suits : ℕ → ℕ → S →
     carries = carries;
     may = record { own = own; holds_own = holds_still (own_in_hand t own) me me' (t + 1) own has same (own_in_one t own); fits = may };
     done = early_leaves t (hand_of t (mine me'.0)) own x front (still (own_in_hand t own) me me' has same);
+    marked = marked_still (own_in_hand t own) me me' has same;
   }
 
   -- a Take leaves the shared part, where that is as it was
@@ -228,6 +237,7 @@ module _ {S : Type 0} (content : S → List Item) (suits : ℕ → ℕ → S →
       another = other;
     };
     done = spy_leaves t v (hand_of t (mine me'.0)) found own shared other (still (three_in_hand t v found own shared) me me' has same) moved;
+    marked = marked_still (three_in_hand t v found own shared) me me' has same;
   }
 
   -- and of those that a Spy names: they are the ones that the own part has
@@ -254,6 +264,7 @@ module _ {S : Type 0} (content : S → List Item) (suits : ℕ → ℕ → S →
       another = other;
     };
     done = steal_leaves t v (hand_of t (mine me'.0)) found own other (still (victim_in_hand t v found own) me me' has same) moved;
+    marked = marked_still (victim_in_hand t v found own) me me' has same;
   }
 
   -- the items that a Steal names are the ones that the own part gained

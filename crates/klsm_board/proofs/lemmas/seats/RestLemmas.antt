@@ -48,6 +48,7 @@ module _ (capacity : ℕ) (m : Sizes) (sizes : AreSizes capacity m) (t : ℕ) wh
       suited = subst (AreSuited slot_content IsSlotOf m t) (sym rests.carries_none) tt;
     };
     hand_is = rests.hand_is;
+    marked = rests.marked;
   }
 
   -- and at its end
@@ -64,6 +65,7 @@ module _ (capacity : ℕ) (m : Sizes) (sizes : AreSizes capacity m) (t : ℕ) wh
         acts = carries.acts;
         carries_none = none_behind slot_content IsSlotOf m t me.1 carries.contents_are;
         hand_is = has.hand_is;
+        marked = has.marked;
         insertions_are = counts;
         deletions_are = counts';
         within = omega (arith, room, counts);
@@ -84,6 +86,7 @@ module _ (capacity : ℕ) (m : Sizes) (sizes : AreSizes capacity m) (t : ℕ) wh
         contents_are = carries.contents_are ∙ sym has.hand_is;
         suited = ∣ carries.suited ∣₁;
         hand_is = has.hand_is ∙ ap (λ c. (lock, c) ∷ []) (sym same);
+        marked = has.marked;
         insertions_are = counts;
         deletions_are = counts';
         reached = ∣ reached ∣₁;
@@ -103,4 +106,5 @@ module _ (capacity : ℕ) (m : Sizes) (sizes : AreSizes capacity m) (t : ℕ) wh
       suited = ∥∥₁_elim holds.suited (suited-prop m t me.1) (λ x. x);
     };
     hand_is = holds.hand_is;
+    marked = holds.marked;
   }

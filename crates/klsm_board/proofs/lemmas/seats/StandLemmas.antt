@@ -8,4 +8,4 @@ use Rattle.klsm_board.specs.declared.rule.View.{View}
 use Rattle.klsm_board.specs.Seats.{Stands, Has}
 
 pub stands : {S : Type 0} {content : S → List Item} {suits : ℕ → ℕ → S → Type 0} {m : Sizes} {t : ℕ} {hand : Hand} {me : Me S View} → Has content suits m t hand me → Stands content suits m t hand me
-stands has = record { carries = has.carries; hand_is = has.hand_is }
+stands has = record { carries = has.carries; hand_is = has.hand_is; marked = has.marked }

@@ -23,7 +23,8 @@ use Rattle.klsm_board.specs.declared.rule.View.{View}
 use Rattle.klsm_board.specs.Rule.{place, lock_words, front_word, world_limits, content_at, board_world, Ruled}
 use Rattle.klsm_board.specs.Steps.{AreReached, HasHolder, on_part, gain, attempted}
 use Rattle.klsm_board.proofs.lemmas.table.PlaceLemmas.{at_place, front_stays}
-use Rattle.klsm_board.proofs.lemmas.table.KeepLemmas.{Goes, world, acting, home_back, keeps_rule, keeps_reached, reached_now, agrees, same_steps, inside, few_more, word_is, word_set, stays}
+use Rattle.klsm_board.proofs.lemmas.hands.WorkLemmas.{away_before_acquire, away_before_note, mark_more, marked_on}
+use Rattle.klsm_board.proofs.lemmas.table.KeepLemmas.{Goes, world, acting, home_back, keeps_rule, keeps_reached, reached_now, agrees, same_steps, inside, few_more, word_is, word_set, stays, marks_stay, marked_now}
 
 module _ {S : Type 0} (content : S → List Item) (suits : ℕ → ℕ → S → Type 0) (m : Sizes) where
   module _ (s : State S View) (r : Ruled content suits m s) (id t : ℕ) (xs : List Entry) (behind : List Own) (at : get_elem? s.views id ≡ some (acting content suits m t xs behind)) (lt : t < m.threads)
@@ -70,7 +71,9 @@ module _ {S : Type 0} (content : S → List Item) (suits : ℕ → ℕ → S →
           b.1,
           keeps_rule content suits m s r id t xs es behind at lt ws (set s.homes p none) ls ms (stays content suits m s r id t xs behind at lt p (t + 1)) led stands else
               (λ q z h. ⊎_elim (λ (k : (q ≡ p) × (none ≡ some z)). absurd (some-ne-none z (sym k.1))) (λ (k : (q ≢ p) × (get_elem? s.homes q ≡ some (some z))). old_suits q z k.1) (at_set s.homes p q none (some z) h))
-              few,
+              few
+              (marks_stay content suits m s r id t xs behind at lt p (t + 1) es ls stands else (mark_more xs (Acquired p (content y))))
+              (λ gone. marked_on xs (Acquired p (content y)) (λ _. refl) (λ _. refl) (marked_now content suits m s r id t xs behind at lt (away_before_acquire t p (content y) xs gone))),
           at_place (λ q. attempted content suits m t (step slots q 0 (t + 1) none) me0 (get_or s.words (place p) 0) now) p (
             subst (λ b'. MatchBool b' ((z : S) × suits m.k p z × (now ≡ won z)) ((now ≡ lost) × (get_or s.words (place p) 0 ≤ m.threads) × HasHolder m t me0.0 p (get_or s.words (place p) 0 - 1)))
                 (sym (eq-eqb (get_or s.words (place p) 0) 0 e))
@@ -121,7 +124,9 @@ module _ {S : Type 0} (content : S → List Item) (suits : ℕ → ℕ → S →
           acting content suits m t es behind,
           keeps,
           tt,
-          keeps_rule content suits m s r id t xs es behind at lt ws s.homes ls ms (stays content suits m s r id t xs behind at lt p n) led stands else r.suited few,
+          keeps_rule content suits m s r id t xs es behind at lt ws s.homes ls ms (stays content suits m s r id t xs behind at lt p n) led stands else r.suited few
+              (marks_stay content suits m s r id t xs behind at lt p n es ls stands else (mark_more xs (Missed p (n - 1))))
+              (λ gone. marked_on xs (Missed p (n - 1)) (λ _. refl) (λ _. refl) (marked_now content suits m s r id t xs behind at lt (away_before_note t (Missed p (n - 1)) xs (λ _. refl) gone))),
           at_place (λ q. attempted content suits m t (step slots q 0 (t + 1) none) me0 n now) p (
             subst (λ b'. MatchBool b' ((z : S) × suits m.k p z × (now ≡ won z)) ((now ≡ lost) × (n ≤ m.threads) × HasHolder m t me0.0 p (n - 1)))
                 (sym (ne_eqb n 0 ne)) (refl, small, holder),

@@ -30,7 +30,8 @@ use Rattle.klsm_board.specs.Rule.{place, lock_words, front_word, world_limits, c
 use Rattle.klsm_board.specs.Steps.{AreReached, gain, glanced, looked, set_front}
 use Rattle.klsm_board.specs.Seats.{QuotaAllows, LeavesShared, SetsFront}
 use Rattle.klsm_board.proofs.lemmas.table.PlaceLemmas.{locks_stay, front_set_at}
-use Rattle.klsm_board.proofs.lemmas.table.KeepLemmas.{Goes, world, acting, reached_now, keeps_rule, keeps_reached, same_steps, inside, few_now, few_more, room_for, stays}
+use Rattle.klsm_board.proofs.lemmas.hands.WorkLemmas.{away_before_note, mark_more, marked_on, own_held_after}
+use Rattle.klsm_board.proofs.lemmas.table.KeepLemmas.{Goes, world, acting, reached_now, keeps_rule, keeps_reached, same_steps, inside, few_now, few_more, room_for, stays, marks_stay, marked_now}
 
 -- an event that leaves the shared part names no front
 pub no_front : (word t : ℕ) (hand : Hand) (event : Event) → LeavesShared t hand event → NamesFront word event
@@ -112,7 +113,9 @@ module _ {S : Type 0} (content : S → List Item) (suits : ℕ → ℕ → S →
           acting content suits m t es behind,
           keeps,
           tt,
-          keeps_rule content suits m s r id t xs es behind at lt ws s.homes ls ms (stays content suits m s r id t xs behind at lt (m.threads + 1) front) led stands else r.suited few,
+          keeps_rule content suits m s r id t xs es behind at lt ws s.homes ls ms (stays content suits m s r id t xs behind at lt (m.threads + 1) front) led stands else r.suited few
+              (marks_stay content suits m s r id t xs behind at lt (m.threads + 1) front es ls stands else (mark_more xs (Committed e)))
+              (λ gone. absurd (own_held_after m.k t (length (inserted xs)) xs e may gone)),
           (e, fit, refl, keeps_reached content suits m s r id t xs es behind at lt ws s.homes ls ms led stands else few),
         )
 
@@ -144,7 +147,9 @@ module _ {S : Type 0} (content : S → List Item) (suits : ℕ → ℕ → S →
           acting content suits m t es behind,
           keeps,
           tt,
-          keeps_rule content suits m s r id t xs es behind at lt ws s.homes ls ms (stays content suits m s r id t xs behind at lt (m.threads + 1) n) led stands else r.suited few,
+          keeps_rule content suits m s r id t xs es behind at lt ws s.homes ls ms (stays content suits m s r id t xs behind at lt (m.threads + 1) n) led stands else r.suited few
+              (marks_stay content suits m s r id t xs behind at lt (m.threads + 1) n es ls stands else (mark_more xs (Committed e)))
+              (λ gone. absurd (own_held_after m.k t (length (inserted xs)) xs e (record { own = own; holds_own = holds; fits = record { least = least; below = ltb-true x.key n below } }) gone)),
           subst (λ b. MatchBool b Took ((now ≡ (gain before.0 (Looked n), cs)) × AreReached m t now.0)) (sym below) (refl, keeps_reached content suits m s r id t xs es behind at lt ws s.homes ls ms led stands else few, (seen.0, ap (λ (w : World). w.front) seen.1)),
         )
 
@@ -167,7 +172,9 @@ module _ {S : Type 0} (content : S → List Item) (suits : ℕ → ℕ → S →
         let stands : get_elem? ls t ≡ some es = set_here r.lists t es (inside content suits m s r id t xs behind at lt) in
         let else : (u : ℕ) → u ≢ t → get_elem? ls u ≡ get_elem? r.lists u = (λ u d. set_else r.lists t u es d) in
         let few = few_more content suits m s r id t xs behind at lt (Looked n) refl in (
-          keeps_rule content suits m s r id t xs es behind at lt ws s.homes ls ms (stays content suits m s r id t xs behind at lt (m.threads + 1) n) led stands else r.suited few,
+          keeps_rule content suits m s r id t xs es behind at lt ws s.homes ls ms (stays content suits m s r id t xs behind at lt (m.threads + 1) n) led stands else r.suited few
+              (marks_stay content suits m s r id t xs behind at lt (m.threads + 1) n es ls stands else (mark_more xs (Looked n)))
+              (λ gone. marked_on xs (Looked n) (λ _. refl) (λ _. refl) (marked_now content suits m s r id t xs behind at lt (away_before_note t (Looked n) xs (λ _. refl) gone))),
           keeps_reached content suits m s r id t xs es behind at lt ws s.homes ls ms led stands else few,
         )
 

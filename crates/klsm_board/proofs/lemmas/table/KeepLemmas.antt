@@ -16,7 +16,7 @@ use Rattle.klsm_world.specs.declared.step.Event.TheVariants.{Put, Flush, Take, E
 use Rattle.klsm_world.specs.declared.step.Entry.{Entry}
 use Rattle.klsm_world.specs.declared.step.Entry.TheVariants.{Committed}
 use Rattle.klsm_world.specs.declared.step.Step.{Step as WorldStep}
-use Rattle.klsm_world.specs.OwnSteps.{inserted, inserted_by, event_at}
+use Rattle.klsm_world.specs.OwnSteps.{found_in, hand_of, inserted, inserted_by, event_at, mark_of, no_key, own_part, work_of}
 use Rattle.klsm_world.specs.Worlds.{World, steps_of}
 use Rattle.klsm_world.specs.Schedules.{Leads}
 use Rattle.klsm_world.specs.LawfulWorlds.{IsLawful, AreAgreed}
@@ -24,11 +24,11 @@ use Rattle.klsm_world.proofs.lemmas.counts.ItemGrowthLemmas.{items_grow}
 use Rattle.klsm_world.proofs.lemmas.theorems.RunLemmas.{schedules_keep_lawful}
 use Rattle.klsm_board.specs.declared.sizes.Sizes.{Sizes}
 use Rattle.klsm_board.specs.declared.rule.View.{View}
-use Rattle.klsm_board.specs.Rule.{own, view, place, lock_words, front_word, world_limits, content_at, board_world, Ruled}
+use Rattle.klsm_board.specs.Rule.{own, view, place, mark_place, lock_words, front_word, world_limits, content_at, board_world, Ruled}
 use Rattle.klsm_board.specs.declared.rule.Own.{Own}
 use Rattle.klsm_board.specs.Steps.{AreReached}
 use Rattle.klsm_board.specs.Seats.{QuotaAllows}
-use Rattle.klsm_board.proofs.lemmas.table.PlaceLemmas.{StayBetween, others_stay, word_at, word_set_at}
+use Rattle.klsm_board.proofs.lemmas.table.PlaceLemmas.{StayBetween, others_stay, mark_stays, word_at, word_set_at}
 use Rattle.klsm_board.proofs.lemmas.table.DealtLemmas.{my_list, deals_on, once_on}
 
 -- a thread's list, as a world has it
@@ -88,20 +88,38 @@ module _ {S : Type 0} (content : S → List Item) (suits : ℕ → ℕ → S →
       (λ is. subst (λ z. length (inserted z) ≤ m.quota) (some-injective es fs (sym here ∙ (ap (λ z. get_elem? ls z) (sym is) ∙ e))) few)
       (λ n. within u fs (sym (else u n) ∙ e))
 
+  -- what the words of the marks say of these lists
+  abbrev pub AreMarks : List ℕ → List (List Entry) → Type 0
+  AreMarks ws ls = (u : ℕ) (fs : List Entry) → get_elem? ls u ≡ some fs → get_or ws (mark_place u) 0 + mark_of fs ≡ no_key
+
+  -- thread t has marked the key that it works at, where it does not have its own part
+  abbrev pub IsMarkedAway : ℕ → List Entry → Type 0
+  IsMarkedAway t es = found_in (hand_of t es) (own_part t) ≡ None → mark_of es ≡ work_of es
+
+  -- each thread has, where one list has another
+  marked_on_all : (t : ℕ) (es : List Entry) (old ls : List (List Entry)) → get_elem? ls t ≡ some es → ((u : ℕ) → u ≢ t → get_elem? ls u ≡ get_elem? old u) → IsMarkedAway t es
+      → ((u : ℕ) (fs : List Entry) → get_elem? old u ≡ some fs → IsMarkedAway u fs)
+      → (u : ℕ) (fs : List Entry) → get_elem? ls u ≡ some fs → IsMarkedAway u fs
+  marked_on_all t es old ls here else now all u fs e = dite (ℕ_discrete u t)
+      (λ is. subst (λ (z : ℕ × List Entry). IsMarkedAway z.0 z.1) (λ i. (sym is i, some-injective es fs (sym here ∙ (ap (λ z. get_elem? ls z) (sym is) ∙ e)) i)) now)
+      (λ n. all u fs (sym (else u n) ∙ e))
+
   -- a seat goes on with its list, and the schedule with it
   pub keeps_rule : (s : St) (r : Rule s) (id t : ℕ) (xs es : List Entry) (behind : List Own) → get_elem? s.views id ≡ some (acting t xs behind) → t < m.threads → (ws : List ℕ) (os : List (Maybe S)) (ls : List (List Entry)) (ms : List WorldStep)
       → StayBetween s.words ws → Leads (world_limits m) ms (board_world content (lock_words m ws) (front_word m ws) os ls) → get_elem? ls t ≡ some es → ((u : ℕ) → u ≢ t → get_elem? ls u ≡ get_elem? r.lists u) → ((p : ℕ) (y : S) → get_elem? os p ≡ some (some y) → suits m.k p y)
-      → length (inserted es) ≤ m.quota
+      → length (inserted es) ≤ m.quota → AreMarks ws ls → IsMarkedAway t es
       → Rule record { words = ws; homes = os; views = set s.views id (acting t es behind) }
-  keeps_rule s r id t xs es behind at lt ws os ls ms stay leads here else suited few = record {
+  keeps_rule s r id t xs es behind at lt ws os ls ms stay leads here else suited few marks marked = record {
     lists = ls;
     schedule = ms;
     wide = stay.as_many ∙ r.wide;
-    between = λ i none. stay.same i none ∙ r.between i none;
+    between = λ i none unmarked. stay.same i none unmarked ∙ r.between i none unmarked;
     leads = leads;
     dealt = deals_on m.threads r.lists s.views id (acting t xs behind) t xs behind r.dealt at refl es (r.once t lt) ls here else;
     once = λ u ltu. once_on m.threads r.lists s.views id (acting t xs behind) t xs behind r.dealt at refl es u (r.once u ltu);
     suited = suited;
+    marks = marks;
+    marked = marked_on_all t es r.lists ls here else marked r.marked;
     within = within_on t es r.lists ls here else few r.within;
   }
 
@@ -164,3 +182,19 @@ module _ {S : Type 0} (content : S → List Item) (suits : ℕ → ℕ → S →
 
     pub stays : (p x : ℕ) → StayBetween s.words (set s.words (place p) x)
     stays p x = others_stay s.words p x
+
+    -- the marks, where the words and the thread's mark are as they were
+    pub marks_kept : (es : List Entry) (ls : List (List Entry)) → get_elem? ls t ≡ some es → ((u : ℕ) → u ≢ t → get_elem? ls u ≡ get_elem? r.lists u) → mark_of es ≡ mark_of xs → AreMarks s.words ls
+    marks_kept es ls is else same u fs e = let old = r.marks in dite (ℕ_discrete u t)
+        (λ there. let fs_is : es ≡ fs = some-injective es fs (sym is ∙ (ap (λ z. get_elem? ls z) (sym there) ∙ e)) in
+        ap (λ (z : ℕ × ℕ). get_or s.words (mark_place z.0) 0 + z.1) (λ i. (there i, (ap mark_of (sym fs_is) ∙ same) i)) ∙ old t xs here)
+        (λ n. old u fs (sym (else u n) ∙ e))
+
+    -- and where a step is made on a lock or on the front
+    pub marks_stay : (p x : ℕ) (es : List Entry) (ls : List (List Entry)) → get_elem? ls t ≡ some es → ((u : ℕ) → u ≢ t → get_elem? ls u ≡ get_elem? r.lists u) → mark_of es ≡ mark_of xs
+        → AreMarks (set s.words (place p) x) ls
+    marks_stay p x es ls is else same u fs e = ap (λ n. n + mark_of fs) (mark_stays s.words p x u) ∙ marks_kept es ls is else same u fs e
+
+    -- and whether the own part is at home is known of its list
+    pub marked_now : IsMarkedAway t xs
+    marked_now = let old = r.marked in old t xs here

@@ -190,6 +190,8 @@ module _ {S : Type 0} (content : S → List Item) (suits : ℕ → ℕ → S →
               (at_set s.views id j w u e);
           once = λ u less. let a = list_count_in-set u s.views id me.0 w at in let b = count_turned t u me.0.lists in let c = one u less in omega (arith, a, b, c);
           suited = r.suited;
+          marks = r.marks;
+          marked = r.marked;
           within = r.within;
         }),
         (

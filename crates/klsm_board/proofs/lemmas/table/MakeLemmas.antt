@@ -99,6 +99,7 @@ rests_at_first m t me thread is = subst (λ (z : Me (Slot PartState PartState) V
   acts = refl;
   carries_none = refl;
   hand_is = refl;
+  marked = refl;
   insertions_are = refl;
   deletions_are = refl;
   within = omega arith;

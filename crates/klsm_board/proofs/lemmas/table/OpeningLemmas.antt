@@ -10,13 +10,13 @@ use Rattle.atomic_table.specs.Table.{Splits, Joins, opening}
 use Rattle.atomic_table.proofs.Lists.{at_set, at_snoc, set_else}
 use Rattle.klsm_run.specs.declared.item.Item.{Item}
 use Rattle.klsm_world.specs.declared.step.Entry.{Entry}
-use Rattle.klsm_world.specs.OwnSteps.{inserted}
+use Rattle.klsm_world.specs.OwnSteps.{inserted, mark_of, work_of}
 use Rattle.klsm_world.proofs.lemmas.hands.HandLemmas.{choice_hit, choice_miss}
 use Rattle.klsm_board.specs.declared.sizes.Sizes.{Sizes}
 use Rattle.klsm_board.specs.declared.rule.Own.{Own}
 use Rattle.klsm_board.specs.declared.rule.View.{View}
-use Rattle.klsm_board.specs.Rule.{own, view, place, fresh, everyone, list_count, list_count_in, content_at, Ruled}
-use Rattle.klsm_board.proofs.lemmas.table.PlaceLemmas.{got_else, got_blank, locks_blank, locks_stay, front_set_at}
+use Rattle.klsm_board.specs.Rule.{own, view, place, mark_place, fresh, everyone, list_count, list_count_in, content_at, Ruled}
+use Rattle.klsm_board.proofs.lemmas.table.PlaceLemmas.{got_else, got_blank, locks_blank, locks_stay, front_set_at, mark_stays}
 use Rattle.klsm_board.proofs.lemmas.table.DealtLemmas.{list_count_in-set}
 
 -- how many lists of a thread two rows of views have
@@ -100,6 +100,8 @@ module _ {S : Type 0} (content : S → List Item) (suits : ℕ → ℕ → S →
             let b' : list_count_in t (set s.views id (view os) ++ view (o ∷ []) ∷ []) ≡ list_count_in t (set s.views id (view os)) + ((x + 0) + 0) = b in
             omega (arith, one, a, b', whole);
         suited = r.suited;
+        marks = r.marks;
+        marked = r.marked;
         within = r.within;
       }
     where
@@ -135,6 +137,8 @@ module _ {S : Type 0} (content : S → List Item) (suits : ℕ → ℕ → S →
             let b' : list_count_in t (set (set s.views id both) other (view [])) + list_count t w.lists ≡ list_count_in t (set s.views id both) + 0 = b in
             omega (arith, one, a, b', c);
         suited = r.suited;
+        marks = r.marks;
+        marked = r.marked;
         within = r.within;
       }
 
@@ -148,11 +152,13 @@ module _ {S : Type 0} (content : S → List Item) (suits : ℕ → ℕ → S →
     lists = replicate m.threads [];
     schedule = [];
     wide = length_first m;
-    between = λ i none. got_else (replicate (place (m.threads + 2)) 0) (place (m.threads + 1)) i 18446744073709551615 (none (m.threads + 1)) ∙ got_blank (place (m.threads + 2)) i;
+    between = λ i none unmarked. got_else (replicate (place (m.threads + 2)) 0) (place (m.threads + 1)) i 18446744073709551615 (none (m.threads + 1)) ∙ got_blank (place (m.threads + 2)) i;
     leads = λ i. record { words = (locks_stay m (replicate (place (m.threads + 2)) 0) 18446744073709551615 ∙ locks_blank 0 (m.threads + 1) (place (m.threads + 2))) i; front = front_set_at m (replicate (place (m.threads + 2)) 0) 18446744073709551615 (length-replicate (place (m.threads + 2)) 0) i; homes = (all_empty xs (λ j y e. (each j y e).0) ∙ ap (λ n. replicate n (Some [])) len) i; lists = replicate m.threads [] };
     dealt = λ j v e i o e'. one_view j v e i o e';
     once = λ t lt. let h = fresh_once m.threads 0 t (omega arith) (omega (arith, lt)) in omega (arith, h);
     suited = λ p y e. (each p y (some_back xs p y e)).1;
+    marks = λ t es e. ap (λ (z : ℕ × List Entry). z.0 + mark_of z.1) (λ i. ((mark_stays (replicate (place (m.threads + 2)) 0) (m.threads + 1) 18446744073709551615 t ∙ got_blank (place (m.threads + 2)) (mark_place t)) i, blank_is m.threads t es e i));
+    marked = λ t es e away. ap (λ z. mark_of z) (blank_is m.threads t es e) ∙ sym (ap (λ z. work_of z) (blank_is m.threads t es e));
     within = λ t es e. let none : ◌≡◌ {A = ℕ} (length (inserted es)) 0 = ap (λ z. length (inserted z)) (blank_is m.threads t es e) in omega (arith, none);
   }
     where

@@ -10,8 +10,8 @@ use Rattle.atomic_table.specs.Table.{Me, rest, step}
 use Rattle.klsm_run.specs.declared.item.Item.{Item}
 use Rattle.klsm_world.specs.declared.step.Event.{Event}
 use Rattle.klsm_world.specs.declared.step.Entry.{Entry}
-use Rattle.klsm_world.specs.declared.step.Entry.TheVariants.{Acquired, Committed, Released, Missed}
-use Rattle.klsm_world.specs.OwnSteps.{Hand, Holds, hand_of, after_entry, after_event, found_in, without_part}
+use Rattle.klsm_world.specs.declared.step.Entry.TheVariants.{Acquired, Committed, Released, Missed, Marked}
+use Rattle.klsm_world.specs.OwnSteps.{Hand, Holds, hand_of, after_entry, after_event, found_in, mark_after, without_part, work_after}
 use Rattle.klsm_world.proofs.lemmas.hands.HandLemmas.{choice_hit, choice_miss, found_first}
 use Rattle.klsm_world.proofs.lemmas.hands.NotedLemmas.{hand_of_more}
 use Rattle.klsm_board.specs.declared.sizes.Sizes.{Sizes}
@@ -20,7 +20,8 @@ use Rattle.klsm_board.specs.declared.rule.View.{View}
 use Rattle.klsm_board.specs.Rule.{own}
 use Rattle.klsm_board.specs.Steps.{mine, mine_or, others, rest_of, IsMine, AreReached, HasHolder, gained, gain, attempted}
 use Rattle.klsm_board.proofs.lemmas.calls.TestLemmas.{where_zero, where_not_zero}
-use Rattle.klsm_board.specs.Seats.{Stands, contents, AreSuited, Carries, Has, CarriedOut}
+use Rattle.klsm_board.specs.Seats.{Stands, contents, AreSuited, Carries, Has, CarriedOut, IsMarked, LeavesWork}
+use Rattle.klsm_board.proofs.lemmas.hands.WorkLemmas.{leaves_work, mark_more, marked_on, work_more}
 
 gain_mine : (v : View) (t : ℕ) (e : Entry) → IsMine v t → IsMine (gain v e) t
 gain_mine v t e is = let l : gained v.lists e ≡ own t (mine v ++ e ∷ []) ∷ rest_of v = ap (λ z. gained z e) is in l ∙ ap (λ z. own t (mine_or z) ∷ others z) (sym l)
@@ -59,6 +60,10 @@ module _ {S : Type 0} (content : S → List Item) (suits : ℕ → ℕ → S →
   hand_gain : (v : View) (e : Entry) → IsMine v t → hand_of t (mine (gain v e)) ≡ after_entry t (hand_of t (mine v)) e
   hand_gain v e is = ap (hand_of t) (mine_gain v t e is) ∙ hand_of_more t (mine v) e
 
+  -- what is marked stays marked by an entry that leaves the mark and the key in work
+  marked_gain : (v : View) (e : Entry) → IsMine v t → ((n : ℕ) → mark_after n e ≡ n) → ((n : ℕ) → work_after n e ≡ n) → IsMarked (mine v) → IsMarked (mine (gain v e))
+  marked_gain v e is marks works marked = subst IsMarked (sym (mine_gain v t e is)) (marked_on (mine v) e marks works marked)
+
   -- a part was acquired
   has_won : (p : ℕ) (y : S) (hand : Hand) (me me' : Me S View) → Stands content suits m t hand me → suits m.k p y
       → me' ≡ (gain me.0 (Acquired p (content y)), (p, y) ∷ me.1) → AreReached m t me'.0 → Has content suits m t ((p, content y) ∷ hand) me'
@@ -71,13 +76,15 @@ module _ {S : Type 0} (content : S → List Item) (suits : ℕ → ℕ → S →
           suited = (suit, old.suited);
         };
         hand_is = hand_gain me.0 (Acquired p (content y)) old.acts ∙ ap (λ (h : Hand). (p, content y) ∷ h) has.hand_is;
+        marked = marked_gain me.0 (Acquired p (content y)) old.acts (λ _. refl) (λ _. refl) has.marked;
         reached = subst (λ (z : Me S View). AreReached m t z.0) is reached;
       })
 
-  -- the list gained an entry that leaves the hand as it was: a part was tried in vain, or the front loaded
-  pub has_noted : (e : Entry) (hand : Hand) (me me' : Me S View) → ((h : Hand) → after_entry t h e ≡ h) → Stands content suits m t hand me
+  -- the list gained an entry that leaves the hand as it was, and the mark and the key in work: a part was tried in vain,
+  -- the front loaded, or a key in work seen
+  pub has_noted : (e : Entry) (hand : Hand) (me me' : Me S View) → ((h : Hand) → after_entry t h e ≡ h) → ((n : ℕ) → mark_after n e ≡ n) → ((n : ℕ) → work_after n e ≡ n) → Stands content suits m t hand me
       → me' ≡ (gain me.0 e, me.1) → AreReached m t me'.0 → Has content suits m t hand me'
-  has_noted e hand me me' leaves has is reached =
+  has_noted e hand me me' leaves marks works has is reached =
       let old = has.carries in
       subst (Has content suits m t hand) (sym is) (record {
         carries = record {
@@ -86,6 +93,22 @@ module _ {S : Type 0} (content : S → List Item) (suits : ℕ → ℕ → S →
           suited = old.suited;
         };
         hand_is = hand_gain me.0 e old.acts ∙ (leaves (hand_of t (mine me.0)) ∙ has.hand_is);
+        marked = marked_gain me.0 e old.acts marks works has.marked;
+        reached = subst (λ (z : Me S View). AreReached m t z.0) is reached;
+      })
+
+  -- the thread marked the key that it works at, or the greatest number: what it carries is then its hand, marked
+  pub has_marked : (key : ℕ) (hand : Hand) (me me' : Me S View) → Carries content suits m t hand me → hand_of t (mine me.0) ≡ hand
+      → me' ≡ (gain me.0 (Marked key), me.1) → AreReached m t me'.0 → Has content suits m t hand me'
+  has_marked key hand me me' old hand_is is reached =
+      subst (Has content suits m t hand) (sym is) (record {
+        carries = record {
+          acts = gain_mine me.0 t (Marked key) old.acts;
+          contents_are = old.contents_are;
+          suited = old.suited;
+        };
+        hand_is = hand_gain me.0 (Marked key) old.acts ∙ hand_is;
+        marked = subst IsMarked (sym (mine_gain me.0 t (Marked key) old.acts)) (mark_more (mine me.0) (Marked key) ∙ sym (work_more (mine me.0) (Marked key)));
         reached = subst (λ (z : Me S View). AreReached m t z.0) is reached;
       })
 
@@ -136,25 +159,38 @@ module _ {S : Type 0} (content : S → List Item) (suits : ℕ → ℕ → S →
   has_released p c hand me me' has away is reached = let old = has.carries in record {
     carries = released_carries p c hand me me' old is;
     hand_is = released_hand p c hand me me' old.acts has.hand_is away is;
+    marked = subst (λ (z : Me S View). IsMarked (mine z.0)) (sym is) (marked_gain me.0 (Released p) old.acts (λ _. refl) (λ _. refl) has.marked);
     reached = reached;
   }
 
-  -- an event was committed, and the part acquired last released
-  pub has_committed : (p : ℕ) (c : List Item) (event : Event) (hand : Hand) (me me' : Me S View) → CarriedOut content suits m t event ((p, c) ∷ hand) me → found_in hand p ≡ None
-      → me' ≡ (gain (gain me.0 (Committed event)) (Released p), rest me.1) → AreReached m t me'.0 → Has content suits m t hand me'
-  has_committed p c event hand me me' out away is reached =
+  -- an event was committed, and the part acquired last released: the seat carries the others
+  pub carries_committed : (p : ℕ) (c : List Item) (event : Event) (hand : Hand) (me me' : Me S View) → CarriedOut content suits m t event ((p, c) ∷ hand) me → found_in hand p ≡ None
+      → me' ≡ (gain (gain me.0 (Committed event)) (Released p), rest me.1) → Carries content suits m t hand me' × (hand_of t (mine me'.0) ≡ hand)
+  carries_committed p c event hand me me' out away is =
       let old = out.carries in let first = first_carried p c hand me old in
       let mid = gain_mine me.0 t (Committed event) old.acts in
-      subst (Has content suits m t hand) (sym is) (record {
-        carries = record {
+      subst (λ (z : Me S View). Carries content suits m t hand z × (hand_of t (mine z.0) ≡ hand)) (sym is) (
+        record {
           acts = gain_mine (gain me.0 (Committed event)) t (Released p) mid;
           contents_are = first.4;
           suited = first.5;
-        };
-        hand_is = hand_gain (gain me.0 (Committed event)) (Released p) mid
-            ∙ (ap (λ h. without_part h p) (hand_gain me.0 (Committed event) old.acts ∙ out.done) ∙ first_goes p c hand away);
-        reached = subst (λ (z : Me S View). AreReached m t z.0) is reached;
-      })
+        },
+        hand_gain (gain me.0 (Committed event)) (Released p) mid
+            ∙ (ap (λ h. without_part h p) (hand_gain me.0 (Committed event) old.acts ∙ out.done) ∙ first_goes p c hand away),
+      )
+
+  -- and has them, where the event leaves the key in work
+  pub has_committed : (p : ℕ) (c : List Item) (event : Event) (hand : Hand) (me me' : Me S View) → CarriedOut content suits m t event ((p, c) ∷ hand) me → LeavesWork event → found_in hand p ≡ None
+      → me' ≡ (gain (gain me.0 (Committed event)) (Released p), rest me.1) → AreReached m t me'.0 → Has content suits m t hand me'
+  has_committed p c event hand me me' out leaves away is reached =
+      let old = out.carries in let mid = gain_mine me.0 t (Committed event) old.acts in
+      let then = carries_committed p c event hand me me' out away is in
+      record {
+        carries = then.0;
+        hand_is = then.1;
+        marked = subst (λ (z : Me S View). IsMarked (mine z.0)) (sym is) (marked_gain (gain me.0 (Committed event)) (Released p) mid (λ _. refl) (λ _. refl) (marked_gain me.0 (Committed event) old.acts (λ _. refl) (leaves_work event leaves) out.marked));
+        reached = reached;
+      }
 
   -- the list then
   pub mine_committed : (p : ℕ) (event : Event) (me me' : Me S View) → IsMine me.0 t → me' ≡ (gain (gain me.0 (Committed event)) (Released p), rest me.1) → mine me'.0 ≡ mine me.0 ++ Committed event ∷ Released p ∷ []
@@ -176,11 +212,12 @@ module _ {S : Type 0} (content : S → List Item) (suits : ℕ → ℕ → S →
   pub set_hand : (event : Event) (me me' : Me S View) → IsMine me.0 t → me' ≡ (gain me.0 (Committed event), me.1) → hand_of t (mine me'.0) ≡ after_event t (hand_of t (mine me.0)) event
   set_hand event me me' acts is = ap (λ (z : Me S View). hand_of t (mine z.0)) is ∙ hand_gain me.0 (Committed event) acts
 
-  pub has_set : (event : Event) (hand : Hand) (me me' : Me S View) → CarriedOut content suits m t event hand me
+  pub has_set : (event : Event) (hand : Hand) (me me' : Me S View) → CarriedOut content suits m t event hand me → LeavesWork event
       → me' ≡ (gain me.0 (Committed event), me.1) → AreReached m t me'.0 → Has content suits m t hand me'
-  has_set event hand me me' out is reached = let old = out.carries in record {
+  has_set event hand me me' out leaves is reached = let old = out.carries in record {
     carries = set_carries event hand me me' old is;
     hand_is = set_hand event me me' old.acts is ∙ out.done;
+    marked = subst (λ (z : Me S View). IsMarked (mine z.0)) (sym is) (marked_gain me.0 (Committed event) old.acts (λ _. refl) (leaves_work event leaves) out.marked);
     reached = reached;
   }
 
@@ -215,6 +252,7 @@ module _ {S : Type 0} (content : S → List Item) (suits : ℕ → ℕ → S →
     carries = carries;
     may = out.may;
     done = out.done ∙ (sym old.contents_are ∙ carries.contents_are);
+    marked = out.marked;
   }
 
   -- the same carried contents, named by the slots
@@ -238,7 +276,7 @@ module _ {S : Type 0} (content : S → List Item) (suits : ℕ → ℕ → S →
       (λ e. let k : Won = where_zero Won Lost n e outcome.0 in subst (λ b. MatchBool b Hits Misses) (sym (eq-eqb n 0 e))
       (content k.0, has_won p k.0 hand me me' has k.1 k.2 outcome.1, ap (λ (z : Me S View). mine z.0) k.2 ∙ mine_gain me.0 t (Acquired p (content k.0)) old.acts))
       (λ e. let k : Lost = where_not_zero Won Lost n e outcome.0 in subst (λ b. MatchBool b Hits Misses) (sym (ne_eqb n 0 e))
-      (has_noted (Missed p (n - 1)) hand me me' (λ _. refl) has k.0 outcome.1, ap (λ (z : Me S View). mine z.0) k.0 ∙ mine_gain me.0 t (Missed p (n - 1)) old.acts, k.1))
+      (has_noted (Missed p (n - 1)) hand me me' (λ _. refl) (λ _. refl) (λ _. refl) has k.0 outcome.1, ap (λ (z : Me S View). mine z.0) k.0 ∙ mine_gain me.0 t (Missed p (n - 1)) old.acts, k.1))
 
   -- it leaves the lists behind the first as they were
   pub tried_others : (p slots n : ℕ) (me me' : Me S View) → attempted content suits m t (step slots p 0 (t + 1) none) me n me' → rest_of me'.0 ≡ rest_of me.0

@@ -22,7 +22,7 @@ store-requires g c =
           (λ i. (sym outcome.0 i, sym outcome.1 i))
           (subst (λ (z : List Own × List (ℕ × g.row.S.Denot)). Allows (Ruled content suits m) slots c.args.seat.now.id (view z.0, z.1) (place p) (λ _. 0) (λ _. on_part (committed fits m t) (step slots (place p) 0 0 none) (view z.0, z.1) 0))
           (λ i. (sym c.requires.view i, sym k.1 i))
-          (commit_allows content suits m fits slots c.args.seat.now.id p t (mine me.0) (rest_of me.0) k.0 (rest me.1) event.0 event.1 seat.2 le k.2 event.2 event.3 event.4 k.3)),
+          (commit_allows content suits m fits slots c.args.seat.now.id p t (mine me.0) (rest_of me.0) k.0 (rest me.1) event.0 event.1 seat.2 le k.2 event.2 event.3 event.4 k.3 event.6)),
     )
 
 pub returns-clause-outcome : goal.returns-clause-outcome

@@ -18,13 +18,13 @@ commit-requires-clause-event g c =
     let q = c.requires.out in let e = g.T.Moving.event c.args.about.now q.0 in let out = q.3 in
     let all = contents g.S.Holding.content g.S.Holding.suits c.args.table.now.key c.args.thread me.1 in
     let named = out_of g.S.Holding.content g.S.Holding.suits c.args.table.now.key c.args.thread e ((p, q.1) ∷ q.2) all me out (as_carried g.S.Holding.content g.S.Holding.suits c.args.table.now.key c.args.thread ((p, q.1) ∷ q.2) me out.carries) in
-    (e, (q.0, refl, named), out.may, c.requires.room q.0, c.requires.leaves q.0, can_commit g.S.Holding.content g.S.Holding.suits c.args.table.now.key c.args.thread p q.1 e q.2 me out)
+    (e, (q.0, refl, named), out.may, c.requires.room q.0, c.requires.leaves q.0, can_commit g.S.Holding.content g.S.Holding.suits c.args.table.now.key c.args.thread p q.1 e q.2 me out, λ is. (out.marked, c.requires.work q.0))
 
 pub returns-clause-released : goal.returns-clause-released
 returns-clause-released g c = λ left hand carries away.
     let me = c.args.seat.now.me in let me' = c.commit.new.seat.me in let p = c.args.part in
     let outcome = c.commit.ensures.outcome in let q = outcome.1 in let e = g.T.Moving.event c.args.about.now q.0 in
-    has_committed g.S.Holding.content g.S.Holding.suits c.args.table.now.key c.args.thread p left e hand me me' (out_of g.S.Holding.content g.S.Holding.suits c.args.table.now.key c.args.thread e (contents g.S.Holding.content g.S.Holding.suits c.args.table.now.key c.args.thread me.1) ((p, left) ∷ hand) me q.2 carries) away
+    has_committed g.S.Holding.content g.S.Holding.suits c.args.table.now.key c.args.thread p left e hand me me' (out_of g.S.Holding.content g.S.Holding.suits c.args.table.now.key c.args.thread e (contents g.S.Holding.content g.S.Holding.suits c.args.table.now.key c.args.thread me.1) ((p, left) ∷ hand) me q.2 carries) (c.requires.work q.0) away
     (outcome.2 ∙ ap (λ z. (gain (gain me.0 (Committed z)) (Released p), rest me.1)) q.1) outcome.3
 
 pub returns-clause-list : goal.returns-clause-list

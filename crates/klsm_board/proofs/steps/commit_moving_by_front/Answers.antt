@@ -23,7 +23,7 @@ pub returns-clause-has : goal.returns-clause-has
 returns-clause-has g c = λ hand carries.
     let me = c.args.seat.now.me in let me' = c.store_front.new.seat.me in let m = c.args.table.now.key in let t = c.args.thread in
     let outcome = c.store_front.ensures.outcome in let q = outcome.1 in let e = g.T.Moving.event c.args.about.now q.0 in
-    has_set g.S.Holding.content g.S.Holding.suits m t e hand me me' (out_of g.S.Holding.content g.S.Holding.suits m t e (contents g.S.Holding.content g.S.Holding.suits m t me.1) hand me q.2 carries)
+    has_set g.S.Holding.content g.S.Holding.suits m t e hand me me' (out_of g.S.Holding.content g.S.Holding.suits m t e (contents g.S.Holding.content g.S.Holding.suits m t me.1) hand me q.2 carries) (c.requires.work q.0)
     (outcome.2 ∙ ap (λ z. (gain me.0 (Committed z), me.1)) q.1) outcome.3
 
 pub returns-clause-list : goal.returns-clause-list

@@ -21,3 +21,6 @@ returns-clause-list g c =
 
 pub returns-clause-others : goal.returns-clause-others
 returns-clause-others g c = released_others g.S.Holding.content g.S.Holding.suits c.args.table.now.key c.args.thread c.args.part c.args.seat.now.me c.release.new.seat.me c.release.ensures.outcome.0
+
+pub release-requires-clause-marked : goal.release-requires-clause-marked
+release-requires-clause-marked g c is = let has = c.requires.has.2 in has.marked

@@ -27,3 +27,6 @@ returns-clause-carries g c own due shared carries hand_is =
     let content = g.S.Holding.content in let suits = g.S.Holding.suits in
     let m = c.args.table.now.key in let t = c.args.thread in let me = c.args.seat.now.me in let me' = c.release.new.seat.me in let is = c.release.ensures.outcome.0 in
     (released_carries content suits m t 0 shared (own_in_hand t own) me me' carries is, released_hand content suits m t 0 shared (own_in_hand t due) me me' carries.acts hand_is (shared_not_in_one t due) is)
+
+pub release-requires-clause-marked : goal.release-requires-clause-marked
+release-requires-clause-marked g c is = absurd (omega (arith, is))

@@ -16,7 +16,7 @@ returns-clause-others g c =
 pub returns-clause-still : goal.returns-clause-still
 returns-clause-still g c hand stands =
     let outcome = c.load_front_alone.ensures.outcome in
-    has_noted g.S.Holding.content g.S.Holding.suits c.args.table.now.key c.args.thread (Looked c.load_front_alone.result) hand c.args.seat.now.me c.load_front_alone.new.seat.me (λ _. refl) stands outcome.0 outcome.1
+    has_noted g.S.Holding.content g.S.Holding.suits c.args.table.now.key c.args.thread (Looked c.load_front_alone.result) hand c.args.seat.now.me c.load_front_alone.new.seat.me (λ _. refl) (λ _. refl) (λ _. refl) stands outcome.0 outcome.1
 
 pub returns-clause-list : goal.returns-clause-list
 returns-clause-list g c =

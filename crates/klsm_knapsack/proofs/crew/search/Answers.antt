@@ -6,7 +6,7 @@ use Rattle.klsm_board.specs.declared.sizes.Sizes.{Sizes}
 use Rattle.klsm_world.specs.declared.step.Entry.{Entry}
 use Rattle.klsm_knapsack.specs.Answers.{GainsOthers}
 use Rattle.klsm_knapsack.specs.Work.{HasNode}
-use Rattle.klsm_knapsack.specs.Workers.{work_of}
+use Rattle.klsm_knapsack.specs.Workers.{work_by}
 use Rattle.klsm_knapsack.proofs.CourseLemmas.{all_go, begun_go}
 use Rattle.klsm_knapsack.proofs.CrewLemmas.{crew_begun, crew_ended, crew_ready, crew_run, all_worked, begun_gains, all_idle, each_worker}
 use Rattle.klsm_knapsack.proofs.RoomLemmas.{root_refused}
@@ -35,7 +35,7 @@ returns-then-begin-clause-worked g c = λ none.
     let many : length c.run_all.new.crew ≡ length begun = c.run_all.auto.crew in
     let some_worker : 0 < length begun = omega (arith, length-set c.args.crew.now 0 c.begin.new.self, c.requires.crew.some_worker) in
     let first : get_or begun 0 d ≡ c.begin.new.self = get_or-set_same c.args.crew.now 0 c.begin.new.self d c.requires.crew.some_worker in
-    let root : HasNode (work_of (get_or begun 0 d)).inserted 0 0 = subst (λ (w : Worker g.row.LEVELS). HasNode (work_of w).inserted 0 0) (sym first) c.if-begin.ensures.begun.1 in
+    let root : HasNode (work_by (get_or begun 0 d)).inserted 0 0 = subst (λ (w : Worker g.row.LEVELS). HasNode (work_by w).inserted 0 0) (sym first) c.if-begin.ensures.begun.1 in
     all_worked c.args.state.now.no_room c.args.instance.now c.args.idle begun c.run_all.new.crew d some_worker many c.run_all.ensures root none
 
 pub returns-else-begin-clause-crew : goal.returns-else-begin-clause-crew

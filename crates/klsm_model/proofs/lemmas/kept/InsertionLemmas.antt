@@ -7,7 +7,7 @@ use Rattle.klsm_model.specs.declared.own_steps.KeptStep.{KeptStep}
 use Rattle.klsm_model.specs.declared.own_steps.KeptStep.TheVariants as kept
 use Rattle.klsm_model.specs.Kept.{entry_of}
 use Rattle.klsm_world.specs.declared.step.Entry.{Entry}
-use Rattle.klsm_world.specs.declared.step.Entry.TheVariants.{Acquired, Committed, Released, Missed, Looked}
+use Rattle.klsm_world.specs.declared.step.Entry.TheVariants.{Acquired, Committed, Released, Missed, Looked, Marked, Saw}
 use Rattle.klsm_world.specs.declared.step.Event.TheVariants.{Put, Flush, Take, Early, Nothing, Spy, Refill, Steal, Share}
 use Rattle.klsm_world.specs.OwnSteps.{inserted_by, event_at, inserted}
 use Rattle.klsm_world.proofs.lemmas.counts.ItemGrowthLemmas.{items_grow}
@@ -26,6 +26,8 @@ at_most_one (Committed (Share moved)) = omega arith
 at_most_one (Released p) = omega arith
 at_most_one (Missed p by) = omega arith
 at_most_one (Looked front) = omega arith
+at_most_one (Marked key) = omega arith
+at_most_one (Saw u key) = omega arith
 
 -- at most one item a step
 pub few_inserted : (own : List Entry) → length (inserted own) ≤ length own
@@ -54,6 +56,8 @@ none_inserted kept.Share items put flush = refl
 none_inserted (kept.Released p) items put flush = refl
 none_inserted (kept.Missed p by) items put flush = refl
 none_inserted (kept.Looked front) items put flush = refl
+none_inserted (kept.Marked key) items put flush = refl
+none_inserted (kept.Saw u key) items put flush = refl
 
 -- what a list inserts with one entry more
 pub inserted_with : (own after : List Entry) (entry : Entry) → after ≡ own ++ entry ∷ [] → length (inserted after) ≡ length (inserted own) + length (flat_map inserted_by (event_at entry))

@@ -5,18 +5,18 @@ use Rattle.klsm_run.specs.declared.item.Item.{Item}
 use Rattle.klsm_run.specs.Content.{sorted}
 use Rattle.klsm_parts.specs.Events.{front_of, key_or_greatest}
 use Rattle.klsm_world.specs.declared.step.Step.{Step}
-use Rattle.klsm_world.specs.declared.step.Step.TheVariants.{Acquire, Release, Miss, Look}
+use Rattle.klsm_world.specs.declared.step.Step.TheVariants.{Acquire, Release, Miss, Look, Mark, See}
 use Rattle.klsm_world.specs.declared.step.Entry.{Entry}
-use Rattle.klsm_world.specs.declared.step.Entry.TheVariants.{Acquired, Released, Missed, Looked}
+use Rattle.klsm_world.specs.declared.step.Entry.TheVariants.{Acquired, Released, Missed, Looked, Marked, Saw}
 use Rattle.klsm_model.specs.Kept.{IsKept, homes_of, world_of}
-use Rattle.klsm_world.specs.OwnSteps.{Holds, content_in, shared_part}
+use Rattle.klsm_world.specs.OwnSteps.{Holds, content_in, shared_part, work_of}
 use Rattle.klsm_world.specs.Worlds.{Limits, World, word_of, home_of, hand_in, content_of}
 use Rattle.klsm_world.specs.LawfulWorlds.{IsLawful}
 use Rattle.klsm_world.specs.Schedules.{MayStep, next}
 use Rattle.klsm_model.proofs.lemmas.kept.HomesLemmas.{homes_taken, homes_freed}
 use Rattle.klsm_world.proofs.lemmas.lawful.LawfulLemmas.{lawful_kept}
 use Rattle.klsm_world.proofs.lemmas.lawful.LegalLemmas.{found_at_home}
-use Rattle.klsm_world.proofs.lemmas.hands.PartContentLemmas.{content_held, content_acquired, content_released, content_missed, content_looked}
+use Rattle.klsm_world.proofs.lemmas.hands.PartContentLemmas.{content_held, content_acquired, content_released, content_missed, content_looked, content_marked, content_seen}
 
 -- a thread's list after one more entry
 abbrev pub lists_with : List (List Entry) → ℕ → Entry → List (List Entry)
@@ -118,4 +118,25 @@ kept_looked limits words contents lists t kept may = (
   refl,
   kept_after limits words words contents contents lists (lists_with lists t (Looked (front_of (get_or contents 0 [])))) (Look t) kept may refl kept.contents_are
       (λ q within. content_looked limits (world_of words contents lists) t q kept.lawful.agreed may ∙ kept.current q within) kept.ascending,
+)
+
+-- after a mark
+pub kept_marked : (limits : Limits) (words : List ℕ) (contents : List (List Item)) (lists : List (List Entry)) (t key : ℕ)
+    → IsKept limits words contents lists → MayStep limits (world_of words contents lists) (Mark t key)
+    → (world_of words contents (lists_with lists t (Marked key)) ≡ next (world_of words contents lists) (Mark t key)) × IsKept limits words contents (lists_with lists t (Marked key))
+kept_marked limits words contents lists t key kept may = (
+  refl,
+  kept_after limits words words contents contents lists (lists_with lists t (Marked key)) (Mark t key) kept may refl kept.contents_are
+      (λ q within. content_marked limits (world_of words contents lists) t key q kept.lawful.agreed may ∙ kept.current q within) kept.ascending,
+)
+
+-- after the key of a thread's work is seen
+pub kept_seen : (limits : Limits) (words : List ℕ) (contents : List (List Item)) (lists : List (List Entry)) (t u : ℕ)
+    → IsKept limits words contents lists → MayStep limits (world_of words contents lists) (See t u)
+    → (world_of words contents (lists_with lists t (Saw u (work_of (get_or lists u [])))) ≡ next (world_of words contents lists) (See t u))
+    × IsKept limits words contents (lists_with lists t (Saw u (work_of (get_or lists u []))))
+kept_seen limits words contents lists t u kept may = (
+  refl,
+  kept_after limits words words contents contents lists (lists_with lists t (Saw u (work_of (get_or lists u [])))) (See t u) kept may refl kept.contents_are
+      (λ q within. content_seen limits (world_of words contents lists) t u q kept.lawful.agreed may ∙ kept.current q within) kept.ascending,
 )

@@ -2,16 +2,17 @@
 use Rattle.std.proofs.Common.{◌≡◌, ℕ, ◌+◌, ◌-◌, ◌<◌, List, [], length, get_or, set, Ok, refl, sym, ap, ◌∙◌, subst, arith}
 use Rattle.klsm_run.specs.declared.item.Item.{Item}
 use Rattle.klsm_world.specs.declared.step.Step.{Step}
-use Rattle.klsm_world.specs.declared.step.Step.TheVariants.{Acquire, Commit, Release, Miss, Look}
+use Rattle.klsm_world.specs.declared.step.Step.TheVariants.{Acquire, Commit, Release, Miss, Look, Mark, See}
 use Rattle.klsm_world.specs.declared.step.Event.{Event}
 use Rattle.klsm_world.specs.declared.step.Entry.{Entry}
-use Rattle.klsm_world.specs.declared.step.Entry.TheVariants.{Acquired, Committed, Released, Missed, Looked}
+use Rattle.klsm_world.specs.declared.step.Entry.TheVariants.{Acquired, Committed, Released, Missed, Looked, Marked, Saw}
 use Rattle.klsm_parts.specs.Events.{front_of}
 use Rattle.klsm_model.specs.Kept.{IsKept, world_of}
 use Rattle.klsm_model.specs.WorldView.{WorldView, IsStepped}
+use Rattle.klsm_world.specs.OwnSteps.{work_of}
 use Rattle.klsm_world.specs.Schedules.{MayStep, next}
-use Rattle.klsm_world.specs.Worlds.{Limits, World}
-use Rattle.klsm_model.proofs.lemmas.kept.KeptLemmas.{lists_with, kept_acquired, kept_released, kept_missed, kept_looked}
+use Rattle.klsm_world.specs.Worlds.{Limits, World, steps_of}
+use Rattle.klsm_model.proofs.lemmas.kept.KeptLemmas.{lists_with, kept_acquired, kept_released, kept_missed, kept_looked, kept_marked, kept_seen}
 use Rattle.klsm_model.proofs.lemmas.kept.KeptCommitLemmas.{contents_after, kept_committed}
 
 -- a running world, by what it keeps
@@ -73,6 +74,21 @@ module _ (before : WorldView) (limits : Limits) (words : List ℕ) (contents : L
         let legal : MayStep limits (world_of words contents lists) (Look t) = may_shown before limits words contents lists (Look t) is may in
         step_taken before limits words words contents contents contents lists (lists_with lists t (Looked (front_of (get_or contents 0 [])))) lists'' (Look t) is may refl
         (noted ∙ ap (λ n. lists_with lists t (Looked n)) (read ∙ sym (ap (λ (r : WorldView). r.world.front) is))) (kept_looked limits words contents lists t kept legal)
+
+    -- a mark
+    pub mark_taken : (key : ℕ) → MayStep before.limits before.world (Mark t key) → lists'' ≡ lists_with lists t (Marked key)
+        → IsKept limits words contents lists'' × IsStepped before (Mark t key) (Ok tt) (shown limits words contents lists'')
+    mark_taken key may noted =
+        step_taken before limits words words contents contents contents lists (lists_with lists t (Marked key)) lists'' (Mark t key) is may refl noted
+        (kept_marked limits words contents lists t key kept (may_shown before limits words contents lists (Mark t key) is may))
+
+    -- the key of a thread's work is seen
+    pub see_taken : (u key : ℕ) → MayStep before.limits before.world (See t u) → lists'' ≡ lists_with lists t (Saw u key) → key ≡ work_of (steps_of before.world u)
+        → IsKept limits words contents lists'' × IsStepped before (See t u) (Ok tt) (shown limits words contents lists'')
+    see_taken u key may noted read =
+        let legal : MayStep limits (world_of words contents lists) (See t u) = may_shown before limits words contents lists (See t u) is may in
+        step_taken before limits words words contents contents contents lists (lists_with lists t (Saw u (work_of (get_or lists u [])))) lists'' (See t u) is may refl
+        (noted ∙ ap (λ n. lists_with lists t (Saw u n)) (read ∙ sym (ap (λ (r : WorldView). work_of (steps_of r.world u)) is))) (kept_seen limits words contents lists t u kept legal)
 
     -- a commit
     pub commit_taken : (event : Event) (contents'' : List (List Item)) → MayStep before.limits before.world (Commit t event) → lists'' ≡ lists_with lists t (Committed event)

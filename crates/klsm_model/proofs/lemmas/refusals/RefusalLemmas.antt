@@ -1,10 +1,11 @@
 -- Which parts a thread holds, by the words alone, and which it lacks.
-use Rattle.std.proofs.Common.{◌≡◌, ◌≢◌, ℕ, zero, suc, ◌+◌, ◌<◌, ◌≤◌, List, [], ◌∷◌, length, get_or, refl, sym, ◌∙◌, subst, inl, inr, arith, ◌⊎◌}
+use Rattle.std.proofs.Common.{◌≡◌, ◌≢◌, ℕ, zero, suc, ◌+◌, ◌<◌, ◌≤◌, List, [], ◌∷◌, length, get_or, refl, sym, ap, ◌∙◌, subst, inl, inr, arith, ◌⊎◌}
 use Rattle.std.specs.List.{Contains}
 use Rattle.std.proofs.lemmas.Bool.{cases_eq, cases_lt}
+use Rattle.std.proofs.lemmas.Option.{none-some}
 use Rattle.klsm_model.specs.Kept.{HoldsAll}
 use Rattle.klsm_world.specs.LawfulWorlds.{AreAgreed}
-use Rattle.klsm_world.specs.OwnSteps.{Holds}
+use Rattle.klsm_world.specs.OwnSteps.{Holds, HoldsSome, found_in}
 use Rattle.klsm_model.specs.Refusals.{LacksOne}
 use Rattle.klsm_world.specs.Worlds.{Limits, World, word_of, hand_in, content_of}
 use Rattle.klsm_world.proofs.lemmas.lawful.LegalLemmas.{not_held}
@@ -39,6 +40,14 @@ module _ (limits : Limits) (w : World) (t : ℕ) (agreed : AreAgreed limits w) (
       let one : at.by ≡ t = omega (arith, both) in
       let has : Holds (hand_in w t) p at.held.content = subst (λ u. Holds (hand_in w u) p at.held.content) one at.held.holds in
       subst (Holds (hand_in w t) p) (sym (content_held limits w t p at.held.content agreed less has)) has
+
+  -- so it holds that part, and does not lack it
+  pub holds_some : (p : ℕ) → word_of w p ≡ t + 1 → HoldsSome (hand_in w t) p
+  holds_some p word = record { content = content_of w p; holds = holds_named p word }
+
+  pub lacks_none : (p : ℕ) → word_of w p ≡ t + 1 → LacksOne w t (p ∷ []) → ⊥
+  lacks_none p word (q, (zero, less, same), lacks) = none-some (content_of w p) (sym (ap (found_in (hand_in w t)) same ∙ lacks) ∙ holds_named p word)
+  lacks_none p word (q, (suc i, less, same), lacks) = absurd (omega (arith, less))
 
   -- where the thread does not hold each of some parts, it lacks one
   pub lacks_one : (parts : List ℕ) → (HoldsAll w t parts → ⊥) → LacksOne w t parts

@@ -6,7 +6,7 @@ use Rattle.klsm_run.specs.declared.item.Item.{Item}
 use Rattle.klsm_world.specs.declared.step.Event.{Event}
 use Rattle.klsm_world.specs.declared.step.Event.TheVariants.{Put, Flush, Take, Early, Nothing, Spy, Refill, Steal, Share}
 use Rattle.klsm_world.specs.declared.step.Step.{Step}
-use Rattle.klsm_world.specs.declared.step.Step.TheVariants.{Acquire, Commit, Release, Miss, Look}
+use Rattle.klsm_world.specs.declared.step.Step.TheVariants.{Acquire, Commit, Release, Miss, Look, Mark, See}
 use Rattle.klsm_model.specs.declared.errors.StepError.TheVariants.{NoSuchPart, Held, NotHeld, WrongEvent, NoMemory}
 use Rattle.klsm_world.specs.OwnSteps.{Hand, Holds, found_in, shared_part, own_part}
 use Rattle.klsm_world.specs.LegalSteps.{MayCommit}
@@ -65,6 +65,9 @@ names_none limits w (Release t p) lawful (inr beyond) may =
 names_none limits w (Miss t p) lawful (inl many) may = omega (arith, many, may.thread)
 names_none limits w (Miss t p) lawful (inr beyond) may = omega (arith, beyond, may.part)
 names_none limits w (Look t) lawful many may = omega (arith, many, may.thread)
+names_none limits w (Mark t key) lawful many may = omega (arith, many, may.thread)
+names_none limits w (See t u) lawful (inl many) may = omega (arith, many, may.thread)
+names_none limits w (See t u) lawful (inr many) may = omega (arith, many, may.other)
 
 pub refused_is_not_legal : RefusedIsNotLegal
 refused_is_not_legal limits w step NoSuchPart lawful refuses other may = names_none limits w step lawful refuses may
@@ -73,6 +76,8 @@ refused_is_not_legal limits w (Commit t event) (Held by) lawful refuses other ma
 refused_is_not_legal limits w (Release t p) (Held by) lawful refuses other may = absurd refuses.1
 refused_is_not_legal limits w (Miss t p) (Held by) lawful refuses other may = absurd refuses.1
 refused_is_not_legal limits w (Look t) (Held by) lawful refuses other may = absurd refuses.1
+refused_is_not_legal limits w (Mark t key) (Held by) lawful refuses other may = absurd refuses.1
+refused_is_not_legal limits w (See t u) (Held by) lawful refuses other may = absurd refuses.1
 refused_is_not_legal limits w (Acquire t p) NotHeld lawful refuses other may = absurd refuses.1
 refused_is_not_legal limits w (Commit t event) NotHeld lawful refuses other may =
     committer_holds (hand_in w t) limits.k t _ event may.commit refuses.1.0 refuses.1.1 refuses.1.2
@@ -80,5 +85,9 @@ refused_is_not_legal limits w (Release t p) NotHeld lawful refuses other may =
     lacks_one (hand_in w t) refuses.1.0 p may.held.content may.held.holds refuses.1.1 refuses.1.2
 refused_is_not_legal limits w (Miss t p) NotHeld lawful refuses other may = absurd refuses.1
 refused_is_not_legal limits w (Look t) NotHeld lawful refuses other may = absurd refuses.1
+refused_is_not_legal limits w (Mark t key) NotHeld lawful refuses other may =
+    lacks_one (hand_in w t) refuses.1.0 (own_part t) may.held.content may.held.holds refuses.1.1 refuses.1.2
+refused_is_not_legal limits w (See t u) NotHeld lawful refuses other may =
+    lacks_one (hand_in w t) refuses.1.0 (own_part u) may.held.content may.held.holds refuses.1.1 refuses.1.2
 refused_is_not_legal limits w step WrongEvent lawful refuses other may = refuses.3 may
 refused_is_not_legal limits w step NoMemory lawful refuses other may = other refl

@@ -11,14 +11,14 @@ use Rattle.klsm_run.proofs.RankLemmas.{count_sorted}
 use Rattle.klsm_world.specs.declared.step.Event.{Event}
 use Rattle.klsm_world.specs.declared.step.Event.TheVariants.{Put, Flush, Take, Early, Nothing, Spy, Refill, Steal, Share}
 use Rattle.klsm_world.specs.declared.step.Step.{Step}
-use Rattle.klsm_world.specs.declared.step.Step.TheVariants.{Acquire, Commit, Release, Miss, Look}
+use Rattle.klsm_world.specs.declared.step.Step.TheVariants.{Acquire, Commit, Release, Miss, Look, Mark, See}
 use Rattle.klsm_world.specs.Worlds.{Limits, World, live}
 use Rattle.klsm_world.specs.Schedules.{MayStep, next, Leads}
 use Rattle.klsm_world.specs.OwnSteps.{inserted_by, deleted_by}
 use Rattle.klsm_model.specs.Traces.{most_skipped}
 use Rattle.klsm_world.specs.RelaxedQueue.{event_of, events_of, queue_of}
 use Rattle.klsm_world.proofs.lemmas.lists.ListLemmas.{items_more}
-use Rattle.klsm_world.proofs.lemmas.theorems.RunLemmas.{queue_is_live, commit_adds, acquire_adds_none, release_adds_none, miss_adds_none, look_adds_none}
+use Rattle.klsm_world.proofs.lemmas.theorems.RunLemmas.{queue_is_live, commit_adds, acquire_adds_none, release_adds_none, miss_adds_none, look_adds_none, mark_adds_none, see_adds_none}
 
 -- the first steps lead to a world, and this is what they inserted and deleted, and the most that they skipped
 pub record HasRun (limits : Limits) (steps : List Step) (count : ℕ) (w : World) (inserted deleted : List Item) (most : ℕ) : Type 0 where
@@ -48,6 +48,8 @@ most_run limits before w (Acquire t p) leads = ap most_skipped (acquire_adds_non
 most_run limits before w (Release t p) leads = ap most_skipped (release_adds_none before t p) ∙ omega arith
 most_run limits before w (Miss t p) leads = ap most_skipped (miss_adds_none before t p) ∙ omega arith
 most_run limits before w (Look t) leads = ap most_skipped (look_adds_none before t) ∙ omega arith
+most_run limits before w (Mark t key) leads = ap most_skipped (mark_adds_none before t key) ∙ omega arith
+most_run limits before w (See t u) leads = ap most_skipped (see_adds_none before t u) ∙ omega arith
 most_run limits before w (Commit t (Put x)) leads = ap most_skipped (commit_adds before t (Put x)) ∙ omega arith
 most_run limits before w (Commit t (Flush x moved)) leads = ap most_skipped (commit_adds before t (Flush x moved)) ∙ omega arith
 most_run limits before w (Commit t Nothing) leads = ap most_skipped (commit_adds before t Nothing) ∙ omega arith

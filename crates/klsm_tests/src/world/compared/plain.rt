@@ -21,10 +21,15 @@ pub(super) struct Plain {
     // Ascending.
     placed: Vec<Placed>,
     holders: Vec<Option<u32>>,
+    // For each thread the key of the item that it works at, or the greatest number.
+    work: Vec<u64>,
     pub inserted: Vec<Item>,
     pub deleted: Vec<Item>,
     // How many of them by the front.
     pub early: usize,
+    // How often the key of an item was marked, and seen.
+    pub marked: usize,
+    pub seen: usize,
     // How often items moved from the shared part to an own one, and back.
     pub refilled: usize,
     pub given: usize,
@@ -40,9 +45,12 @@ impl Plain {
             k,
             placed: Vec::new(alloc),
             holders: Vec::from_elem(alloc, None, parts).ok()?,
+            work: Vec::from_elem(alloc, u64::MAX, threads as usize).ok()?,
             inserted: Vec::new(alloc),
             deleted: Vec::new(alloc),
             early: 0,
+            marked: 0,
+            seen: 0,
             refilled: 0,
             given: 0,
             most: 0,
@@ -123,6 +131,20 @@ impl Plain {
         }
     }
 
+    /// The key of the item that a thread works at, and the greatest number where it works at none.
+    pub(super) fn work(&self, thread: u32) -> u64 {
+        match self.work.get(thread as usize) {
+            Some(key) => *key,
+            None => u64::MAX,
+        }
+    }
+
+    fn set_work(&mut self, thread: u32, key: u64) {
+        if let Some(work) = self.work.get_mut(thread as usize) {
+            *work = key;
+        }
+    }
+
     /// The stamp of a thread's next insertion.
     pub(super) fn next_stamp(&self, thread: u32) -> Stamp {
         let mut number: u64 = 0;
@@ -144,6 +166,8 @@ impl Plain {
             Step::Release { thread, part } => self.refusal_of_release(*thread, *part),
             Step::Miss { thread, part } => self.refusal_of_miss(*thread, *part),
             Step::Look { thread } => self.refusal_of_look(*thread),
+            Step::Mark { thread, key } => self.refusal_of_mark(*thread, *key),
+            Step::See { thread, of } => self.refusal_of_see(*thread, *of),
             Step::Commit { thread, event } => self.refusal_of_event(*thread, event),
         }
     }
@@ -188,6 +212,30 @@ impl Plain {
             return Some(StepError::NoSuchPart);
         }
         None
+    }
+
+    fn refusal_of_mark(&self, thread: u32, key: u64) -> Option<StepError> {
+        if self.lacks(thread, 0) {
+            return Some(StepError::NoSuchPart);
+        }
+        if self.holder(own(thread)) != Some(thread) {
+            return Some(StepError::NotHeld);
+        }
+        if key == self.work(thread) || key == u64::MAX {
+            None
+        } else {
+            Some(StepError::WrongEvent)
+        }
+    }
+
+    fn refusal_of_see(&self, thread: u32, of: u32) -> Option<StepError> {
+        if self.lacks(thread, 0) || self.lacks(of, 0) {
+            return Some(StepError::NoSuchPart);
+        }
+        match self.holder(own(of)) {
+            Some(by) if by == thread => None,
+            _ => Some(StepError::NotHeld),
+        }
     }
 
     fn refusal_of_event(&self, thread: u32, event: &Event) -> Option<StepError> {
@@ -295,9 +343,24 @@ impl Plain {
             Step::Acquire { thread, part } => self.set_holder(*part, Some(*thread)),
             Step::Release { thread: _, part } => self.set_holder(*part, None),
             Step::Miss { .. } | Step::Look { .. } => {}
+            Step::Mark { thread, key } => self.mark(*thread, *key),
+            Step::See { thread: _, of } => self.see(*of),
             Step::Commit { thread, event } => self.take_event(*thread, event)?,
         }
         Some(())
+    }
+
+    fn mark(&mut self, thread: u32, key: u64) {
+        if key < u64::MAX {
+            self.marked = self.marked.saturating_add(1);
+        }
+        self.set_work(thread, key);
+    }
+
+    fn see(&mut self, of: u32) {
+        if self.work(of) < u64::MAX {
+            self.seen = self.seen.saturating_add(1);
+        }
     }
 
     fn set_holder(&mut self, part: u32, by: Option<u32>) {
@@ -313,12 +376,12 @@ impl Plain {
                 self.insert(own(thread), *item)?;
                 self.move_all(0, moved.as_slice());
             }
-            Event::Take(item) => self.delete(*item)?,
+            Event::Take(item) => self.delete(thread, *item)?,
             Event::Early { item, front: _ } => {
                 self.early = self.early.saturating_add(1);
-                self.delete(*item)?;
+                self.delete(thread, *item)?;
             }
-            Event::Nothing => {}
+            Event::Nothing => self.set_work(thread, u64::MAX),
             Event::Spy { victim: _, moved } | Event::Steal { victim: _, moved } => {
                 self.move_all(own(thread), moved.as_slice());
             }
@@ -340,7 +403,8 @@ impl Plain {
         self.placed.insert(at, Placed { part, item }).ok()
     }
 
-    fn delete(&mut self, item: Item) -> Option<()> {
+    fn delete(&mut self, thread: u32, item: Item) -> Option<()> {
+        self.set_work(thread, item.key);
         self.most = self.most.max(self.rank(item));
         self.placed.retain(|placed| placed.item != item);
         self.deleted.push(item).ok()

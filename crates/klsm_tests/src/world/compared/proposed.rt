@@ -39,22 +39,33 @@ fn proposed_thread(mix: &mut Pcg32, plain: &Plain) -> u32 {
     }
 }
 
-// A step that takes a part, gives one back, tries one in vain or looks at the front. `None` stands for
-// an event.
+// A step that takes a part, gives one back, tries one in vain, looks at the front, marks a key or sees
+// one. `None` stands for an event.
 fn proposed_row(mix: &mut Pcg32, plain: &Plain, thread: u32) -> Option<Row> {
     let own_part = thread.saturating_add(1);
     let any_part = any_of(mix, plain.threads.saturating_add(1));
     let has_own = plain.holder(own_part) == Some(thread);
     let has_shared = plain.holder(0) == Some(thread);
-    match below(mix, 11) {
+    match below(mix, 13) {
         0 => Some(Row::Release(thread, own_part)),
         1 => Some(Row::Release(thread, any_part)),
         2 => Some(Row::Miss(thread, any_part)),
         3 => Some(Row::Acquire(thread, any_part)),
         4 => Some(Row::Look(thread)),
+        5 => Some(Row::Mark(thread, proposed_key(mix, plain, thread))),
+        6 => Some(Row::See(thread, any_of(mix, plain.threads))),
         _ if !has_own => Some(Row::Acquire(thread, own_part)),
-        5 | 6 if !has_shared => Some(Row::Acquire(thread, 0)),
+        7 | 8 if !has_shared => Some(Row::Acquire(thread, 0)),
         _ => None,
+    }
+}
+
+// A key to be marked, which is mostly that of the item that the thread works at.
+fn proposed_key(mix: &mut Pcg32, plain: &Plain, thread: u32) -> u64 {
+    match below(mix, 6) {
+        0 => u64::MAX,
+        1 => below(mix, 20) as u64,
+        _ => plain.work(thread),
     }
 }
 
@@ -186,7 +197,7 @@ fn proposed_early(mix: &mut Pcg32, plain: &Plain, thread: u32, item: Item) -> St
 fn spoilt(alloc: Global, mix: &mut Pcg32, threads: u32) -> Option<Step> {
     let wrong = (3, 0, 99);
     let moved = Moved::One(wrong);
-    let row = match below(mix, 13) {
+    let row = match below(mix, 16) {
         0 => Row::Acquire(threads, 0),
         1 => Row::Release(0, threads.saturating_add(1)),
         2 => Row::Put(0, wrong),
@@ -199,6 +210,9 @@ fn spoilt(alloc: Global, mix: &mut Pcg32, threads: u32) -> Option<Step> {
         9 => Row::Steal(0, threads, moved),
         10 => Row::Look(threads),
         11 => Row::Share(0, moved),
+        12 => Row::Mark(threads, u64::MAX),
+        13 => Row::See(threads, 0),
+        14 => Row::See(0, threads),
         _ => Row::Nothing(threads),
     };
     step_of(alloc, row)

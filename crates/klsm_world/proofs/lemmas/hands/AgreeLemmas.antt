@@ -5,10 +5,10 @@ use Rattle.std.proofs.lemmas.Option.{none-some}
 use Rattle.std.proofs.lemmas.List.{length-set, length-replicate, get_or-replicate, get_or-set_same, get_or-set_other}
 use Rattle.klsm_run.specs.declared.item.Item.{Item}
 use Rattle.klsm_world.specs.declared.step.Step.{Step}
-use Rattle.klsm_world.specs.declared.step.Step.TheVariants.{Acquire, Commit, Release, Miss, Look}
+use Rattle.klsm_world.specs.declared.step.Step.TheVariants.{Acquire, Commit, Release, Miss, Look, Mark, See}
 use Rattle.klsm_world.specs.declared.step.Entry.{Entry}
-use Rattle.klsm_world.specs.declared.step.Entry.TheVariants.{Acquired, Committed, Released, Missed, Looked}
-use Rattle.klsm_world.specs.OwnSteps.{Holds, found_in, content_in, after_entry, hand_of}
+use Rattle.klsm_world.specs.declared.step.Entry.TheVariants.{Acquired, Committed, Released, Missed, Looked, Marked, Saw}
+use Rattle.klsm_world.specs.OwnSteps.{Holds, found_in, content_in, after_entry, hand_of, work_of}
 use Rattle.klsm_world.specs.Worlds.{Limits, World, word_of, home_of, holder_of, steps_of, hand_in, content_of, first_world}
 use Rattle.klsm_world.specs.Schedules.{MayStep, noted, next}
 use Rattle.klsm_world.specs.LawfulWorlds.{AreAgreed}
@@ -216,6 +216,10 @@ agreed_kept limits w (Miss t p) agreed may =
     stays limits w (next w (Miss t p)) t (Missed p (holder_of w p)) agreed may.thread refl refl refl (λ q c found. (c, found)) (λ q c found. (c, found))
 agreed_kept limits w (Look t) agreed may =
     stays limits w (next w (Look t)) t (Looked w.front) agreed may.thread refl refl refl (λ q c found. (c, found)) (λ q c found. (c, found))
+agreed_kept limits w (Mark t key) agreed may =
+    stays limits w (next w (Mark t key)) t (Marked key) agreed may.thread refl refl refl (λ q c found. (c, found)) (λ q c found. (c, found))
+agreed_kept limits w (See t u) agreed may =
+    stays limits w (next w (See t u)) t (Saw u (work_of (steps_of w u))) agreed may.thread refl refl refl (λ q c found. (c, found)) (λ q c found. (c, found))
 
 always : {X : Type 0} (n i : ℕ) (x : X) → get_or (replicate n x) i x ≡ x
 always zero i x = refl

@@ -5,11 +5,11 @@ use Rattle.std.proofs.lemmas.List.{get_or-set_same, get_or-set_other}
 use Rattle.std.proofs.lemmas.Option.{none-some}
 use Rattle.klsm_run.specs.declared.item.Item.{Item}
 use Rattle.klsm_world.specs.declared.step.Event.{Event}
-use Rattle.klsm_world.specs.declared.step.Step.TheVariants.{Acquire, Commit, Release, Miss, Look}
+use Rattle.klsm_world.specs.declared.step.Step.TheVariants.{Acquire, Commit, Release, Miss, Look, Mark, See}
 use Rattle.klsm_world.specs.declared.step.Entry.{Entry}
-use Rattle.klsm_world.specs.declared.step.Entry.TheVariants.{Acquired, Committed, Released, Missed, Looked}
-use Rattle.klsm_world.specs.OwnSteps.{Hand, Holds, found_in, content_in, after_event, after_entry}
-use Rattle.klsm_world.specs.Worlds.{Limits, World, word_of, home_of, hand_in, content_of, holder_of}
+use Rattle.klsm_world.specs.declared.step.Entry.TheVariants.{Acquired, Committed, Released, Missed, Looked, Marked, Saw}
+use Rattle.klsm_world.specs.OwnSteps.{Hand, Holds, found_in, content_in, after_event, after_entry, work_of}
+use Rattle.klsm_world.specs.Worlds.{Limits, World, word_of, home_of, hand_in, content_of, holder_of, steps_of}
 use Rattle.klsm_world.specs.LawfulWorlds.{AreAgreed}
 use Rattle.klsm_world.specs.Schedules.{MayStep, noted, next}
 use Rattle.klsm_world.proofs.lemmas.hands.AgreeLemmas.{content_at_home}
@@ -99,6 +99,18 @@ pub content_looked : (limits : Limits) (w : World) (t q : ℕ) → AreAgreed lim
 content_looked limits w t q agreed may =
     content_same w (next w (Look t)) q refl refl
     (found_same w (next w (Look t)) t (Looked w.front) q (listed limits w t agreed may.thread) refl refl)
+
+-- and a mark
+pub content_marked : (limits : Limits) (w : World) (t key q : ℕ) → AreAgreed limits w → MayStep limits w (Mark t key) → content_of (next w (Mark t key)) q ≡ content_of w q
+content_marked limits w t key q agreed may =
+    content_same w (next w (Mark t key)) q refl refl
+    (found_same w (next w (Mark t key)) t (Marked key) q (listed limits w t agreed may.thread) refl refl)
+
+-- and so does one that sees a key in work
+pub content_seen : (limits : Limits) (w : World) (t u q : ℕ) → AreAgreed limits w → MayStep limits w (See t u) → content_of (next w (See t u)) q ≡ content_of w q
+content_seen limits w t u q agreed may =
+    content_same w (next w (See t u)) q refl refl
+    (found_same w (next w (See t u)) t (Saw u (work_of (steps_of w u))) q (listed limits w t agreed may.thread) refl refl)
 
 -- a commit leaves a content as it was where the event leaves in the hand what was there
 pub content_unchanged : (limits : Limits) (w : World) (t : ℕ) (event : Event) (q : ℕ) → AreAgreed limits w → t < limits.threads → found_in (after_event t (hand_in w t) event) q ≡ found_in (hand_in w t) q

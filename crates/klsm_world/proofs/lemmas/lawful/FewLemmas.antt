@@ -8,7 +8,7 @@ use Rattle.klsm_parts.specs.Sharing.{own_after_share, shared_after_share}
 use Rattle.klsm_world.specs.declared.step.Event.{Event}
 use Rattle.klsm_world.specs.declared.step.Event.TheVariants.{Put, Flush, Take, Early, Nothing, Spy, Refill, Steal, Share}
 use Rattle.klsm_world.specs.declared.step.Step.{Step}
-use Rattle.klsm_world.specs.declared.step.Step.TheVariants.{Acquire, Commit, Release, Miss, Look}
+use Rattle.klsm_world.specs.declared.step.Step.TheVariants.{Acquire, Commit, Release, Miss, Look, Mark, See}
 use Rattle.klsm_world.specs.OwnSteps.{Hand, Holds, found_in, content_in, changed, after_event, own_part, shared_part, inserted}
 use Rattle.klsm_world.specs.LegalSteps.{MayCommit}
 use Rattle.klsm_world.specs.Worlds.{Limits, World, steps_of, hand_in, content_of}
@@ -16,7 +16,7 @@ use Rattle.klsm_world.specs.LawfulWorlds.{AreAgreed}
 use Rattle.klsm_world.specs.Schedules.{MayStep, next}
 use Rattle.klsm_world.proofs.lemmas.counts.EventCountLemmas.{length_plus, length_without_at_most, length_minus}
 use Rattle.klsm_world.proofs.lemmas.hands.HandLemmas.{found_elsewhere, held_changed, held_after_event}
-use Rattle.klsm_world.proofs.lemmas.hands.PartContentLemmas.{content_held, content_acquired, content_released, content_missed, content_looked, content_not_held, content_committed}
+use Rattle.klsm_world.proofs.lemmas.hands.PartContentLemmas.{content_held, content_acquired, content_released, content_missed, content_looked, content_marked, content_seen, content_not_held, content_committed}
 
 -- each own part that a hand has has at most k items
 abbrev pub HasFew : ℕ → Hand → Type 0
@@ -117,3 +117,5 @@ few_kept limits w (Commit u event) agreed few may t inside = few_committed limit
 few_kept limits w (Release u p) agreed few may t inside = subst (λ z. length z ≤ limits.k) (sym (content_released limits w u p (own_part t) agreed may)) (few t inside)
 few_kept limits w (Miss u p) agreed few may t inside = subst (λ z. length z ≤ limits.k) (sym (content_missed limits w u p (own_part t) agreed may)) (few t inside)
 few_kept limits w (Look u) agreed few may t inside = subst (λ z. length z ≤ limits.k) (sym (content_looked limits w u (own_part t) agreed may)) (few t inside)
+few_kept limits w (Mark u key) agreed few may t inside = subst (λ z. length z ≤ limits.k) (sym (content_marked limits w u key (own_part t) agreed may)) (few t inside)
+few_kept limits w (See u v) agreed few may t inside = subst (λ z. length z ≤ limits.k) (sym (content_seen limits w u v (own_part t) agreed may)) (few t inside)

@@ -5,13 +5,13 @@ use Rattle.klsm_parts.specs.Stealing.{own_after_steal, victim_after_steal}
 use Rattle.klsm_world.specs.declared.step.Event.{Event}
 use Rattle.klsm_world.specs.declared.step.Event.TheVariants.{Put, Flush, Take, Early, Nothing, Spy, Refill, Steal, Share}
 use Rattle.klsm_world.specs.declared.step.Step.{Step}
-use Rattle.klsm_world.specs.declared.step.Step.TheVariants.{Acquire, Commit, Release, Miss, Look}
+use Rattle.klsm_world.specs.declared.step.Step.TheVariants.{Acquire, Commit, Release, Miss, Look, Mark, See}
 use Rattle.klsm_world.specs.OwnSteps.{content_in, changed, own_part, shared_part}
 use Rattle.klsm_world.specs.Worlds.{Limits, World, hand_in, content_of}
 use Rattle.klsm_world.specs.LawfulWorlds.{AreAgreed}
 use Rattle.klsm_world.specs.Schedules.{MayStep, next}
 use Rattle.klsm_world.proofs.lemmas.hands.HandLemmas.{found_elsewhere}
-use Rattle.klsm_world.proofs.lemmas.hands.PartContentLemmas.{content_acquired, content_released, content_missed, content_looked, content_unchanged, content_committed}
+use Rattle.klsm_world.proofs.lemmas.hands.PartContentLemmas.{content_acquired, content_released, content_missed, content_looked, content_marked, content_seen, content_unchanged, content_committed}
 
 -- the front word of a world is that of its shared part
 abbrev pub IsFront : World → Type 0
@@ -59,3 +59,5 @@ module _ (limits : Limits) (w : World) (agreed : AreAgreed limits w) (is : IsFro
   front_kept (Release t p) may = stays (next w (Release t p)) refl (content_released limits w t p shared_part agreed may)
   front_kept (Miss t p) may = stays (next w (Miss t p)) refl (content_missed limits w t p shared_part agreed may)
   front_kept (Look t) may = stays (next w (Look t)) refl (content_looked limits w t shared_part agreed may)
+  front_kept (Mark t key) may = stays (next w (Mark t key)) refl (content_marked limits w t key shared_part agreed may)
+  front_kept (See t u) may = stays (next w (See t u)) refl (content_seen limits w t u shared_part agreed may)

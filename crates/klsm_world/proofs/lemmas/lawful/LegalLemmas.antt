@@ -5,10 +5,10 @@ use Rattle.std.proofs.lemmas.Bool.{cases_eq}
 use Rattle.std.proofs.lemmas.Option.{none-some, same_Some}
 use Rattle.klsm_run.specs.declared.item.Item.{Item}
 use Rattle.klsm_world.specs.declared.step.Step.{Step}
-use Rattle.klsm_world.specs.declared.step.Step.TheVariants.{Acquire, Commit, Release, Miss, Look}
+use Rattle.klsm_world.specs.declared.step.Step.TheVariants.{Acquire, Commit, Release, Miss, Look, Mark, See}
 use Rattle.klsm_world.specs.declared.step.Entry.{Entry}
-use Rattle.klsm_world.specs.declared.step.Entry.TheVariants.{Acquired, Committed, Released, Missed, Looked}
-use Rattle.klsm_world.specs.OwnSteps.{own_part, shared_part, found_in}
+use Rattle.klsm_world.specs.declared.step.Entry.TheVariants.{Acquired, Committed, Released, Missed, Looked, Marked, Saw}
+use Rattle.klsm_world.specs.OwnSteps.{own_part, shared_part, found_in, work_of}
 use Rattle.klsm_world.specs.LegalSteps.{MayFollow, IsLegal}
 use Rattle.klsm_world.specs.Worlds.{Limits, World, word_of, home_of, steps_of, hand_in, content_of, first_world, holder_of}
 use Rattle.klsm_world.specs.Schedules.{MayStep, noted, next}
@@ -88,6 +88,10 @@ legal_kept limits w (Miss t p) agreed legal few may =
     (not_held limits w t p agreed may.thread may.by_another)
 legal_kept limits w (Look t) agreed legal few may =
     legal_noted limits w (next w (Look t)) t (Looked w.front) (omega (arith, agreed.lists_are, may.thread)) refl legal may.thread tt
+legal_kept limits w (Mark t key) agreed legal few may =
+    legal_noted limits w (next w (Mark t key)) t (Marked key) (omega (arith, agreed.lists_are, may.thread)) refl legal may.thread (may.held, may.key_is)
+legal_kept limits w (See t u) agreed legal few may =
+    legal_noted limits w (next w (See t u)) t (Saw u (work_of (steps_of w u))) (omega (arith, agreed.lists_are, may.thread)) refl legal may.thread may.held
 
 -- each list of the first world is legal
 pub legal_first : (limits : Limits) (t : ℕ) → t < limits.threads → IsLegal limits.k t (steps_of (first_world limits) t)

@@ -7,17 +7,17 @@ use Rattle.klsm_parts.specs.Events.{times}
 use Rattle.klsm_world.specs.declared.step.Event.{Event}
 use Rattle.klsm_world.specs.declared.step.Event.TheVariants.{Put, Flush, Take, Early, Nothing, Spy, Refill, Steal, Share}
 use Rattle.klsm_world.specs.declared.step.Step.{Step}
-use Rattle.klsm_world.specs.declared.step.Step.TheVariants.{Acquire, Commit, Release, Miss, Look}
+use Rattle.klsm_world.specs.declared.step.Step.TheVariants.{Acquire, Commit, Release, Miss, Look, Mark, See}
 use Rattle.klsm_world.specs.declared.step.Entry.{Entry}
-use Rattle.klsm_world.specs.declared.step.Entry.TheVariants.{Acquired, Committed, Released, Missed, Looked}
-use Rattle.klsm_world.specs.OwnSteps.{content_in, inserted, deleted, inserted_by, deleted_by, event_at}
+use Rattle.klsm_world.specs.declared.step.Entry.TheVariants.{Acquired, Committed, Released, Missed, Looked, Marked, Saw}
+use Rattle.klsm_world.specs.OwnSteps.{content_in, inserted, deleted, inserted_by, deleted_by, event_at, work_of}
 use Rattle.klsm_world.specs.LegalSteps.{MayCommit}
 use Rattle.klsm_world.specs.Worlds.{Limits, World, home_of, steps_of, hand_in, content_of, live_below, live, holder_of}
 use Rattle.klsm_world.specs.LawfulWorlds.{AreAgreed}
 use Rattle.klsm_world.specs.Schedules.{MayStep, noted, next}
 use Rattle.klsm_world.proofs.lemmas.lawful.LiveAfterLemmas.{live_after_put, live_after_flush, live_after_take, live_after_early, live_after_spy, live_after_refill, live_after_steal, live_after_share, live_after_nothing}
 use Rattle.klsm_world.proofs.lemmas.counts.LiveCountLemmas.{inserted_noted, deleted_noted, live_same}
-use Rattle.klsm_world.proofs.lemmas.hands.PartContentLemmas.{listed, content_acquired, content_released, content_missed, content_looked}
+use Rattle.klsm_world.proofs.lemmas.hands.PartContentLemmas.{listed, content_acquired, content_released, content_missed, content_looked, content_marked, content_seen}
 
 -- an item is inserted as often as it is deleted and live
 abbrev pub IsOnce : World → Item → Type 0
@@ -80,3 +80,13 @@ once_kept limits w (Look t) agreed once may x =
     let none : times x [] ≡ 0 = refl in
     let same = live_unchanged w v x refl (λ q. content_looked limits w t q agreed may) in
     once_noted w v t (Looked w.front) x (listed limits w t agreed may.thread) refl (omega (arith, none, same)) (once x)
+once_kept limits w (Mark t key) agreed once may x =
+    let v = next w (Mark t key) in
+    let none : times x [] ≡ 0 = refl in
+    let same = live_unchanged w v x refl (λ q. content_marked limits w t key q agreed may) in
+    once_noted w v t (Marked key) x (listed limits w t agreed may.thread) refl (omega (arith, none, same)) (once x)
+once_kept limits w (See t u) agreed once may x =
+    let v = next w (See t u) in
+    let none : times x [] ≡ 0 = refl in
+    let same = live_unchanged w v x refl (λ q. content_seen limits w t u q agreed may) in
+    once_noted w v t (Saw u (work_of (steps_of w u))) x (listed limits w t agreed may.thread) refl (omega (arith, none, same)) (once x)

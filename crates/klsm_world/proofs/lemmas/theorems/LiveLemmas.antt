@@ -14,11 +14,11 @@ use Rattle.klsm_run.proofs.SortedLemmas.{length_sorted}
 use Rattle.klsm_parts.specs.Events.{front_of, key_or_greatest, times}
 use Rattle.klsm_parts.proofs.OwnOrderLemmas.{smaller_key}
 use Rattle.klsm_world.specs.declared.step.Step.{Step}
-use Rattle.klsm_world.specs.declared.step.Step.TheVariants.{Acquire, Commit, Release, Miss, Look}
+use Rattle.klsm_world.specs.declared.step.Step.TheVariants.{Acquire, Commit, Release, Miss, Look, Mark, See}
 use Rattle.klsm_world.specs.declared.step.Entry.{Entry}
-use Rattle.klsm_world.specs.declared.step.Entry.TheVariants.{Acquired, Committed, Released, Missed, Looked}
-use Rattle.klsm_world.specs.OwnSteps.{content_in, inserted, inserted_by, deleted_by}
-use Rattle.klsm_world.specs.Worlds.{Limits, World, content_of, hand_in, holder_of, home_of, live, live_below}
+use Rattle.klsm_world.specs.declared.step.Entry.TheVariants.{Acquired, Committed, Released, Missed, Looked, Marked, Saw}
+use Rattle.klsm_world.specs.OwnSteps.{content_in, inserted, inserted_by, deleted_by, work_of}
+use Rattle.klsm_world.specs.Worlds.{Limits, World, content_of, hand_in, holder_of, home_of, live, live_below, steps_of}
 use Rattle.klsm_world.specs.LawfulWorlds.{IsLawful}
 use Rattle.klsm_world.specs.Schedules.{MayStep, next}
 use Rattle.klsm_world.specs.RelaxedQueue.{event_of, events_of}
@@ -60,7 +60,7 @@ live_are_few limits quota w lawful within =
     few
 
 -- a step takes from the live items what it deletes, and brings what it inserts
-step_gains : (limits : Limits) (w : World) (step : Step) (x : Item) → IsLawful limits w → MayStep limits w step
+pub step_gains : (limits : Limits) (w : World) (step : Step) (x : Item) → IsLawful limits w → MayStep limits w step
     → times x (live (next w step)) + times x (flat_map deleted_by (event_of step)) ≡ times x (live w) + times x (flat_map inserted_by (event_of step))
 step_gains limits w (Acquire t p) x lawful may =
     live_gains limits w (next w (Acquire t p)) t (Acquired p (unwrap_or (home_of w p) [])) lawful (lawful_kept limits w (Acquire t p) lawful may) may.thread refl x
@@ -72,6 +72,10 @@ step_gains limits w (Miss t p) x lawful may =
     live_gains limits w (next w (Miss t p)) t (Missed p (holder_of w p)) lawful (lawful_kept limits w (Miss t p) lawful may) may.thread refl x
 step_gains limits w (Look t) x lawful may =
     live_gains limits w (next w (Look t)) t (Looked w.front) lawful (lawful_kept limits w (Look t) lawful may) may.thread refl x
+step_gains limits w (Mark t key) x lawful may =
+    live_gains limits w (next w (Mark t key)) t (Marked key) lawful (lawful_kept limits w (Mark t key) lawful may) may.thread refl x
+step_gains limits w (See t u) x lawful may =
+    live_gains limits w (next w (See t u)) t (Saw u (work_of (steps_of w u))) lawful (lawful_kept limits w (See t u) lawful may) may.thread refl x
 
 -- steps lead on to lawful worlds
 later_is_lawful : (limits : Limits) (v : World) (steps : List Step) (w : World) → IsLawful limits v → LeadsFrom limits v steps w → IsLawful limits w

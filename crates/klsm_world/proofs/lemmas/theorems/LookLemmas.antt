@@ -4,9 +4,10 @@ use Rattle.std.specs.List.{slice_get}
 use Rattle.std.proofs.lemmas.Bool.{cases_eq}
 use Rattle.std.proofs.lemmas.Option.{none-some}
 use Rattle.klsm_world.specs.declared.step.Step.{Step}
-use Rattle.klsm_world.specs.declared.step.Step.TheVariants.{Acquire, Commit, Release, Miss, Look}
+use Rattle.klsm_world.specs.declared.step.Step.TheVariants.{Acquire, Commit, Release, Miss, Look, Mark, See}
 use Rattle.klsm_world.specs.declared.step.Entry.{Entry}
-use Rattle.klsm_world.specs.declared.step.Entry.TheVariants.{Acquired, Committed, Released, Missed, Looked}
+use Rattle.klsm_world.specs.declared.step.Entry.TheVariants.{Acquired, Committed, Released, Missed, Looked, Marked, Saw}
+use Rattle.klsm_world.specs.OwnSteps.{work_of}
 use Rattle.klsm_world.specs.Worlds.{Limits, World, home_of, holder_of, steps_of}
 use Rattle.klsm_world.specs.LawfulWorlds.{IsLawful}
 use Rattle.klsm_world.specs.Schedules.{MayStep, noted, next}
@@ -28,6 +29,8 @@ IsLooked (Committed event) = ⊥
 IsLooked (Released p) = ⊥
 IsLooked (Missed p by) = ⊥
 IsLooked (Looked front) = Unit {0}
+IsLooked (Marked key) = ⊥
+IsLooked (Saw u key) = ⊥
 
 -- what a look noted
 abbrev noted_front : Entry → ℕ
@@ -36,6 +39,8 @@ noted_front (Committed event) = 0
 noted_front (Released p) = 0
 noted_front (Missed p by) = 0
 noted_front (Looked front) = front
+noted_front (Marked key) = 0
+noted_front (Saw u key) = 0
 
 -- a look in a list is one of those before the latest step, or that step
 module _ (limits : Limits) (before : List Step) (step : Step) (v w : World) (t i front : ℕ) where
@@ -104,3 +109,9 @@ lists_tell_fronts limits (step ∷ before) w t i front leads found =
           list_is = refl;
           front_is = sym (ap noted_front same) ∙ lawful.front_is;
         }) old found
+    by_step (Mark u key) may is old =
+        by_entry limits before (Mark u key) v w t i front u (Marked key) (omega (arith, may.thread, lawful.agreed.lists_are)) (ap (λ (z : World). z.lists) is)
+        (λ same this. absurd (subst IsLooked (sym same) tt)) old found
+    by_step (See u other) may is old =
+        by_entry limits before (See u other) v w t i front u (Saw other (work_of (steps_of v other))) (omega (arith, may.thread, lawful.agreed.lists_are)) (ap (λ (z : World). z.lists) is)
+        (λ same this. absurd (subst IsLooked (sym same) tt)) old found

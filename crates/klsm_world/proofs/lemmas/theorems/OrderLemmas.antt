@@ -16,10 +16,10 @@ use Rattle.klsm_parts.specs.Sharing.{own_after_share, shared_after_share}
 use Rattle.klsm_world.specs.declared.step.Event.{Event}
 use Rattle.klsm_world.specs.declared.step.Event.TheVariants.{Put, Flush, Take, Early, Nothing, Spy, Refill, Steal, Share}
 use Rattle.klsm_world.specs.declared.step.Step.{Step}
-use Rattle.klsm_world.specs.declared.step.Step.TheVariants.{Acquire, Commit, Release, Miss, Look}
+use Rattle.klsm_world.specs.declared.step.Step.TheVariants.{Acquire, Commit, Release, Miss, Look, Mark, See}
 use Rattle.klsm_world.specs.declared.step.Entry.{Entry}
-use Rattle.klsm_world.specs.declared.step.Entry.TheVariants.{Acquired, Committed, Released, Missed, Looked}
-use Rattle.klsm_world.specs.OwnSteps.{Hand, Holds, found_in, content_in, changed, after_event, own_part, shared_part, inserted}
+use Rattle.klsm_world.specs.declared.step.Entry.TheVariants.{Acquired, Committed, Released, Missed, Looked, Marked, Saw}
+use Rattle.klsm_world.specs.OwnSteps.{Hand, Holds, found_in, content_in, changed, after_event, own_part, shared_part, inserted, work_of}
 use Rattle.klsm_world.specs.LegalSteps.{MayCommit}
 use Rattle.klsm_world.specs.Worlds.{Limits, World, home_of, holder_of, steps_of, hand_in, content_of}
 use Rattle.klsm_world.specs.LawfulWorlds.{AreAgreed, IsLawful}
@@ -29,7 +29,7 @@ use Rattle.klsm_world.proofs.lemmas.counts.EventCountLemmas.{times_more, times_h
 use Rattle.klsm_world.proofs.lemmas.hands.AgreeLemmas.{no_steps}
 use Rattle.klsm_world.proofs.lemmas.hands.HandLemmas.{found_elsewhere, held_changed, held_after_event}
 use Rattle.klsm_world.proofs.lemmas.hands.NotedLemmas.{steps_noted, steps_else}
-use Rattle.klsm_world.proofs.lemmas.hands.PartContentLemmas.{content_held, content_acquired, content_released, content_missed, content_looked, content_not_held, content_committed}
+use Rattle.klsm_world.proofs.lemmas.hands.PartContentLemmas.{content_held, content_acquired, content_released, content_missed, content_looked, content_marked, content_seen, content_not_held, content_committed}
 use Rattle.klsm_world.proofs.lemmas.lawful.FirstLemmas.{empty_first}
 use Rattle.klsm_world.proofs.lemmas.lawful.LawfulLemmas.{lawful_kept}
 use Rattle.klsm_world.proofs.lemmas.lawful.LegalLemmas.{earlier_or_last, found_at_home}
@@ -140,6 +140,8 @@ sorted_kept limits w (Commit t event) agreed all may p within = sorted_committed
 sorted_kept limits w (Release t q) agreed all may p within = subst IsSortedContent (sym (content_released limits w t q p agreed may)) (all p within)
 sorted_kept limits w (Miss t q) agreed all may p within = subst IsSortedContent (sym (content_missed limits w t q p agreed may)) (all p within)
 sorted_kept limits w (Look t) agreed all may p within = subst IsSortedContent (sym (content_looked limits w t p agreed may)) (all p within)
+sorted_kept limits w (Mark t key) agreed all may p within = subst IsSortedContent (sym (content_marked limits w t key p agreed may)) (all p within)
+sorted_kept limits w (See t u) agreed all may p within = subst IsSortedContent (sym (content_seen limits w t u p agreed may)) (all p within)
 
 -- a content that has no item twice ascends where it is sorted
 once_ascends : (c : List Item) → ((x : Item) → times x c ≤ 1) → IsAscending (sorted c)
@@ -182,6 +184,8 @@ FindsAscending (Committed event) = Unit {0}
 FindsAscending (Released p) = Unit {0}
 FindsAscending (Missed p by) = Unit {0}
 FindsAscending (Looked front) = Unit {0}
+FindsAscending (Marked key) = Unit {0}
+FindsAscending (Saw u key) = Unit {0}
 
 -- so it is of each entry of a list
 abbrev AllFindAscending : List Entry → Type 0
@@ -222,6 +226,8 @@ all_found_ascend limits (step ∷ before) w t leads =
     by_step (Release u p) may old = finds_noted v (next v (Release u p)) u t (Released p) (omega (arith, may.thread, lawful.agreed.lists_are)) refl tt old
     by_step (Miss u p) may old = finds_noted v (next v (Miss u p)) u t (Missed p (holder_of v p)) (omega (arith, may.thread, lawful.agreed.lists_are)) refl tt old
     by_step (Look u) may old = finds_noted v (next v (Look u)) u t (Looked v.front) (omega (arith, may.thread, lawful.agreed.lists_are)) refl tt old
+    by_step (Mark u key) may old = finds_noted v (next v (Mark u key)) u t (Marked key) (omega (arith, may.thread, lawful.agreed.lists_are)) refl tt old
+    by_step (See u other) may old = finds_noted v (next v (See u other)) u t (Saw other (work_of (steps_of v other))) (omega (arith, may.thread, lawful.agreed.lists_are)) refl tt old
 
 pub found_ascends : FoundAscends
 found_ascends limits steps w t i p found leads at = all_found_ascend limits steps w t leads i (Acquired p found) at

@@ -6,10 +6,10 @@ use Rattle.std.proofs.lemmas.Bool.{cases_eq}
 use Rattle.std.proofs.lemmas.List.{reverse-append}
 use Rattle.klsm_world.specs.declared.step.Event.{Event}
 use Rattle.klsm_world.specs.declared.step.Step.{Step}
-use Rattle.klsm_world.specs.declared.step.Step.TheVariants.{Acquire, Commit, Release, Miss, Look}
+use Rattle.klsm_world.specs.declared.step.Step.TheVariants.{Acquire, Commit, Release, Miss, Look, Mark, See}
 use Rattle.klsm_world.specs.declared.step.Entry.{Entry}
-use Rattle.klsm_world.specs.declared.step.Entry.TheVariants.{Acquired, Committed, Released, Missed, Looked}
-use Rattle.klsm_world.specs.OwnSteps.{event_at}
+use Rattle.klsm_world.specs.declared.step.Entry.TheVariants.{Acquired, Committed, Released, Missed, Looked, Marked, Saw}
+use Rattle.klsm_world.specs.OwnSteps.{event_at, work_of}
 use Rattle.klsm_world.specs.Worlds.{World, home_of, holder_of, steps_of}
 use Rattle.klsm_world.specs.Schedules.{MayStep, noted, next}
 use Rattle.klsm_world.specs.Laws.{event_by, ListsHaveEvents}
@@ -56,3 +56,5 @@ lists_have_events limits (step ∷ before) w t leads inside =
     by_step (Release u p) v may many = gains v u t (Released p) (omega (arith, may.thread, many)) (next v (Release u p)) refl [] (λ _. refl) (λ _. refl)
     by_step (Miss u p) v may many = gains v u t (Missed p (holder_of v p)) (omega (arith, may.thread, many)) (next v (Miss u p)) refl [] (λ _. refl) (λ _. refl)
     by_step (Look u) v may many = gains v u t (Looked v.front) (omega (arith, may.thread, many)) (next v (Look u)) refl [] (λ _. refl) (λ _. refl)
+    by_step (Mark u key) v may many = gains v u t (Marked key) (omega (arith, may.thread, many)) (next v (Mark u key)) refl [] (λ _. refl) (λ _. refl)
+    by_step (See u other) v may many = gains v u t (Saw other (work_of (steps_of v other))) (omega (arith, may.thread, many)) (next v (See u other)) refl [] (λ _. refl) (λ _. refl)

@@ -19,11 +19,11 @@ use Rattle.klsm_parts.proofs.EventLemmas.{is_in}
 use Rattle.klsm_world.specs.declared.step.Event.{Event}
 use Rattle.klsm_world.specs.declared.step.Event.TheVariants.{Put, Flush, Take, Early, Nothing, Spy, Refill, Steal, Share}
 use Rattle.klsm_world.specs.declared.step.Step.{Step}
-use Rattle.klsm_world.specs.declared.step.Step.TheVariants.{Acquire, Commit, Release, Miss, Look}
+use Rattle.klsm_world.specs.declared.step.Step.TheVariants.{Acquire, Commit, Release, Miss, Look, Mark, See}
 use Rattle.klsm_world.specs.declared.step.Entry.{Entry}
-use Rattle.klsm_world.specs.declared.step.Entry.TheVariants.{Acquired, Committed, Released, Missed, Looked}
-use Rattle.klsm_world.specs.OwnSteps.{Holds, own_part, shared_part, inserted_by, deleted_by, event_at}
-use Rattle.klsm_world.specs.Worlds.{Limits, World, home_of, holder_of, hand_in, content_of, live_below, live, first_world}
+use Rattle.klsm_world.specs.declared.step.Entry.TheVariants.{Acquired, Committed, Released, Missed, Looked, Marked, Saw}
+use Rattle.klsm_world.specs.OwnSteps.{Holds, own_part, shared_part, inserted_by, deleted_by, event_at, work_of}
+use Rattle.klsm_world.specs.Worlds.{Limits, World, home_of, holder_of, hand_in, content_of, live_below, live, first_world, steps_of}
 use Rattle.klsm_world.specs.LawfulWorlds.{IsLawful}
 use Rattle.klsm_world.specs.Schedules.{MayStep, noted, next, Leads}
 use Rattle.klsm_world.specs.RelaxedQueue.{queue_after, MayMove, queue_of, IsRun, event_of, events_of}
@@ -72,7 +72,7 @@ taken_is_live limits w t x lawful may =
     ]
 
 -- so is the item of an Early
-early_is_live : (limits : Limits) (w : World) (t : ℕ) (x : Item) (front : ℕ) → IsLawful limits w → MayStep limits w (Commit t (Early x front)) → Contains (live w) x
+pub early_is_live : (limits : Limits) (w : World) (t : ℕ) (x : Item) (front : ℕ) → IsLawful limits w → MayStep limits w (Commit t (Early x front)) → Contains (live w) x
 early_is_live limits w t x front lawful may =
     let own = may.commit in
     live_part w (length w.homes) (own_part t) x (omega (arith, may.thread, lawful.agreed.homes_are))
@@ -165,6 +165,12 @@ module _ (before : List Step) where
   pub look_adds_none : (t : ℕ) → events_of (Look t ∷ before) ≡ events_of before
   look_adds_none t = flat_map-cons event_of (Look t) before
 
+  pub mark_adds_none : (t key : ℕ) → events_of (Mark t key ∷ before) ≡ events_of before
+  mark_adds_none t key = flat_map-cons event_of (Mark t key) before
+
+  pub see_adds_none : (t u : ℕ) → events_of (See t u ∷ before) ≡ events_of before
+  see_adds_none t u = flat_map-cons event_of (See t u) before
+
 -- each schedule leads to a lawful world
 pub schedules_keep_lawful : (limits : Limits) (steps : List Step) (w : World) → Leads limits steps w → IsLawful limits w
 schedules_keep_lawful limits [] w leads = subst (IsLawful limits) (sym leads) (first_is_lawful limits)
@@ -197,6 +203,10 @@ queue_is_live limits (step ∷ before) w leads =
         ap queue_of (miss_adds_none before t p) ∙ (old ∙ quiet limits v (next v (Miss t p)) t lawful after may.thread (Missed p (holder_of v p)) refl refl refl)
     by_step (Look t) {v} lawful may after old =
         ap queue_of (look_adds_none before t) ∙ (old ∙ quiet limits v (next v (Look t)) t lawful after may.thread (Looked v.front) refl refl refl)
+    by_step (Mark t key) {v} lawful may after old =
+        ap queue_of (mark_adds_none before t key) ∙ (old ∙ quiet limits v (next v (Mark t key)) t lawful after may.thread (Marked key) refl refl refl)
+    by_step (See t u) {v} lawful may after old =
+        ap queue_of (see_adds_none before t u) ∙ (old ∙ quiet limits v (next v (See t u)) t lawful after may.thread (Saw u (work_of (steps_of v u))) refl refl refl)
 
 -- the events of a schedule are a run of the relaxed queue
 pub schedules_are_runs : SchedulesAreRuns
@@ -210,6 +220,8 @@ schedules_are_runs limits (Commit t event ∷ before) w leads =
 schedules_are_runs limits (Release t p ∷ before) w leads = subst (IsRun limits) (sym (release_adds_none before t p)) (schedules_are_runs limits before leads.before leads.led)
 schedules_are_runs limits (Miss t p ∷ before) w leads = subst (IsRun limits) (sym (miss_adds_none before t p)) (schedules_are_runs limits before leads.before leads.led)
 schedules_are_runs limits (Look t ∷ before) w leads = subst (IsRun limits) (sym (look_adds_none before t)) (schedules_are_runs limits before leads.before leads.led)
+schedules_are_runs limits (Mark t key ∷ before) w leads = subst (IsRun limits) (sym (mark_adds_none before t key)) (schedules_are_runs limits before leads.before leads.led)
+schedules_are_runs limits (See t u ∷ before) w leads = subst (IsRun limits) (sym (see_adds_none before t u)) (schedules_are_runs limits before leads.before leads.led)
 
 -- in a run each item inserted is one deleted or one that the queue still has, each as often
 pub queue_counts_insertions : (limits : Limits) (events : List Event) → IsRun limits events

@@ -9,7 +9,7 @@ use Rattle.std.proofs.lemmas.List.Concat.{flat_map-cons}
 use Rattle.klsm_run.specs.declared.item.Item.{Item}
 use Rattle.klsm_world.specs.declared.step.Event.TheVariants.{Put, Flush, Take, Early, Nothing, Spy, Refill, Steal, Share}
 use Rattle.klsm_world.specs.declared.step.Entry.{Entry}
-use Rattle.klsm_world.specs.declared.step.Entry.TheVariants.{Acquired, Committed, Released, Missed, Looked}
+use Rattle.klsm_world.specs.declared.step.Entry.TheVariants.{Acquired, Committed, Released, Missed, Looked, Marked, Saw}
 use Rattle.klsm_world.specs.OwnSteps.{inserted_by, event_at, inserted}
 use Rattle.klsm_world.specs.LegalSteps.{BearsStamp, MayFollow, IsLegal}
 use Rattle.klsm_world.specs.Worlds.{Limits, World, steps_of, live}
@@ -22,10 +22,10 @@ pub record BearsEarlier (t n : ℕ) (x : Item) : Type 0 where
   pub owner : x.stamp.owner ≡ t
   pub number : x.stamp.number < n
 
-contains_none : (x : Item) → Contains [] x → ⊥
+pub contains_none : (x : Item) → Contains [] x → ⊥
 contains_none x within = omega (arith, within.1)
 
-contains_one : (x y : Item) → Contains (y ∷ []) x → y ≡ x
+pub contains_one : (x y : Item) → Contains (y ∷ []) x → y ≡ x
 contains_one x y (zero, less, same) = same
 contains_one x y (suc i, less, same) = absurd (omega (arith, less))
 
@@ -45,6 +45,8 @@ stamp_at k t before (Committed (Share moved)) x may within = absurd (contains_no
 stamp_at k t before (Released p) x may within = absurd (contains_none x within)
 stamp_at k t before (Missed p by) x may within = absurd (contains_none x within)
 stamp_at k t before (Looked front) x may within = absurd (contains_none x within)
+stamp_at k t before (Marked key) x may within = absurd (contains_none x within)
+stamp_at k t before (Saw u key) x may within = absurd (contains_none x within)
 
 -- what the first entries of a list insert, with one entry more
 pub inserted_longer : (own : List Entry) (n : ℕ) → n < length own

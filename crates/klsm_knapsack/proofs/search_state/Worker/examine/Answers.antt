@@ -6,7 +6,7 @@ use Rattle.klsm_instance.specs.Selections.{value_of, weight_of}
 use Rattle.klsm_instance.specs.Nodes.{IsBound, IsGain, NoneAbove, level_in, picks_in}
 use Rattle.klsm_knapsack.specs.Numbers.{value_in}
 use Rattle.std.proofs.Math.Pow.{shr_mono}
-use Rattle.klsm_knapsack.specs.Workers.{work_of}
+use Rattle.klsm_knapsack.specs.Workers.{work_by}
 use Rattle.klsm_knapsack.proofs.WorkLemmas.{done_node, inserts_none, extends_none, extends_both, same_both}
 use Rattle.klsm_instance.proofs.SearchLemmas.{covers_last, covers_more}
 use Rattle.klsm_knapsack.proofs.search_state.Worker.examine.Goals as goal
@@ -50,7 +50,7 @@ returns-clause-extends g c =
 pub returns-clause-done : goal.returns-clause-done
 returns-clause-done g c =
     let node = c.in-Some.ensures in
-    IfOk-weaker c.expand.result _ _ (λ _ done x is is_item. done_node c.args.instance.now (work_of c.expand.new.self) x c.in-Some.node.level c.in-Some.node.picks (node.1 ∙ ap level_in (sym is)) (node.2 ∙ ap picks_in (sym is)) done) c.expand.ensures.done
+    IfOk-weaker c.expand.result _ _ (λ _ done x is is_item. done_node c.args.instance.now (work_by c.expand.new.self) x c.in-Some.node.level c.in-Some.node.picks (node.1 ∙ ap level_in (sym is)) (node.2 ∙ ap picks_in (sym is)) done) c.expand.ensures.done
 
 pub returns-in_default-clause-raises : goal.returns-in_default-clause-raises
 returns-in_default-clause-raises g c = λ node. absurd (c.in_default.ensures node)

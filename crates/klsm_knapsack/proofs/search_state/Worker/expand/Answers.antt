@@ -1,5 +1,5 @@
 use Rattle.std.proofs.Common.{inl, refl, rules}
-use Rattle.klsm_knapsack.specs.Workers.{Extends, KeepsCourse, work_of}
+use Rattle.klsm_knapsack.specs.Workers.{Extends, KeepsCourse, work_by}
 use Rattle.klsm_knapsack.proofs.WorkLemmas.{inserts_none, extends_none, extends_both}
 use Rattle.klsm_knapsack.proofs.search_state.Worker.expand.Goals as goal
 use Rattle.klsm_knapsack.proofs.search_state.Worker.expand.Goals.{then-not-self+in-Err-Full, else-not-self}
@@ -7,11 +7,11 @@ use Rattle.klsm_knapsack.proofs.search_state.Worker.expand.Goals.{then-not-self+
 pub returns-clause-extends : goal.returns-clause-extends
 returns-clause-extends g c =
     let p = c.args.instance.now in
-    let before : Extends p (work_of c.args.self.now) (work_of c.if-not-self.self) = elim c.if-not-self.branch [
+    let before : Extends p (work_by c.args.self.now) (work_by c.if-not-self.self) = elim c.if-not-self.branch [
       | then-not-self+in-Err-Full w ↦ rw w.self-is w.split.ensures.extends
       | else-not-self w ↦ rw w.self-is (extends_none p _)
     ] in
-    extends_both p _ (work_of c.if-not-self.self) _ before record { inserts = inserts_none p _; deletes = refl; finds = c.search_alone.ensures.found }
+    extends_both p _ (work_by c.if-not-self.self) _ before record { inserts = inserts_none p _; deletes = refl; finds = c.search_alone.ensures.found }
 
 pub returns-clause-done : goal.returns-clause-done
 returns-clause-done g c = inl c.search_alone.ensures.covers

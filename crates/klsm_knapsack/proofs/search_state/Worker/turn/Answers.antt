@@ -1,12 +1,12 @@
-use Rattle.std.proofs.Common.{◌≡◌, ◌≤◌, ◌+◌, ◌∙◌, None, Some, inr, length, refl, lit<, ap, subst, sym, arith}
+use Rattle.std.proofs.Common.{◌≡◌, ◌≤◌, ◌+◌, ◌∙◌, None, Some, inr, length, refl, lit<, ap, subst, sym, arith, rules}
 use Rattle.std.proofs.lemmas.List.{append-nil}
 use Rattle.klsm_world.specs.OwnSteps.{inserted}
 use Rattle.klsm_board.specs.Boards.{own_steps}
 use Rattle.klsm_knapsack.specs.declared.search_state.Worker.{Worker}
 use Rattle.klsm_knapsack.specs.Courses.{CallsOfWorker}
 use Rattle.klsm_knapsack.specs.Ends.{EndsAnswered}
-use Rattle.klsm_knapsack.specs.Workers.{work_of}
-use Rattle.klsm_knapsack.proofs.AnswerLemmas.{after_item, deletion_gains, no_deletion_gains}
+use Rattle.klsm_knapsack.specs.Workers.{work_by}
+use Rattle.klsm_knapsack.proofs.AnswerLemmas.{after_item, after_none, deletion_gains, no_deletion_gains}
 use Rattle.klsm_knapsack.proofs.CourseLemmas.{course_both, one_call}
 use Rattle.klsm_knapsack.proofs.IdleLemmas.{gains_more}
 use Rattle.klsm_knapsack.proofs.WorkLemmas.{inserts_same, inserts_both, same_both, worked_on}
@@ -17,9 +17,18 @@ returns-clause-goes_on g c =
     let before = c.args.self.now in
     let adds = c.in-Some.ensures.adds in
     record {
-      worked = worked_on c.args.instance.now (work_of before) (work_of record { member = c.delete_min.new.self; seat = before.seat; picker = c.delete_min.new.picker; pace = c.count.new.self; is_alone = before.is_alone; refused = before.refused }) (work_of c.examine.new.self) c.in-Some.item c.requires.begins.worked
+      worked = worked_on c.args.instance.now (work_by before) (work_by record { member = c.delete_min.new.self; seat = before.seat; picker = c.delete_min.new.picker; pace = c.count.new.self; is_alone = before.is_alone; refused = before.refused }) (work_by c.examine.new.self) c.in-Some.item c.requires.begins.worked
           (adds.inserted_are ∙ append-nil _) adds.deleted_are refl c.in_ok-examine.ensures.extends (c.in_ok-examine.ensures.done c.in-Some.item refl);
       answered = c.in_ok-examine.ensures.answered;
+    }
+
+pub returns-in_default-clause-goes_on : goal.returns-in_default-clause-goes_on
+returns-in_default-clause-goes_on g c =
+    let told = c.in_default.ensures in
+    record {
+      worked = search rules;
+      -- how the picker may pick does not matter, as it was not asked
+      answered = λ refuses. subst (λ t. EndsAnswered t (own_steps c.delete_min.new.self)) (sym told.same.0) (after_none (λ before candidates index after. Unit {0}) _ _ _ _ _ _ told.ok);
     }
 
 pub returns-in_default-clause-inserts : goal.returns-in_default-clause-inserts

@@ -46,3 +46,21 @@ returns-in-Look g c =
       legal = subst (MayStep c.args.self.now.limits c.args.self.now.world) (sym c.in-Look.is) (record { thread = omega (arith, no) });
       refused = tt;
     }
+
+pub check_mark-requires : goal.check_mark-requires
+check_mark-requires g c = subst (λ step. NamesNone c.args.self.now.limits step → ⊥) c.in-Mark.is (λ names. let bad : false ≡ true = c.if-names_none.ensures.1 names in cc)
+
+pub returns-in-Mark : goal.returns-in-Mark
+returns-in-Mark g c = record {
+  legal = subst (λ step. OnOk c.check_mark.result (MayStep c.args.self.now.limits c.args.self.now.world step)) (sym c.in-Mark.is) c.check_mark.ensures.legal;
+  refused = subst (λ step. IfErr c.check_mark.result (Refuses c.args.self.now.limits c.args.self.now.world step)) (sym c.in-Mark.is) c.check_mark.ensures.refused;
+}
+
+pub check_see-requires : goal.check_see-requires
+check_see-requires g c = subst (λ step. NamesNone c.args.self.now.limits step → ⊥) c.in-See.is (λ names. let bad : false ≡ true = c.if-names_none.ensures.1 names in cc)
+
+pub returns-in-See : goal.returns-in-See
+returns-in-See g c = record {
+  legal = subst (λ step. OnOk c.check_see.result (MayStep c.args.self.now.limits c.args.self.now.world step)) (sym c.in-See.is) c.check_see.ensures.legal;
+  refused = subst (λ step. IfErr c.check_see.result (Refuses c.args.self.now.limits c.args.self.now.world step)) (sym c.in-See.is) c.check_see.ensures.refused;
+}

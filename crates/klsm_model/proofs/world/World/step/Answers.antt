@@ -32,3 +32,15 @@ look-requires g c = subst (MayStep c.args.self.now.limits c.args.self.now.world)
 
 pub returns-in-Look : goal.returns-in-Look
 returns-in-Look g c = subst (λ step. IsStepped c.args.self.now step c.look.result c.look.new.self) (sym c.in-Look.is) c.look.ensures
+
+pub mark-requires : goal.mark-requires
+mark-requires g c = subst (MayStep c.args.self.now.limits c.args.self.now.world) c.in-Mark.is c.in_ok-check.ensures.legal
+
+pub returns-in-Mark : goal.returns-in-Mark
+returns-in-Mark g c = subst (λ step. IsStepped c.args.self.now step c.mark.result c.mark.new.self) (sym c.in-Mark.is) c.mark.ensures
+
+pub see-requires : goal.see-requires
+see-requires g c = subst (MayStep c.args.self.now.limits c.args.self.now.world) c.in-See.is c.in_ok-check.ensures.legal
+
+pub returns-in-See : goal.returns-in-See
+returns-in-See g c = subst (λ step. IsStepped c.args.self.now step c.see.result c.see.new.self) (sym c.in-See.is) c.see.ensures

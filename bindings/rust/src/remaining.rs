@@ -8,17 +8,17 @@ use crate::sys::RawItem;
 ///
 /// Deletions take no memory. One member finds what all have, since no part is held by another. The
 /// others are asked all the same, so that it ends and leaves nothing whatever the first one finds.
-pub(crate) struct Rest<'queue> {
+pub(crate) struct Remaining<'queue> {
     left: u64,
     member: Option<Member<'queue>>,
     others: Members<'queue>,
 }
 
-impl<'queue> Rest<'queue> {
+impl<'queue> Remaining<'queue> {
     pub(crate) fn of(queue: &'queue mut Queue) -> Self {
         let left = queue.left();
         let mut members = queue.members();
-        Rest {
+        Remaining {
             left,
             member: members.next(),
             others: members,
@@ -26,7 +26,7 @@ impl<'queue> Rest<'queue> {
     }
 }
 
-impl Iterator for Rest<'_> {
+impl Iterator for Remaining<'_> {
     type Item = RawItem;
 
     fn next(&mut self) -> Option<RawItem> {

@@ -1,6 +1,6 @@
 use Rattle.std.proofs.Common.{◌≤◌, sym, ◌∙◌, arith}
 use Rattle.klsm_board.proofs.lemmas.calls.ReadingLemmas.{front_with, front_without}
-use Rattle.klsm_board.proofs.bounding.least_key.Goals as goal
+use Rattle.klsm_board.proofs.bounding.least_read.Goals as goal
 
 pub returns-in-Some : goal.returns-in-Some
 returns-in-Some c read found is least =

@@ -1,0 +1,11 @@
+use Rattle.std.specs.Prelude.{◌≡◌, ℕ}
+use Rattle.klsm_board.specs.Boards.{IsSame, known_of_others, own_steps}
+use Rattle.klsm_board.specs.Resting.{MissesRestTimes}
+use Rattle.klsm_board.proofs.board.Member.rest.Given as goal
+
+abbrev pub invariant-loop : goal.invariant-loop
+invariant-loop g l = record {
+  same : IsSame l.initial.self l.self;
+  others : known_of_others l.self ≡ known_of_others l.initial.self;
+  missed : (tries : ℕ) × MissesRestTimes tries l.initial.self.number (own_steps l.initial.self) (own_steps l.self);
+}

@@ -1,0 +1,6 @@
+use Rattle.klsm_world.proofs.lemmas.lists.ListLemmas.{no_item}
+use Rattle.std.specs.Prelude.{◌≡◌}
+use Rattle.klsm_board.proofs.steps.commit_with_shared.Given as goal
+
+abbrev pub ghosts-commit : goal.ghosts-commit
+ghosts-commit g a = record { sizes = a.table.now.key; thread = a.thread; fits = λ e. e ≡ a.about.now; least = no_item }
