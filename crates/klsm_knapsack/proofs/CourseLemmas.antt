@@ -4,11 +4,9 @@ use Rattle.klsm_world.specs.declared.step.Entry.{Entry}
 use Rattle.klsm_board.specs.declared.sizes.Sizes.{Sizes}
 use Rattle.klsm_board.specs.Boards.{own_steps}
 use Rattle.klsm_parts.specs.Generators.{generator_of}
-use Rattle.klsm_instance.specs.Selections.{Problem}
-use Rattle.klsm_knapsack.specs.declared.search_state.NoRoom.{NoRoom}
 use Rattle.klsm_knapsack.specs.declared.search_state.Worker.{Worker}
 use Rattle.klsm_knapsack.specs.Courses.{CallsOfWorker, IsOnCourse}
-use Rattle.klsm_knapsack.specs.Workers.{GoesByItsSeed, HasNotBegun, HasRun, IsSameWorker, KeepsCourse}
+use Rattle.klsm_knapsack.specs.Workers.{GoesByItsSeed, GoesByItsSeedTo, HasNotBegun, IsSameWorker, KeepsCourse, KeepsCourseTo}
 
 module _ {P : Type 0} (Calls : P → P → List Entry → List Entry → Type 0) (first : P) where
   -- a list without steps, and one call more
@@ -29,9 +27,9 @@ module _ {LEVELS : ℕ} where
   new_goes : (w : Worker LEVELS) → HasNotBegun w → w.picker ≡ generator_of w.member.number → GoesByItsSeed w
   new_goes w new picker = no_calls (CallsOfWorker LEVELS w.member.sizes w.member.number) (generator_of w.member.number) w.picker (own_steps w.member) picker new.steps
 
-  goes_on : (before after : Worker LEVELS) → IsSameWorker before after → KeepsCourse before after → GoesByItsSeed before → GoesByItsSeed after
-  goes_on before after same keeps on =
-      subst (λ (z : Sizes × ℕ). IsOnCourse (CallsOfWorker LEVELS z.0 z.1) (generator_of z.1) after.picker (own_steps after.member)) (λ i. (sym same.member.1 i, sym same.member.0 i)) (keeps (generator_of before.member.number) on)
+  pub goes_on : (before after : Worker LEVELS) (es : List Entry) → IsSameWorker before after → KeepsCourseTo before after.picker es → GoesByItsSeed before → GoesByItsSeedTo after es
+  goes_on before after es same keeps on =
+      subst (λ (z : Sizes × ℕ). IsOnCourse (CallsOfWorker LEVELS z.0 z.1) (generator_of z.1) after.picker es) (λ i. (sym same.member.1 i, sym same.member.0 i)) (keeps (generator_of before.member.number) on)
 
   -- the first worker has begun
   pub begun_go : (crew : List (Worker LEVELS)) (d after : Worker LEVELS) → All HasNotBegun crew → All (λ (w : Worker LEVELS). w.picker ≡ generator_of w.member.number) crew → IsSameWorker (get_or crew 0 d) after → KeepsCourse (get_or crew 0 d) after → All GoesByItsSeed (set crew 0 after)
@@ -39,12 +37,5 @@ module _ {LEVELS : ℕ} where
   begun_go (w ∷ crew) d after new pickers same keeps = by_place
     where
       by_place : (k : ℕ) (e : Worker LEVELS) → k < length (after ∷ crew) → GoesByItsSeed (get_or (after ∷ crew) k e)
-      by_place zero e lt = goes_on w after same keeps (new_goes w (new 0 e lt) (pickers 0 e lt))
+      by_place zero e lt = goes_on w after (own_steps after.member) same keeps (new_goes w (new 0 e lt) (pickers 0 e lt))
       by_place (suc k) e lt = new_goes (get_or crew k e) (new (suc k) e lt) (pickers (suc k) e lt)
-
-  -- and then all have run
-  pub all_go : (m : NoRoom) (p : Problem) (idle : ℕ) (old new : List (Worker LEVELS)) → length new ≡ length old → ((i : ℕ) (e : Worker LEVELS) → i < length old → HasRun m p idle (get_or old i e) (get_or new i e))
-      → All GoesByItsSeed old → All GoesByItsSeed new
-  all_go m p idle old new many runs go = λ k e lt.
-      let run = runs k e (omega (arith, lt, many)) in
-      goes_on (get_or old k e) (get_or new k e) run.same run.course (go k e (omega (arith, lt, many)))

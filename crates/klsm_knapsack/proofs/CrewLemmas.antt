@@ -23,11 +23,12 @@ use Rattle.klsm_instance.specs.Selections.{Problem}
 use Rattle.klsm_instance.specs.Nodes.{level_in, picks_in}
 use Rattle.klsm_knapsack.specs.IncumbentSeats.{found_by}
 use Rattle.klsm_knapsack.specs.Work.{HasNode, HasWorked, IsNodeItem}
-use Rattle.klsm_knapsack.specs.Ends.{EndsAnswered, HasEnded, first_refusal}
-use Rattle.klsm_knapsack.specs.Answers.{GainsOthers}
-use Rattle.klsm_knapsack.specs.Workers.{HasEndedSo, HasRun, HaveWorked, IsAtWork, AreWorkersOf, IsIdle, HasNotBegun, IsSameWorker, IsWorkerOf, work_by}
+use Rattle.klsm_knapsack.specs.Ends.{EndsAnswered, first_refusal}
+use Rattle.klsm_knapsack.specs.Answers.{GainsOthers, IsIdle}
+use Rattle.klsm_knapsack.specs.Workers.{GoesByItsSeed, HasEndedSo, HasRun, HaveEndedSo, HaveWorked, IsAtWork, AreWorkersOf, HasNotBegun, IsSameWorker, IsWorkerOf, work_by}
 use Rattle.klsm_knapsack.proofs.CoverageLemmas.{wider}
 use Rattle.klsm_knapsack.proofs.WorkLemmas.{inserts_one, has_last}
+use Rattle.klsm_knapsack.proofs.CourseLemmas.{goes_on}
 use Rattle.klsm_knapsack.proofs.IdleLemmas.{gains_none, idle_after_others}
 
 -- what stands at an index, in two ways of saying so
@@ -46,6 +47,11 @@ pub each_alone : {A : Type 0} (P : A → Type 0) (x : A) → P x → All P (x �
 each_alone P x here zero d lt = here
 each_alone P x here (suc k) d lt = absurd (omega (arith, lt))
 
+-- a list that is idle from some step on is so from its first one, where no answer "nothing" came before
+idle_from_first : (n quota : ℕ) (es es' : List Entry) → GainsOthers [] es → IsIdle n quota es es' → IsIdle n quota [] es'
+idle_from_first n quota es es' gains (inl idle) = inl (idle_after_others n [] es es' gains idle)
+idle_from_first n quota es es' gains (inr spent) = inr spent
+
 module _ {LEVELS : ℕ} where
   abbrev pub member_of : Worker LEVELS → Member PROGRAM_K LEVELS
   member_of w = w.member
@@ -59,19 +65,6 @@ module _ {LEVELS : ℕ} where
     where
       none : HasWorked p record { inserted = []; deleted = []; found = found_by w.seat }
       none = record { inserts_nodes = λ x there. absurd (omega (arith, there.1)); is_done = λ x there node. absurd (omega (arith, there.1)) }
-
-  -- and has ended without a refusal
-  new_ended : (m : NoRoom) (w : Worker LEVELS) → HasNotBegun w → HasEndedSo m w
-  new_ended m w new refuses = subst (λ (r : Option Refusal). HasEnded LEVELS w.member.sizes.k w.member.number (own_steps w.member) r) (sym new.refused) (inl new.steps)
-
-  -- so where the first worker has ended and the others have not begun, all have ended
-  pub crew_ended : (m : NoRoom) (crew : List (Worker LEVELS)) (after : Worker LEVELS) → All HasNotBegun crew → HasEndedSo m after → All (HasEndedSo m) (set crew 0 after)
-  crew_ended m [] after new ended = λ k d lt. absurd (omega (arith, lt))
-  crew_ended m (w ∷ crew) after new ended = by_place
-    where
-      by_place : (k : ℕ) (d : Worker LEVELS) → k < length (after ∷ crew) → HasEndedSo m (get_or (after ∷ crew) k d)
-      by_place zero d lt = ended
-      by_place (suc k) d lt = new_ended m (get_or crew k d) (new (suc k) d lt)
 
   -- it has room for its first insertion
   pub new_room : (w : Worker LEVELS) → HasNotBegun w → 2 ≤ w.member.sizes.quota → length (work_by w).inserted < w.member.sizes.quota
@@ -171,16 +164,29 @@ module _ {LEVELS : ℕ} where
       by_place zero d lt = gains
       by_place (suc k) d lt = subst (λ (es : List Entry). GainsOthers [] es) (sym (new (suc k) d lt).steps) (gains_none [])
 
-  idle_from_first : (n : ℕ) (es : List Entry) (w : Worker LEVELS) → GainsOthers [] es → IsIdle n es w → IsIdle n [] w
-  idle_from_first n es w gains (inl idle) = inl (idle_after_others n [] es (own_steps w.member) gains idle)
-  idle_from_first n es w gains (inr spent) = inr spent
+  -- so a worker that ran has ended so
+  from_first : (m : NoRoom) (p : Problem) (idle : ℕ) (before after : Worker LEVELS) → GoesByItsSeed before → GainsOthers [] (own_steps before.member) → HasRun m p idle before after → HasEndedSo m idle after
+  from_first m p idle before after on gains run = record {
+    stopped = run.stopped;
+    stops = run.stops;
+    course = goes_on before after run.stopped run.same run.course on;
+    idles = λ none. idle_from_first idle after.member.sizes.quota (own_steps before.member) run.stopped gains (run.idles none);
+    shares = run.shares;
+  }
 
-  -- so where each worker ran and none was refused, each is idle
-  pub all_idle : (m : NoRoom) (p : Problem) (idle : ℕ) (old new : List (Worker LEVELS)) → length new ≡ length old
-      → ((i : ℕ) (e : Worker LEVELS) → i < length old → HasRun m p idle (get_or old i e) (get_or new i e)) → All (λ (w : Worker LEVELS). GainsOthers [] (own_steps w.member)) old
-      → All (λ (w : Worker LEVELS). w.refused ≡ None) new → All (λ (w : Worker LEVELS). IsIdle idle [] w) new
-  all_idle m p idle old new many runs gains none = λ k e lt.
-      idle_from_first idle (own_steps (get_or old k e).member) (get_or new k e) (gains k e (omega (arith, lt, many))) ((runs k e (omega (arith, lt, many))).idles (none k e lt))
+  -- and where each ran, all have
+  pub all_ended : (m : NoRoom) (p : Problem) (idle : ℕ) (old new : List (Worker LEVELS)) → length new ≡ length old
+      → ((i : ℕ) (e : Worker LEVELS) → i < length old → HasRun m p idle (get_or old i e) (get_or new i e)) → All GoesByItsSeed old → All (λ (w : Worker LEVELS). GainsOthers [] (own_steps w.member)) old
+      → All (HasEndedSo m idle) new
+  all_ended m p idle old new many runs on gains = λ k e lt.
+      let within : k < length old = omega (arith, lt, many) in
+      from_first m p idle (get_or old k e) (get_or new k e) (on k e within) (gains k e within) (runs k e within)
+
+  -- and where none was refused, each ran
+  pub each_ran : (m : NoRoom) (idle : ℕ) (crew : List (Worker LEVELS)) → HaveEndedSo m idle crew → All (λ (w : Worker LEVELS). w.refused ≡ None) crew → All (HasEndedSo m idle) crew
+  each_ran m idle crew (inl ended) none = ended
+  each_ran m idle [] (inr root) none = absurd root.0
+  each_ran m idle (w ∷ crew) (inr root) none = let first = root.0.0 in absurd (none-some first.why (sym (none 0 w (omega arith)) ∙ first.refused))
 
   module _ (state : SearchState LEVELS) where
     pub same_of : (before after : Worker LEVELS) → IsWorkerOf state before → IsSameWorker before after → IsWorkerOf state after

@@ -1,5 +1,5 @@
 -- The workers of a search at its start and at its end.
-use Rattle.std.proofs.Common.{◌≡◌, ℕ, zero, suc, ◌+◌, ◌<◌, ◌≤◌, ◌⊎◌, ◌↔◌, inl, inr, List, [], ◌∷◌, ◌++◌, length, map, take, get_or, All, Option, Some, None, refl, sym, ap, ◌∙◌, subst, arith}
+use Rattle.std.proofs.Common.{◌≡◌, ℕ, zero, suc, ◌+◌, ◌<◌, ◌≤◌, ◌⊎◌, ◌↔◌, inl, inr, List, [], ◌∷◌, ◌++◌, length, map, take, get_or, All, Option, Some, None, MatchOption, refl, sym, ap, ◌∙◌, subst, arith}
 use Rattle.std.proofs.Math.Logic.{∥∥₁_map}
 use Rattle.std.specs.List.{Contains, flat_map}
 use Rattle.std.proofs.lemmas.List.{length-map, take_at}
@@ -30,8 +30,8 @@ use Rattle.klsm_knapsack.specs.declared.errors.SolveError.TheVariants.{BadThread
 use Rattle.klsm_instance.specs.Selections.{Problem}
 use Rattle.klsm_knapsack.specs.IncumbentSeats.{IsSeatAt, found_by}
 use Rattle.klsm_knapsack.specs.Work.{HasNode, HasWorked, all_inserted, all_deleted}
-use Rattle.klsm_knapsack.specs.Ends.{End, HasEnded, IsLeastRefusal, first_refusal}
-use Rattle.klsm_knapsack.specs.Workers.{HasEndedSo, HaveWorked, AreWorkersOf, HasNotBegun, IsSearched, IsWorkerOf, work_by}
+use Rattle.klsm_knapsack.specs.Ends.{End, EndsAnswered, EndsRefused, HasEnded, HasStopped, HaveEnded, IsLeastRefusal, NoneHasRun, first_refusal}
+use Rattle.klsm_knapsack.specs.Workers.{HasEndedSo, HaveEndedSo, HaveWorked, AreWorkersOf, HasNotBegun, IsSearched, IsWorkerOf, RootWasRefused, work_by}
 use Rattle.klsm_board.specs.Members.{sizes_of}
 use Rattle.klsm_knapsack.specs.Refusals.{RefusesSearch, error_of}
 use Rattle.klsm_knapsack.proofs.CrewLemmas.{each_worker, member_of, so_many_workers, stands_at, worker_number}
@@ -92,6 +92,11 @@ refused_too levels m refill why is = record {
   first = is.first;
 }
 
+-- a worker that does not go on without room stopped so
+stopped_so : (levels k t : ℕ) (es : List Entry) (refused : Option Refusal) → MatchOption refused (Refuses ≡ Refuses → EndsAnswered t es) (EndsRefused levels k t es) → HasStopped levels k t es refused
+stopped_so levels k t es None told = told refl
+stopped_so levels k t es (Some why) told = told
+
 module _ {LEVELS : ℕ} where
   module _ (state : SearchState LEVELS) (crew : List (Worker LEVELS)) (members : List (Member PROGRAM_K LEVELS)) (are : map (λ (w : Worker LEVELS). w.member) crew ≡ members)
       (new : AreNewMembersOf state.board members) (some_thread : 0 < state.board.sizes.threads)
@@ -114,13 +119,25 @@ module _ {LEVELS : ℕ} where
         let there = stands i w (stands_at crew i d lt) in
         record { steps = new.new i w.member there; found = (seats i d lt).1; refused = (seats i d lt).2 }
 
+  abbrev end_of : Worker LEVELS → End
+  end_of w = record { steps = own_steps w.member; refused = w.refused }
+
+  -- where the first worker was refused the root, none ran
+  none_has_run : (state : SearchState LEVELS) (crew : List (Worker LEVELS)) → AreWorkersOf state crew → RootWasRefused crew → NoneHasRun LEVELS state.board.sizes.k (map end_of crew)
+  none_has_run state [] is root = root
+  none_has_run state (w ∷ crew) is root =
+      let first = root.0 in
+      let of : IsWorkerOf state w = each_worker state (w ∷ crew) is 0 w (omega arith) in
+      let refused : EndsRefused LEVELS state.board.sizes.k 0 (own_steps w.member) first.why =
+      subst (λ (z : Sizes × ℕ). EndsRefused LEVELS z.0.k z.1 (own_steps w.member) first.why) (λ i. (of.member.1 i, worker_number state (w ∷ crew) is 0 w refl i)) first.ended in
+      let others : All (λ (end : End). (end.steps ≡ []) × (end.refused ≡ None)) (map end_of crew) =
+      All-map (λ (end : End). (end.steps ≡ []) × (end.refused ≡ None)) end_of crew (λ k d lt. ((root.1 k d lt).steps, (root.1 k d lt).refused)) in
+      ((first.why, first.refused, refused), first.none_inserted, recursion_from_All (λ (end : End). (end.steps ≡ []) × (end.refused ≡ None)) (map end_of crew) others)
+
   module _ (state : SearchState LEVELS) (crew : List (Worker LEVELS)) (is : AreWorkersOf state crew) where
     -- the members are those of the board
     pub members_of : All (λ (m : Member PROGRAM_K LEVELS). IsOf m state.board) (map (λ (w : Worker LEVELS). w.member) crew)
     members_of = all_of_board state.board (map member_of crew) is.members
-
-    abbrev end_of : Worker LEVELS → End
-    end_of w = record { steps = own_steps w.member; refused = w.refused }
 
     worker_at : (t : ℕ) (w : Worker LEVELS) → get_elem? crew t ≡ some w → IsWorkerOf state w
     worker_at t w there = each_of (IsWorkerOf state) crew (each_worker state crew is) t w there
@@ -130,26 +147,31 @@ module _ {LEVELS : ℕ} where
         subst (λ (m : Sizes). ∥ IsReached m t (own_steps w.member) ∥₁) (worker_at t w there).member.1
         (subst (λ (n : ℕ). ∥ IsReached w.member.sizes n (own_steps w.member) ∥₁) (worker_number state crew is t w there) (each_reached w.member.sizes w.member.number w.member.seat.me.0 w.member.rests.reached))
 
-    ended_by : (t : ℕ) (w : Worker LEVELS) → get_elem? crew t ≡ some w → HasEndedSo Refuses w → HasEnded LEVELS state.board.sizes.k t (own_steps w.member) w.refused
-    ended_by t w there ended =
+    ended_by : (idle t : ℕ) (w : Worker LEVELS) → get_elem? crew t ≡ some w → HasEndedSo Refuses idle w → HasEnded LEVELS state.board.sizes.k t (own_steps w.member) w.refused
+    ended_by idle t w there ended =
         subst (λ (m : Sizes). HasEnded LEVELS m.k t (own_steps w.member) w.refused) (worker_at t w there).member.1
-        (subst (λ (n : ℕ). HasEnded LEVELS w.member.sizes.k n (own_steps w.member) w.refused) (worker_number state crew is t w there) (ended refl))
+        (subst (λ (n : ℕ). HasEnded LEVELS w.member.sizes.k n (own_steps w.member) w.refused) (worker_number state crew is t w there) (ended.stopped, stopped_so LEVELS w.member.sizes.k w.member.number ended.stopped w.refused ended.stops, ended.shares))
+
+    all_ended_by : (idle : ℕ) → HaveEndedSo Refuses idle crew → HaveEnded LEVELS state.board.sizes.k (map end_of crew)
+    all_ended_by idle (inl ended) = inl
+        (λ t end there.
+        let at = stands_unmapped end_of crew t end there in
+        subst (λ (e : End). HasEnded LEVELS state.board.sizes.k t e.steps e.refused) at.2 (ended_by idle t at.0 at.1 (each_of (HasEndedSo Refuses idle) crew ended t at.0 at.1)))
+    all_ended_by idle (inr root) = inr (none_has_run state crew is root.0)
 
     refusals : (ws : List (Worker LEVELS)) → map (λ (end : End). end.refused) (map end_of ws) ≡ map (λ (w : Worker LEVELS). w.refused) ws
     refusals [] = refl
     refusals (w ∷ ws) = ap (λ (rs : List (Option Refusal)). w.refused ∷ rs) (refusals ws)
 
     -- the first refusal is that of the least numbered worker that met one
-    pub least_refusal : (why : Refusal) → All (HasEndedSo Refuses) crew → first_refusal (map (λ (w : Worker LEVELS). w.refused) crew) ≡ Some why → IsLeastRefusal LEVELS state.board.sizes why
-    least_refusal why ended first = record {
+    pub least_refusal : (idle : ℕ) (why : Refusal) → HaveEndedSo Refuses idle crew → first_refusal (map (λ (w : Worker LEVELS). w.refused) crew) ≡ Some why → IsLeastRefusal LEVELS state.board.sizes why
+    least_refusal idle why ended first = record {
       ends = map end_of crew;
       many = length-map crew end_of ∙ so_many_workers state crew is;
       reached = λ t end there.
           let at = stands_unmapped end_of crew t end there in
           subst (λ (e : End). ∥ IsReached state.board.sizes t e.steps ∥₁) at.2 (reached_by t at.0 at.1);
-      ended = λ t end there.
-          let at = stands_unmapped end_of crew t end there in
-          subst (λ (e : End). HasEnded LEVELS state.board.sizes.k t e.steps e.refused) at.2 (ended_by t at.0 at.1 (each_of (HasEndedSo Refuses) crew ended t at.0 at.1));
+      ended = all_ended_by idle ended;
       first = ap first_refusal (refusals crew) ∙ first;
     }
 

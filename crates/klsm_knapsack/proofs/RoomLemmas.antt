@@ -5,7 +5,7 @@ use Rattle.std.specs.List.{flat_map}
 use Rattle.std.proofs.lemmas.List.Concat.{flat_map-cons}
 use Rattle.std.proofs.lemmas.Nat.{pow_pos}
 use Rattle.std.proofs.lemmas.Option.{none-some, same_Some}
-use mathlib.Core.Option.{some, some-injective, some-ne-none}
+use mathlib.Core.Option.{some}
 use lib.ListN.{get_elem?}
 use Rattle.klsm_run.specs.declared.limits.TheConstants.{PROGRAM_K}
 use Rattle.klsm_run.specs.Capacity.{heap_room}
@@ -23,14 +23,14 @@ use Rattle.klsm_board.specs.Rule.{world_limits}
 use Rattle.klsm_board.proofs.lemmas.ending.FoundLemmas.{found_few, insertions}
 use Rattle.klsm_board.proofs.lemmas.ending.FullLemmas.{gave_up_at}
 use Rattle.klsm_board.proofs.lemmas.ending.JoinLemmas.{at_end, at_front}
-use Rattle.klsm_board.proofs.lemmas.ending.MemberLemmas.{lists_in_order, stands_mapped}
+use Rattle.klsm_board.proofs.lemmas.ending.MemberLemmas.{lists_in_order}
 use Rattle.klsm_knapsack.specs.declared.search_state.SearchState.{SearchState}
 use Rattle.klsm_knapsack.specs.declared.search_state.Worker.{Worker}
 use Rattle.klsm_knapsack.specs.declared.errors.Refusal.{Refusal}
 use Rattle.klsm_knapsack.specs.declared.errors.Refusal.TheVariants.{Full, NoMemory}
 use Rattle.klsm_knapsack.specs.Ends.{EndsRefused, first_refusal}
 use Rattle.klsm_knapsack.specs.Workers.{AreWorkersOf, HasNotBegun, LacksNoRoom, RootWasRefused, WasRefusedFirst}
-use Rattle.klsm_knapsack.proofs.CrewLemmas.{is_at, member_of}
+use Rattle.klsm_knapsack.proofs.CrewLemmas.{member_of}
 
 -- the shared part can have an item
 some_of_each : (a b : ℕ) → 0 < a → 0 < b → min a b < 1 → ⊥
@@ -58,14 +58,14 @@ room_for_first levels k t u m lists now es ended none is up =
     (subst (λ (n : ℕ). limit_of levels heap_room < n + 1) none_shared (subst (λ (n : ℕ). limit_of levels heap_room < length up.shared + max 1 n) none_kept up.found))
 
 module _ {LEVELS : ℕ} where
-  -- where the first worker was refused the root, none has inserted a node
+  -- the first worker was refused the root, and so none has inserted a node
   pub root_refused : (crew : List (Worker LEVELS)) (after : Worker LEVELS) → 0 < length crew → All HasNotBegun crew → WasRefusedFirst after → RootWasRefused (set crew 0 after)
   root_refused [] after some_worker new refused = absurd (omega (arith, some_worker))
-  root_refused (w ∷ crew) after some_worker new refused = record { first = after; there = refl; was_refused = refused; none_inserted = by_place }
-    where
-      by_place : (k : ℕ) (d : Worker LEVELS) → k < length (after ∷ crew) → inserted (own_steps (get_or (after ∷ crew) k d).member) ≡ []
-      by_place zero d lt = refused.none_inserted
-      by_place (suc k) d lt = ap inserted (new (suc k) d lt).steps
+  root_refused (w ∷ crew) after some_worker new refused = (refused, λ k d lt. new (suc k) d (omega (arith, lt)))
+
+  none_inserted : (w : Worker LEVELS) (crew : List (Worker LEVELS)) → RootWasRefused (w ∷ crew) → (k : ℕ) (d : Worker LEVELS) → k < length (w ∷ crew) → inserted (own_steps (get_or (w ∷ crew) k d).member) ≡ []
+  none_inserted w crew root zero d lt = root.0.none_inserted
+  none_inserted w crew root (suc k) d lt = ap inserted (root.1 k d (omega (arith, lt))).steps
 
   -- where no worker lacked room, it is memory that was wanted
   memory_wanted : (crew : List (Worker LEVELS)) (why : Refusal) → All LacksNoRoom crew → first_refusal (map (λ (w : Worker LEVELS). w.refused) crew) ≡ Some why → why ≡ NoMemory
@@ -77,11 +77,8 @@ module _ {LEVELS : ℕ} where
       by_first None is told later = later told
 
   -- the first worker's refusal is the first one
-  head_refusal : (crew : List (Worker LEVELS)) (w : Worker LEVELS) (r why : Refusal) → get_elem? crew 0 ≡ some w → w.refused ≡ Some r → first_refusal (map (λ (v : Worker LEVELS). v.refused) crew) ≡ Some why → r ≡ why
-  head_refusal [] w r why there is first = absurd (some-ne-none w (sym there))
-  head_refusal (v ∷ crew) w r why there is first =
-      let same : v.refused ≡ Some r = ap (λ (u : Worker LEVELS). u.refused) (some-injective v w there) ∙ is in
-      same_Some r why (subst (λ (o : Option Refusal). first_refusal (o ∷ map (λ (u : Worker LEVELS). u.refused) crew) ≡ Some why) same first)
+  head_refusal : (w : Worker LEVELS) (crew : List (Worker LEVELS)) (r why : Refusal) → w.refused ≡ Some r → first_refusal (map (λ (v : Worker LEVELS). v.refused) (w ∷ crew)) ≡ Some why → r ≡ why
+  head_refusal w crew r why is first = same_Some r why (subst (λ (o : Option Refusal). first_refusal (o ∷ map (λ (u : Worker LEVELS). u.refused) crew) ≡ Some why) is first)
 
   none_in_all : (crew : List (Worker LEVELS)) → All (λ (w : Worker LEVELS). inserted (own_steps w.member) ≡ []) crew → insertions (map own_steps (map member_of crew)) ≡ 0
   none_in_all [] none = refl
@@ -96,12 +93,11 @@ module _ {LEVELS : ℕ} where
   pub never_full : (state : SearchState LEVELS) (crew : List (Worker LEVELS)) (members : List (Member PROGRAM_K LEVELS)) (why : Refusal) → AreWorkersOf state crew → members ≡ map member_of crew → first_refusal (map (λ (w : Worker LEVELS). w.refused) crew) ≡ Some why
       → All LacksNoRoom crew ⊎ RootWasRefused crew → why ≡ Full → AreListsAtEnd state.board.sizes (lists_of state.board.sizes.threads members) → ⊥
   never_full state crew members why are back first (inl none) full ended = let bad : Full ≡ NoMemory = sym full ∙ memory_wanted crew why none first in cc
-  never_full state crew members why are back first (inr root) full ended =
-      let w : Worker LEVELS = root.first in
-      let refused = root.was_refused in
-      let lists : List (List Entry) = map own_steps (map member_of crew) in
-      let in_order : lists_of state.board.sizes.threads members ≡ lists = ap (lists_of state.board.sizes.threads) back ∙ sym (lists_in_order state.board (map member_of crew) are.members) in
-      let list : get_or lists 0 [] ≡ own_steps w.member = is_at lists 0 [] (own_steps w.member) (stands_mapped own_steps (map member_of crew) 0 w.member (stands_mapped member_of crew 0 w root.there)) in
+  never_full state [] members why are back first (inr root) full ended = root
+  never_full state (w ∷ crew) members why are back first (inr root) full ended =
+      let refused = root.0 in
+      let lists : List (List Entry) = map own_steps (map member_of (w ∷ crew)) in
+      let in_order : lists_of state.board.sizes.threads members ≡ lists = ap (lists_of state.board.sizes.threads) back ∙ sym (lists_in_order state.board (map member_of (w ∷ crew)) are.members) in
       let by_room : EndsRefused LEVELS w.member.sizes.k w.member.number (own_steps w.member) Full =
-      subst (λ (r : Refusal). EndsRefused LEVELS w.member.sizes.k w.member.number (own_steps w.member) r) (head_refusal crew w refused.why why root.there refused.refused first ∙ full) refused.ended in
-      room_for_first LEVELS w.member.sizes.k w.member.number 0 state.board.sizes lists by_room.1.0 (own_steps w.member) (subst (λ (z : List (List Entry)). AreListsAtEnd state.board.sizes z) in_order ended) (none_in_all crew root.none_inserted) list by_room.1.2
+      subst (λ (r : Refusal). EndsRefused LEVELS w.member.sizes.k w.member.number (own_steps w.member) r) (head_refusal w crew refused.why why refused.refused first ∙ full) refused.ended in
+      room_for_first LEVELS w.member.sizes.k w.member.number 0 state.board.sizes lists by_room.1.0 (own_steps w.member) (subst (λ (z : List (List Entry)). AreListsAtEnd state.board.sizes z) in_order ended) (none_in_all (w ∷ crew) (none_inserted w crew root)) refl by_room.1.2

@@ -1,9 +1,10 @@
 -- What a worker's calls were answered, as the events that its list gained tell.
-use Rattle.std.specs.Prelude.{ℕ, ◌≡◌, ◌≢◌, ◌<◌, List, [], ◌∷◌, ◌++◌, length, replicate}
+use Rattle.std.specs.Prelude.{ℕ, ◌≡◌, ◌≢◌, ◌<◌, ◌+◌, ◌⊎◌, List, [], ◌∷◌, ◌++◌, length, replicate}
 use Rattle.std.specs.List.{AllByRecursion}
 use Rattle.klsm_world.specs.declared.step.Event.{Event}
 use Rattle.klsm_world.specs.declared.step.Event.TheVariants.{Nothing}
 use Rattle.klsm_world.specs.declared.step.Entry.{Entry}
+use Rattle.klsm_world.specs.OwnSteps.{inserted}
 use Rattle.klsm_board.specs.Effects.{committed_in}
 
 -- the list gained events, none of which is an answer "nothing"
@@ -26,3 +27,7 @@ pub record EndsIdle (n : ℕ) (es es' : List Entry) : Type 0 where
   pub before : List Event
   pub no_more : (others : List Event) → before ≢ others ++ Nothing ∷ []
   pub events : committed_in es' ≡ committed_in es ++ (before ++ replicate n Nothing)
+
+-- a worker took nodes until it was answered "nothing" n times in a row, or had no two insertions of its quota left
+abbrev pub IsIdle : ℕ → ℕ → List Entry → List Entry → Type 0
+IsIdle n quota es es' = EndsIdle n es es' ⊎ (quota < length (inserted es') + 2)

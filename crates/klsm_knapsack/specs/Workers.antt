@@ -1,8 +1,6 @@
 -- Workers, and how the work of one of them grows.
-use Rattle.std.specs.Prelude.{ℕ, ◌≡◌, ◌+◌, ◌≤◌, ◌<◌, ◌⊎◌, List, [], None, Some, IfSome, All, length, map, slice_get}
+use Rattle.std.specs.Prelude.{ℕ, ◌≡◌, ◌≤◌, ◌<◌, ◌⊎◌, List, [], ◌∷◌, None, Some, IfSome, MatchOption, All, length, map, slice_get}
 use Rattle.std.specs.List.{AllByRecursion, Contains, flat_map}
-use mathlib.Core.Option.{some}
-use lib.ListN.{get_elem?}
 use Rattle.rand_pcg.specs.Lcg.{Lcg}
 use Rattle.klsm_run.specs.declared.item.Item.{Item}
 use Rattle.klsm_parts.specs.Generators.{generator_of}
@@ -19,8 +17,8 @@ use Rattle.klsm_instance.specs.Selections.{Problem}
 use Rattle.klsm_instance.specs.Nodes.{NoneAbove, level_in, picks_in}
 use Rattle.klsm_knapsack.specs.IncumbentSeats.{IsSeatAt, found_by}
 use Rattle.klsm_knapsack.specs.Work.{Work, HasNode, HasWorked, IsNodeItem, all_inserted, all_deleted}
-use Rattle.klsm_knapsack.specs.Ends.{EndsAnswered, EndsRefused, HasEnded}
-use Rattle.klsm_knapsack.specs.Answers.{EndsIdle}
+use Rattle.klsm_knapsack.specs.Ends.{EndsAnswered, EndsRefused, SharesOrKeeps}
+use Rattle.klsm_knapsack.specs.Answers.{IsIdle}
 use Rattle.klsm_knapsack.specs.Courses.{CallsOfWorker, IsOnCourse}
 
 -- only nodes were inserted since
@@ -59,11 +57,12 @@ module _ {LEVELS : ℕ} where
     pub worked : HasWorked p (work_by w)
     pub answered : no_room ≡ Refuses → EndsAnswered w.member.number (own_steps w.member)
 
-  -- where it does not go on without room, the worker's last call was answered, or its last insertion was
-  -- refused for this reason
-  abbrev pub HasEndedSo : NoRoom → Worker LEVELS → Type 0
-  HasEndedSo no_room w = no_room ≡ Refuses
-      → HasEnded LEVELS w.member.sizes.k w.member.number (own_steps w.member) w.refused
+  -- The worker stopped with this list: its last insertion was refused for the reason that it has. Where it has none,
+  -- its last call was answered, if it does not go on without room.
+  abbrev pub HasStoppedAt : NoRoom → Worker LEVELS → List Entry → Type 0
+  HasStoppedAt no_room w es = MatchOption w.refused
+      (no_room ≡ Refuses → EndsAnswered w.member.number es)
+      (EndsRefused LEVELS w.member.sizes.k w.member.number es)
 
   -- where it was refused, memory was wanted, and no room
   abbrev pub LacksNoRoom : Worker LEVELS → Type 0
@@ -76,35 +75,47 @@ module _ {LEVELS : ℕ} where
     pub ended : EndsRefused LEVELS w.member.sizes.k w.member.number (own_steps w.member) why
     pub none_inserted : inserted (own_steps w.member) ≡ []
 
-  -- since its list was this one, the worker took nodes until it was answered "nothing" n times in a
-  -- row, or had no two insertions left
-  abbrev pub IsIdle : ℕ → List Entry → Worker LEVELS → Type 0
-  IsIdle n since w = EndsIdle n since (own_steps w.member)
-      ⊎ (w.member.sizes.quota < length (inserted (own_steps w.member)) + 2)
-
-  -- the worker's list goes on by calls of its member, and its picker by these
-  abbrev pub KeepsCourse : Worker LEVELS → Worker LEVELS → Type 0
-  KeepsCourse before after = (first : Lcg)
+  -- the worker's list goes on to this one by calls of its member, and its picker to this one by these
+  abbrev pub KeepsCourseTo : Worker LEVELS → Lcg → List Entry → Type 0
+  KeepsCourseTo before picker es = (first : Lcg)
       → IsOnCourse (CallsOfWorker LEVELS before.member.sizes before.member.number) first before.picker
       (own_steps before.member)
-      → IsOnCourse (CallsOfWorker LEVELS before.member.sizes before.member.number) first after.picker
-      (own_steps after.member)
+      → IsOnCourse (CallsOfWorker LEVELS before.member.sizes before.member.number) first picker es
 
-  -- it is that of calls by the picker whose seed is the worker's number, and which began once
+  abbrev pub KeepsCourse : Worker LEVELS → Worker LEVELS → Type 0
+  KeepsCourse before after = KeepsCourseTo before after.picker (own_steps after.member)
+
+  -- a list is that of calls by the picker whose seed is the worker's number, and which began once
+  abbrev pub GoesByItsSeedTo : Worker LEVELS → List Entry → Type 0
+  GoesByItsSeedTo w es = IsOnCourse (CallsOfWorker LEVELS w.member.sizes w.member.number)
+      (generator_of w.member.number) w.picker es
+
   abbrev pub GoesByItsSeed : Worker LEVELS → Type 0
-  GoesByItsSeed w = IsOnCourse (CallsOfWorker LEVELS w.member.sizes w.member.number)
-      (generator_of w.member.number) w.picker (own_steps w.member)
+  GoesByItsSeed w = GoesByItsSeedTo w (own_steps w.member)
 
-  -- the worker ran until it was idle or refused
+  -- the worker ran until it was idle or refused, and then shared its items
   pub record HasRun (no_room : NoRoom) (p : Problem) (idle : ℕ) (before after : Worker LEVELS) : Type 0 where
+    -- its list when it stopped
+    pub stopped : List Entry
     pub same : IsSameWorker before after
-    pub ended : HasEndedSo no_room after
+    pub stops : HasStoppedAt no_room after stopped
     pub room : no_room ≡ SearchesAlone → LacksNoRoom after
-    pub course : KeepsCourse before after
+    pub course : KeepsCourseTo before after.picker stopped
     pub worked : after.refused ≡ None → HasWorked p (work_by after)
     pub inserts : after.refused ≡ None
         → InsertsNodes p (work_by before).inserted (work_by after).inserted
-    pub idles : after.refused ≡ None → IsIdle idle (own_steps before.member) after
+    pub idles : after.refused ≡ None
+        → IsIdle idle after.member.sizes.quota (own_steps before.member) stopped
+    pub shares : SharesOrKeeps LEVELS after.member.number stopped (own_steps after.member)
+
+  -- how a worker ended that ran, by its list from the first step on
+  pub record HasEndedSo (no_room : NoRoom) (idle : ℕ) (w : Worker LEVELS) : Type 0 where
+    -- its list when it stopped
+    pub stopped : List Entry
+    pub stops : HasStoppedAt no_room w stopped
+    pub course : GoesByItsSeedTo w stopped
+    pub idles : w.refused ≡ None → IsIdle idle w.member.sizes.quota [] stopped
+    pub shares : SharesOrKeeps LEVELS w.member.number stopped (own_steps w.member)
 
   -- the workers of a search: theirs are the members of its board, in the order of their numbers, and seats
   -- at its incumbent
@@ -119,12 +130,15 @@ module _ {LEVELS : ℕ} where
     pub found : found_by w.seat ≡ 0
     pub refused : w.refused ≡ None
 
-  -- the first worker was refused the root, and no worker has inserted a node
-  pub record RootWasRefused (crew : List (Worker LEVELS)) : Type 0 where
-    pub first : Worker LEVELS
-    pub there : get_elem? crew 0 ≡ some first
-    pub was_refused : WasRefusedFirst first
-    pub none_inserted : All (λ w. inserted (own_steps w.member) ≡ []) crew
+  -- the first worker was refused the root, and the others have not begun
+  abbrev pub RootWasRefused : List (Worker LEVELS) → Type 0
+  RootWasRefused [] = ⊥
+  RootWasRefused (first ∷ others) = WasRefusedFirst first × All HasNotBegun others
+
+  -- how the workers of a search ended: each of them ran; or none did, and each list is that of calls by a seed too
+  abbrev pub HaveEndedSo : NoRoom → ℕ → List (Worker LEVELS) → Type 0
+  HaveEndedSo no_room idle crew = All (HasEndedSo no_room idle) crew
+      ⊎ (RootWasRefused crew × All GoesByItsSeed crew)
 
   -- workers that go on without room did not lack it, unless the root was refused
   abbrev pub GoOnWithoutRoom : NoRoom → List (Worker LEVELS) → Type 0

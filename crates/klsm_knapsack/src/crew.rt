@@ -7,7 +7,7 @@ ghost use Rattle.klsm_world.specs.OwnSteps.{inserted};
 ghost use Rattle.klsm_knapsack.specs.declared.search_state.Worker.{Worker};
 ghost use Rattle.klsm_knapsack.specs.IncumbentSeats.{IsSeatAt, found_by, problem_of};
 ghost use Rattle.klsm_knapsack.specs.Ends.{first_refusal};
-ghost use Rattle.klsm_knapsack.specs.Workers.{GoOnWithoutRoom, HasEndedSo, HasRun, HaveWorked, IsAtWork, AreWorkersOf, IsIdle, HasNotBegun, IsWorkerOf, GoesByItsSeed};
+ghost use Rattle.klsm_knapsack.specs.Workers.{GoOnWithoutRoom, HasRun, HaveEndedSo, HaveWorked, IsAtWork, AreWorkersOf, HasNotBegun, IsWorkerOf};
 
 use crate::errors::Refusal;
 use crate::incumbent::{Incumbent, IncumbentSeat};
@@ -73,11 +73,9 @@ pub(crate) fn search<R: Threads + Wait + Clock + Sync, G: Gate, P: Progress, con
     requires room { 2 ≤ state.now.board.sizes.quota }
     requires pickers { All (λ w. w.picker ≡ generator_of w.member.number) crew.old }
     ensures crew { AreWorkersOf state.now crew.new }
-    ensures ended { All (HasEndedSo state.now.no_room) crew.new }
+    ensures ended { HaveEndedSo state.now.no_room idle crew.new }
     ensures room { GoOnWithoutRoom state.now.no_room crew.new }
     ensures worked { All (λ w. w.refused ≡ None) crew.new → HaveWorked instance.now crew.new }
-    ensures idle { All (λ w. w.refused ≡ None) crew.new → All (λ w. IsIdle idle [] w) crew.new }
-    ensures course { All GoesByItsSeed crew.new }
 {
     if crew[0].begin(rt, state, instance) {
         run_all(rt, state, instance, crew, idle, listeners);

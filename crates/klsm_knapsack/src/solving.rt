@@ -28,7 +28,8 @@ use std::time::Clock;
 /// A best selection, found by several workers over a board.
 ///
 /// Each worker passes the gate and then takes nodes from the board, until it was answered "nothing"
-/// `idle` times in a row, or met a refusal. The nodes that are then left are searched depth first.
+/// `idle` times in a row, or met a refusal, and gives the others what its own part then has. The nodes that
+/// are left at last are searched depth first.
 /// Where several selections are best, any of them may be the answer. Where workers are refused, the
 /// answer is the refusal of the least numbered one of them.
 pub fn solve<G: Gate, P: Progress, const LEVELS: usize>(

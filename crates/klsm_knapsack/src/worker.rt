@@ -9,9 +9,9 @@ ghost use Rattle.klsm_instance.specs.Nodes.{IsNode, IsNodeOf, NoneAbove, level_i
 ghost use Rattle.klsm_knapsack.specs.Numbers.{value_in};
 ghost use Rattle.klsm_knapsack.specs.IncumbentSeats.{problem_of};
 ghost use Rattle.klsm_knapsack.specs.Work.{ClosesBounded, HasNode, IsNodeItem, IsSplit, IsDone, HasWorked};
-ghost use Rattle.klsm_knapsack.specs.Ends.{EndsAnswered, EndsRefused};
-ghost use Rattle.klsm_knapsack.specs.Answers.{GainsNothing, GainsOthers, GainsSome};
-ghost use Rattle.klsm_knapsack.specs.Workers.{Extends, HasEndedSo, HasRun, InsertsNodes, IsAtWork, IsIdle, HasNotBegun, IsSameWorker, IsWorkerOf, KeepsCourse, WasRefusedFirst, work_by};
+ghost use Rattle.klsm_knapsack.specs.Ends.{EndsAnswered, EndsRefused, SharesOrKeeps};
+ghost use Rattle.klsm_knapsack.specs.Answers.{GainsNothing, GainsOthers, GainsSome, IsIdle};
+ghost use Rattle.klsm_knapsack.specs.Workers.{Extends, HasRun, HasStoppedAt, InsertsNodes, IsAtWork, HasNotBegun, IsSameWorker, IsWorkerOf, KeepsCourse, WasRefusedFirst, work_by};
 
 use crate::errors::Refusal;
 use crate::passing::Passed;
@@ -35,7 +35,7 @@ impl<const LEVELS: usize> Worker<LEVELS> {
         requires room { 2 ≤ self.old.member.sizes.quota }
         ensures same { IsSameWorker self.old self.new }
         ensures course { KeepsCourse self.old self.new }
-        ensures ended { HasEndedSo state.now.no_room self.new }
+        ensures stopped { HasStoppedAt state.now.no_room self.new (own_steps self.new.member) }
         ensures begun { MatchBool result
             (IsAtWork state.now.no_room instance.now self.new × HasNode (work_by self.new).inserted 0 0)
             (self.new.refused ≡ None → ⊥) }
@@ -52,7 +52,7 @@ impl<const LEVELS: usize> Worker<LEVELS> {
         }
     }
 
-    /// Passes the gate, and works until it is idle or refused.
+    /// Passes the gate, works until it is idle or refused, and then shares what its own part has.
     pub(crate) fn run<G: Gate, P: Progress>(
         &mut self,
         rt: &(impl Wait + Clock),
@@ -71,6 +71,22 @@ impl<const LEVELS: usize> Worker<LEVELS> {
         self.refused = self
             .work(rt, state, instance, idle, &passed, progress)
             .err();
+        self.share(rt, state);
+    }
+
+    // Gives all the nodes that its own part still has, whatever made it stop: the others find them in the shared part
+    // at once, and in the own part only where they find nothing else.
+    fn share(&mut self, rt: &(impl Wait + Clock), state: &SearchState<LEVELS>)
+        requires of { IsWorkerOf state.now self.old }
+        ensures same { IsSameWorker self.old self.new }
+        ensures shares { SharesOrKeeps LEVELS self.old.member.number (own_steps self.old.member)
+            (own_steps self.new.member) }
+        ensures work { work_by self.new ≡ work_by self.old }
+        ensures keeps { (self.new.picker ≡ self.old.picker)
+            × (self.new.refused ≡ self.old.refused) }
+    {
+        // A refusal of this is none of the search: the nodes then stay where they are, and are found there.
+        let _ = self.member.share(rt, &state.board);
     }
 
     // Takes nodes until the board answers `idle` times in a row that it has none, or the member has
@@ -93,7 +109,8 @@ impl<const LEVELS: usize> Worker<LEVELS> {
         ensures goes_on { IfOk result (λ _. IsAtWork state.now.no_room instance.now self.new) }
         ensures inserts { IfOk result (λ _. InsertsNodes instance.now
             (work_by self.old).inserted (work_by self.new).inserted) }
-        ensures idle { IfOk result (λ _. IsIdle idle (own_steps self.old.member) self.new) }
+        ensures idle { IfOk result (λ _. IsIdle idle self.new.member.sizes.quota
+            (own_steps self.old.member) (own_steps self.new.member)) }
         ensures refused { IfErr result (λ why. EndsRefused LEVELS self.new.member.sizes.k
             self.new.member.number (own_steps self.new.member) why) }
         ensures memory { state.now.no_room ≡ NoRoom.SearchesAlone

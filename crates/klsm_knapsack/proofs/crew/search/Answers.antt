@@ -7,8 +7,8 @@ use Rattle.klsm_world.specs.declared.step.Entry.{Entry}
 use Rattle.klsm_knapsack.specs.Answers.{GainsOthers}
 use Rattle.klsm_knapsack.specs.Work.{HasNode}
 use Rattle.klsm_knapsack.specs.Workers.{work_by}
-use Rattle.klsm_knapsack.proofs.CourseLemmas.{all_go, begun_go}
-use Rattle.klsm_knapsack.proofs.CrewLemmas.{crew_begun, crew_ended, crew_ready, crew_run, all_worked, begun_gains, all_idle, each_worker}
+use Rattle.klsm_knapsack.proofs.CourseLemmas.{begun_go}
+use Rattle.klsm_knapsack.proofs.CrewLemmas.{crew_begun, crew_ready, crew_run, all_ended, all_worked, begun_gains, each_worker}
 use Rattle.klsm_knapsack.proofs.RoomLemmas.{root_refused}
 use Rattle.klsm_knapsack.proofs.crew.search.Goals as goal
 
@@ -41,12 +41,6 @@ returns-then-begin-clause-worked g c = λ none.
 pub returns-else-begin-clause-crew : goal.returns-else-begin-clause-crew
 returns-else-begin-clause-crew g c = crew_begun c.args.state.now c.args.crew.now c.index-crew-0.result c.begin.new.self c.requires.crew c.begin.ensures.same
 
-pub returns-then-begin-clause-ended : goal.returns-then-begin-clause-ended
-returns-then-begin-clause-ended g c = λ k d lt. (c.run_all.ensures k d (omega (arith, lt, c.run_all.auto.crew))).ended
-
-pub returns-else-begin-clause-ended : goal.returns-else-begin-clause-ended
-returns-else-begin-clause-ended g c = crew_ended c.args.state.now.no_room c.args.crew.now c.begin.new.self c.requires.new c.begin.ensures.ended
-
 pub returns-else-begin-clause-worked : goal.returns-else-begin-clause-worked
 returns-else-begin-clause-worked g c = λ none.
     let d = c.index-crew-0.result in
@@ -54,32 +48,21 @@ returns-else-begin-clause-worked g c = λ none.
     let first : get_or (set c.args.crew.now 0 c.begin.new.self) 0 d ≡ c.begin.new.self = get_or-set_same c.args.crew.now 0 c.begin.new.self d c.requires.crew.some_worker in
     absurd (c.if-begin.ensures.begun (subst (λ (w : Worker g.row.LEVELS). w.refused ≡ None) first (none 0 d some_worker)))
 
-pub returns-then-begin-clause-idle : goal.returns-then-begin-clause-idle
-returns-then-begin-clause-idle g c = λ none.
+pub returns-then-begin-clause-ended : goal.returns-then-begin-clause-ended
+returns-then-begin-clause-ended g c =
     let d = c.index-crew-0.result in
     let after : Worker g.row.LEVELS = c.begin.new.self in
     let begun = set c.args.crew.now 0 after in
     let many : length c.run_all.new.crew ≡ length begun = c.run_all.auto.crew in
     let no_steps = (c.requires.new 0 d c.requires.crew.some_worker).steps in
     let gains : GainsOthers [] (own_steps after.member) = subst (λ (es : List Entry). GainsOthers es (own_steps after.member)) no_steps (c.if-begin.ensures.gains refl) in
-    all_idle c.args.state.now.no_room c.args.instance.now c.args.idle begun c.run_all.new.crew many c.run_all.ensures (begun_gains c.args.crew.now after c.requires.new gains) none
+    inl (all_ended c.args.state.now.no_room c.args.instance.now c.args.idle begun c.run_all.new.crew many c.run_all.ensures
+    (begun_go c.args.crew.now d after c.requires.new c.requires.pickers c.begin.ensures.same c.begin.ensures.course) (begun_gains c.args.crew.now after c.requires.new gains))
 
-pub returns-else-begin-clause-idle : goal.returns-else-begin-clause-idle
-returns-else-begin-clause-idle g c = λ none.
-    let d = c.index-crew-0.result in
-    let some_worker : 0 < length (set c.args.crew.now 0 c.begin.new.self) = omega (arith, length-set c.args.crew.now 0 c.begin.new.self, c.requires.crew.some_worker) in
-    let first : get_or (set c.args.crew.now 0 c.begin.new.self) 0 d ≡ c.begin.new.self = get_or-set_same c.args.crew.now 0 c.begin.new.self d c.requires.crew.some_worker in
-    absurd (c.if-begin.ensures.begun (subst (λ (w : Worker g.row.LEVELS). w.refused ≡ None) first (none 0 d some_worker)))
-
-pub returns-then-begin-clause-course : goal.returns-then-begin-clause-course
-returns-then-begin-clause-course g c =
-    let begun = set c.args.crew.now 0 c.begin.new.self in
-    let many : length c.run_all.new.crew ≡ length begun = c.run_all.auto.crew in
-    all_go c.args.state.now.no_room c.args.instance.now c.args.idle begun c.run_all.new.crew many c.run_all.ensures
-    (begun_go c.args.crew.now c.index-crew-0.result c.begin.new.self c.requires.new c.requires.pickers c.begin.ensures.same c.begin.ensures.course)
-
-pub returns-else-begin-clause-course : goal.returns-else-begin-clause-course
-returns-else-begin-clause-course g c = begun_go c.args.crew.now c.index-crew-0.result c.begin.new.self c.requires.new c.requires.pickers c.begin.ensures.same c.begin.ensures.course
+pub returns-else-begin-clause-ended : goal.returns-else-begin-clause-ended
+returns-else-begin-clause-ended g c =
+    let after = c.begin.new.self in let new = c.requires.new in
+    inr (root_refused c.args.crew.now after c.requires.crew.some_worker new (c.if-begin.ensures.refused refl), begun_go c.args.crew.now c.index-crew-0.result after new c.requires.pickers c.begin.ensures.same c.begin.ensures.course)
 
 pub returns-then-begin-clause-room : goal.returns-then-begin-clause-room
 returns-then-begin-clause-room g c = λ alone. inl (λ k d lt. (c.run_all.ensures k d (omega (arith, lt, c.run_all.auto.crew))).room alone)

@@ -12,8 +12,8 @@ use Rattle.klsm_parts.specs.Generators.{generator_of}
 use Rattle.klsm_knapsack.specs.IncumbentSeats.{IsSeatAt}
 use Rattle.klsm_knapsack.specs.Ends.{IsLeastRefusal}
 use Rattle.klsm_knapsack.specs.Refusals.{RefusesSearch}
-use Rattle.klsm_knapsack.specs.Workers.{AreWorkersOf, HasEndedSo, HasNotBegun, HaveWorked, IsSearched}
-use Rattle.klsm_knapsack.proofs.CrewLemmas.{none_refused, so_many_workers}
+use Rattle.klsm_knapsack.specs.Workers.{AreWorkersOf, HasNotBegun, HaveEndedSo, HaveWorked, IsSearched}
+use Rattle.klsm_knapsack.proofs.CrewLemmas.{each_ran, none_refused, so_many_workers}
 use Rattle.klsm_parts.proofs.FitLemmas.{shared_fits}
 use Rattle.klsm_knapsack.proofs.FinishLemmas.{good_threads, good_k, good_refill, memory_is_not_threads, memory_is_not_k, memory_is_not_refill, memory_is_not_full, whole, refuses, refused_too, workers_made, are_new, members_of, least_refusal, searched}
 use Rattle.klsm_knapsack.proofs.RoomLemmas.{never_full}
@@ -64,7 +64,7 @@ returns-in-Err-clause-refused g c = λ not_alone.
     let as_long : c.in-Ok-make_workers.crew.len ≡ length after = search rules in
     let is : take c.in-Ok-make_workers.crew.len (after ++ drop (length after) c.in-Ok-make_workers.crew.items) ≡ after = whole c.in-Ok-make_workers.crew.len after (drop (length after) c.in-Ok-make_workers.crew.items) as_long in
     let first = rw is at c.in-Err.ensures.refused in
-    let least : IsLeastRefusal g.row.LEVELS c.in_ok-board.board.sizes c.in-Err.why = least_refusal state after c.search.ensures.crew c.in-Err.why (subst (λ (m : NoRoom). All (HasEndedSo m) after) not_alone c.search.ensures.ended) first in
+    let least : IsLeastRefusal g.row.LEVELS c.in_ok-board.board.sizes c.in-Err.why = least_refusal state after c.search.ensures.crew c.args.options.now.idle c.in-Err.why (subst (λ (m : NoRoom). HaveEndedSo m c.args.options.now.idle after) not_alone c.search.ensures.ended) first in
     let told = refused_too g.row.LEVELS (sizes_of c.args.options.now.threads c.args.options.now.k) c.args.options.now.refill c.in-Err.why (subst (λ (m : Sizes). IsLeastRefusal g.row.LEVELS m c.in-Err.why) c.in_ok-board.ensures.sizes least) in
     subst (λ (why : SolveError). RefusesSearch g.row.LEVELS c.args.options.now.threads c.args.options.now.k c.args.options.now.refill why) (sym c.error_in_one_hand.ensures.error)
     (refuses g.row.LEVELS c.args.options.now.threads c.args.options.now.k c.args.options.now.refill c.in-Err.why c.in_ok-board.ensures.in_range told)
@@ -100,8 +100,8 @@ returns-clause-ran g c =
     let as_long : c.in-Ok-make_workers.crew.len ≡ length after = search rules in
     let is : take c.in-Ok-make_workers.crew.len (after ++ drop (length after) c.in-Ok-make_workers.crew.items) ≡ after = whole c.in-Ok-make_workers.crew.len after (drop (length after) c.in-Ok-make_workers.crew.items) as_long in
     let back = rw is at c.in_default-join_workers.ensures.members in
-    let none = rw is at c.in_default-join_workers.ensures.none in
-    has_searched state after c.search.ensures.crew c.args.options.now c.in_ok-board.ensures.sizes c.join_workers.new.back.items back c.in-Ok-finish.ensures.ok.1 c.search.ensures.course (c.search.ensures.idle (none_refused after none))
+    let none = none_refused after (rw is at c.in_default-join_workers.ensures.none) in
+    has_searched state after c.search.ensures.crew c.args.options.now c.in_ok-board.ensures.sizes c.args.no_room c.join_workers.new.back.items back c.in-Ok-finish.ensures.ok.1 (each_ran c.args.no_room c.args.options.now.idle after c.search.ensures.ended none) none
 
 pub drop-members-requires-room-T-Destruct : goal.drop-members-requires-room-T-Destruct
 drop-members-requires-room-T-Destruct g c κs = lit< tt
