@@ -30,7 +30,7 @@ use Rattle.klsm_knapsack.specs.declared.errors.SolveError.TheVariants.{BadThread
 use Rattle.klsm_instance.specs.Selections.{Problem}
 use Rattle.klsm_knapsack.specs.IncumbentSeats.{IsSeatAt, found_by}
 use Rattle.klsm_knapsack.specs.Work.{HasNode, HasWorked, all_inserted, all_deleted}
-use Rattle.klsm_knapsack.specs.Ends.{End, EndsAnswered, EndsRefused, HasEnded, HasStopped, HaveEnded, IsLeastRefusal, NoneHasRun, first_refusal}
+use Rattle.klsm_knapsack.specs.Ends.{End, EndsAnswered, EndsRefused, HasEnded, StopsWith, HaveEnded, IsLeastRefusal, NoneHasRun, first_refusal}
 use Rattle.klsm_knapsack.specs.Workers.{HasEndedSo, HaveEndedSo, HaveWorked, AreWorkersOf, HasNotBegun, IsSearched, IsWorkerOf, RootWasRefused, work_by}
 use Rattle.klsm_board.specs.Members.{sizes_of}
 use Rattle.klsm_knapsack.specs.Refusals.{RefusesSearch, error_of}
@@ -93,7 +93,7 @@ refused_too levels m refill why is = record {
 }
 
 -- a worker that does not go on without room stopped so
-stopped_so : (levels k t : ℕ) (es : List Entry) (refused : Option Refusal) → MatchOption refused (Refuses ≡ Refuses → EndsAnswered t es) (EndsRefused levels k t es) → HasStopped levels k t es refused
+stopped_so : (levels k t : ℕ) (es : List Entry) (refused : Option Refusal) → MatchOption refused (Refuses ≡ Refuses → EndsAnswered t es) (EndsRefused levels k t es) → StopsWith levels k t es refused
 stopped_so levels k t es None told = told refl
 stopped_so levels k t es (Some why) told = told
 

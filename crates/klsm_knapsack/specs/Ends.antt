@@ -39,9 +39,9 @@ EndsRefused levels k t es refusal.NoMemory =
     (before : List Entry) × RefusesInsertWaiting ⊥ levels k t before es insert.NoMemory
 
 -- how a worker stopped: with this refusal, or with none
-abbrev pub HasStopped : ℕ → ℕ → ℕ → List Entry → Option Refusal → Type 0
-HasStopped levels k t es None = EndsAnswered t es
-HasStopped levels k t es (Some why) = EndsRefused levels k t es why
+abbrev pub StopsWith : ℕ → ℕ → ℕ → List Entry → Option Refusal → Type 0
+StopsWith levels k t es None = EndsAnswered t es
+StopsWith levels k t es (Some why) = EndsRefused levels k t es why
 
 -- one call more: all items of the own part were shared, or, as that was refused, all were kept
 abbrev pub SharesOrKeeps : ℕ → ℕ → List Entry → List Entry → Type 0
@@ -50,7 +50,7 @@ SharesOrKeeps levels t es es' = ((count : ℕ) × SharesWaiting levels t es es' 
 
 -- how a worker ended that ran: it stopped so, and then shared its items
 abbrev pub HasEnded : ℕ → ℕ → ℕ → List Entry → Option Refusal → Type 0
-HasEnded levels k t es refused = (stopped : List Entry) × HasStopped levels k t stopped refused
+HasEnded levels k t es refused = (stopped : List Entry) × StopsWith levels k t stopped refused
     × SharesOrKeeps levels t stopped es
 
 -- the first refusal, where there is one
