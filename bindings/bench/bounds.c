@@ -68,8 +68,12 @@ static void *work(void *of) {
     worker *mine = of;
     klsm_item item;
     uint64_t taken = 0;
-    for (; still_goes(); taken++) {
-        must(klsm_delete_min(mine->member, &item) == KLSM_OK);
+    while (still_goes()) {
+        const int32_t code = klsm_delete_min(mine->member, &item);
+        if (code == KLSM_NOTHING) /* others have what lives in their hands */
+            continue;
+        must(code == KLSM_OK);
+        taken++;
         if (piece > 0)
             work_until(now() + piece);
         must(klsm_insert(mine->member, item.key + 1 + (taken * 2654435761u) % 64, item.load) == KLSM_OK);
