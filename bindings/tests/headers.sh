@@ -70,7 +70,7 @@ headers_without_warnings_by() {
 }
 
 # A compiler warns of each opening, insertion, deletion, sharing, bound, closing and piece of work whose code is
-# dropped, and of a rest that waits for nobody.
+# dropped, and of a rest that never blocks.
 dropped_codes() {
     cat >"$work/$1" <<'END'
 #include <klsm.h>

@@ -1,4 +1,4 @@
-/* Threads over one queue, by the waiting calls and by those that wait for nobody: each item is deleted once
+/* Threads over one queue, by the waiting calls and by those that never block: each item is deleted once
  * or left once, and the account says so. threads [INSERTIONS OF EACH OF FOUR MEMBERS]; where there are more
  * members each makes fewer. With 250000 of them it takes some minutes.
  *

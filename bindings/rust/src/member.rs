@@ -104,8 +104,7 @@ impl<'queue> Member<'queue> {
         }
     }
 
-    /// Deletes a small item and returns it, as [`delete_min`](Member::delete_min) does, and waits for
-    /// nobody.
+    /// Deletes a small item and returns it, as [`delete_min`](Member::delete_min) does, and never blocks.
     ///
     /// # Errors
     ///
@@ -264,8 +263,7 @@ impl<'queue> Member<'queue> {
         }
     }
 
-    /// Says that the member has done with the item that it deleted last, as [`rest`](Member::rest), and waits for
-    /// nobody.
+    /// Says that the member has done with the item that it deleted last, as [`rest`](Member::rest), and never blocks.
     ///
     /// # Errors
     ///
