@@ -4,16 +4,14 @@ use Rattle.std.specs.Prelude.{ℕ, ◌≡◌, ◌<◌, ◌≤◌, List, [], ◌�
 use Rattle.std.specs.List.{Contains, flat_map}
 use Rattle.klsm_run.specs.declared.item.Item.{Item}
 use Rattle.klsm_parts.specs.Events.{front_of}
-use Rattle.klsm_world.specs.declared.step.Event.{Event}
-use Rattle.klsm_world.specs.declared.step.Event.TheVariants.{Put, Flush, Take, Early, Nothing, Spy, Refill, Steal, Share}
 use Rattle.klsm_world.specs.declared.step.Step.{Step}
 use Rattle.klsm_world.specs.declared.step.Step.TheVariants.{Acquire, Commit, Release, Miss, Look, Mark, See}
 use Rattle.klsm_world.specs.declared.step.Entry.{Entry}
-use Rattle.klsm_world.specs.OwnSteps.{deleted_by, no_key, seen_of, work_of}
+use Rattle.klsm_world.specs.OwnSteps.{deleted_by, inserted_by, no_key, seen_of, work_of}
 use Rattle.klsm_world.specs.Worlds.{Limits, World, steps_of, live}
 use Rattle.klsm_world.specs.LawfulWorlds.{IsLawful}
 use Rattle.klsm_world.specs.Schedules.{Leads, LeadsOn}
-use Rattle.klsm_world.specs.RelaxedQueue.{events_of}
+use Rattle.klsm_world.specs.RelaxedQueue.{event_of, events_of}
 
 -- the least of the keys that the threads of these lists work at
 abbrev pub least_work : List (List Entry) → ℕ
@@ -24,37 +22,31 @@ least_work (own ∷ lists) = min (work_of own) (least_work lists)
 abbrev pub least_open : World → ℕ
 least_open w = min (front_of (live w)) (least_work w.lists)
 
--- an event inserts no item with a key below this one
-abbrev pub InsertsNoneBelow : ℕ → Event → Type 0
-InsertsNoneBelow key (Put x) = key ≤ x.key
-InsertsNoneBelow key (Flush x moved) = key ≤ x.key
-InsertsNoneBelow key (Take x) = Unit {0}
-InsertsNoneBelow key (Early x front) = Unit {0}
-InsertsNoneBelow key Nothing = Unit {0}
-InsertsNoneBelow key (Spy victim moved) = Unit {0}
-InsertsNoneBelow key (Refill moved) = Unit {0}
-InsertsNoneBelow key (Steal victim moved) = Unit {0}
-InsertsNoneBelow key (Share moved) = Unit {0}
+-- the thread that makes a step
+abbrev pub thread_of : Step → ℕ
+thread_of (Acquire t p) = t
+thread_of (Commit t event) = t
+thread_of (Release t p) = t
+thread_of (Miss t p) = t
+thread_of (Look t) = t
+thread_of (Mark t key) = t
+thread_of (See t u) = t
+
+-- the key that this thread works at
+abbrev pub work_before : World → Step → ℕ
+work_before w step = work_of (steps_of w (thread_of step))
+
+-- a step inserts no item with a key below this one
+abbrev pub InsertsNoneBelow : ℕ → Step → Type 0
+InsertsNoneBelow key step = (x : Item) → Contains (flat_map inserted_by (event_of step)) x → key ≤ x.key
 
 -- where its thread works at no key below this one, a step inserts none below it
 abbrev pub StaysAbove : ℕ → World → Step → Type 0
-StaysAbove key w (Acquire t p) = Unit {0}
-StaysAbove key w (Commit t event) = key ≤ work_of (steps_of w t) → InsertsNoneBelow key event
-StaysAbove key w (Release t p) = Unit {0}
-StaysAbove key w (Miss t p) = Unit {0}
-StaysAbove key w (Look t) = Unit {0}
-StaysAbove key w (Mark t new) = Unit {0}
-StaysAbove key w (See t u) = Unit {0}
+StaysAbove key w step = key ≤ work_before w step → InsertsNoneBelow key step
 
 -- what a step inserts has a key no less than that of the item that its thread works at: it is a child of that item
 abbrev pub BringsChild : World → Step → Type 0
-BringsChild w (Acquire t p) = Unit {0}
-BringsChild w (Commit t event) = InsertsNoneBelow (work_of (steps_of w t)) event
-BringsChild w (Release t p) = Unit {0}
-BringsChild w (Miss t p) = Unit {0}
-BringsChild w (Look t) = Unit {0}
-BringsChild w (Mark t key) = Unit {0}
-BringsChild w (See t u) = Unit {0}
+BringsChild w step = InsertsNoneBelow (work_before w step) step
 
 -- a legal step leads to this world from one of which this is true, and it is one that this allows there
 pub record LeadsOnBy (limits : Limits) (Led : World → Type 0) (Allows : World → Step → Type 0) (step : Step) (w : World)

@@ -1,7 +1,6 @@
 -- The keys in work: where no thread that works at a key from some number on inserts one below it, the least key of all that
 -- lives and of all that threads work at does not fall below it.
-use Rattle.std.proofs.Common.{◌≡◌, ◌⊎◌, inl, inr, ℕ, zero, suc, ◌+◌, ◌<◌, ◌≤◌, List, [], ◌∷◌, ◌++◌, length, get_or, set, Option, Some, None, unwrap_or, refl, sym, ap, ◌∙◌, subst, arith}
-use Rattle.std.specs.Prelude.{min}
+use Rattle.std.proofs.Common.{◌≡◌, inl, inr, ℕ, zero, suc, ◌<◌, ◌≤◌, List, [], ◌∷◌, ◌++◌, length, get_or, set, Option, Some, None, unwrap_or, refl, sym, ap, ◌∙◌, subst, arith}
 use Rattle.std.specs.List.{Contains, flat_map, slice_get}
 use Rattle.std.proofs.lemmas.Bool.{cases_eq}
 use Rattle.std.proofs.lemmas.List.Concat.{flat_map-append, flat_map-cons}
@@ -11,7 +10,6 @@ use Rattle.klsm_run.specs.declared.item.Item.{Item}
 use Rattle.klsm_run.specs.Content.{sorted}
 use Rattle.klsm_parts.specs.Events.{front_of, key_or_greatest, times}
 use Rattle.klsm_parts.proofs.EventLemmas.{is_in}
-use Rattle.klsm_world.specs.declared.step.Event.{Event}
 use Rattle.klsm_world.specs.declared.step.Event.TheVariants.{Put, Flush, Take, Early, Nothing, Spy, Refill, Steal, Share}
 use Rattle.klsm_world.specs.declared.step.Step.{Step}
 use Rattle.klsm_world.specs.declared.step.Step.TheVariants.{Acquire, Commit, Release, Miss, Look, Mark, See}
@@ -22,7 +20,7 @@ use Rattle.klsm_world.specs.Worlds.{Limits, World, holder_of, home_of, live, ste
 use Rattle.klsm_world.specs.LawfulWorlds.{IsLawful}
 use Rattle.klsm_world.specs.Schedules.{MayStep, next, noted}
 use Rattle.klsm_world.specs.RelaxedQueue.{event_of, events_of}
-use Rattle.klsm_world.specs.WorkLaws.{BringsChild, ChildrenStayAbove, InsertsNoneBelow, LeadsBy, LeastOpenStaysAbove, LedAbove, StaysAbove, WorkHolds, WorkHoldsOfDeleted, least_open, least_work}
+use Rattle.klsm_world.specs.WorkLaws.{ChildrenStayAbove, InsertsNoneBelow, LeadsBy, LeastOpenStaysAbove, LedAbove, StaysAbove, WorkHolds, WorkHoldsOfDeleted, least_open, least_work, thread_of}
 use Rattle.klsm_world.proofs.lemmas.counts.EventCountLemmas.{contained_if_counted, times_contained}
 use Rattle.klsm_world.proofs.lemmas.lawful.LawfulLemmas.{lawful_kept}
 use Rattle.klsm_world.proofs.lemmas.theorems.LiveLemmas.{front_at_most, step_gains}
@@ -59,30 +57,21 @@ module _ (limits : Limits) (key : ℕ) (w : World) (lawful : IsLawful limits w) 
   work_of_thread : (t : ℕ) → t < limits.threads → key ≤ work_of (steps_of w t)
   work_of_thread t inside = omega (arith, below.work, work_at_most w.lists t (omega (arith, inside, lawful.agreed.lists_are)))
 
+  thread_inside : (step : Step) → MayStep limits w step → thread_of step < limits.threads
+  thread_inside (Acquire t p) may = may.thread
+  thread_inside (Commit t event) may = may.thread
+  thread_inside (Release t p) may = may.thread
+  thread_inside (Miss t p) may = may.thread
+  thread_inside (Look t) may = may.thread
+  thread_inside (Mark t new) may = may.thread
+  thread_inside (See t u) may = may.thread
+
   key_below_all : key ≤ no_key
   key_below_all = omega (arith, below.work, work_below_all w.lists)
 
   -- what a step inserts that stays above has no key below
-  inserted_above : (step : Step) (x : Item) → MayStep limits w step → StaysAbove key w step → Contains (flat_map inserted_by (event_of step)) x → key ≤ x.key
-  inserted_above (Acquire t p) x may stays within = absurd (contains_none x within)
-  inserted_above (Commit t (Put y)) x may stays within =
-      let same : y.key ≡ x.key = ap (λ (z : Item). z.key) (contains_one x y within) in
-      omega (arith, stays (work_of_thread t may.thread), same)
-  inserted_above (Commit t (Flush y moved)) x may stays within =
-      let same : y.key ≡ x.key = ap (λ (z : Item). z.key) (contains_one x y within) in
-      omega (arith, stays (work_of_thread t may.thread), same)
-  inserted_above (Commit t (Take y)) x may stays within = absurd (contains_none x within)
-  inserted_above (Commit t (Early y front)) x may stays within = absurd (contains_none x within)
-  inserted_above (Commit t Nothing) x may stays within = absurd (contains_none x within)
-  inserted_above (Commit t (Spy victim moved)) x may stays within = absurd (contains_none x within)
-  inserted_above (Commit t (Refill moved)) x may stays within = absurd (contains_none x within)
-  inserted_above (Commit t (Steal victim moved)) x may stays within = absurd (contains_none x within)
-  inserted_above (Commit t (Share moved)) x may stays within = absurd (contains_none x within)
-  inserted_above (Release t p) x may stays within = absurd (contains_none x within)
-  inserted_above (Miss t p) x may stays within = absurd (contains_none x within)
-  inserted_above (Look t) x may stays within = absurd (contains_none x within)
-  inserted_above (Mark t new) x may stays within = absurd (contains_none x within)
-  inserted_above (See t u) x may stays within = absurd (contains_none x within)
+  inserted_above : (step : Step) → MayStep limits w step → StaysAbove key w step → InsertsNoneBelow key step
+  inserted_above step may stays = stays (work_of_thread (thread_of step) (thread_inside step may))
 
   -- so no item that lives after a step has one
   live_above : (step : Step) → MayStep limits w step → StaysAbove key w step → (x : Item) → Contains (live (next w step)) x → key ≤ x.key
@@ -90,7 +79,7 @@ module _ (limits : Limits) (key : ℕ) (w : World) (lawful : IsLawful limits w) 
       let some = times_contained x (live (next w step)) within in
       let gains = step_gains limits w step x lawful may in
       elim (cases_eq (times x (live w)) 0) [
-        | inl none ↦ inserted_above step x may stays (contained_if_counted x (flat_map inserted_by (event_of step)) (omega (arith, some, gains, none)))
+        | inl none ↦ inserted_above step may stays x (contained_if_counted x (flat_map inserted_by (event_of step)) (omega (arith, some, gains, none)))
         | inr lived ↦ below.items x (contained_if_counted x (live w) (omega (arith, lived)))
       ]
 
@@ -204,27 +193,6 @@ least_open_stays_above limits key v w steps led =
     let front = front_above key (live w) most below.items in
     omega (arith, below.work, front)
 
--- what is above one key is above each less one
-none_below_less : (key least : ℕ) (event : Event) → InsertsNoneBelow least event → key ≤ least → InsertsNoneBelow key event
-none_below_less key least (Put x) above less = omega (arith, above, less)
-none_below_less key least (Flush x moved) above less = omega (arith, above, less)
-none_below_less key least (Take x) above less = above
-none_below_less key least (Early x front) above less = above
-none_below_less key least Nothing above less = above
-none_below_less key least (Spy victim moved) above less = above
-none_below_less key least (Refill moved) above less = above
-none_below_less key least (Steal victim moved) above less = above
-none_below_less key least (Share moved) above less = above
-
-child_stays_above : (key : ℕ) (w : World) (step : Step) → BringsChild w step → StaysAbove key w step
-child_stays_above key w (Acquire t p) child = child
-child_stays_above key w (Commit t event) child = λ less. none_below_less key (work_of (steps_of w t)) event child less
-child_stays_above key w (Release t p) child = child
-child_stays_above key w (Miss t p) child = child
-child_stays_above key w (Look t) child = child
-child_stays_above key w (Mark t new) child = child
-child_stays_above key w (See t u) child = child
-
 pub children_stay_above : ChildrenStayAbove
 children_stay_above limits key v w [] leads = leads
 children_stay_above limits key v w (step ∷ before) leads = record {
@@ -234,5 +202,5 @@ children_stay_above limits key v w (step ∷ before) leads = record {
     legal = leads.on.legal;
     after = leads.on.after;
   };
-  allowed = child_stays_above key leads.on.before step leads.allowed;
+  allowed = λ less x within. omega (arith, less, leads.allowed x within);
 }
