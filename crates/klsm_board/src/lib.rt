@@ -42,8 +42,8 @@
 //! A member may ask for a bound (`Member::bound`): the least key of all live items, and how many live, exactly. It has all
 //! parts in hand for a moment, so a program asks seldom: now and then, and not at each deletion.
 //!
-//! `try_insert`, `try_delete_min`, `try_share`, `try_bound` and `try_balance` wait for nobody: where a lock is held they
-//! release what they acquired, and say who held it. `try_hold` acquires one part in order to look at it.
+//! `try_insert`, `try_delete_min`, `try_share`, `try_bound`, `try_rest` and `try_balance` never block: where a lock is
+//! held they release what they acquired, and say who held it. `try_hold` acquires one part in order to look at it.
 //!
 //! **What a member promises** is said by its list of own steps, which is for the proof alone: which
 //! parts it acquired and what it found there, what it committed, what it released. The contract of each
@@ -73,8 +73,8 @@
 //!   than (T-1)·k where it went by the front, nor any where T is 1: clauses `left` and `few` of
 //!   `AllMembers::delete_min`. An insertion is full only where all inserted as many as the shared part has room
 //!   for: clause `full` of `AllMembers::insert`. A sharing changes nothing that is left: clause `left` of
-//!   `AllMembers::share`, and a bound is that of what is left: clause `bound` of `AllMembers::bound`. No call meets a lock that is held, so none waits: clauses `ok` and `refused`. `spread` gives
-//!   the members back, as they were.
+//!   `AllMembers::share`, and a bound is that of what is left: clause `bound` of `AllMembers::bound`. No call meets
+//!   a lock that is held, so none waits: clauses `ok` and `refused`. `spread` gives the members back, as they were.
 //! - **Nothing is lost.** Once all members are back, `finish` tells how many items were inserted and
 //!   deleted, and which are left: each item inserted is one of these two, once (`each_once`).
 //! - **Each answer is an event.** An item is answered where its `Take` or `Early` was committed, and a
@@ -91,9 +91,9 @@
 //! The files, from the atomic steps up: `rule` and `plays` (what always holds, and what a step tells), `steps`
 //! (acquire, release, the two commits, the look at the front), `slot` (what is done to the parts), `lending`,
 //! `acquiring` (one try, or as many as it needs), `inserting`, `spying`, `early` (deletions by the front),
-//! `taking`, `deleting`, `stealing` (balances), `sharing`, `marking` (the key in work), `resting`, `bounding`, and the public calls in `making`, `member`, `held`, `together` and
-//! `finishing`. `tally` has the counts of members that are in one hand. `gate` is for programs that run members in
-//! threads.
+//! `taking`, `deleting`, `stealing` (balances), `sharing`, `marking` (the key in work), `resting`, `bounding`, and the
+//! public calls in `making`, `member`, `held`, `together` and `finishing`. `tally` has the counts of members that are
+//! in one hand. `gate` is for programs that run members in threads.
 #![tactic(auto)]
 
 mod acquiring;

@@ -60,8 +60,8 @@ fn load_mark<S: Holding, D: Intent>(
     table.load::<See<D>>(seat, (other + 1) * STRIDE + 1)
 }
 
-/// Marks the key that the thread works at, or that it works at none, with its own part in hand.
-pub(crate) fn mark<S: Holding>(table: &Locks<S>, seat: &mut MemberSeat<S>, thread: usize, key: u64)
+// Marks the key that the thread works at, or that it works at none, with its own part in hand.
+fn mark<S: Holding>(table: &Locks<S>, seat: &mut MemberSeat<S>, thread: usize, key: u64)
     requires seat { IsSeatOf seat.old.table_id table.now.table_id table.now.key thread }
     requires carries { (own : List Item)
         × Carries S.content S.suits table.now.key thread (own_in_hand thread own) seat.old.me
@@ -78,7 +78,7 @@ pub(crate) fn mark<S: Holding>(table: &Locks<S>, seat: &mut MemberSeat<S>, threa
     store_mark::<S, Brand>(table, seat, thread, key);
 }
 
-/// The same, and releases the part.
+/// Marks the key that the thread works at, or that it works at none, with its own part in hand, and releases that part.
 pub(crate) fn release_marked<S: Holding>(
     table: &Locks<S>,
     seat: &mut MemberSeat<S>,

@@ -340,8 +340,8 @@ impl<const CAP: usize, const LEVELS: usize> Member<CAP, LEVELS> {
         unreachable!()
     }
 
-    /// Moves all items of the own part to the shared one, where others find them, and answers how many moved. It waits
-    /// for nobody.
+    /// Moves all items of the own part to the shared one, where others find them, and answers how many moved. It never
+    /// blocks.
     ///
     /// It acquires the own lock and, where the own part has an item, the shared one. It costs one growth, one merge of the
     /// own items, and what a flush of them costs. Where it is refused no item has moved and no block has changed: `Busy`
@@ -450,8 +450,8 @@ impl<const CAP: usize, const LEVELS: usize> Member<CAP, LEVELS> {
         unreachable!()
     }
 
-    /// Works at no item any more: the one that it deleted last is done with, for whoever asks for a bound. It waits for
-    /// nobody. An answer of nothing does the same, and a deletion sets another item in its place, so this is for a member
+    /// Works at no item any more: the one that it deleted last is done with, for whoever asks for a bound. It never
+    /// blocks. An answer of nothing does the same, and a deletion sets another item in its place, so this is for a member
     /// that pauses or leaves, once it has inserted all that it made of its item.
     pub fn try_rest(&mut self, board: &Board<CAP, LEVELS>) -> Result<(), Busy>
         requires { IsOf self.old board.now }

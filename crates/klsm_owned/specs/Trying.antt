@@ -1,4 +1,4 @@
--- What the calls of a member that wait for nobody tell, in its own words.
+-- What the calls of a member that never block tell, in its own words.
 use Rattle.std.specs.Prelude.{◌≡◌, ◌↔◌, ℕ, List, [], ◌∷◌, ◌++◌, length, Result, Option, IfOk, IfErr, IsErrAnd, OnOk}
 use Rattle.std.specs.Option.{option_to_list}
 use Rattle.klsm_run.specs.declared.item.Item.{Item}
