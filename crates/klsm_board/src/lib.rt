@@ -39,8 +39,9 @@
 //! An answer `None` is no sign of the end, since another member may be about to insert. So the threads end
 //! when no node is open.
 //!
-//! A member may ask for a bound (`Member::bound`): the least key of all live items, and how many live, exactly. It has all
-//! parts in hand for a moment, so a program asks seldom: now and then, and not at each deletion.
+//! A member may ask for a bound (`Member::bound`): the least key of all live items, the least of those that members work
+//! at, and how many live, exactly. It has all parts in hand for a moment, so a program asks seldom: now and then, and not
+//! at each deletion.
 //!
 //! `try_insert`, `try_delete_min`, `try_share`, `try_bound`, `try_rest` and `try_balance` never block: where a lock is
 //! held they release what they acquired, and say who held it. `try_hold` acquires one part in order to look at it.
@@ -90,7 +91,7 @@
 //!
 //! The files, from the atomic steps up: `rule` and `plays` (what always holds, and what a step tells), `steps`
 //! (acquire, release, the two commits, the look at the front), `slot` (what is done to the parts), `lending`,
-//! `acquiring` (one try, or as many as it needs), `inserting`, `spying`, `early` (deletions by the front),
+//! `acquiring` (one try), `inserting`, `spying`, `early` (deletions by the front),
 //! `taking`, `deleting`, `stealing` (balances), `sharing`, `marking` (the key in work), `resting`, `bounding`, and the
 //! public calls in `making`, `member`, `held`, `together` and `finishing`. `tally` has the counts of members that are
 //! in one hand. `gate` is for programs that run members in threads.
