@@ -5,7 +5,7 @@
 /* What a thread does after KLSM_BUSY: it backs off, longer each time, then lets other threads run too, and
  * after many misses sleeps, so that the thread that has the lock finds a processor also where there are
  * fewer of these than threads. For a waiting loop of one's own over the calls klsm_try_..; klsm_insert
- * and klsm_delete_min show how. The lengths are those of the library's own waiting calls in Rattle. */
+ * and klsm_delete_min show how. */
 typedef struct klsm_pause {
     uint32_t length; /* of the next pause, in nanoseconds */
     uint32_t misses; /* how many pauses came before, as far as it matters */

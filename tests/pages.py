@@ -19,7 +19,7 @@ DEFINITION = re.compile(r"^ *(?:abbrev pub|pub record|pub data) ([^\s:]+)|^pub (
 NUMBERS = "no one two three four five six seven eight nine ten eleven twelve thirteen fourteen fifteen sixteen \
 seventeen eighteen nineteen twenty".split()
 
-TESTS = {"klsm_tests", "klsm_program_tests", "klsm_test_support"}
+TESTS = {"klsm_tests", "klsm_program_tests", "klsm_surface_tests", "klsm_test_support"}
 # Names of the kit and of others' programs, and those that are put together where they are used.
 FOREIGN = {"BUILD", "bazel", "start_io", "also_shares", "crossbeam_utils", "Backoff", "longjmp", "memmove",
            "latency_insert_", "libklsm2_VERSION_amd64"}
@@ -124,7 +124,7 @@ def libraries():
 
 
 def limits():
-    """Limits have names, which klsm_run and klsm_model define. Tests and texts may have their numbers."""
+    """Limits have names, which klsm_run and klsm_world define. Tests and texts may have their numbers."""
     literal = []
     for file in sorted([*ROOT.glob("crates/*/src/**/*.rt"), *ROOT.glob("crates/*/specs/**/*.antt"), *ROOT.glob("crates/*/proofs/**/*.antt")]):
         crate = file.relative_to(ROOT / "crates").parts[0]

@@ -50,21 +50,22 @@ def tells_version(word):
     status, answer = run_unheard([word])
     if status != 0 or answer != f"klsm {version()}\n".encode():
         return f"the status is {status}, and the text is {answer!r}"
-    if not answer.startswith(f"klsm {newest()}, proved with rattle-kit-".encode()):
+    if not answer.startswith(f"klsm {newest()}, proved with rattle logic ".encode()):
         return f"the text is {answer!r}, and the newest version of the changelog is {newest()}"
     return None
 
 
-def names_the_kit():
-    """The kit that `rt version` tells is the one that the program says it was proved with."""
+def names_the_logic():
+    """The program says that it was proved in the logic of the kit at hand. Kits of several names share a logic."""
     kit = subprocess.run(["rt", "version"], capture_output=True, check=True).stdout.strip()
+    logic = kit.partition(b" logic ")[2]
     answer = run_unheard(["--version"])[1]
-    return None if answer.endswith(b", proved with " + kit + b"\n") else f"the text is {answer!r}, and the kit is {kit!r}"
+    return None if answer.endswith(b", proved with rattle logic " + logic + b"\n") else f"the text is {answer!r}, and the kit is {kit!r}"
 
 
 def checks():
     if shutil.which("rt"):
-        yield "the version beside that of the kit", names_the_kit
+        yield "the logic of the version beside that of the kit", names_the_logic
     for words in REQUESTS:
         yield f"help of 80 columns: {words}", functools.partial(helps, words.split())
     for word in ("--version", "-V"):

@@ -1,7 +1,7 @@
 //! What a call that may wait does between two tries.
 //!
-//! The library's functions never block, so the waiting is here. The numbers are those of the
-//! queue's own waiting calls: it backs off for 50 nanoseconds, then twice as long up to 800, after some
+//! The library's functions never block, so the waiting is here. The numbers are those of
+//! `klsm_wait.h`: a thread backs off for 50 nanoseconds, then twice as long up to 800, after some
 //! misses lets other threads run too, and after many sleeps. By time, since a pause instruction takes 5
 //! nanoseconds on one processor and 60 on another.
 

@@ -10,7 +10,6 @@ use std::alloc::Global;
 use std::sync::Wait;
 use std::sync::atomic::{AtomicU64, Ordering};
 use std::thread::Threads;
-use std::time::Clock;
 use std::{io, thread};
 use worker::{Search, Worker, workers_on};
 
@@ -25,7 +24,7 @@ fn main(rt: HostRuntime) -> io::Result<()> {
 }
 
 /// The least cost, as so many threads find it. `None` where the board had no room for a node.
-fn least_cost<R: Threads + Wait + Clock + Sync>(
+fn least_cost<R: Threads + Wait + Sync>(
     rt: &R,
     alloc: Global,
     threads: usize,

@@ -8,7 +8,6 @@ use klsm_parts::First;
 use std::alloc::{AllocError, Global};
 use std::sync::Wait;
 use std::sync::atomic::{AtomicBool, AtomicU64, Ordering};
-use std::time::Clock;
 
 /// What all threads of a search share beside the board.
 #[derive(Drop)]
@@ -54,7 +53,7 @@ pub(crate) struct Worker<'a, R> {
     ghost of: { IsOf member board.now },
 }
 
-impl<R: Wait + Clock> Worker<'_, R> {
+impl<R: Wait> Worker<'_, R> {
     /// Inserts the root.
     pub(crate) fn begin(&mut self) {
         if self.open(Node::root()).is_err() {
@@ -103,7 +102,7 @@ impl<R: Wait + Clock> Worker<'_, R> {
 }
 
 /// A worker for each of these members.
-pub(crate) fn workers_on<'a, R: Wait + Clock>(
+pub(crate) fn workers_on<'a, R: Wait>(
     rt: &'a R,
     alloc: Global,
     board: &'a StandardBoard,

@@ -10,11 +10,10 @@ use rand_pcg::Pcg32;
 use std::alloc::{AllocError, Global};
 use std::io;
 use std::sync::Wait;
-use std::time::Clock;
 
 /// Prints, for each workload and several k, whether the queue gives what the heap gives, and whether a board
 /// of one member gives that too, with each of two pickers.
-pub(crate) fn print<R: Print + AllocGlobal + Wait + Clock>(rt: &R) -> io::Result<()> {
+pub(crate) fn print<R: Print + AllocGlobal + Wait>(rt: &R) -> io::Result<()> {
     for workload in WORKLOADS {
         print_queues(rt, *workload)?;
     }
@@ -33,10 +32,7 @@ fn print_queues<R: Print + AllocGlobal>(rt: &R, workload: Workload) -> io::Resul
 }
 
 // With one member each deletion is exact, whatever the picker.
-fn print_boards<R: Print + AllocGlobal + Wait + Clock>(
-    rt: &R,
-    workload: Workload,
-) -> io::Result<()> {
+fn print_boards<R: Print + AllocGlobal + Wait>(rt: &R, workload: Workload) -> io::Result<()> {
     let least = board_agrees(rt, rt.alloc(), workload, 64, First);
     print_row(
         rt,
@@ -94,7 +90,7 @@ fn queue_agrees(alloc: Global, workload: Workload, pair: &mut Pair) -> Option<bo
 }
 
 // Whether the keys of a board of one member are those of a heap in their order.
-fn board_agrees<R: Wait + Clock, P: Picker + Drop>(
+fn board_agrees<R: Wait, P: Picker + Drop>(
     rt: &R,
     alloc: Global,
     workload: Workload,
@@ -132,7 +128,7 @@ fn deleted_from<C: Contender>(
 }
 
 // The same of a board of one member.
-fn deleted_from_board<R: Wait + Clock, P: Picker + Drop>(
+fn deleted_from_board<R: Wait, P: Picker + Drop>(
     rt: &R,
     alloc: Global,
     workload: Workload,

@@ -8,7 +8,6 @@ use klsm_parts::Picker;
 use klsm_run::Item;
 use std::alloc::Global;
 use std::sync::Wait;
-use std::time::Clock;
 
 // More insertions than a member makes.
 const QUOTA: u64 = 1 << 32;
@@ -36,7 +35,7 @@ pub(crate) struct OnBoard<'a, R, P> {
     pub(crate) ghost of: { IsOf member board.now },
 }
 
-impl<R: Wait + Clock, P: Picker> Contender for OnBoard<'_, R, P> {
+impl<R: Wait, P: Picker> Contender for OnBoard<'_, R, P> {
     fn insert(&mut self, key: u64, load: u64) -> Option<()> {
         self.member.insert(self.rt, self.board, key, load).ok()?;
         Some(())

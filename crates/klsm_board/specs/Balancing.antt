@@ -1,6 +1,6 @@
 -- When a member balances, and with which other one.
 use Rattle.std.specs.Prelude.{◌≡◌, ℕ, ◌+◌, ◌-◌, ◌⊎◌, Bool, nat_eq, ltb, not, ◌&&◌, List, Option, Some, None, if◌then◌else◌}
-use Rattle.klsm_world.specs.declared.step.Entry.{Entry}
+use Rattle.klsm_schedules.specs.declared.step.Entry.{Entry}
 use Rattle.klsm_board.specs.declared.balancing.Balancing.{Balancing}
 use Rattle.klsm_board.specs.declared.balancing.TheConstants.{MOST_BALANCED}
 use Rattle.klsm_board.specs.declared.errors.Busy.{Busy}

@@ -3,9 +3,9 @@ use Rattle.std.specs.Prelude.{◌≡◌, ℕ, ◌++◌, List, [], ◌∷◌, len
 use mathlib.Core.Option.{some}
 use lib.ListN.{get_elem?}
 use Rattle.klsm_run.specs.declared.item.Item.{Item}
-use Rattle.klsm_world.specs.declared.step.Entry.{Entry}
-use Rattle.klsm_world.specs.declared.step.Entry.TheVariants.{Missed}
-use Rattle.klsm_world.specs.OwnSteps.{content_in, hand_of, inserted, deleted}
+use Rattle.klsm_schedules.specs.declared.step.Entry.{Entry}
+use Rattle.klsm_schedules.specs.declared.step.Entry.TheVariants.{Missed}
+use Rattle.klsm_schedules.specs.OwnSteps.{content_in, hand_of, inserted, deleted}
 use Rattle.klsm_board.specs.declared.board.Board.{Board}
 use Rattle.klsm_board.specs.declared.board.Member.{Member}
 use Rattle.klsm_board.specs.declared.board.Held.{Held}

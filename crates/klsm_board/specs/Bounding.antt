@@ -2,12 +2,12 @@
 use Rattle.std.specs.Prelude.{◌≡◌, ℕ, zero, suc, ◌≤◌, List, [], ◌∷◌, ◌++◌, length, ltb, if◌then◌else◌, min}
 use Rattle.klsm_run.specs.declared.item.Item.{Item}
 use Rattle.klsm_parts.specs.Events.{front_of}
-use Rattle.klsm_world.specs.declared.step.Entry.{Entry}
-use Rattle.klsm_world.specs.declared.step.Entry.TheVariants.{Acquired, Released, Missed, Saw}
-use Rattle.klsm_world.specs.OwnSteps.{Hand, hand_of, no_key, own_part, shared_part}
-use Rattle.klsm_world.specs.Worlds.{live}
-use Rattle.klsm_world.specs.LiveLaws.{HasAllParts}
-use Rattle.klsm_world.specs.WorkLaws.{least_work}
+use Rattle.klsm_schedules.specs.declared.step.Entry.{Entry}
+use Rattle.klsm_schedules.specs.declared.step.Entry.TheVariants.{Acquired, Released, Missed, Saw}
+use Rattle.klsm_schedules.specs.OwnSteps.{Hand, hand_of, no_key, own_part, shared_part}
+use Rattle.klsm_schedules.specs.Worlds.{live}
+use Rattle.klsm_schedules.specs.LiveLaws.{HasAllParts}
+use Rattle.klsm_schedules.specs.WorkLaws.{least_work}
 use Rattle.klsm_board.specs.declared.bounding.Bound.{Bound}
 use Rattle.klsm_board.specs.declared.errors.Busy.{Busy}
 use Rattle.klsm_board.specs.declared.rule.Own.{Own}

@@ -4,11 +4,11 @@ use Rattle.klsm_run.specs.declared.item.Item.{Item}
 use Rattle.klsm_parts.specs.Least.{IsLeast}
 use Rattle.klsm_parts.specs.Events.{times, MayTake, MayTakeEarly, MaySpy, own_after_take, shared_after_take}
 use Rattle.klsm_parts.specs.Refilling.{refill_of}
-use Rattle.klsm_world.specs.declared.step.Event.TheVariants.{Take, Early, Nothing, Spy, Refill}
-use Rattle.klsm_world.specs.declared.step.Entry.{Entry}
-use Rattle.klsm_world.specs.declared.step.Entry.TheVariants.{Acquired, Committed, Released, Missed}
-use Rattle.klsm_world.specs.OwnSteps.{no_key, own_part}
-use Rattle.klsm_world.specs.OwnListLaws.{SkipsFew, SkipsFewBy, KeepsOwnOrder, KeepsOwnOrderBy, LeavesFew}
+use Rattle.klsm_schedules.specs.declared.step.Event.TheVariants.{Take, Early, Nothing, Spy, Refill}
+use Rattle.klsm_schedules.specs.declared.step.Entry.{Entry}
+use Rattle.klsm_schedules.specs.declared.step.Entry.TheVariants.{Acquired, Committed, Released, Missed}
+use Rattle.klsm_schedules.specs.OwnSteps.{no_key, own_part}
+use Rattle.klsm_schedules.specs.OwnListLaws.{SkipsFew, SkipsFewBy, KeepsOwnOrder, KeepsOwnOrderBy, LeavesFew}
 use Rattle.klsm_board.specs.declared.sizes.Sizes.{Sizes}
 use Rattle.klsm_board.specs.Rule.{world_limits}
 use Rattle.klsm_board.specs.Entries.{own_acquired, own_marked, both_marked, both_looked}

@@ -1,9 +1,9 @@
 -- What stands in a member's list where it acquires its parts, and looks at the front between.
 use Rattle.std.specs.Prelude.{ℕ, List, [], ◌∷◌, ◌++◌, Option, Some, None}
 use Rattle.klsm_run.specs.declared.item.Item.{Item}
-use Rattle.klsm_world.specs.declared.step.Entry.{Entry}
-use Rattle.klsm_world.specs.declared.step.Entry.TheVariants.{Acquired, Released, Looked, Marked}
-use Rattle.klsm_world.specs.OwnSteps.{own_part, shared_part}
+use Rattle.klsm_schedules.specs.declared.step.Entry.{Entry}
+use Rattle.klsm_schedules.specs.declared.step.Entry.TheVariants.{Acquired, Released, Looked, Marked}
+use Rattle.klsm_schedules.specs.OwnSteps.{own_part, shared_part}
 
 -- thread t acquired its own part
 abbrev pub own_acquired : ℕ → List Item → List Entry → List Entry

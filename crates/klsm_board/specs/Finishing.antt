@@ -5,14 +5,14 @@ use mathlib.Core.Option.{some}
 use lib.ListN.{get_elem?}
 use Rattle.klsm_run.specs.declared.item.Item.{Item}
 use Rattle.klsm_parts.specs.Events.{times}
-use Rattle.klsm_world.specs.declared.step.Entry.{Entry}
-use Rattle.klsm_world.specs.declared.step.Step.{Step as WorldStep}
-use Rattle.klsm_world.specs.OwnSteps.{event_at, inserted, deleted}
-use Rattle.klsm_world.specs.Worlds.{World, steps_of}
-use Rattle.klsm_world.specs.Schedules.{Leads}
-use Rattle.klsm_world.specs.RelaxedQueue.{IsRun, events_of}
-use Rattle.klsm_world.specs.Account.{account}
-use Rattle.klsm_world.specs.Laws.{IsWithinQuota, event_by}
+use Rattle.klsm_schedules.specs.declared.step.Entry.{Entry}
+use Rattle.klsm_schedules.specs.declared.step.Step.{Step as WorldStep}
+use Rattle.klsm_schedules.specs.OwnSteps.{event_at, inserted, deleted}
+use Rattle.klsm_schedules.specs.Worlds.{World, steps_of}
+use Rattle.klsm_schedules.specs.Schedules.{Leads}
+use Rattle.klsm_schedules.specs.RelaxedQueue.{IsRun, events_of}
+use Rattle.klsm_schedules.specs.Account.{account}
+use Rattle.klsm_schedules.specs.Laws.{IsWithinQuota, event_by}
 use Rattle.klsm_board.specs.declared.sizes.Sizes.{Sizes}
 use Rattle.klsm_board.specs.declared.board.Member.{Member}
 use Rattle.klsm_board.specs.declared.rule.View.{View}

@@ -5,10 +5,10 @@ use Rattle.klsm_run.specs.declared.item.Stamp.{Stamp}
 use Rattle.klsm_run.specs.Capacity.{heap_room}
 use Rattle.klsm_parts.specs.Limit.{limit_of}
 use Rattle.klsm_parts.specs.Events.{MayPut, MayFlush}
-use Rattle.klsm_world.specs.declared.step.Event.TheVariants.{Put, Flush}
-use Rattle.klsm_world.specs.declared.step.Entry.{Entry}
-use Rattle.klsm_world.specs.declared.step.Entry.TheVariants.{Committed, Released, Missed}
-use Rattle.klsm_world.specs.OwnSteps.{own_part, shared_part}
+use Rattle.klsm_schedules.specs.declared.step.Event.TheVariants.{Put, Flush}
+use Rattle.klsm_schedules.specs.declared.step.Entry.{Entry}
+use Rattle.klsm_schedules.specs.declared.step.Entry.TheVariants.{Committed, Released, Missed}
+use Rattle.klsm_schedules.specs.OwnSteps.{own_part, shared_part}
 use Rattle.klsm_board.specs.declared.errors.Busy.{Busy}
 use Rattle.klsm_board.specs.declared.errors.TryInsertError.{TryInsertError}
 use Rattle.klsm_board.specs.declared.errors.TryInsertError.TheVariants as try_insert

@@ -4,7 +4,7 @@ use Rattle.atomic_table.specs.Table.{Me}
 use Rattle.klsm_run.specs.declared.item.Item.{Item}
 use Rattle.klsm_run.specs.declared.limits.TheConstants.{MOST_THREADS}
 use Rattle.klsm_parts.specs.Parts.{PartState}
-use Rattle.klsm_world.specs.OwnSteps.{content_in, hand_of, inserted, deleted}
+use Rattle.klsm_schedules.specs.OwnSteps.{content_in, hand_of, inserted, deleted}
 use Rattle.klsm_board.specs.declared.sizes.Sizes.{Sizes}
 use Rattle.klsm_board.specs.declared.rule.View.{View}
 use Rattle.klsm_board.specs.declared.slot.Slot.{Slot}

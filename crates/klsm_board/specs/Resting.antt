@@ -1,9 +1,9 @@
 -- What a rest adds to its member's list.
 use Rattle.std.specs.Prelude.{◌≡◌, ℕ, zero, suc, List, [], ◌∷◌, ◌++◌}
 use Rattle.klsm_run.specs.declared.item.Item.{Item}
-use Rattle.klsm_world.specs.declared.step.Entry.{Entry}
-use Rattle.klsm_world.specs.declared.step.Entry.TheVariants.{Missed}
-use Rattle.klsm_world.specs.OwnSteps.{no_key, own_part}
+use Rattle.klsm_schedules.specs.declared.step.Entry.{Entry}
+use Rattle.klsm_schedules.specs.declared.step.Entry.TheVariants.{Missed}
+use Rattle.klsm_schedules.specs.OwnSteps.{no_key, own_part}
 use Rattle.klsm_board.specs.declared.errors.Busy.{Busy}
 use Rattle.klsm_board.specs.Entries.{own_acquired, own_marked}
 

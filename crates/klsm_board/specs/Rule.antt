@@ -8,12 +8,12 @@ use Rattle.atomic_table.specs.Table.{State}
 use Rattle.atomic_table.specs.Seated.{TableId}
 use Rattle.klsm_run.specs.declared.item.Item.{Item}
 use Rattle.klsm_run.specs.declared.limits.TheConstants.{MOST_THREADS}
-use Rattle.klsm_world.specs.declared.step.Entry.{Entry}
-use Rattle.klsm_world.specs.declared.step.Step.{Step as WorldStep}
-use Rattle.klsm_world.specs.OwnSteps.{found_in, hand_of, inserted, mark_of, no_key, own_part, work_of}
-use Rattle.klsm_world.specs.Laws.{IsWithinQuota}
-use Rattle.klsm_world.specs.Worlds.{Limits, World, steps_of}
-use Rattle.klsm_world.specs.Schedules.{Leads}
+use Rattle.klsm_schedules.specs.declared.step.Entry.{Entry}
+use Rattle.klsm_schedules.specs.declared.step.Step.{Step as WorldStep}
+use Rattle.klsm_schedules.specs.OwnSteps.{found_in, hand_of, inserted, mark_of, no_key, own_part, work_of}
+use Rattle.klsm_schedules.specs.Laws.{IsWithinQuota}
+use Rattle.klsm_schedules.specs.Worlds.{Limits, World, steps_of}
+use Rattle.klsm_schedules.specs.Schedules.{Leads}
 use Rattle.klsm_board.specs.declared.sizes.Sizes.{Sizes}
 use Rattle.klsm_board.specs.declared.rule.Own.{Own}
 use Rattle.klsm_board.specs.declared.rule.View.{View}

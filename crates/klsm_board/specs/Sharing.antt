@@ -4,10 +4,10 @@ use Rattle.klsm_run.specs.declared.item.Item.{Item}
 use Rattle.klsm_run.specs.Capacity.{heap_room}
 use Rattle.klsm_parts.specs.Limit.{limit_of}
 use Rattle.klsm_parts.specs.Sharing.{MayShare}
-use Rattle.klsm_world.specs.declared.step.Event.TheVariants.{Share}
-use Rattle.klsm_world.specs.declared.step.Entry.{Entry}
-use Rattle.klsm_world.specs.declared.step.Entry.TheVariants.{Committed, Released}
-use Rattle.klsm_world.specs.OwnSteps.{own_part}
+use Rattle.klsm_schedules.specs.declared.step.Event.TheVariants.{Share}
+use Rattle.klsm_schedules.specs.declared.step.Entry.{Entry}
+use Rattle.klsm_schedules.specs.declared.step.Entry.TheVariants.{Committed, Released}
+use Rattle.klsm_schedules.specs.OwnSteps.{own_part}
 use Rattle.klsm_board.specs.declared.errors.TryShareError.{TryShareError}
 use Rattle.klsm_board.specs.declared.errors.TryShareError.TheVariants as try_share
 use Rattle.klsm_board.specs.declared.errors.ShareError.{ShareError}

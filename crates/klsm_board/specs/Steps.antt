@@ -5,15 +5,15 @@ use lib.ListN.{get_elem?}
 use Rattle.atomic_table.specs.Table.{Me, Step, step, rest}
 use Rattle.klsm_run.specs.declared.item.Item.{Item}
 use Rattle.klsm_parts.specs.Events.{front_of}
-use Rattle.klsm_world.specs.declared.step.Event.{Event}
-use Rattle.klsm_world.specs.declared.step.Event.TheVariants.{Early}
-use Rattle.klsm_world.specs.declared.step.Entry.{Entry}
-use Rattle.klsm_world.specs.declared.step.Entry.TheVariants.{Acquired, Committed, Released, Missed, Looked, Marked, Saw}
-use Rattle.klsm_world.specs.declared.step.Step.{Step as WorldStep}
-use Rattle.klsm_world.specs.Laws.{IsWithinQuota}
-use Rattle.klsm_world.specs.OwnSteps.{HoldsSome, no_key, shared_part}
-use Rattle.klsm_world.specs.Worlds.{World, steps_of, hand_in, content_of}
-use Rattle.klsm_world.specs.Schedules.{Leads}
+use Rattle.klsm_schedules.specs.declared.step.Event.{Event}
+use Rattle.klsm_schedules.specs.declared.step.Event.TheVariants.{Early}
+use Rattle.klsm_schedules.specs.declared.step.Entry.{Entry}
+use Rattle.klsm_schedules.specs.declared.step.Entry.TheVariants.{Acquired, Committed, Released, Missed, Looked, Marked, Saw}
+use Rattle.klsm_schedules.specs.declared.step.Step.{Step as WorldStep}
+use Rattle.klsm_schedules.specs.Laws.{IsWithinQuota}
+use Rattle.klsm_schedules.specs.OwnSteps.{HoldsSome, no_key, shared_part}
+use Rattle.klsm_schedules.specs.Worlds.{World, steps_of, hand_in, content_of}
+use Rattle.klsm_schedules.specs.Schedules.{Leads}
 use Rattle.klsm_board.specs.declared.sizes.Sizes.{Sizes}
 use Rattle.klsm_board.specs.declared.rule.Own.{Own}
 use Rattle.klsm_board.specs.declared.rule.View.{View}

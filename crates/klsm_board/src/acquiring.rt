@@ -1,8 +1,8 @@
 //! How a member acquires a part: by one try.
 ghost use Rattle.std.specs.Prelude.{◌≡◌, ◌≤◌, ◌++◌, [], ◌∷◌, List, IfErr, OnOk, None};
 ghost use Rattle.klsm_run.specs.declared.item.Item.{Item};
-ghost use Rattle.klsm_world.specs.declared.step.Entry.TheVariants.{Acquired, Missed};
-ghost use Rattle.klsm_world.specs.OwnSteps.{Hand, found_in};
+ghost use Rattle.klsm_schedules.specs.declared.step.Entry.TheVariants.{Acquired, Missed};
+ghost use Rattle.klsm_schedules.specs.OwnSteps.{Hand, found_in};
 ghost use Rattle.klsm_board.specs.Steps.{HasHolder, mine, rest_of};
 ghost use Rattle.klsm_board.specs.Seats.{Stands, Has, IsSeatOf};
 

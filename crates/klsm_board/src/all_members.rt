@@ -5,7 +5,7 @@ ghost use Rattle.klsm_board.specs.Knowing.{IsWhole};
 
 use crate::board::Member;
 use crate::tally::Tally;
-use klsm_run::{MOST_LEVELS, PROGRAM_K};
+use klsm_run::{PROGRAM_K, PROGRAM_LEVELS};
 
 /// All members of a board in one hand, for one thread that makes the calls of all.
 ///
@@ -28,7 +28,7 @@ pub struct AllMembers<const CAP: usize, const LEVELS: usize> {
 }
 
 /// All members of a `StandardBoard`.
-pub type AllStandardMembers = AllMembers<PROGRAM_K, MOST_LEVELS>;
+pub type AllStandardMembers = AllMembers<PROGRAM_K, PROGRAM_LEVELS>;
 
 /// Which member is missing, and the members.
 #[derive(Drop)]

@@ -10,7 +10,7 @@ use crate::rule::{Law, MemberSeat, View};
 use crate::sizes::Sizes;
 use crate::slot::BoardSlot;
 use atomic_table::Table;
-use klsm_run::{Item, MOST_K, MOST_LEVELS, PROGRAM_K};
+use klsm_run::{Item, MOST_K, MOST_LEVELS, PROGRAM_K, PROGRAM_LEVELS};
 use std::alloc::Global;
 
 /// A relaxed priority queue of several members, each of which may be used by a thread of its own.
@@ -46,13 +46,13 @@ pub struct Member<const CAP: usize, const LEVELS: usize> {
     pub ghost levels: { IsLevelCount LEVELS },
 }
 
-/// The board of the program: own parts of at most `PROGRAM_K` items, and a shared one of at most `MOST_SHARED`.
-pub type StandardBoard = Board<PROGRAM_K, MOST_LEVELS>;
+/// The board of the program: own parts of at most 64 items, and a shared one of at most 1,048,576.
+pub type StandardBoard = Board<PROGRAM_K, PROGRAM_LEVELS>;
 
 /// One of its members.
-pub type StandardMember = Member<PROGRAM_K, MOST_LEVELS>;
+pub type StandardMember = Member<PROGRAM_K, PROGRAM_LEVELS>;
 
-/// The board of the library for C: own parts of at most `MOST_K` items, and the same shared part.
+/// The board of the library for C: own parts of at most `MOST_K` items, and a shared one of at most `MOST_SHARED`.
 pub type WideBoard = Board<MOST_K, MOST_LEVELS>;
 
 /// One of its members.

@@ -5,9 +5,9 @@ ghost use Rattle.std.specs.Prelude.{◌≡◌, ◌≤◌, ◌+◌, ◌++◌, ℕ
 ghost use Rattle.klsm_run.specs.declared.item.Item.{Item};
 ghost use Rattle.klsm_run.specs.Content.{sorted};
 ghost use Rattle.klsm_parts.specs.Events.{front_of};
-ghost use Rattle.klsm_world.specs.declared.step.Entry.TheVariants.{Released};
-ghost use Rattle.klsm_world.specs.LiveLaws.{HasAllParts};
-ghost use Rattle.klsm_world.specs.OwnSteps.{Hand, found_in};
+ghost use Rattle.klsm_schedules.specs.declared.step.Entry.TheVariants.{Released};
+ghost use Rattle.klsm_schedules.specs.LiveLaws.{HasAllParts};
+ghost use Rattle.klsm_schedules.specs.OwnSteps.{Hand, found_in};
 ghost use Rattle.klsm_board.specs.Steps.{mine, rest_of};
 ghost use Rattle.klsm_board.specs.Seats.{Stands, Has, IsSeatOf};
 ghost use Rattle.klsm_board.specs.Effects.{MeetsHolder};

@@ -5,10 +5,10 @@ ghost use Rattle.klsm_run.specs.declared.item.Item.{Item};
 ghost use Rattle.klsm_run.specs.Content.{ShareNone};
 ghost use Rattle.klsm_parts.specs.Events.{MayTake, MayFindNothing, MayRefill, own_after_take, shared_after_take, own_after_refill, shared_after_refill, front_of};
 ghost use Rattle.klsm_parts.specs.Refilling.{refill_of};
-ghost use Rattle.klsm_world.specs.declared.step.Event.TheVariants.{Take, Refill};
-ghost use Rattle.klsm_world.specs.declared.step.Entry.TheVariants.{Committed};
-ghost use Rattle.klsm_world.specs.OwnSteps.{hand_of, no_key, work_at, work_of};
-ghost use Rattle.klsm_world.specs.OwnListLaws.{SkipsFew, KeepsOwnOrder};
+ghost use Rattle.klsm_schedules.specs.declared.step.Event.TheVariants.{Take, Refill};
+ghost use Rattle.klsm_schedules.specs.declared.step.Entry.TheVariants.{Committed};
+ghost use Rattle.klsm_schedules.specs.OwnSteps.{hand_of, no_key, work_at, work_of};
+ghost use Rattle.klsm_schedules.specs.OwnListLaws.{SkipsFew, KeepsOwnOrder};
 ghost use Rattle.klsm_board.specs.Rule.{world_limits};
 ghost use Rattle.klsm_board.specs.Steps.{mine, rest_of, AreReached};
 ghost use Rattle.klsm_board.specs.Seats.{Carries, Stands, Has, CarriedOut, QuotaAllows, LeavesShared, SetsFront, IsSeatOf, own_in_hand, both_in_hand, last_arriving};
@@ -32,7 +32,7 @@ use crate::steps::{
 use crate::taking::{Fronts, take_and_fetch};
 use klsm_parts::Picker;
 use klsm_run::Item;
-use klsm_world::Event;
+use klsm_schedules::Event;
 
 /// Deletes an item, if the locks that it needs are free. Where it was a shared one, at most `refill` others move to
 /// the own part.

@@ -12,10 +12,27 @@ pub struct Busy {
     pub by: u32,
 }
 
-/// Why a board is not made. The causes are tried in this order.
+/// Why `Board::new` makes no board. The causes are tried in this order.
 #[derive(Clone, Copy, Debug, PartialEq, Eq, Error)]
 pub enum MakeError {
-    /// Not 1 to `MOST_THREADS` members.
+    /// Not 1 to 16 members.
+    #[error("the number of members is not 1 to 16")]
+    BadThreads,
+    /// More items in an own part than a run can hold.
+    #[error("an own part cannot hold k items")]
+    BadK,
+    /// More than 2^48 insertions for each member.
+    #[error("the quota is more than 2^48 insertions")]
+    BadQuota,
+    /// An allocation was refused.
+    #[error("out of memory")]
+    NoMemory,
+}
+
+/// Why `Board::with_refill` makes no board. The causes are tried in this order.
+#[derive(Clone, Copy, Debug, PartialEq, Eq, Error)]
+pub enum SizesError {
+    /// Not 1 to 64 members.
     #[error("the number of members is not 1 to 64")]
     BadThreads,
     /// More items in an own part than a run can hold.

@@ -1,11 +1,11 @@
 //! How a member holds a part, in order to look at it.
 ghost use Rattle.std.specs.Prelude.{◌≡◌, ◌<◌, ◌≤◌, ◌++◌, ◌↔◌, ◌∷◌, [], List, length, slice_get, IfOk, IfErr, IfSome, IsErrAnd, IsTrue};
 ghost use Rattle.klsm_run.specs.declared.item.Item.{Item};
-ghost use Rattle.klsm_world.specs.declared.step.Entry.TheVariants.{Acquired, Released, Missed};
+ghost use Rattle.klsm_schedules.specs.declared.step.Entry.TheVariants.{Acquired, Released, Missed};
 ghost use Rattle.klsm_parts.specs.Least.{IsLeast};
-ghost use Rattle.klsm_world.specs.OwnSteps.{Hand, inserted, deleted};
-ghost use Rattle.klsm_world.specs.Worlds.{World, content_of, steps_of};
-ghost use Rattle.klsm_world.specs.LawfulWorlds.{IsLawful};
+ghost use Rattle.klsm_schedules.specs.OwnSteps.{Hand, inserted, deleted};
+ghost use Rattle.klsm_schedules.specs.Worlds.{World, content_of, steps_of};
+ghost use Rattle.klsm_schedules.specs.LawfulWorlds.{IsLawful};
 ghost use Rattle.klsm_board.specs.Rule.{IsReached, world_limits};
 ghost use Rattle.klsm_board.specs.declared.errors.Busy.{Busy};
 ghost use Rattle.klsm_board.specs.Seats.{Carries};

@@ -7,10 +7,10 @@ ghost use Rattle.klsm_run.specs.Capacity.{heap_room};
 ghost use Rattle.klsm_run.specs.Content.{ShareNone};
 ghost use Rattle.klsm_parts.specs.Limit.{limit_of};
 ghost use Rattle.klsm_parts.specs.Events.{MayPut, MayFlush, own_after_put, own_after_flush, shared_after_flush, front_of};
-ghost use Rattle.klsm_world.specs.declared.step.Event.TheVariants.{Put, Flush};
-ghost use Rattle.klsm_world.specs.declared.step.Entry.TheVariants.{Committed, Released};
-ghost use Rattle.klsm_world.specs.OwnSteps.{own_part, inserted, deleted};
-ghost use Rattle.klsm_world.specs.LegalSteps.{BearsStamp};
+ghost use Rattle.klsm_schedules.specs.declared.step.Event.TheVariants.{Put, Flush};
+ghost use Rattle.klsm_schedules.specs.declared.step.Entry.TheVariants.{Committed, Released};
+ghost use Rattle.klsm_schedules.specs.OwnSteps.{own_part, inserted, deleted};
+ghost use Rattle.klsm_schedules.specs.LegalSteps.{BearsStamp};
 ghost use Rattle.klsm_board.specs.Steps.{mine, rest_of};
 ghost use Rattle.klsm_board.specs.Seats.{Carries, Stands, Has, CarriedOut, IsSeatOf, own_in_hand, both_in_hand};
 ghost use Rattle.klsm_board.specs.Effects.{MeetsHolder};
@@ -25,7 +25,7 @@ use crate::slot::PartSlot;
 use crate::steps::{commit_event, commit_moving_by_front, release_both, release_part};
 use klsm_parts::LsmError;
 use klsm_run::Item;
-use klsm_world::Event;
+use klsm_schedules::Event;
 
 /// Inserts an item, if no lock that it needs is held.
 pub(crate) fn insert_now<S: PartSlot>(

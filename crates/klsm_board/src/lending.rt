@@ -3,7 +3,7 @@
 ghost use Rattle.std.specs.Prelude.{◌≡◌, ◌∷◌, List};
 ghost use Rattle.atomic_table.specs.Table.{rest};
 ghost use Rattle.klsm_run.specs.declared.item.Item.{Item};
-ghost use Rattle.klsm_world.specs.OwnSteps.{own_part, shared_part};
+ghost use Rattle.klsm_schedules.specs.OwnSteps.{own_part, shared_part};
 ghost use Rattle.klsm_board.specs.Seats.{Carries, LendsShared, both_in_hand, last_arriving};
 
 use crate::rule::{Locks, MemberSeat};

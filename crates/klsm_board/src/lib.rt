@@ -51,7 +51,7 @@
 //! call says which entries the call adds.
 //!
 //! - **The board is a world.** Whatever the threads do, the lock words, the front word, the parts that
-//!   are free and the members' lists are a world to which some schedule of legal steps leads, as `klsm_world` has
+//!   are free and the members' lists are a world to which some schedule of legal steps leads, as `klsm_schedules` has
 //!   them. That is the invariant of the table that all members step on (`rule`), and each atomic step
 //!   keeps it. A member's share of it, that its list is that of such a world, is clause `rule` of
 //!   `Member::number` and `Held::number`.
@@ -135,7 +135,8 @@ pub use board::{
 };
 pub use bounding::Bound;
 pub use errors::{
-    Busy, FinishError, HoldError, InsertError, MakeError, ShareError, TryInsertError, TryShareError,
+    Busy, FinishError, HoldError, InsertError, MakeError, ShareError, SizesError, TryInsertError,
+    TryShareError,
 };
 pub use finishing::{Account, FinishRefused};
 pub use gate::{Gate, Open};

@@ -1,6 +1,6 @@
 //! How a board is made.
 ghost use Rattle.std.specs.Prelude.{All, ◌≡◌, ◌<◌, ◌≤◌, ◌+◌, ◌∷◌, ◌↔◌, ◌⊎◌, ℕ, [], length, vec_len, IfOk, IsErrAnd};
-ghost use Rattle.klsm_run.specs.declared.limits.TheConstants.{MOST_THREADS};
+ghost use Rattle.klsm_run.specs.declared.limits.TheConstants.{MOST_THREADS, PROGRAM_THREADS};
 ghost use Rattle.klsm_run.specs.Capacity.{IsCapacity};
 ghost use Rattle.klsm_parts.specs.Limit.{IsLevelCount};
 ghost use Rattle.klsm_board.specs.Rule.{view, fresh};
@@ -10,20 +10,20 @@ ghost use Rattle.klsm_board.specs.Slots.{AreEmptySlots};
 
 use crate::board::{Board, Member};
 use crate::boxed::Boxed;
-use crate::errors::MakeError;
+use crate::errors::{MakeError, SizesError};
 use crate::rule::{STRIDE, View};
 use crate::sizes::Sizes;
 use crate::slot::{BoardSlot, Home, Slot};
 use atomic_table::{Seat, Split, Table};
-use klsm_parts::{Local, Shared};
-use klsm_run::{Item, MOST_THREADS};
+use klsm_parts::{Local, Shared, Unions};
+use klsm_run::{Item, MOST_THREADS, PROGRAM_THREADS};
 use std::alloc::{AllocError, Global};
 
 /// The most insertions that a board can be made for, of each member: 2^48.
 pub const MOST_INSERTIONS: u64 = 281_474_976_710_656;
 
 impl<const CAP: usize, const LEVELS: usize> Board<CAP, LEVELS> {
-    /// A board of empty parts, and its members in order.
+    /// A board of empty parts for 1 to 16 members, and its members in order. `with_refill` makes larger ones.
     ///
     /// It alone takes the memory of the board itself: a part of about `CAP` items for each member, and
     /// k places beside it, the shared part, two lines of the cache for each lock and for the front, and
@@ -44,25 +44,33 @@ impl<const CAP: usize, const LEVELS: usize> Board<CAP, LEVELS> {
 
         // Each refusal comes exactly where its cause holds and none before it; else memory lacks.
         ensures bad_threads { IsErrAnd result (λ why. why ≡ MakeError.BadThreads)
-            ↔ ((threads ≡ 0) ⊎ (MOST_THREADS < threads)) }
+            ↔ ((threads ≡ 0) ⊎ (PROGRAM_THREADS < threads)) }
         ensures bad_k { IsErrAnd result (λ why. why ≡ MakeError.BadK)
-            ↔ ((1 ≤ threads) × (threads ≤ MOST_THREADS) × (CAP < k)) }
+            ↔ ((1 ≤ threads) × (threads ≤ PROGRAM_THREADS) × (CAP < k)) }
         ensures bad_quota { IsErrAnd result (λ why. why ≡ MakeError.BadQuota)
-            ↔ ((1 ≤ threads) × (threads ≤ MOST_THREADS) × (k ≤ CAP) × (most_insertions < quota)) }
-        ensures bad_refill { IsErrAnd result (λ why. why ≡ MakeError.BadRefill) ↔ ⊥ }
+            ↔ ((1 ≤ threads) × (threads ≤ PROGRAM_THREADS) × (k ≤ CAP) × (most_insertions < quota)) }
     {
-        Board::with_refill(alloc, threads, k, quota, 0)
+        if threads == 0 || threads > PROGRAM_THREADS {
+            return Err(MakeError::BadThreads);
+        }
+        match Board::with_refill(alloc, threads, k, quota, 0) {
+            Ok(made) => Ok(made),
+            Err(SizesError::BadK) => Err(MakeError::BadK),
+            Err(SizesError::BadQuota) => Err(MakeError::BadQuota),
+            Err(SizesError::BadThreads | SizesError::BadRefill) => unreachable!(),
+            Err(SizesError::NoMemory) => Err(MakeError::NoMemory),
+        }
     }
 
-    /// The same, and a deletion that took a shared item moves at most `refill` of the least shared items
-    /// to its member's own part, which is at most k. Its member's next deletions then go by the front.
+    /// The same for 1 to 64 members, and a deletion that took a shared item moves at most `refill` of the least shared
+    /// items to its member's own part, which is at most k. Its member's next deletions then go by the front.
     pub fn with_refill(
         alloc: Global,
         threads: usize,
         k: usize,
         quota: u64,
         refill: usize,
-    ) -> Result<(Self, Vec<Member<CAP, LEVELS>>), MakeError>
+    ) -> Result<(Self, Vec<Member<CAP, LEVELS>>), SizesError>
         requires capacity { IsCapacity CAP }
         requires levels { IsLevelCount LEVELS }
         ensures sizes { IfOk result (λ made. made.0.sizes
@@ -72,22 +80,22 @@ impl<const CAP: usize, const LEVELS: usize> Board<CAP, LEVELS> {
         ensures crew { IfOk result (λ made. AreNewMembersOf made.0 made.1.items) }
 
         // Each refusal comes exactly where its cause holds and none before it; else memory lacks.
-        ensures bad_threads { IsErrAnd result (λ why. why ≡ MakeError.BadThreads)
+        ensures bad_threads { IsErrAnd result (λ why. why ≡ SizesError.BadThreads)
             ↔ ((threads ≡ 0) ⊎ (MOST_THREADS < threads)) }
-        ensures bad_k { IsErrAnd result (λ why. why ≡ MakeError.BadK)
+        ensures bad_k { IsErrAnd result (λ why. why ≡ SizesError.BadK)
             ↔ ((1 ≤ threads) × (threads ≤ MOST_THREADS) × (CAP < k)) }
-        ensures bad_quota { IsErrAnd result (λ why. why ≡ MakeError.BadQuota)
+        ensures bad_quota { IsErrAnd result (λ why. why ≡ SizesError.BadQuota)
             ↔ ((1 ≤ threads) × (threads ≤ MOST_THREADS) × (k ≤ CAP) × (most_insertions < quota)) }
-        ensures bad_refill { IsErrAnd result (λ why. why ≡ MakeError.BadRefill)
+        ensures bad_refill { IsErrAnd result (λ why. why ≡ SizesError.BadRefill)
             ↔ ((1 ≤ threads) × (threads ≤ MOST_THREADS) × (k ≤ CAP) × (quota ≤ most_insertions)
             × (k < refill)) }
     {
         let sizes = sizes_for(CAP, threads, k, quota, refill)?;
         let Ok((board, seat)) = table_of(alloc, sizes) else {
-            return Err(MakeError::NoMemory);
+            return Err(SizesError::NoMemory);
         };
         let Ok(members) = deal(alloc, &board, seat) else {
-            return Err(MakeError::NoMemory);
+            return Err(SizesError::NoMemory);
         };
         Ok((board, members))
     }
@@ -100,31 +108,31 @@ fn sizes_for(
     k: usize,
     quota: u64,
     refill: usize,
-) -> Result<Sizes, MakeError>
+) -> Result<Sizes, SizesError>
     ensures sizes { IfOk result (λ sizes.
         sizes ≡ record { threads = threads; k = k; quota = quota; refill = refill }) }
     ensures in_range { IfOk result (λ sizes. AreSizes capacity sizes) }
-    ensures bad_threads { IsErrAnd result (λ why. why ≡ MakeError.BadThreads)
+    ensures bad_threads { IsErrAnd result (λ why. why ≡ SizesError.BadThreads)
         ↔ ((threads ≡ 0) ⊎ (MOST_THREADS < threads)) }
-    ensures bad_k { IsErrAnd result (λ why. why ≡ MakeError.BadK)
+    ensures bad_k { IsErrAnd result (λ why. why ≡ SizesError.BadK)
         ↔ ((1 ≤ threads) × (threads ≤ MOST_THREADS) × (capacity < k)) }
-    ensures bad_quota { IsErrAnd result (λ why. why ≡ MakeError.BadQuota)
+    ensures bad_quota { IsErrAnd result (λ why. why ≡ SizesError.BadQuota)
         ↔ ((1 ≤ threads) × (threads ≤ MOST_THREADS) × (k ≤ capacity) × (most_insertions < quota)) }
-    ensures bad_refill { IsErrAnd result (λ why. why ≡ MakeError.BadRefill)
+    ensures bad_refill { IsErrAnd result (λ why. why ≡ SizesError.BadRefill)
         ↔ ((1 ≤ threads) × (threads ≤ MOST_THREADS) × (k ≤ capacity) × (quota ≤ most_insertions)
         × (k < refill)) }
 {
     if threads == 0 || threads > MOST_THREADS {
-        return Err(MakeError::BadThreads);
+        return Err(SizesError::BadThreads);
     }
     if k > capacity {
-        return Err(MakeError::BadK);
+        return Err(SizesError::BadK);
     }
     if quota > MOST_INSERTIONS {
-        return Err(MakeError::BadQuota);
+        return Err(SizesError::BadQuota);
     }
     if refill > k {
-        return Err(MakeError::BadRefill);
+        return Err(SizesError::BadRefill);
     }
     Ok(Sizes {
         threads,
@@ -190,6 +198,7 @@ fn empty_home<const CAP: usize>(
         part: Local::new(k),
         places,
         count: 0,
+        unions: Unions::new(alloc),
     };
     Boxed::new(alloc, home)
 }

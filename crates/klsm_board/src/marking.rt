@@ -6,8 +6,8 @@ ghost use Rattle.std.specs.Prelude.{◌≡◌, ◌≤◌, ◌<◌, ◌-◌, ◌+
 ghost use mathlib.Core.Option.{none};
 ghost use Rattle.atomic_table.specs.Table.{step};
 ghost use Rattle.klsm_run.specs.declared.item.Item.{Item};
-ghost use Rattle.klsm_world.specs.declared.step.Entry.TheVariants.{Marked, Saw};
-ghost use Rattle.klsm_world.specs.OwnSteps.{Hand, HoldsSome, hand_of, no_key, own_part, work_of};
+ghost use Rattle.klsm_schedules.specs.declared.step.Entry.TheVariants.{Marked, Saw};
+ghost use Rattle.klsm_schedules.specs.OwnSteps.{Hand, HoldsSome, hand_of, no_key, own_part, work_of};
 ghost use Rattle.klsm_board.specs.Rule.{mark_place};
 ghost use Rattle.klsm_board.specs.Steps.{mine, rest_of, IsMine, mark_stored, saw};
 ghost use Rattle.klsm_board.specs.Seats.{Carries, Stands, Has, IsMarked, IsSeatOf, own_in_hand, both_in_hand};

@@ -2,8 +2,8 @@
 ghost use Rattle.std.specs.Prelude.{◌≡◌, ◌≢◌, ◌<◌, ◌≤◌, ◌+◌, ◌++◌, ◌↔◌, ℕ, List, [], ◌∷◌, length, IfOk, IfErr, OnOk, IsErrAnd, None};
 ghost use Rattle.std.specs.Option.{option_to_list};
 ghost use Rattle.klsm_run.specs.declared.item.Item.{Item};
-ghost use Rattle.klsm_world.specs.declared.step.Entry.TheVariants.{Looked};
-ghost use Rattle.klsm_world.specs.OwnSteps.{inserted, deleted};
+ghost use Rattle.klsm_schedules.specs.declared.step.Entry.TheVariants.{Looked};
+ghost use Rattle.klsm_schedules.specs.OwnSteps.{inserted, deleted};
 ghost use Rattle.klsm_board.specs.Rule.{IsReached, own, view};
 ghost use Rattle.klsm_board.specs.Steps.{HasFront};
 ghost use Rattle.klsm_board.specs.Members.{most_deletions};
@@ -29,7 +29,6 @@ use crate::steps::see_front;
 use klsm_parts::Picker;
 use klsm_run::{Item, Stamp};
 use std::sync::Wait;
-use std::time::Clock;
 
 impl<const CAP: usize, const LEVELS: usize> Member<CAP, LEVELS> {
     /// The member's number.
@@ -65,7 +64,7 @@ impl<const CAP: usize, const LEVELS: usize> Member<CAP, LEVELS> {
     /// list notes the look.
     ///
     /// The clauses say so of a lawful world in which the lists that the member knows are what they were. And by
-    /// `laws::looks_tell_fronts` of `klsm_world` no schedule leads to a list with a look that notes another number
+    /// `laws::looks_tell_fronts` of `klsm_schedules` no schedule leads to a list with a look that notes another number
     /// than the front just before it.
     #[inline]
     pub fn front(&mut self, board: &Board<CAP, LEVELS>) -> u64
@@ -144,7 +143,7 @@ impl<const CAP: usize, const LEVELS: usize> Member<CAP, LEVELS> {
     /// away, longer each time, and then lets other threads run.
     pub fn insert(
         &mut self,
-        rt: &(impl Wait + Clock),
+        rt: &impl Wait,
         board: &Board<CAP, LEVELS>,
         key: u64,
         load: u64,
@@ -165,12 +164,12 @@ impl<const CAP: usize, const LEVELS: usize> Member<CAP, LEVELS> {
         ensures spent { IsErrAnd result (λ why. why ≡ InsertError.Spent)
             ↔ (length (inserted (own_steps self.old)) ≡ self.old.sizes.quota) }
     {
-        let mut pause = Pause::new();
+        let mut pause = Pause::on(rt, &board.table.shared);
         for _ in rt.forever() {
             match self.try_insert(board, key, load) {
                 Ok(stamp) => return Ok(stamp),
                 Err(TryInsertError::Spent) => return Err(InsertError::Spent),
-                Err(TryInsertError::Busy(busy)) => pause.wait(rt, &board.table.shared, busy),
+                Err(TryInsertError::Busy(busy)) => pause.wait(busy),
                 Err(TryInsertError::Full) => return Err(InsertError::Full),
                 Err(TryInsertError::NoMemory) => return Err(InsertError::NoMemory),
             }
@@ -273,7 +272,7 @@ impl<const CAP: usize, const LEVELS: usize> Member<CAP, LEVELS> {
     /// that is held, and it waits between two tries as `insert` does.
     pub fn delete_min<P: Picker>(
         &mut self,
-        rt: &(impl Wait + Clock),
+        rt: &impl Wait,
         board: &Board<CAP, LEVELS>,
         picker: &mut P,
     ) -> Option<Item>
@@ -294,7 +293,7 @@ impl<const CAP: usize, const LEVELS: usize> Member<CAP, LEVELS> {
     /// again and again, as long as that meets a lock that is held, and it waits between two tries as `insert` does.
     pub fn delete_min_alone<P: Picker>(
         &mut self,
-        rt: &(impl Wait + Clock),
+        rt: &impl Wait,
         board: &Board<CAP, LEVELS>,
         picker: &mut P,
     ) -> Option<Item>
@@ -315,7 +314,7 @@ impl<const CAP: usize, const LEVELS: usize> Member<CAP, LEVELS> {
     #[inline]
     fn delete<P: Picker>(
         &mut self,
-        rt: &(impl Wait + Clock),
+        rt: &impl Wait,
         board: &Board<CAP, LEVELS>,
         refill: usize,
         picker: &mut P,
@@ -330,11 +329,11 @@ impl<const CAP: usize, const LEVELS: usize> Member<CAP, LEVELS> {
             (own_steps self.old) (own_steps self.new) result }
         ensures adds { Adds self.old self.new [] (option_to_list result) }
     {
-        let mut pause = Pause::new();
+        let mut pause = Pause::on(rt, &board.table.shared);
         for _ in rt.forever() {
             match self.try_delete(board, refill, picker) {
                 Ok(answer) => return answer,
-                Err(busy) => pause.wait(rt, &board.table.shared, busy),
+                Err(busy) => pause.wait(busy),
             }
         }
         unreachable!()
@@ -367,11 +366,7 @@ impl<const CAP: usize, const LEVELS: usize> Member<CAP, LEVELS> {
 
     /// Moves all items of the own part to the shared one. It is `try_share`, again and again, as long as that meets a lock
     /// that is held, and it waits between two tries as `insert` does.
-    pub fn share(
-        &mut self,
-        rt: &(impl Wait + Clock),
-        board: &Board<CAP, LEVELS>,
-    ) -> Result<usize, ShareError>
+    pub fn share(&mut self, rt: &impl Wait, board: &Board<CAP, LEVELS>) -> Result<usize, ShareError>
         requires { IsOf self.old board.now }
         ensures same { IsSame self.old self.new }
         ensures others { known_of_others self.new ≡ known_of_others self.old }
@@ -381,11 +376,11 @@ impl<const CAP: usize, const LEVELS: usize> Member<CAP, LEVELS> {
         ensures refused { IfErr result (RefusesShareWaiting LEVELS self.old.number
             (own_steps self.old) (own_steps self.new)) }
     {
-        let mut pause = Pause::new();
+        let mut pause = Pause::on(rt, &board.table.shared);
         for _ in rt.forever() {
             match self.try_share(board) {
                 Ok(count) => return Ok(count),
-                Err(TryShareError::Busy(busy)) => pause.wait(rt, &board.table.shared, busy),
+                Err(TryShareError::Busy(busy)) => pause.wait(busy),
                 Err(TryShareError::Full) => return Err(ShareError::Full),
                 Err(TryShareError::NoMemory) => return Err(ShareError::NoMemory),
             }
@@ -398,13 +393,13 @@ impl<const CAP: usize, const LEVELS: usize> Member<CAP, LEVELS> {
     /// It acquires the own locks of all members, in the order of their numbers, and then the shared one; `Busy` names the
     /// first that was not free. So there is a moment in the call when the member has all parts in hand, and what it answers
     /// is exact for that moment. Each item that lives later was inserted since, or has a key of at least `queue`
-    /// (`laws::least_keys_hold` of `klsm_world`). It changes no part and takes no memory. It costs T+1 acquires and
+    /// (`laws::least_keys_hold` of `klsm_schedules`). It changes no part and takes no memory. It costs T+1 acquires and
     /// releases, a load for each member, and a comparison for each block; as long as it has a part, nobody else can use
     /// that.
     ///
     /// An item that was deleted is in no part, however long its member still works at it: `work` is the least key of these.
     /// Where members insert nothing but what they made of the item that they work at, with keys no less than its own, no
-    /// item that is deleted later has a key below the lesser of `queue` and `work` (`laws::work_holds` of `klsm_world`): the
+    /// item that is deleted later has a key below the lesser of `queue` and `work` (`laws::work_holds` of `klsm_schedules`): the
     /// bound of a search in which children are inserted before the next deletion, or the `rest`, of their member.
     pub fn try_bound(&mut self, board: &Board<CAP, LEVELS>) -> Result<Bound, Busy>
         requires { IsOf self.old board.now }
@@ -430,7 +425,7 @@ impl<const CAP: usize, const LEVELS: usize> Member<CAP, LEVELS> {
     ///
     /// Each try needs all locks at once and keeps none for the next one, so other members may overtake it any number of
     /// times: where many of them do little but insert and delete, it may take long.
-    pub fn bound(&mut self, rt: &(impl Wait + Clock), board: &Board<CAP, LEVELS>) -> Bound
+    pub fn bound(&mut self, rt: &impl Wait, board: &Board<CAP, LEVELS>) -> Bound
         requires { IsOf self.old board.now }
         ensures same { IsSame self.old self.new }
         ensures others { known_of_others self.new ≡ known_of_others self.old }
@@ -440,11 +435,11 @@ impl<const CAP: usize, const LEVELS: usize> Member<CAP, LEVELS> {
             (own_steps self.old) (own_steps self.new) result }
         ensures adds { Adds self.old self.new [] [] }
     {
-        let mut pause = Pause::new();
+        let mut pause = Pause::on(rt, &board.table.shared);
         for _ in rt.forever() {
             match self.try_bound(board) {
                 Ok(bound) => return bound,
-                Err(held) => pause.wait(rt, &board.table.shared, held),
+                Err(held) => pause.wait(held),
             }
         }
         unreachable!()
@@ -470,18 +465,18 @@ impl<const CAP: usize, const LEVELS: usize> Member<CAP, LEVELS> {
 
     /// Works at no item any more. It is `try_rest`, again and again, as long as another has the own part in hand, and it
     /// waits between two tries as `insert` does.
-    pub fn rest(&mut self, rt: &(impl Wait + Clock), board: &Board<CAP, LEVELS>)
+    pub fn rest(&mut self, rt: &impl Wait, board: &Board<CAP, LEVELS>)
         requires { IsOf self.old board.now }
         ensures same { IsSame self.old self.new }
         ensures others { known_of_others self.new ≡ known_of_others self.old }
         ensures ok { RestsWaiting self.old.number (own_steps self.old) (own_steps self.new) }
         ensures adds { Adds self.old self.new [] [] }
     {
-        let mut pause = Pause::new();
+        let mut pause = Pause::on(rt, &board.table.shared);
         for _ in rt.forever() {
             match self.try_rest(board) {
                 Ok(()) => return,
-                Err(taken) => pause.wait(rt, &board.table.shared, taken),
+                Err(taken) => pause.wait(taken),
             }
         }
         unreachable!()

@@ -1,32 +1,34 @@
 //! What a member does between two tries of a call that may wait.
 //!
-//! Tries without a pause take the line of the lock word from the holder, who then needs longer. Pauses are by
-//! time, since a `spin_loop` takes 5 nanoseconds on one processor and 60 on another.
-ghost use Rattle.std.specs.Prelude.{◌≡◌, ◌≤◌};
+//! A try without a pause takes the line of the lock word from the holder, who then needs longer. So a member spins at
+//! first, twice as long after each miss, then yields its processor, and at last sleeps. Spinning and yielding are those
+//! of `Backoff` of `crossbeam_utils`.
+//!
+//! What a pause does is no value, so no contract of a spin or a sleep can say it. A `Waiter` therefore has a relation
+//! between itself before and after a pause of each kind, of which `Pause::wait` knows nothing: it can only keep its clause
+//! by one call of that kind.
+ghost use Rattle.std.specs.Prelude.{ℕ, ◌≡◌, ◌+◌, ◌<◌, ◌≤◌, min};
 ghost use Rattle.klsm_run.specs.declared.limits.TheConstants.{MOST_THREADS};
-ghost use Rattle.klsm_board.specs.Rule.{IsSized};
-ghost use Rattle.klsm_board.specs.Pausing.{nanos_after, rest_after};
+ghost use Rattle.klsm_board.specs.Rule.{place};
+ghost use Rattle.klsm_board.specs.Pausing.{SleepsWithin, most_misses, rest_after};
 
 use crate::errors::Busy;
 use crate::rule::{Holding, Locks, STRIDE};
+use crossbeam_utils::Backoff;
 use std::sync::Wait;
-use std::time::{Clock, Duration, Instant};
-use std::{hint, io, thread};
-
-// After how many misses other threads may run.
-const MISSES_ALONE: u32 = 7;
+use std::time::Duration;
 
 // After how many misses a member sleeps, so that the holder has a processor where there are fewer of these than
-// threads. It wakes by itself, since a release wakes nobody.
+// threads.
 const MISSES_AWAKE: u32 = 200;
+
+// For how many microseconds it sleeps at most. It wakes by itself, since a release wakes nobody.
+const NAP: u64 = 50;
 
 /// What comes between two tries.
 pub(crate) enum Rest {
-    /// A look away for so many nanoseconds, behind which other threads may run, or not.
-    LookAway {
-        nanos: u64,
-        yields: bool,
-    },
+    /// `Backoff::snooze`: a spin or a yield.
+    Snooze,
     /// A sleep of at most so many microseconds, as long as this word of the table has this number.
     Sleep {
         word: usize,
@@ -35,65 +37,90 @@ pub(crate) enum Rest {
     },
 }
 
-/// The pauses of one call.
-#[derive(Drop)]
-pub(crate) struct Pause {
-    misses: u32,
+/// Who can rest.
+pub(crate) trait Waiter {
+    ghost use Rattle.klsm_board.specs.declared.pausing.Rest.{Rest};
+
+    /// How many words the table has on which it sleeps.
+    ghost words: { Self → ℕ };
+
+    /// What one rest makes of it.
+    ghost rested: { Self → Rest → Self → Type 0 };
+
+    /// Rests once.
+    fn rest(&mut self, rest: Rest)
+        requires { SleepsWithin rest (words self.old) }
+        ensures words { words self.new ≡ words self.old }
+        ensures rested { rested self.old rest self.new };
 }
 
-impl Pause {
-    pub(crate) fn new() -> Self {
-        Pause { misses: 0 }
-    }
+/// A thread that can spin, yield, and sleep on the words of a board.
+#[derive(Drop)]
+pub(crate) struct Thread<'a, R, S: Holding> {
+    rt: &'a R,
+    table: &'a Locks<S>,
+    backoff: Backoff,
+}
 
-    /// Waits, after a try that met this lock. The next time it takes longer.
-    #[cold]
-    #[inline(never)]
-    pub(crate) fn wait<S: Holding>(
-        &mut self,
-        rt: &(impl Wait + Clock),
-        table: &Locks<S>,
-        busy: Busy,
-    )
-        requires sized { IsSized table.now.table_id table.now.key }
-        requires part { busy.lock ≤ table.now.key.threads }
-    {
-        match rest_of_wait(self.misses, busy) {
-            Rest::LookAway { nanos, yields } => {
-                look_away(rt, nanos);
-                if yields {
-                    thread::yield_now();
-                }
-            }
+impl<R: Wait, S: Holding> Waiter for Thread<'_, R, S> {
+    ghost use Rattle.std.specs.Prelude.{⊤};
+
+    ghost words = { λ thread. thread.table.now.table_id.words };
+
+    ghost rested = { λ before rest after. ⊤ };
+
+    fn rest(&mut self, rest: Rest) {
+        match rest {
+            Rest::Snooze => self.backoff.snooze(),
             Rest::Sleep {
                 word,
                 expected,
                 micros,
-            } => table.park_timeout(rt, word, expected, Duration::from_micros(micros)),
+            } => {
+                let most = Duration::from_micros(micros);
+                self.table.park_timeout(self.rt, word, expected, most);
+            }
         }
+    }
+}
+
+/// The pauses of one call.
+#[derive(Drop)]
+pub(crate) struct Pause<W> {
+    pub(crate) waiter: W,
+    pub(crate) misses: u32,
+}
+
+impl<'a, R: Wait, S: Holding> Pause<Thread<'a, R, S>> {
+    /// The pauses of a call of this thread on these locks.
+    #[inline]
+    pub(crate) fn on(rt: &'a R, table: &'a Locks<S>) -> Self
+        ensures misses { result.misses ≡ 0 }
+        ensures table { result.waiter.table.now.table_id ≡ table.now.table_id }
+    {
+        let waiter = Thread {
+            rt,
+            table,
+            backoff: Backoff::new(),
+        };
+        Pause { waiter, misses: 0 }
+    }
+}
+
+impl<W: Waiter> Pause<W> {
+    /// Rests, after a try that met this lock: by the number of misses before it.
+    #[cold]
+    #[inline(never)]
+    pub(crate) fn wait(&mut self, busy: Busy)
+        requires part { busy.lock ≤ MOST_THREADS }
+        requires within { place busy.lock < W.words self.old.waiter }
+        ensures words { W.words self.new.waiter ≡ W.words self.old.waiter }
+        ensures misses { self.new.misses ≡ min (self.old.misses + 1) most_misses }
+        ensures rested { W.rested self.old.waiter
+            (rest_after self.old.misses busy.lock busy.by) self.new.waiter }
+    {
+        self.waiter.rest(rest_of_wait(self.misses, busy));
         self.misses = self.misses.saturating_add(1);
-    }
-}
-
-// Looks away for so many nanoseconds. A turn takes more than one, so it ends soon also where the clock stands still.
-fn look_away(clock: &impl Clock, nanos: u64) {
-    let begin = Instant::now(clock);
-    for _ in 0..nanos {
-        hint::spin_loop();
-        if has_passed(clock, &begin, nanos) {
-            return;
-        }
-    }
-}
-
-// Whether so many nanoseconds have passed since then. Where the clock cannot be read nobody knows.
-fn has_passed(clock: &impl Clock, begin: &io::Result<Instant>, nanos: u64) -> bool {
-    let Ok(begin) = begin else {
-        return false;
-    };
-    match begin.elapsed(clock) {
-        Ok(passed) => passed >= Duration::from_nanos(nanos),
-        Err(_) => false,
     }
 }
 
@@ -103,27 +130,11 @@ fn rest_of_wait(misses: u32, busy: Busy) -> Rest
     ensures rest { result ≡ rest_after misses busy.lock busy.by }
 {
     if misses < MISSES_AWAKE {
-        return Rest::LookAway {
-            nanos: nanos(misses),
-            yields: misses >= MISSES_ALONE,
-        };
+        return Rest::Snooze;
     }
     Rest::Sleep {
         word: busy.lock * STRIDE,
         expected: busy.by.wrapping_add(1),
-        micros: 50,
-    }
-}
-
-// For how many nanoseconds it backs off after so many misses: twice as long each time, up to 800.
-fn nanos(misses: u32) -> u64
-    ensures nanos { result ≡ nanos_after misses }
-{
-    match misses {
-        0 => 50,
-        1 => 100,
-        2 => 200,
-        3 => 400,
-        _ => 800,
+        micros: NAP,
     }
 }

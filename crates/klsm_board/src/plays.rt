@@ -17,7 +17,7 @@ use std::marker::{Brand, PhantomData};
 pub trait Intent {
     ghost use Rattle.std.specs.Prelude.{ℕ};
     ghost use Rattle.klsm_run.specs.declared.item.Item.{Item};
-    ghost use Rattle.klsm_world.specs.declared.step.Event.{Event};
+    ghost use Rattle.klsm_schedules.specs.declared.step.Event.{Event};
     ghost use Rattle.klsm_board.specs.declared.sizes.Sizes.{Sizes};
 
     // The board's numbers, and the thread that steps.

@@ -11,7 +11,7 @@ ghost use Rattle.klsm_board.specs.declared.sizes.Sizes.{Sizes};
 
 use crate::sizes::Sizes;
 use atomic_table::{Seat, Shared, TableRule};
-use klsm_world::Entry;
+use klsm_schedules::Entry;
 use std::collections::LinkedList;
 use std::marker::PhantomData;
 

@@ -11,13 +11,13 @@ ghost use Rattle.klsm_parts.specs.Events.{MayPut, MayFlush, MayTake, MayFindNoth
 ghost use Rattle.klsm_parts.specs.Refilling.{refill_of};
 ghost use Rattle.klsm_parts.specs.Stealing.{MaySteal, own_after_steal, victim_after_steal, steal_of};
 ghost use Rattle.klsm_parts.specs.Sharing.{MayShare, own_after_share, shared_after_share};
-ghost use Rattle.klsm_world.specs.OwnSteps.{own_part, shared_part};
+ghost use Rattle.klsm_schedules.specs.OwnSteps.{own_part, shared_part};
 ghost use Rattle.klsm_board.specs.Choosing.{Chooses};
 
 use crate::boxed::Boxed;
 use crate::rule::Holding;
 use klsm_parts::{
-    Local, LsmError, Picker, Shared, fetch, flush, put, share, spy, steal, take, take_least,
+    Local, LsmError, Picker, Shared, Unions, fetch, flush, put, share, spy, steal, take, take_least,
 };
 use klsm_run::Item;
 use std::alloc::AllocError;
@@ -251,6 +251,8 @@ pub struct Home<L> {
     // between a refill and the release of the own part. At other times what lies here is of no meaning.
     pub places: Vec<Item>,
     pub count: usize,
+    // The union that the member carries out while it holds its own part.
+    pub unions: Unions,
 }
 
 /// A part on the heap, so that a call that acquires it moves a tag and a pointer.
@@ -317,7 +319,11 @@ impl<const CAP: usize, const LEVELS: usize> PartSlot for BoardSlot<CAP, LEVELS> 
     #[inline]
     fn find_least(&mut self) -> Option<Item> {
         match self {
-            Slot::Own(own) => own.get_mut().part.find_least(),
+            Slot::Own(own) => {
+                let home = own.get_mut();
+                home.unions.carry_on_in_place();
+                home.part.find_least()
+            }
             _ => unreachable!(),
         }
     }
@@ -333,7 +339,12 @@ impl<const CAP: usize, const LEVELS: usize> PartSlot for BoardSlot<CAP, LEVELS> 
     #[inline]
     fn put(&mut self, item: Item) -> bool {
         match self {
-            Slot::Own(own) => put_where_room(&mut own.get_mut().part, item),
+            Slot::Own(own) => {
+                let home = own.get_mut();
+                let is_put = put_where_room(&mut home.part, item);
+                keep_up(&mut home.unions, is_put);
+                is_put
+            }
             _ => unreachable!(),
         }
     }
@@ -342,7 +353,11 @@ impl<const CAP: usize, const LEVELS: usize> PartSlot for BoardSlot<CAP, LEVELS> 
     fn flush(&mut self, shared: &mut Self, item: Item) -> Result<(), LsmError> {
         match (self, shared) {
             (Slot::Own(own), Slot::Common(shared)) => {
-                flush(&mut own.get_mut().part, shared.get_mut(), item)
+                let home = own.get_mut();
+                let common = shared.get_mut();
+                let answer = flush(&mut home.part, common, item);
+                home.unions.exchange(common);
+                answer
             }
             _ => unreachable!(),
         }
@@ -426,7 +441,11 @@ impl<const CAP: usize, const LEVELS: usize> PartSlot for BoardSlot<CAP, LEVELS> 
     fn share(&mut self, shared: &mut Self) -> Result<usize, LsmError> {
         match (self, shared) {
             (Slot::Own(own), Slot::Common(shared)) => {
-                share(&mut own.get_mut().part, shared.get_mut())
+                let home = own.get_mut();
+                let common = shared.get_mut();
+                let answer = share(&mut home.part, common);
+                home.unions.exchange(common);
+                answer
             }
             _ => unreachable!(),
         }
@@ -449,4 +468,14 @@ fn put_where_room<const CAP: usize>(own: &mut Local<CAP>, item: Item) -> bool
     }
     put(own, item);
     true
+}
+
+// Carries a member's union on. If its own part has no room, the shared one is acquired next.
+#[inline]
+fn keep_up(unions: &mut Unions, is_put: bool) {
+    if is_put {
+        unions.carry_on();
+    } else {
+        unions.prepare();
+    }
 }

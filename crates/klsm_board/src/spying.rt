@@ -3,10 +3,10 @@ ghost use Rattle.std.specs.Prelude.{◌≡◌, ◌≢◌, ◌<◌, ◌≤◌, �
 ghost use Rattle.klsm_run.specs.declared.item.Item.{Item};
 ghost use Rattle.klsm_run.specs.declared.limits.TheConstants.{MOST_THREADS};
 ghost use Rattle.klsm_parts.specs.Events.{MaySpy, own_after_spy, victim_after_spy};
-ghost use Rattle.klsm_world.specs.declared.step.Event.TheVariants.{Spy};
-ghost use Rattle.klsm_world.specs.declared.step.Entry.{Entry};
-ghost use Rattle.klsm_world.specs.declared.step.Entry.TheVariants.{Acquired, Committed, Released};
-ghost use Rattle.klsm_world.specs.OwnSteps.{own_part};
+ghost use Rattle.klsm_schedules.specs.declared.step.Event.TheVariants.{Spy};
+ghost use Rattle.klsm_schedules.specs.declared.step.Entry.{Entry};
+ghost use Rattle.klsm_schedules.specs.declared.step.Entry.TheVariants.{Acquired, Committed, Released};
+ghost use Rattle.klsm_schedules.specs.OwnSteps.{own_part};
 ghost use Rattle.klsm_board.specs.Steps.{mine, rest_of};
 ghost use Rattle.klsm_board.specs.Seats.{Carries, Has, IsSeatOf, both_in_hand, three_in_hand};
 ghost use Rattle.klsm_board.specs.Deleting.{Passes, PassesBy, Spies, SpiesAfter, victim_of};

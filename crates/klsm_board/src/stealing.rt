@@ -3,8 +3,8 @@ ghost use Rattle.std.specs.Prelude.{◌≡◌, ◌≢◌, ◌<◌, ◌++◌, ℕ
 ghost use Rattle.klsm_run.specs.declared.item.Item.{Item};
 ghost use Rattle.klsm_run.specs.Content.{ShareNone};
 ghost use Rattle.klsm_parts.specs.Stealing.{MaySteal, own_after_steal, victim_after_steal};
-ghost use Rattle.klsm_world.specs.declared.step.Entry.{Entry};
-ghost use Rattle.klsm_world.specs.OwnSteps.{own_part};
+ghost use Rattle.klsm_schedules.specs.declared.step.Entry.{Entry};
+ghost use Rattle.klsm_schedules.specs.OwnSteps.{own_part};
 ghost use Rattle.klsm_board.specs.Steps.{mine, rest_of};
 ghost use Rattle.klsm_board.specs.Effects.{MeetsHolder};
 ghost use Rattle.klsm_board.specs.Inserting.{MissesOwn};

@@ -3,14 +3,14 @@ ghost use Rattle.std.specs.Prelude.{◌≡◌, ◌≢◌, ◌<◌, ◌≤◌, �
 ghost use mathlib.Core.Option.{none};
 ghost use Rattle.atomic_table.specs.Table.{rest, step};
 ghost use Rattle.klsm_run.specs.declared.item.Item.{Item};
-ghost use Rattle.klsm_world.specs.declared.step.Event.{Event};
-ghost use Rattle.klsm_world.specs.declared.step.Event.TheVariants.{Refill};
-ghost use Rattle.klsm_world.specs.declared.step.Entry.TheVariants.{Acquired, Committed, Released, Missed, Looked};
-ghost use Rattle.klsm_world.specs.OwnSteps.{Hand, Holds, own_part, found_in, after_event, hand_of, inserted};
+ghost use Rattle.klsm_schedules.specs.declared.step.Event.{Event};
+ghost use Rattle.klsm_schedules.specs.declared.step.Event.TheVariants.{Refill};
+ghost use Rattle.klsm_schedules.specs.declared.step.Entry.TheVariants.{Acquired, Committed, Released, Missed, Looked};
+ghost use Rattle.klsm_schedules.specs.OwnSteps.{Hand, Holds, own_part, found_in, after_event, hand_of, inserted};
 ghost use Rattle.klsm_parts.specs.Least.{IsLeast};
 ghost use Rattle.klsm_board.specs.Rule.{place, view};
 ghost use Rattle.klsm_board.specs.Turning.{turned, HasList};
-ghost use Rattle.klsm_world.specs.LegalSteps.{MayCommit};
+ghost use Rattle.klsm_schedules.specs.LegalSteps.{MayCommit};
 ghost use Rattle.klsm_board.specs.Steps.{mine, rest_of, gain, IsMine, AreReached, HasFront, HasHolder, attempted, released, committed, looked, glanced, set_front, turned_to};
 ghost use Rattle.klsm_board.specs.Seats.{Carries, Stands, Has, CarriedOut, IsMarked, QuotaAllows, LeavesShared, LeavesWork, SetsFront, IsSeatOf, own_in_hand, both_in_hand, last_arriving};
 ghost use Rattle.klsm_board.specs.Entries.{both_released};
@@ -18,7 +18,7 @@ ghost use Rattle.klsm_board.specs.Entries.{both_released};
 use crate::plays::{Acquire, Commit, Glance, Intent, Look, Release, SetFront, Turn};
 use crate::rule::{Holding, Locks, MemberSeat, STRIDE};
 use klsm_run::Item;
-use klsm_world::Event;
+use klsm_schedules::Event;
 use std::marker::Brand;
 
 // A try to acquire a part. The word found is 0 where it came to the seat.
@@ -337,7 +337,7 @@ pub(crate) fn commit_with_shared<S: Holding>(
 pub(crate) trait Moving {
     ghost use Rattle.std.specs.Prelude.{List};
     ghost use Rattle.klsm_run.specs.declared.item.Item.{Item};
-    ghost use Rattle.klsm_world.specs.declared.step.Event.{Event};
+    ghost use Rattle.klsm_schedules.specs.declared.step.Event.{Event};
 
     // The event by which these items move.
     ghost event: { Self → List Item → Event };
@@ -345,7 +345,7 @@ pub(crate) trait Moving {
 
 /// The insertion of an item, by which others move to the shared part.
 impl Moving for Item {
-    ghost use Rattle.klsm_world.specs.declared.step.Event.TheVariants.{Flush};
+    ghost use Rattle.klsm_schedules.specs.declared.step.Event.TheVariants.{Flush};
 
     ghost event = { Flush };
 }
@@ -357,7 +357,7 @@ pub(crate) struct Stealing {
 }
 
 impl Moving for Stealing {
-    ghost use Rattle.klsm_world.specs.declared.step.Event.TheVariants.{Steal};
+    ghost use Rattle.klsm_schedules.specs.declared.step.Event.TheVariants.{Steal};
 
     ghost event = { λ about moved. Steal about.victim moved };
 }
@@ -366,14 +366,14 @@ impl Moving for Stealing {
 pub(crate) struct Sharing;
 
 impl Moving for Sharing {
-    ghost use Rattle.klsm_world.specs.declared.step.Event.TheVariants.{Share};
+    ghost use Rattle.klsm_schedules.specs.declared.step.Event.TheVariants.{Share};
 
     ghost event = { λ _ moved. Share moved };
 }
 
 /// A spying on the member with this number.
 impl Moving for u32 {
-    ghost use Rattle.klsm_world.specs.declared.step.Event.TheVariants.{Spy};
+    ghost use Rattle.klsm_schedules.specs.declared.step.Event.TheVariants.{Spy};
 
     ghost event = { Spy };
 }

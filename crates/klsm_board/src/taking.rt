@@ -3,7 +3,7 @@
 ghost use Rattle.std.specs.Prelude.{◌≡◌, ℕ, MatchOption};
 ghost use Rattle.klsm_run.specs.Content.{ShareNone};
 ghost use Rattle.klsm_parts.specs.Events.{MayTake, MayFindNothing, own_after_take};
-ghost use Rattle.klsm_world.specs.OwnSteps.{own_part, shared_part};
+ghost use Rattle.klsm_schedules.specs.OwnSteps.{own_part, shared_part};
 ghost use Rattle.klsm_board.specs.Choosing.{Chooses};
 ghost use Rattle.klsm_board.specs.TakingOut.{FetchesTo, TakesTo};
 

@@ -3,8 +3,8 @@ use Rattle.std.specs.Prelude.{◌≡◌, ℕ, List, length, map}
 use Rattle.klsm_run.specs.declared.limits.TheConstants.{MOST_K, MOST_LEVELS}
 use mathlib.Core.Option.{some}
 use lib.ListN.{get_elem?}
-use Rattle.klsm_world.specs.declared.step.Entry.{Entry}
-use Rattle.klsm_world.specs.Account.{account}
+use Rattle.klsm_schedules.specs.declared.step.Entry.{Entry}
+use Rattle.klsm_schedules.specs.Account.{account}
 use Rattle.klsm_board.specs.declared.board.Board.{Board}
 use Rattle.klsm_board.specs.declared.board.Member.{Member}
 use Rattle.klsm_board.specs.declared.sizes.Sizes.{Sizes}

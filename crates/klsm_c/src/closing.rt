@@ -5,7 +5,7 @@ ghost use Rattle.std.specs.List.{flat_map};
 ghost use Rattle.klsm_run.specs.declared.limits.TheConstants.{MOST_K, MOST_LEVELS, MOST_THREADS};
 ghost use mathlib.Core.Option.{some};
 ghost use lib.ListN.{get_elem?};
-ghost use Rattle.klsm_world.specs.OwnSteps.{deleted, inserted};
+ghost use Rattle.klsm_schedules.specs.OwnSteps.{deleted, inserted};
 ghost use Rattle.klsm_board.specs.Boards.{IsOf, own_steps};
 ghost use Rattle.klsm_board.specs.Members.{most_deletions, most_insertions};
 ghost use Rattle.klsm_owned.specs.Owned.{AreAllOfTheirBoard, member_of, members_of};

@@ -8,7 +8,7 @@ ghost use Rattle.klsm_c.specs.Opening.{AreOpened, pick_by};
 use crate::codes::{BAD_COUNT, BAD_K, BAD_PICK, BAD_REFILL, NO_MEMORY, OK, OPEN};
 use crate::queue::Queue;
 use crate::slot::Slot;
-use klsm_board::MakeError;
+use klsm_board::SizesError;
 use klsm_owned::{OwnedMember, Pick, open_board};
 use std::alloc::Global;
 
@@ -81,10 +81,10 @@ pub extern "C" fn klsm_open_with_balance(
             fill_front(&mut queue.slots, members);
             OK
         }
-        Err(MakeError::BadThreads) => BAD_COUNT,
-        Err(MakeError::BadK) => BAD_K,
-        Err(MakeError::BadRefill) => BAD_REFILL,
-        Err(MakeError::BadQuota | MakeError::NoMemory) => NO_MEMORY,
+        Err(SizesError::BadThreads) => BAD_COUNT,
+        Err(SizesError::BadK) => BAD_K,
+        Err(SizesError::BadRefill) => BAD_REFILL,
+        Err(SizesError::BadQuota | SizesError::NoMemory) => NO_MEMORY,
     }
 }
 

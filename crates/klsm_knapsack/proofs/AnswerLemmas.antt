@@ -2,11 +2,11 @@
 use Rattle.std.proofs.Common.{◌≡◌, ◌≢◌, ℕ, suc, inl, inr, List, [], ◌∷◌, ◌++◌, Option, Some, None, sym, ap, ◌∙◌, append_assoc, arith}
 use Rattle.std.specs.List.{AllByRecursion}
 use Rattle.klsm_run.specs.declared.item.Item.{Item}
-use Rattle.klsm_world.specs.declared.step.Event.{Event}
-use Rattle.klsm_world.specs.declared.step.Event.TheVariants.{Put, Flush, Take, Early, Nothing, Spy, Refill}
-use Rattle.klsm_world.specs.declared.step.Entry.{Entry}
-use Rattle.klsm_world.specs.declared.step.Entry.TheVariants.{Committed, Released}
-use Rattle.klsm_world.specs.OwnSteps.{no_key, own_part, work_at, work_of}
+use Rattle.klsm_schedules.specs.declared.step.Event.{Event}
+use Rattle.klsm_schedules.specs.declared.step.Event.TheVariants.{Put, Flush, Take, Early, Nothing, Spy, Refill}
+use Rattle.klsm_schedules.specs.declared.step.Entry.{Entry}
+use Rattle.klsm_schedules.specs.declared.step.Entry.TheVariants.{Committed, Released}
+use Rattle.klsm_schedules.specs.OwnSteps.{no_key, own_part, work_at, work_of}
 use Rattle.klsm_board.specs.declared.sizes.Sizes.{Sizes}
 use Rattle.klsm_board.specs.Inserting.{FindsFull, GivesUp, Inserts, InsertsWaiting, Waits}
 use Rattle.klsm_board.specs.Deleting.{Deletes, FindsNothing, AnswersDeletion, AnswersWaiting, victim_of, refilled}

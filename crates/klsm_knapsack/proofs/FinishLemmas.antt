@@ -9,10 +9,10 @@ use lib.ListN.{get_elem?}
 use Rattle.klsm_run.specs.declared.item.Item.{Item}
 use Rattle.klsm_run.specs.declared.limits.TheConstants.{MOST_THREADS, PROGRAM_K}
 use Rattle.klsm_parts.specs.Events.{times}
-use Rattle.klsm_world.specs.declared.step.Entry.{Entry}
-use Rattle.klsm_world.specs.OwnSteps.{inserted, deleted}
-use Rattle.klsm_world.specs.Account.{account}
-use Rattle.klsm_world.proofs.lemmas.counts.EventCountLemmas.{times_contained, contained_if_counted}
+use Rattle.klsm_schedules.specs.declared.step.Entry.{Entry}
+use Rattle.klsm_schedules.specs.OwnSteps.{inserted, deleted}
+use Rattle.klsm_schedules.specs.Account.{account}
+use Rattle.klsm_schedules.proofs.lemmas.counts.EventCountLemmas.{times_contained, contained_if_counted}
 use Rattle.klsm_board.specs.declared.board.Member.{Member}
 use Rattle.klsm_board.specs.declared.sizes.Sizes.{Sizes}
 use Rattle.klsm_board.specs.Rule.{IsReached}
@@ -26,7 +26,7 @@ use Rattle.klsm_knapsack.specs.declared.search_state.NoRoom.TheVariants.{Refuses
 use Rattle.klsm_knapsack.specs.declared.search_state.Worker.{Worker}
 use Rattle.klsm_knapsack.specs.declared.errors.Refusal.{Refusal}
 use Rattle.klsm_knapsack.specs.declared.errors.Refusal.TheVariants as refusal
-use Rattle.klsm_knapsack.specs.declared.errors.SolveError.TheVariants.{BadThreads, BadK, BadRefill, Full, NoMemory}
+use Rattle.klsm_knapsack.specs.declared.errors.SearchError.TheVariants.{BadThreads, BadK, BadRefill, Full, NoMemory}
 use Rattle.klsm_instance.specs.Selections.{Problem}
 use Rattle.klsm_knapsack.specs.IncumbentSeats.{IsSeatAt, found_by}
 use Rattle.klsm_knapsack.specs.Work.{HasNode, HasWorked, all_inserted, all_deleted}

@@ -3,10 +3,10 @@ use Rattle.std.specs.Prelude.{ℕ, ◌≡◌, ◌⊎◌, List, [], ◌∷◌, �
 use Rattle.std.specs.List.{AllByRecursion}
 use mathlib.Core.Option.{some}
 use lib.ListN.{get_elem?}
-use Rattle.klsm_world.specs.declared.step.Event.{Event}
-use Rattle.klsm_world.specs.declared.step.Entry.{Entry}
-use Rattle.klsm_world.specs.declared.step.Entry.TheVariants.{Committed, Released}
-use Rattle.klsm_world.specs.OwnSteps.{inserted, own_part, work_of}
+use Rattle.klsm_schedules.specs.declared.step.Event.{Event}
+use Rattle.klsm_schedules.specs.declared.step.Entry.{Entry}
+use Rattle.klsm_schedules.specs.declared.step.Entry.TheVariants.{Committed, Released}
+use Rattle.klsm_schedules.specs.OwnSteps.{inserted, own_part, work_of}
 use Rattle.klsm_board.specs.declared.sizes.Sizes.{Sizes}
 use Rattle.klsm_board.specs.declared.errors.InsertError.TheVariants as insert
 use Rattle.klsm_board.specs.declared.errors.ShareError.{ShareError}

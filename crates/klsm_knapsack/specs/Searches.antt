@@ -1,8 +1,8 @@
 -- What the lists of the workers of a search tell of how it was made.
-use Rattle.std.specs.Prelude.{ℕ, ◌≡◌, ◌<◌, List, [], length, slice_index_or}
+use Rattle.std.specs.Prelude.{ℕ, ◌≡◌, ◌<◌, List, [], length, slice_index_or, min}
 use Rattle.rand_pcg.specs.Lcg.{Lcg}
 use Rattle.klsm_parts.specs.Generators.{generator_of}
-use Rattle.klsm_world.specs.declared.step.Entry.{Entry}
+use Rattle.klsm_schedules.specs.declared.step.Entry.{Entry}
 use Rattle.klsm_board.specs.declared.sizes.Sizes.{Sizes}
 use Rattle.klsm_board.specs.Finishing.{AreListsAtEnd}
 use Rattle.klsm_board.specs.Members.{sizes_of}
@@ -10,6 +10,13 @@ use Rattle.klsm_knapsack.specs.declared.options.SearchOptions.{SearchOptions}
 use Rattle.klsm_knapsack.specs.Answers.{IsIdle}
 use Rattle.klsm_knapsack.specs.Courses.{CallsOfWorker, IsOnCourse}
 use Rattle.klsm_knapsack.specs.Ends.{SharesOrKeeps}
+
+-- what a search is made with where the caller does not say: its deletions move 16 nodes at most
+abbrev pub usual_refill : ℕ → ℕ
+usual_refill k = min k 16
+
+abbrev pub usual_options : ℕ → ℕ → ℕ → SearchOptions
+usual_options threads k idle = record { threads = threads; k = k; refill = usual_refill k; idle = idle }
 
 -- the sizes of its board
 abbrev pub search_sizes : SearchOptions → Sizes

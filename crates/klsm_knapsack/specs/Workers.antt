@@ -4,8 +4,8 @@ use Rattle.std.specs.List.{AllByRecursion, Contains, flat_map}
 use Rattle.rand_pcg.specs.Lcg.{Lcg}
 use Rattle.klsm_run.specs.declared.item.Item.{Item}
 use Rattle.klsm_parts.specs.Generators.{generator_of}
-use Rattle.klsm_world.specs.declared.step.Entry.{Entry}
-use Rattle.klsm_world.specs.OwnSteps.{inserted, deleted}
+use Rattle.klsm_schedules.specs.declared.step.Entry.{Entry}
+use Rattle.klsm_schedules.specs.OwnSteps.{inserted, deleted}
 use Rattle.klsm_board.specs.Boards.{AreMembersOf, IsOf, IsSame, own_steps}
 use Rattle.klsm_knapsack.specs.declared.search_state.SearchState.{SearchState}
 use Rattle.klsm_knapsack.specs.declared.search_state.NoRoom.{NoRoom}

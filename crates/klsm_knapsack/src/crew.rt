@@ -3,7 +3,7 @@ ghost use Rattle.std.specs.Prelude.{ℕ, ◌≡◌, ◌≤◌, ◌<◌, [], None
 ghost use Rattle.klsm_parts.specs.Generators.{generator_of};
 ghost use Rattle.klsm_board.specs.declared.board.Member.{Member};
 ghost use Rattle.klsm_board.specs.Boards.{own_steps};
-ghost use Rattle.klsm_world.specs.OwnSteps.{inserted};
+ghost use Rattle.klsm_schedules.specs.OwnSteps.{inserted};
 ghost use Rattle.klsm_knapsack.specs.declared.search_state.Worker.{Worker};
 ghost use Rattle.klsm_knapsack.specs.IncumbentSeats.{IsSeatAt, found_by, problem_of};
 ghost use Rattle.klsm_knapsack.specs.Ends.{first_refusal};
@@ -21,7 +21,6 @@ use std::alloc::{AllocError, Global};
 use std::sync::Wait;
 use std::thread;
 use std::thread::Threads;
-use std::time::Clock;
 
 /// A worker for each member, with a seat of its own at the incumbent, and picks of its own.
 pub(crate) fn make_workers<const LEVELS: usize>(
@@ -59,7 +58,7 @@ pub(crate) fn make_workers<const LEVELS: usize>(
 }
 
 /// Lets the first worker insert the root, and then all workers run, each in a thread of its own.
-pub(crate) fn search<R: Threads + Wait + Clock + Sync, G: Gate, P: Progress, const LEVELS: usize>(
+pub(crate) fn search<R: Threads + Wait + Sync, G: Gate, P: Progress, const LEVELS: usize>(
     rt: &R,
     state: &SearchState<LEVELS>,
     instance: &Instance,
@@ -83,7 +82,7 @@ pub(crate) fn search<R: Threads + Wait + Clock + Sync, G: Gate, P: Progress, con
 }
 
 // Runs each worker in a thread of its own, which are started by halves, and waits for all.
-fn run_all<R: Threads + Wait + Clock + Sync, G: Gate, P: Progress, const LEVELS: usize>(
+fn run_all<R: Threads + Wait + Sync, G: Gate, P: Progress, const LEVELS: usize>(
     rt: &R,
     state: &SearchState<LEVELS>,
     instance: &Instance,

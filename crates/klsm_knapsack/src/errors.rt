@@ -2,9 +2,26 @@
 
 use thiserror::Error;
 
-/// Why a search ends without an answer. The causes are tried in this order.
+/// Why `solve` has no answer. The causes are tried in this order.
 #[derive(Clone, Copy, Debug, PartialEq, Eq, Error)]
 pub enum SolveError {
+    /// Not 1 to 16 workers.
+    #[error("the number of workers is not 1 to 16")]
+    BadThreads,
+    /// More than 64 items in a member's own part.
+    #[error("an own part cannot hold k items")]
+    BadK,
+    /// The shared part of the board had no room for a node.
+    #[error("the board is full")]
+    Full,
+    /// An allocation was refused.
+    #[error("out of memory")]
+    NoMemory,
+}
+
+/// Why `solve_with` has no answer. The causes are tried in this order.
+#[derive(Clone, Copy, Debug, PartialEq, Eq, Error)]
+pub enum SearchError {
     /// Not 1 to `MOST_THREADS` workers.
     #[error("the number of workers is not 1 to 64")]
     BadThreads,
@@ -53,12 +70,12 @@ impl Refusal {
     ghost use Rattle.klsm_knapsack.specs.Refusals.{error_of};
 
     /// The error that a search answers for it.
-    pub(crate) fn error(self) -> SolveError
+    pub(crate) fn error(self) -> SearchError
         ensures { result ≡ error_of self }
     {
         match self {
-            Refusal::Full => SolveError::Full,
-            Refusal::NoMemory => SolveError::NoMemory,
+            Refusal::Full => SearchError::Full,
+            Refusal::NoMemory => SearchError::NoMemory,
         }
     }
 }

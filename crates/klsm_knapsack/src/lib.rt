@@ -11,7 +11,8 @@
 //! let best = solve_in_turn(&instance);                          // depth first, in one thread
 //! let options = SearchOptions::new(4, 16, 64);                  // four workers, k = 16
 //! let listeners = Listeners { gate: &Open, progress: &Silent };
-//! let best = solve::<_, _, 21>(&rt, alloc, &instance, &options, &listeners)?;
+//! let best = solve::<21>(&rt, alloc, &instance, 4, 16, 64, &Open)?;          // the same without options
+//! let best = solve_with::<_, _, 21>(&rt, alloc, &instance, &options, &listeners)?;
 //! let best = solve_to_the_end::<_, _, 21>(&rt, alloc, &instance, &options, &listeners)?;   // and never full
 //! ```
 //!
@@ -27,7 +28,7 @@
 //!   move: that of `solve_to_the_end`.
 //! - **A refusal is that of the least numbered worker that met one.** Of a full board clause `refused` of
 //!   `solve` says so; want of memory could also be that of the board itself. The clauses `bad_threads`,
-//!   `bad_k` and `bad_refill` say when the arguments are refused. No growth stands between the joins and
+//!   `bad_k` and, of `solve_with`, `bad_refill` say when the arguments are refused. No growth stands between the joins and
 //!   that answer.
 //! - **No want of room ends `solve_to_the_end`**, whose error has no Full. A worker of it that finds no
 //!   room for a child searches the node depth first, and each node that it takes from then on: clause
@@ -65,12 +66,12 @@ mod solving;
 mod to_the_end;
 mod worker;
 
-pub use errors::{SolveError, UnsolvedError};
+pub use errors::{SearchError, SolveError, UnsolvedError};
 pub use incumbent::{Incumbent, IncumbentSeat};
 pub use klsm_instance::{Best, Instance, Node, ReadError, Reordered, Thing, solve_in_turn};
 pub use options::SearchOptions;
 pub use passing::Passed;
 pub use rule::{Highest, View};
 pub use search_state::Listeners;
-pub use solving::solve;
+pub use solving::{solve, solve_with};
 pub use to_the_end::solve_to_the_end;

@@ -1,5 +1,6 @@
 //! What a search is made with.
-ghost use Rattle.std.specs.Prelude.{◌≡◌, min};
+ghost use Rattle.std.specs.Prelude.{◌≡◌};
+ghost use Rattle.klsm_knapsack.specs.Searches.{usual_options};
 
 /// How many nodes a deletion of a shared one moves to its worker's own at most, where the caller does not
 /// say.
@@ -22,7 +23,7 @@ pub struct SearchOptions {
 impl SearchOptions {
     /// With a refill of 16, or of k where that is less.
     pub fn new(threads: usize, k: usize, idle: u32) -> Self
-        ensures { result ≡ record { threads = threads; k = k; refill = min k 16; idle = idle } }
+        ensures { result ≡ usual_options threads k idle }
     {
         let refill = k.min(REFILL);
         SearchOptions {

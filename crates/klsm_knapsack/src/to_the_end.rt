@@ -3,10 +3,10 @@ ghost use Rattle.std.specs.Prelude.{◌≡◌, ◌≤◌, ◌<◌, ◌⊎◌, �
 ghost use Rattle.klsm_run.specs.declared.limits.TheConstants.{MOST_THREADS, PROGRAM_K};
 ghost use Rattle.klsm_parts.specs.Limit.{IsLevelCount};
 ghost use Rattle.klsm_instance.specs.Answers.{IsBestAnswer};
-ghost use Rattle.klsm_world.specs.declared.step.Entry.{Entry};
+ghost use Rattle.klsm_schedules.specs.declared.step.Entry.{Entry};
 ghost use Rattle.klsm_knapsack.specs.Searches.{HasSearched};
 
-use crate::errors::{SolveError, UnsolvedError};
+use crate::errors::{SearchError, UnsolvedError};
 use crate::options::SearchOptions;
 use crate::search_state::{Listeners, NoRoom};
 use crate::solving::solve_on_board;
@@ -16,7 +16,6 @@ use klsm_progress::Progress;
 use std::alloc::Global;
 use std::sync::Wait;
 use std::thread::Threads;
-use std::time::Clock;
 
 /// A best selection, also where the board has no room for all open nodes.
 ///
@@ -24,7 +23,7 @@ use std::time::Clock;
 /// insert it then searches the node depth first, without memory, and so it does with each node that it
 /// takes from the board from then on. What it finds raises the incumbent at once. The root always finds room.
 pub fn solve_to_the_end<G: Gate, P: Progress, const LEVELS: usize>(
-    rt: &(impl Threads + Wait + Clock + Sync),
+    rt: &(impl Threads + Wait + Sync),
     alloc: Global,
     instance: &Instance,
     options: &SearchOptions,
@@ -44,10 +43,10 @@ pub fn solve_to_the_end<G: Gate, P: Progress, const LEVELS: usize>(
     let no_room = NoRoom::SearchesAlone;
     match solve_on_board::<G, P, LEVELS>(rt, alloc, instance, options, listeners, no_room) {
         Ok(best) => Ok(best),
-        Err(SolveError::BadThreads) => Err(UnsolvedError::BadThreads),
-        Err(SolveError::BadK) => Err(UnsolvedError::BadK),
-        Err(SolveError::BadRefill) => Err(UnsolvedError::BadRefill),
-        Err(SolveError::Full) => unreachable!(),
-        Err(SolveError::NoMemory) => Err(UnsolvedError::NoMemory),
+        Err(SearchError::BadThreads) => Err(UnsolvedError::BadThreads),
+        Err(SearchError::BadK) => Err(UnsolvedError::BadK),
+        Err(SearchError::BadRefill) => Err(UnsolvedError::BadRefill),
+        Err(SearchError::Full) => unreachable!(),
+        Err(SearchError::NoMemory) => Err(UnsolvedError::NoMemory),
     }
 }

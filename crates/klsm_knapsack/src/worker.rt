@@ -1,7 +1,7 @@
 //! What a worker does.
 ghost use Rattle.std.specs.Prelude.{ℕ, ◌≡◌, ◌≤◌, ◌<◌, ◌+◌, ◌++◌, ◌↔◌, [], ◌∷◌, ◌⊎◌, IfOk, IfErr, IsTrue, MatchBool, length, false, None};
 ghost use Rattle.klsm_run.specs.declared.item.Item.{Item};
-ghost use Rattle.klsm_world.specs.OwnSteps.{inserted, deleted};
+ghost use Rattle.klsm_schedules.specs.OwnSteps.{inserted, deleted};
 ghost use Rattle.klsm_board.specs.Boards.{own_steps};
 ghost use Rattle.klsm_instance.specs.Selections.{value_of, weight_of};
 ghost use Rattle.klsm_instance.specs.Limits.{IsInRange};
@@ -20,13 +20,12 @@ use klsm_board::{Gate, InsertError};
 use klsm_instance::{Instance, Node};
 use klsm_progress::Progress;
 use std::sync::Wait;
-use std::time::Clock;
 
 impl<const LEVELS: usize> Worker<LEVELS> {
     /// Inserts the root, as the first of all, and answers whether it was not refused.
     pub(crate) fn begin(
         &mut self,
-        rt: &(impl Wait + Clock),
+        rt: &impl Wait,
         state: &SearchState<LEVELS>,
         instance: &Instance,
     ) -> bool
@@ -55,7 +54,7 @@ impl<const LEVELS: usize> Worker<LEVELS> {
     /// Passes the gate, works until it is idle or refused, and then shares what its own part has.
     pub(crate) fn run<G: Gate, P: Progress>(
         &mut self,
-        rt: &(impl Wait + Clock),
+        rt: &impl Wait,
         state: &SearchState<LEVELS>,
         instance: &Instance,
         idle: u32,
@@ -76,7 +75,7 @@ impl<const LEVELS: usize> Worker<LEVELS> {
 
     // Gives all the nodes that its own part still has, whatever made it stop: the others find them in the shared part
     // at once, and in the own part only where they find nothing else.
-    fn share(&mut self, rt: &(impl Wait + Clock), state: &SearchState<LEVELS>)
+    fn share(&mut self, rt: &impl Wait, state: &SearchState<LEVELS>)
         requires of { IsWorkerOf state.now self.old }
         ensures same { IsSameWorker self.old self.new }
         ensures shares { SharesOrKeeps LEVELS self.old.member.number (own_steps self.old.member)
@@ -93,7 +92,7 @@ impl<const LEVELS: usize> Worker<LEVELS> {
     // no two insertions left. It has passed the gate before.
     fn work(
         &mut self,
-        rt: &(impl Wait + Clock),
+        rt: &impl Wait,
         state: &SearchState<LEVELS>,
         instance: &Instance,
         idle: u32,
@@ -144,7 +143,7 @@ impl<const LEVELS: usize> Worker<LEVELS> {
     // Takes one node, where there is one.
     fn turn(
         &mut self,
-        rt: &(impl Wait + Clock),
+        rt: &impl Wait,
         state: &SearchState<LEVELS>,
         instance: &Instance,
         progress: &impl Progress,
@@ -178,7 +177,7 @@ impl<const LEVELS: usize> Worker<LEVELS> {
     // Closes the node that a load stands for, or splits it. A load that stands for none is let go.
     fn examine(
         &mut self,
-        rt: &(impl Wait + Clock),
+        rt: &impl Wait,
         state: &SearchState<LEVELS>,
         instance: &Instance,
         load: u64,
@@ -228,7 +227,7 @@ impl<const LEVELS: usize> Worker<LEVELS> {
     // is searched here; and so is each later one, since the board is then emptied and not filled again.
     fn expand(
         &mut self,
-        rt: &(impl Wait + Clock),
+        rt: &impl Wait,
         state: &SearchState<LEVELS>,
         instance: &Instance,
         node: Node,
@@ -282,7 +281,7 @@ impl<const LEVELS: usize> Worker<LEVELS> {
     // Inserts the children of a node.
     fn split(
         &mut self,
-        rt: &(impl Wait + Clock),
+        rt: &impl Wait,
         state: &SearchState<LEVELS>,
         instance: &Instance,
         node: &Node,
@@ -315,7 +314,7 @@ impl<const LEVELS: usize> Worker<LEVELS> {
     /// Inserts a node.
     pub(crate) fn insert(
         &mut self,
-        rt: &(impl Wait + Clock),
+        rt: &impl Wait,
         state: &SearchState<LEVELS>,
         instance: &Instance,
         node: &Node,

@@ -13,8 +13,7 @@
 //!   LSM lawful, and its content is the old one with the run's items, or without the item.
 //!   `Lsm::remove_items` takes several out at once, and leaves `cut_items`, of which `cut` is a case.
 //!   `Lsm::cascade` and `Lsm::partner` tell before which blocks become one. `Lsm::absorb_items` does what
-//!   `Lsm::absorb` does, with items that have no store of their own, and `Lsm::absorb_all` with a copy of all
-//!   items of another LSM.
+//!   `Lsm::absorb` does, with items that have no store of their own, and `Lsm::to_run` copies all items as one run.
 //! - **A store stays in its slot.** Blocks unite in place, and what leaves is read as a slice. An
 //!   LSM over fixed runs never takes memory, and one over other runs only where a run is put in, in
 //!   one growth, before anything changes.

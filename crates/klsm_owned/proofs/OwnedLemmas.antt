@@ -2,8 +2,8 @@
 use Rattle.std.proofs.Common.{ℕ, List, [], ◌++◌, sym, ap, ◌∙◌}
 use Rattle.std.proofs.lemmas.List.{append-nil}
 use Rattle.klsm_run.specs.declared.item.Item.{Item}
-use Rattle.klsm_world.specs.declared.step.Entry.{Entry}
-use Rattle.klsm_world.specs.OwnSteps.{inserted, deleted}
+use Rattle.klsm_schedules.specs.declared.step.Entry.{Entry}
+use Rattle.klsm_schedules.specs.OwnSteps.{inserted, deleted}
 use Rattle.klsm_board.specs.declared.sizes.Sizes.{Sizes}
 use Rattle.klsm_board.specs.Boards.{Gains}
 use Rattle.klsm_parts.specs.declared.choice.Pick.{Pick}

@@ -4,15 +4,15 @@ use Rattle.std.specs.Option.{option_to_list}
 use Rattle.klsm_run.specs.declared.item.Item.{Item}
 use Rattle.klsm_run.specs.declared.item.Stamp.{Stamp}
 use Rattle.klsm_run.specs.declared.limits.TheConstants.{MOST_LEVELS}
-use Rattle.klsm_world.specs.OwnSteps.{inserted}
+use Rattle.klsm_schedules.specs.OwnSteps.{inserted}
 use Rattle.klsm_board.specs.declared.bounding.Bound.{Bound}
 use Rattle.klsm_board.specs.declared.errors.Busy.{Busy}
 use Rattle.klsm_board.specs.declared.errors.TryInsertError.{TryInsertError}
 use Rattle.klsm_board.specs.declared.errors.TryInsertError.TheVariants.{Spent}
 use Rattle.klsm_board.specs.declared.errors.TryShareError.{TryShareError}
 use Rattle.klsm_board.specs.declared.sizes.Sizes.{Sizes}
-use Rattle.klsm_world.specs.declared.step.Entry.{Entry}
-use Rattle.klsm_world.specs.declared.step.Entry.TheVariants.{Looked}
+use Rattle.klsm_schedules.specs.declared.step.Entry.{Entry}
+use Rattle.klsm_schedules.specs.declared.step.Entry.TheVariants.{Looked}
 use Rattle.klsm_board.specs.declared.balancing.Balancing.{Balancing}
 use Rattle.klsm_board.specs.Balancing.{HasBalanced, after_deletion, after_turn, victim_now}
 use Rattle.klsm_board.specs.Boards.{Adds, known_of_others, own_steps}

@@ -1,7 +1,7 @@
 //! The calls of a member that owns a share of its board. None of them waits.
 ghost use Rattle.std.specs.Prelude.{◌≡◌, ◌≤◌, length};
 ghost use Rattle.std.specs.Arc.{arc_value};
-ghost use Rattle.klsm_world.specs.OwnSteps.{inserted, deleted};
+ghost use Rattle.klsm_schedules.specs.OwnSteps.{inserted, deleted};
 ghost use Rattle.klsm_board.specs.Boards.{IsOf, own_steps};
 ghost use Rattle.klsm_board.specs.Members.{most_deletions, most_insertions};
 ghost use Rattle.klsm_owned.specs.Owned.{IsSameOwned, board_of, member_of};

@@ -6,7 +6,7 @@ ghost use Rattle.klsm_board.specs.Boards.{IsOf};
 ghost use Rattle.klsm_owned.specs.Owned.{AreAllOfTheirBoard, AreNew, BalanceEach, PickBy, members_of};
 
 use crate::owned::OwnedMember;
-use klsm_board::{Balancing, Board, MOST_INSERTIONS, MakeError, WideBoard, WideMember};
+use klsm_board::{Balancing, Board, MOST_INSERTIONS, SizesError, WideBoard, WideMember};
 use klsm_parts::{Choice, Pick};
 use std::alloc::{AllocError, Global};
 use std::sync::Arc;
@@ -24,26 +24,26 @@ pub fn open_board(
     seed: u64,
     refill: usize,
     balance: u32,
-) -> Result<Vec<Box<OwnedMember, Global>>, MakeError>
+) -> Result<Vec<Box<OwnedMember, Global>>, SizesError>
     ensures count { IfOk result (λ boxes. length boxes.items ≡ threads) }
     ensures new { IfOk result (λ boxes.
         AreNew threads k pick seed refill balance (map (λ b. b.value) boxes.items)) }
     ensures whole { IfOk result (λ boxes.
         AreAllOfTheirBoard (members_of (map (λ b. b.value) boxes.items))) }
-    ensures bad_threads { IsErrAnd result (λ why. why ≡ MakeError.BadThreads)
+    ensures bad_threads { IsErrAnd result (λ why. why ≡ SizesError.BadThreads)
         ↔ ((threads ≡ 0) ⊎ (MOST_THREADS < threads)) }
-    ensures bad_k { IsErrAnd result (λ why. why ≡ MakeError.BadK)
+    ensures bad_k { IsErrAnd result (λ why. why ≡ SizesError.BadK)
         ↔ ((1 ≤ threads) × (threads ≤ MOST_THREADS) × (MOST_K < k)) }
-    ensures bad_refill { IsErrAnd result (λ why. why ≡ MakeError.BadRefill)
+    ensures bad_refill { IsErrAnd result (λ why. why ≡ SizesError.BadRefill)
         ↔ ((1 ≤ threads) × (threads ≤ MOST_THREADS) × (k ≤ MOST_K) × (k < refill)) }
-    ensures bad_quota { IsErrAnd result (λ why. why ≡ MakeError.BadQuota) ↔ ⊥ }
+    ensures bad_quota { IsErrAnd result (λ why. why ≡ SizesError.BadQuota) ↔ ⊥ }
 {
     let (board, members) = Board::with_refill(alloc, threads, k, MOST_INSERTIONS, refill)?;
     let Ok(board) = Arc::new(alloc, board) else {
-        return Err(MakeError::NoMemory);
+        return Err(SizesError::NoMemory);
     };
     let Ok(boxes) = box_members(alloc, &board, members, pick, seed, balance) else {
-        return Err(MakeError::NoMemory);
+        return Err(SizesError::NoMemory);
     };
     Ok(boxes)
 }

@@ -2,7 +2,6 @@
 use Rattle.std.proofs.Common.{ℕ, ◌+◌, ◌*◌, ◌<◌, max, arith}
 use prog.Memory.{up}
 use Rattle.klsm_run.specs.declared.limits.TheConstants.{OWN_LEVELS}
-use Rattle.klsm_parts.specs.declared.rank_bytes.TheConstants.{STORE}
 use Rattle.klsm_run.specs.Capacity.{IsCapacity}
 use Rattle.klsm_lsm.specs.Limit.{IsLevelCount}
 
@@ -26,9 +25,13 @@ run n = up 8 (up 8 (0 + array_vec n 32) + 16)
 abbrev local : ℕ → ℕ
 local s = up 8 (up 8 (up 8 (0 + lsm OWN_LEVELS (option s)) + 8) + 16)
 
--- the last field but one, as the shared part of a queue
-pub field_fits : (a b c s n limit : ℕ) → up a (up 8 (up b c + s) + n) < limit → s < limit
-field_fits a b c s n limit whole = omega (arith, whole)
+-- the last field but two, as the shared part of a queue
+pub field_fits : (a b c d e s u n limit : ℕ) → up a (up e (up d (up b c + s) + u) + n) < limit → s < limit
+field_fits a b c d e s u n limit whole = omega (arith, whole)
+
+-- the last field but one, as its unions
+pub unions_fit : (a b c d s n limit : ℕ) → up a (up d (up b c + s) + n) < limit → s < limit
+unions_fit a b c d s n limit whole = omega (arith, whole)
 
 -- the LSM of an own part
 pub first_fits : (a b s n m limit : ℕ) → up a (up 8 (up b (0 + s) + n) + m) < limit → s < limit
@@ -39,16 +42,8 @@ pub run_fits : (s limit : ℕ) → local s < limit → s < limit
 run_fits s limit whole = omega (arith, whole)
 
 -- the own part of a queue
-pub own_fits : (a b s t n limit : ℕ) → up a (up 8 (up b (0 + s) + t) + n) < limit → s < limit
-own_fits a b s t n limit whole = omega (arith, whole)
-
--- the LSM of a shared part
-pub lsm_fits : (a b c d k p l m s limit : ℕ) → up a (up b (up 8 (up 8 (up 8 (up c d + s) + k) + p) + l) + m) < limit → s < limit
-lsm_fits a b c d k p l m s limit whole = omega (arith, whole)
-
--- the pivots of a shared part
-pub pivots_fit : (a b l m p q limit : ℕ) → up a (up b (up 8 (up 8 q + p) + l) + m) < limit → p < limit
-pivots_fit a b l m p q limit whole = omega (arith, whole)
+pub own_fits : (a b d e s t u n limit : ℕ) → up a (up e (up d (up b (0 + s) + t) + u) + n) < limit → s < limit
+own_fits a b d e s t u n limit whole = omega (arith, whole)
 
 -- what is as small has a place
 small_fits : (s : ℕ) → s < 1048576 → s < 9223372036854775808
@@ -88,30 +83,10 @@ local_fits n capacity = part_fits _ (lsm_is_small _ (run_is_small n capacity)) w
   part_fits : (s : ℕ) → s < 1048576 → up 8 (up 8 (up 8 (0 + s) + 8) + 16) < 9223372036854775808
   part_fits s small = omega (arith, small)
 
--- the LSM of a shared part of any number of levels
-pub shared_lsm_fits : (n : ℕ) → IsLevelCount n → lsm n 56 < 9223372036854775808
-shared_lsm_fits n levels = omega (arith, levels.at_most)
-
--- the pivots of any number of blocks
-pub level_pivots_fit : (n : ℕ) → IsLevelCount n → array_vec n 8 < 9223372036854775808
-level_pivots_fit n levels = omega (arith, levels.at_most)
-
--- of the bytes of a ranking
-abbrev bytes : ℕ
-bytes = up 8 (up 1 (up 8 (up 8 (0 + 8) + 8) + STORE))
-
--- what is known of the least items: the first, and two lists of bytes for the ranking
-abbrev least_items : ℕ
-least_items = up 8 (up 8 (0 + option 32) + up 8 (up 8 (0 + bytes) + bytes))
+-- a pile of any number of levels: its front and the list of its pieces, the counts of its levels, and two numbers
+abbrev pile : ℕ → ℕ
+pile n = up 8 (up 8 (up 8 (64 + array_vec n 8) + 8) + 8)
 
 -- the shared part
-pub shared_fits : (n : ℕ) → IsLevelCount n → up 8 (up 1 (up 8 (up 8 (up 8 (0 + lsm n 56) + 8) + array_vec n 8) + least_items) + 0) < 9223372036854775808
-shared_fits n levels = whole _ _ (blocks n levels) (pivots n levels) where
-  blocks : (n : ℕ) → IsLevelCount n → lsm n 56 < 1048576
-  blocks n levels = omega (arith, levels.at_most)
-
-  pivots : (n : ℕ) → IsLevelCount n → array_vec n 8 < 1048576
-  pivots n levels = omega (arith, levels.at_most)
-
-  whole : (s p : ℕ) → s < 1048576 → p < 1048576 → up 8 (up 1 (up 8 (up 8 (up 8 (0 + s) + 8) + p) + least_items) + 0) < 9223372036854775808
-  whole s p few small = omega (arith, few, small)
+pub shared_fits : (n : ℕ) → IsLevelCount n → up 8 (up 1 (up 8 (0 + pile n) + 8) + 0) < 9223372036854775808
+shared_fits n levels = omega (arith, levels.at_most)

@@ -1,156 +1,196 @@
--- The block that begins with the least item behind the pivots.
-use Rattle.std.proofs.Common.{◌≡◌, ℕ, zero, suc, ◌+◌, ◌<◌, ◌≤◌, true, false, List, [], ◌∷◌, length, ◌++◌, get_or, set, take, drop, Option, Some, None, MatchOption, IsTrue, take_all, refl, sym, ap, ◌∙◌, subst, arith}
-use Rattle.std.specs.List.{slice_get, refill}
+-- Where the least item of an own part stands: after a search, with one more item, and after an insertion.
+use Rattle.std.proofs.Common.{◌≡◌, ℕ, ◌+◌, ◌-◌, ◌<◌, ◌≤◌, true, false, List, [], ◌∷◌, ◌++◌, length, get_or, take, drop, min, Option, Some, None, refl, sym, ap, ◌∙◌, subst, arith, zero, suc, inl, inr}
+use Rattle.std.specs.List.{AllByRecursion, slice_get}
 use Rattle.std.specs.Option.{option_map}
-use Rattle.std.proofs.lemmas.List.{length-append, length-take, length-set}
-use Rattle.std.proofs.lemmas.Option.{slice_get_past, same_Some, slice_get_within, get_or_from_slice_get}
+use Rattle.std.proofs.lemmas.Bool.{cases_lt, lt-ltb, le-ltb}
+use Rattle.std.proofs.lemmas.List.{append-nil, length-append, length-take-le, take-append-drop, get_or-take, get_or-drop, get_or_append_left, get_or-append_right}
+use Rattle.std.proofs.lemmas.Option.{none-some, same_Some}
 use Rattle.klsm_run.specs.declared.item.Item.{Item}
 use Rattle.klsm_run.specs.ItemOrder.{is_smaller}
-use Rattle.klsm_run.specs.Content.{sorted, IsAscending}
-use Rattle.klsm_run.proofs.SortedLemmas.{sorted_ascending, length_sorted}
-use Rattle.klsm_run.proofs.HalfLemmas.{ascending_drop}
-use Rattle.klsm_run.proofs.IndexLemmas.{first_behind, at_index}
-use Rattle.klsm_run.proofs.RankLemmas.{empty_if_no_least}
+use Rattle.klsm_run.specs.Content.{sorted}
+use Rattle.klsm_run.proofs.AllLemmas.{all_front, all_back}
+use Rattle.klsm_run.proofs.ContentLemmas.{sorted_itself, sorted_same_behind}
+use Rattle.klsm_run.proofs.IndexLemmas.{at_each, at_index}
+use Rattle.klsm_run.proofs.LeastLemmas.{IsNoneBelow}
 use Rattle.klsm_run.proofs.LesserLemmas.{lesser, lesser_first, lesser_second, first_append}
+use Rattle.klsm_run.proofs.OrderLemmas.{Below, Same, Above, ranked}
+use Rattle.klsm_run.proofs.RankLemmas.{empty_if_no_least, none_below_least}
+use Rattle.klsm_run.proofs.SortedLemmas.{all_sorted, length_sorted}
+use Rattle.klsm_lsm.specs.Level.{level}
 use Rattle.klsm_lsm.specs.Lsm.{content, IsLsm}
-use Rattle.klsm_lsm.proofs.SlotLemmas.{refill_same}
-use Rattle.klsm_lsm.proofs.LeastLemmas.{content_more}
-use Rattle.klsm_parts.specs.Pivots.{marked, unmarked, AreWithin, ArePivots}
-use Rattle.klsm_parts.specs.Ranking.{more_marked}
-use Rattle.klsm_parts.proofs.PivotLemmas.{length_marked, marked_and_unmarked, first_unmarked, pivot_more}
+use Rattle.klsm_lsm.specs.Adding.{joined, add}
+use Rattle.klsm_lsm.specs.Places.{IsLeastBlock}
+use Rattle.klsm_lsm.proofs.LeastLemmas.{content_append}
+use Rattle.klsm_lsm.proofs.LevelLemmas.{level_least}
+use Rattle.klsm_parts.specs.Parts.{HasLeastFirst}
 
-pub one_each : (bs : List (List Item)) (ps : List ℕ) → AreWithin bs ps → length ps ≡ length bs
-one_each [] [] within = refl
-one_each [] (p ∷ ps) within = absurd within
-one_each (b ∷ bs) [] within = absurd within
-one_each (b ∷ bs) (p ∷ ps) within = ap suc (one_each bs ps within.1)
+abbrev Blocks : Type 0
+Blocks = List (List Item)
 
-pub as_many : (bs : List (List Item)) (ps : List ℕ) → length (unmarked bs ps) ≡ length bs
-as_many [] ps = refl
-as_many (b ∷ bs) [] = refl
-as_many (b ∷ bs) (p ∷ ps) = ap suc (as_many bs ps)
+-- the blocks with one item behind them
+abbrev pub with_one : Blocks → Item → Blocks
+with_one bs x = bs ++ (x ∷ []) ∷ []
 
--- a block behind its pivot
-pub unmarked_at : (bs : List (List Item)) (ps : List ℕ) (i : ℕ) → AreWithin bs ps → get_or (unmarked bs ps) i [] ≡ drop (get_or ps i 0) (get_or bs i [])
-unmarked_at [] [] i within = refl
-unmarked_at [] (p ∷ ps) i within = absurd within
-unmarked_at (b ∷ bs) [] i within = absurd within
-unmarked_at (b ∷ bs) (p ∷ ps) zero within = refl
-unmarked_at (b ∷ bs) (p ∷ ps) (suc i) within = unmarked_at bs ps i within.1
+-- the blocks, of which those from j on are one
+abbrev joined_from : ℕ → Blocks → Blocks
+joined_from j bs = take j bs ++ sorted (content (drop j bs)) ∷ []
 
--- a block that begins with the least item behind the pivots of the first blocks, where there is one
-pub record IsFound (bs : List (List Item)) (ps : List ℕ) (i : ℕ) (found : Option (ℕ × Item)) : Type 0 where
-  pub first : option_map (λ f. f.1) found ≡ slice_get (sorted (content (take i (unmarked bs ps)))) 0
-  pub at : (b : ℕ) (x : Item) → found ≡ Some (b, x) → (b < i) × (slice_get (get_or bs b []) (get_or ps b 0) ≡ Some x)
+-- the block that a search has found
+pub searched : (bs : Blocks) (found : Option ℕ) → IsLeastBlock bs found → (at : ℕ) → found ≡ Some at → HasLeastFirst bs at
+searched bs None none at is = absurd (none-some at is)
+searched bs (Some b) there at is = subst (HasLeastFirst bs) (same_Some b at is) (record { inside = there.0; first = there.1 })
 
-lesser_none : (o : Option Item) → lesser o None ≡ o
-lesser_none None = refl
-lesser_none (Some x) = refl
+-- an insertion makes some of the last blocks one with the item
+record IsJoined (j : ℕ) (bs : Blocks) (x : Item) : Type 0 where
+  order : j ≤ length bs
+  is : add bs (x ∷ []) ≡ joined_from j (with_one bs x)
 
--- the least item behind the pivots of the first blocks and of one more
-first_of_more : (bs : List (List Item)) (ps : List ℕ) (i : ℕ) → AreWithin bs ps → i < length bs → IsAscending (get_or bs i []) → slice_get (sorted (content (take (i + 1) (unmarked bs ps)))) 0 ≡ lesser (slice_get (sorted (content (take i (unmarked bs ps)))) 0) (slice_get (get_or bs i []) (get_or ps i 0))
-first_of_more bs ps i within here up =
-    let before = content (take i (unmarked bs ps)) in
-    let next : slice_get (sorted (get_or (unmarked bs ps) i [])) 0 ≡ slice_get (get_or bs i []) (get_or ps i 0) =
-    ap (λ xs. slice_get (sorted xs) 0) (unmarked_at bs ps i within)
-    ∙ (ap (λ xs. slice_get xs 0) (sorted_ascending (drop (get_or ps i 0) (get_or bs i [])) (ascending_drop (get_or ps i 0) (get_or bs i []) up))
-    ∙ first_behind (get_or ps i 0) (get_or bs i [])) in
-    ap (λ xs. slice_get (sorted xs) 0) (content_more (unmarked bs ps) i (rw (as_many bs ps) here))
-    ∙ (first_append before (get_or (unmarked bs ps) i []) ∙ ap (lesser (slice_get (sorted before) 0)) next)
+joined_before : (j : ℕ) (b : List Item) (bs : Blocks) (x : Item) → IsLsm (b ∷ bs) → IsJoined j bs x → (i : ℕ) × (i ≤ length (b ∷ bs)) × (joined b (joined_from j (with_one bs x)) ≡ joined_from i (with_one (b ∷ bs) x))
+joined_before zero b bs x lsm h =
+    let rest = with_one bs x in
+    let last = sorted (content rest) in
+    elim (cases_lt (level last) (level b)) [
+      | inl less ↦ (1, omega arith, rw (lt-ltb (level last) (level b) less) refl)
+      | inr order ↦ (0, omega arith, rw (le-ltb (level last) (level b) order) (ap (λ (l : List Item). l ∷ []) (sorted_same_behind b last (content rest) (sorted_itself (content rest)))))
+    ]
+joined_before (suc j) b [] x lsm h = absurd (omega (arith, h.order))
+joined_before (suc j) b (c ∷ cs) x lsm h = (suc (suc j), omega (arith, h.order), rw (lt-ltb (level c) (level b) lsm.1.0) refl)
 
--- a block with nothing behind its pivot
-pub found_past : (bs : List (List Item)) (ps : List ℕ) (i : ℕ) (found : Option (ℕ × Item)) → AreWithin bs ps → i < length bs → IsAscending (get_or bs i []) → length (get_or bs i []) ≤ get_or ps i 0 → IsFound bs ps i found → IsFound bs ps (i + 1) found
-found_past bs ps i found within here up past so_far = record {
-  first = so_far.first ∙ sym (first_of_more bs ps i within here up ∙ (ap (lesser _) (slice_get_past (get_or bs i []) (get_or ps i 0) past) ∙ lesser_none _));
-  at = λ b x is. let there = so_far.at b x is in (omega (arith, there.0), there.1);
-}
+inserted : (bs : Blocks) (x : Item) → IsLsm bs → (j : ℕ) × IsJoined j bs x
+inserted [] x lsm = (0, record { order = omega arith; is = refl })
+inserted (b ∷ bs) x lsm =
+    let rest = inserted bs x lsm.3 in
+    let low : level (x ∷ []) ≤ 0 = level_least 1 0 (omega arith) in
+    let more = joined_before rest.0 b bs x lsm rest.1 in
+    let here : add (b ∷ bs) (x ∷ []) ≡ joined b (add bs (x ∷ [])) = rw (le-ltb (level b) (level (x ∷ [])) (omega (arith, low))) refl in
+    (more.0, record { order = more.1; is = here ∙ (ap (joined b) rest.1.is ∙ more.2) })
 
--- the item behind a block's pivot is smaller than the least so far, or there was none
-pub found_here : (bs : List (List Item)) (ps : List ℕ) (i : ℕ) (found : Option (ℕ × Item)) (item : Item) → AreWithin bs ps → i < length bs → IsAscending (get_or bs i []) → slice_get (get_or bs i []) (get_or ps i 0) ≡ Some item → MatchOption found (IsTrue true) (λ f. true ≡ is_smaller item f.1) → IsFound bs ps i found → IsFound bs ps (i + 1) (Some (i, item))
-found_here bs ps i found item within here up is smaller so_far = record {
-  first = sym (first_of_more bs ps i within here up ∙ (rw (← so_far.first, is) (lesser_is found smaller)));
-  at = λ b x same. here_at b x (same_Some (i, item) (b, x) same);
-}
+-- the content is the same
+same_content : (j : ℕ) (bs : Blocks) → sorted (content (joined_from j bs)) ≡ sorted (content bs)
+same_content j bs =
+    let front = content (take j bs) in
+    let back = content (drop j bs) in
+    let last : sorted (sorted back ++ []) ≡ sorted back = ap sorted (append-nil (sorted back)) ∙ sorted_itself back in
+    ap sorted (content_append (take j bs) (sorted back ∷ []))
+    ∙ (sorted_same_behind front (sorted back ++ []) back last
+    ∙ ap sorted (sym (content_append (take j bs) (drop j bs)) ∙ ap content (take-append-drop j bs)))
+
+-- of two items of which neither is smaller
+same_if_neither : (x y : Item) → is_smaller x y ≡ false → is_smaller y x ≡ false → x ≡ y
+same_if_neither x y not_first not_second = elim (ranked x y) [
+  | Below less greater ↦ let bad : true ≡ false = rw less at not_first in cc
+  | Same same ↦ same
+  | Above greater less ↦ let bad : true ≡ false = rw less at not_second in cc
+]
+
+-- what is true of all items is true of a block's first one
+at_block : (P : Item → Type 0) (bs : Blocks) (at : ℕ) (y : Item) → AllByRecursion P (content bs) → slice_get (get_or bs at []) 0 ≡ Some y → P y
+at_block P [] at y all first = absurd (none-some y first)
+at_block P (b ∷ bs) zero y all first = at_each P b 0 y (all_front P b (content bs) all) first
+at_block P (b ∷ bs) (suc at) y all first = at_block P bs at y (all_back P b (content bs) all) first
+
+-- if the least item is in one of the last blocks, it is the least of these
+least_behind : (j at : ℕ) (bs : Blocks) (y z : Item) → j ≤ at → slice_get (get_or bs at []) 0 ≡ Some y → IsNoneBelow y (content bs) → slice_get (sorted (content (drop j bs))) 0 ≡ Some z → z ≡ y
+least_behind zero at bs y z order first low least =
+    same_if_neither z y
+    (at_each (λ w. is_smaller w y ≡ false) (sorted (content bs)) 0 z (all_sorted (λ w. is_smaller w y ≡ false) (content bs) low) least)
+    (at_block (λ w. is_smaller w z ≡ false) bs at y (none_below_least z (content bs) least) first)
+least_behind (suc j) zero bs y z order first low least = absurd (omega (arith, order))
+least_behind (suc j) (suc at) [] y z order first low least = absurd (none-some y first)
+least_behind (suc j) (suc at) (b ∷ bs) y z order first low least = least_behind j at bs y z (omega (arith, order)) first (all_back (λ w. is_smaller w y ≡ false) b (content bs) low) least
+
+-- which is there, as the blocks have an item
+least_there : (j at : ℕ) (bs : Blocks) (y : Item) → j ≤ at → slice_get (get_or bs at []) 0 ≡ Some y → IsNoneBelow y (content bs) → (o : Option Item) → slice_get (sorted (content (drop j bs))) 0 ≡ o → o ≡ Some y
+least_there j at bs y order first low None none =
+    let empty = empty_if_no_least (content (drop j bs)) none in
+    absurd (at_block (λ w. ⊥) (drop j bs) (at - j) y (subst (AllByRecursion (λ w. ⊥)) (sym empty) tt) (here ∙ first))
   where
-    here_at : (b : ℕ) (x : Item) → ◌≡◌ {A = ℕ × Item} (i, item) (b, x) → (b < i + 1) × (slice_get (get_or bs b []) (get_or ps b 0) ≡ Some x)
-    here_at b x same = subst (λ (f : ℕ × Item). (f.0 < i + 1) × (slice_get (get_or bs f.0 []) (get_or ps f.0 0) ≡ Some f.1)) same (omega arith, is)
+    here : slice_get (get_or (drop j bs) (at - j) []) 0 ≡ slice_get (get_or bs at []) 0
+    here =
+        let place : j + (at - j) ≡ at = omega (arith, order) in
+        ap (λ (b : List Item). slice_get b 0) (get_or-drop j bs (at - j) [] ∙ ap (λ (n : ℕ). get_or bs n []) place)
+least_there j at bs y order first low (Some z) least = ap Some (least_behind j at bs y z order first low least)
 
-    lesser_is : (o : Option (ℕ × Item)) → MatchOption o (IsTrue true) (λ f. true ≡ is_smaller item f.1) → lesser (option_map (λ f. f.1) o) (Some item) ≡ Some item
-    lesser_is None less = refl
-    lesser_is (Some (b, x)) less = ap Some (lesser_second x item (sym less))
-
--- the least so far is smaller
-pub found_before : (bs : List (List Item)) (ps : List ℕ) (i : ℕ) (found : Option (ℕ × Item)) (item : Item) → AreWithin bs ps → i < length bs → IsAscending (get_or bs i []) → slice_get (get_or bs i []) (get_or ps i 0) ≡ Some item → MatchOption found (IsTrue false) (λ f. false ≡ is_smaller item f.1) → IsFound bs ps i found → IsFound bs ps (i + 1) found
-found_before bs ps i found item within here up is not_smaller so_far = record {
-  first = sym (first_of_more bs ps i within here up ∙ (rw (← so_far.first, is) (lesser_is found not_smaller)));
-  at = λ c y same. let there = so_far.at c y same in (omega (arith, there.0), there.1);
-}
+-- the place of the least item after some of the last blocks became one
+joined_place : (j at : ℕ) (bs : Blocks) (y : Item) → j ≤ length bs → slice_get (sorted (content bs)) 0 ≡ Some y → HasLeastFirst bs at → HasLeastFirst (joined_from j bs) (min at j)
+joined_place j at bs y order least found = elim (cases_lt at j) [
+  | inl before ↦
+      let same : min at j ≡ at = omega (arith, before) in
+      let inside : at < length (take j bs) = omega (arith, before, count) in
+      let block : get_or (joined_from j bs) at [] ≡ get_or bs at [] = get_or_append_left (take j bs) (sorted (content (drop j bs)) ∷ []) [] at inside ∙ get_or-take j bs at [] before in
+      rw same (record { inside = omega (arith, before, whole); first = ap (λ (b : List Item). slice_get b 0) block ∙ (found.first ∙ content_least) })
+  | inr behind ↦
+      let same : min at j ≡ j = omega (arith, behind) in
+      let none : j - j ≡ 0 = omega arith in
+      let block : get_or (joined_from j bs) j [] ≡ sorted (content (drop j bs)) =
+      get_or-append_right (take j bs) (sorted (content (drop j bs)) ∷ []) j j [] count (omega arith) ∙ ap (λ (n : ℕ). get_or (sorted (content (drop j bs)) ∷ []) n []) none in
+      let last : slice_get (sorted (content (drop j bs))) 0 ≡ Some y = least_there j at bs y behind (found.first ∙ least) (none_below_least y (content bs) least) (slice_get (sorted (content (drop j bs))) 0) refl in
+      rw same (record { inside = omega (arith, whole); first = ap (λ (b : List Item). slice_get b 0) block ∙ (last ∙ (sym least ∙ content_least)) })
+]
   where
-    lesser_is : (o : Option (ℕ × Item)) → MatchOption o (IsTrue false) (λ f. false ≡ is_smaller item f.1) → lesser (option_map (λ f. f.1) o) (Some item) ≡ option_map (λ f. f.1) o
-    lesser_is None less = let bad : false ≡ true = less in cc
-    lesser_is (Some (b, x)) less = ap Some (lesser_first x item (sym less))
+    count : length (take j bs) ≡ j
+    count = length-take-le j bs order
 
--- where items are left one of them is the least
-pub found_some : (bs : List (List Item)) (ps : List ℕ) (i : ℕ) → length bs ≤ i → length (marked bs ps) < length (content bs) → IsFound bs ps i None → ⊥
-found_some bs ps i all left found =
-    let rest = content (unmarked bs ps) in
-    let none : slice_get (sorted rest) 0 ≡ None = sym (found.first ∙ ap (λ cs. slice_get (sorted (content cs)) 0) (take_all i (unmarked bs ps) (rw (as_many bs ps) all))) in
-    let both : length (sorted (content bs)) ≡ length (sorted (marked bs ps ++ rest)) = ap length (marked_and_unmarked bs ps) in
-    let no_rest : length rest ≡ 0 = ap length (empty_if_no_least rest none) in
-    absurd (omega (arith, left, both, no_rest, length_sorted (content bs), length_sorted (marked bs ps ++ rest), length-append (marked bs ps) rest))
+    whole : length (joined_from j bs) ≡ j + 1
+    whole = omega (arith, length-append (take j bs) (sorted (content (drop j bs)) ∷ []), count)
 
--- the block that was found in the end
-pub found_least : (bs : List (List Item)) (ps : List ℕ) (i b : ℕ) (x : Item) → AreWithin bs ps → length bs ≤ i → IsFound bs ps i (Some (b, x)) → slice_get (get_or bs b []) (get_or ps b 0) ≡ slice_get (sorted (content (unmarked bs ps))) 0
-found_least bs ps i b x within all found =
-    (found.at b x refl).1 ∙ (found.first ∙ ap (λ cs. slice_get (sorted (content cs)) 0) (take_all i (unmarked bs ps) (rw (as_many bs ps) all)))
+    content_least : slice_get (sorted (content bs)) 0 ≡ slice_get (sorted (content (joined_from j bs))) 0
+    content_least = ap (λ (c : List Item). slice_get c 0) (sym (same_content j bs))
 
--- what the search for one more candidate asks: pivots within their blocks, and items behind them
-pub some_behind : (n : ℕ) (bs : List (List Item)) (ps : List ℕ) → ArePivots n bs ps → n < length (content bs) → length (marked bs ps) < length (content bs)
-some_behind n bs ps pivots more = omega (arith, length_marked n bs ps pivots, more)
+-- after an insertion: the place of the least item with the new one as a block of its own, or the last block if that is before it
+pub place_after : (bs : Blocks) (x : Item) (at : ℕ) → IsLsm bs → HasLeastFirst (with_one bs x) at → HasLeastFirst (add bs (x ∷ [])) (min at (length (add bs (x ∷ [])) - 1))
+place_after bs x at lsm found =
+    let j = (inserted bs x lsm).0 in
+    let made = (inserted bs x lsm).1 in
+    let all = with_one bs x in
+    let size : length all ≡ length bs + 1 = length-append bs ((x ∷ []) ∷ []) in
+    let items : length (content all) ≡ length (content bs) + 1 = ap length (content_append bs ((x ∷ []) ∷ [])) ∙ length-append (content bs) (x ∷ []) in
+    let least = at_index (sorted (content all)) 0 (omega (arith, length_sorted (content all), items)) in
+    let count : length (take j all) ≡ j = length-take-le j all (omega (arith, made.order, size)) in
+    let last : length (joined_from j all) - 1 ≡ j = omega (arith, length-append (take j all) (sorted (content (drop j all)) ∷ []), count) in
+    rw (made.is, last) (joined_place j at all least.0 (omega (arith, made.order, size)) least.1 found)
 
-pub pivot_within : (bs : List (List Item)) (ps : List ℕ) (j : ℕ) → AreWithin bs ps → get_or ps j 0 ≤ length (marked bs ps)
-pivot_within [] [] j within = omega arith
-pivot_within [] (p ∷ ps) j within = absurd within
-pivot_within (b ∷ bs) [] j within = absurd within
-pivot_within (b ∷ bs) (p ∷ ps) zero within = omega (arith, length-append (take p b) (marked bs ps), length-take p b, within.0)
-pivot_within (b ∷ bs) (p ∷ ps) (suc j) within = omega (arith, length-append (take p b) (marked bs ps), pivot_within bs ps j within.1)
+-- there is a block then
+pub some_after : (bs : Blocks) (x : Item) → IsLsm bs → 0 < length (add bs (x ∷ []))
+some_after bs x lsm =
+    let j = (inserted bs x lsm).0 in
+    let made = (inserted bs x lsm).1 in
+    rw made.is (omega (arith, length-append (take j (with_one bs x)) (sorted (content (drop j (with_one bs x))) ∷ [])))
 
--- one more item is marked, in the list that the pivots are lent as
-pub pivot_counted : (n : ℕ) (bs : List (List Item)) (ps lent : List ℕ) (j : ℕ) → lent ≡ ps → IsLsm bs → ArePivots n bs ps → n < length (content bs)
-    → slice_get (get_or bs j []) (get_or ps j 0) ≡ slice_get (sorted (content (unmarked bs ps))) 0
-    → ArePivots (n + 1) bs (refill (length ps) ps (set lent j (get_or lent j 0 + 1)))
-pivot_counted n bs ps lent j same lsm pivots more first =
-    rw same (rw (refill_same ps (set ps j (get_or ps j 0 + 1)) (length-set ps j (get_or ps j 0 + 1))) (pivot_more n bs ps j lsm pivots more first))
+-- the item alone
+pub place_of_only : (bs : Blocks) (x : Item) → length bs ≡ 0 → HasLeastFirst (with_one bs x) 0
+place_of_only [] x none = record { inside = omega arith; first = refl }
+place_of_only (b ∷ bs) x none = absurd (omega (arith, none))
 
--- the same, where it is known which item that is
-pub marked_in_place : (ps lent : List ℕ) (b : ℕ) → lent ≡ ps → refill (length ps) ps (set lent b (get_or lent b 0 + 1)) ≡ more_marked ps b
-marked_in_place ps lent b same = rw same (refill_same ps (set ps b (get_or ps b 0 + 1)) (length-set ps b (get_or ps b 0 + 1)))
+least_with : (bs : Blocks) (x y : Item) → slice_get (sorted (content bs)) 0 ≡ Some y → slice_get (sorted (content (with_one bs x))) 0 ≡ lesser (Some y) (Some x)
+least_with bs x y least =
+    ap (λ (c : List Item). slice_get (sorted c) 0) (content_append bs ((x ∷ []) ∷ []))
+    ∙ (first_append (content bs) (x ∷ []) ∙ ap (λ (o : Option Item). lesser o (Some x)) least)
 
--- the item behind the pivots of n items is the one of rank n, whichever way the pivots are lent
-pub ranked : (n : ℕ) (bs : List (List Item)) (ps lent read : List ℕ) (j : ℕ) → lent ≡ ps → read ≡ ps → IsLsm bs → ArePivots n bs ps
-    → slice_get (get_or bs j []) (get_or lent j 0) ≡ slice_get (sorted (content (unmarked bs lent))) 0
-    → slice_get (get_or bs j []) (get_or read j 0) ≡ slice_get (sorted (content bs)) n
-ranked n bs ps lent read j lent_is read_is lsm pivots first =
-    ap (λ (qs : List ℕ). slice_get (get_or bs j []) (get_or qs j 0)) (read_is ∙ sym lent_is)
-    ∙ (first ∙ (ap (λ (qs : List ℕ). slice_get (sorted (content (unmarked bs qs))) 0) lent_is ∙ first_unmarked n bs ps lsm pivots))
+-- it is before the least of the others
+pub place_of_new : (bs : Blocks) (x y : Item) (at : ℕ) → HasLeastFirst bs at → slice_get (get_or bs at []) 0 ≡ Some y → is_smaller x y ≡ true → HasLeastFirst (with_one bs x) (length bs)
+place_of_new bs x y at found first smaller =
+    let none : length bs - length bs ≡ 0 = omega arith in
+    let block : get_or (with_one bs x) (length bs) [] ≡ x ∷ [] =
+    get_or-append_right bs ((x ∷ []) ∷ []) (length bs) (length bs) [] refl (omega arith) ∙ ap (λ (n : ℕ). get_or ((x ∷ []) ∷ []) n []) none in
+    record {
+      inside = omega (arith, length-append bs ((x ∷ []) ∷ []));
+      first = ap (λ (b : List Item). slice_get b 0) block ∙ sym (least_with bs x y (sym found.first ∙ first) ∙ ap Some (lesser_second y x smaller));
+    }
 
--- there is an item of each rank below the number of items
-pub some_ranked : (n : ℕ) (bs : List (List Item)) → n < length (content bs) → (x : Item) × (slice_get (sorted (content bs)) n ≡ Some x)
-some_ranked n bs more = at_index (sorted (content bs)) n (rw (length_sorted (content bs)) more)
+-- it is not
+pub place_of_old : (bs : Blocks) (x y : Item) (at : ℕ) → HasLeastFirst bs at → slice_get (get_or bs at []) 0 ≡ Some y → is_smaller x y ≡ false → HasLeastFirst (with_one bs x) at
+place_of_old bs x y at found first not_smaller =
+    record {
+      inside = omega (arith, length-append bs ((x ∷ []) ∷ []), found.inside);
+      first = ap (λ (b : List Item). slice_get b 0) (get_or_append_left bs ((x ∷ []) ∷ []) [] at found.inside)
+          ∙ (first ∙ sym (least_with bs x y (sym found.first ∙ first) ∙ ap Some (lesser_first y x not_smaller)));
+    }
 
--- where not all items are marked, the block with the least of the others has one behind its pivot, however the pivots are read
-pub least_within : (bs : List (List Item)) (ps read : List ℕ) (b : ℕ) (run : List Item) → read ≡ ps → slice_get bs b ≡ Some run → length (marked bs ps) < length (content bs)
-    → slice_get (get_or bs b []) (get_or ps b 0) ≡ slice_get (sorted (content (unmarked bs ps))) 0 → get_or read b 0 < length run
-least_within bs ps read b run same here some least =
-    let rest = content (unmarked bs ps) in
-    let both : length (sorted (content bs)) ≡ length (sorted (marked bs ps ++ rest)) = ap length (marked_and_unmarked bs ps) in
-    let left : 0 < length rest = omega (arith, both, length_sorted (content bs), length_sorted (marked bs ps ++ rest), length-append (marked bs ps) rest, some) in
-    let first = some_ranked 0 (unmarked bs ps) left in
-    let there : get_or ps b 0 < length (get_or bs b []) = slice_get_within (get_or bs b []) (get_or ps b 0) first.0 (least ∙ first.1) in
-    subst (λ (qs : List ℕ). get_or qs b 0 < length run) (sym same) (subst (λ (xs : List Item). get_or ps b 0 < length xs) (get_or_from_slice_get bs b run [] here) there)
-
--- and the item there is the one that is read
-pub least_is_read : (bs : List (List Item)) (ps read : List ℕ) (b : ℕ) (run : List Item) (x y : Item) → read ≡ ps → slice_get bs b ≡ Some run → slice_get (get_or bs b []) (get_or ps b 0) ≡ Some x → slice_get run (get_or read b 0) ≡ Some y → x ≡ y
-least_is_read bs ps read b run x y same here first second =
-    let there : slice_get run (get_or ps b 0) ≡ Some x = subst (λ (xs : List Item). slice_get xs (get_or ps b 0) ≡ Some x) (get_or_from_slice_get bs b run [] here) first in
-    same_Some x y (sym there ∙ (ap (λ (qs : List ℕ). slice_get run (get_or qs b 0)) (sym same) ∙ second))
+-- what was found before an insertion, and what is found after it
+pub found_after : (bs after : Blocks) (x : Item) (place found : Option ℕ) (last : ℕ) → IsLsm bs → after ≡ add bs (x ∷ []) → last ≡ length after - 1 → found ≡ option_map (λ block. min block last) place
+    → ((at : ℕ) → place ≡ Some at → HasLeastFirst (with_one bs x) at) → (at : ℕ) → found ≡ Some at → HasLeastFirst after at
+found_after bs after x None found last lsm is last_is found_is known at there = absurd (none-some at (sym found_is ∙ there))
+found_after bs after x (Some b) found last lsm is last_is found_is known at there =
+    let here : min b (length (add bs (x ∷ [])) - 1) ≡ at = ap (λ (n : ℕ). min b n) (sym (last_is ∙ ap (λ (cs : Blocks). length cs - 1) is)) ∙ same_Some (min b last) at (sym found_is ∙ there) in
+    rw is (subst (HasLeastFirst (add bs (x ∷ []))) here (place_after bs x b lsm (known b refl)))

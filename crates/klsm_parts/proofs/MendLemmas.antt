@@ -18,7 +18,6 @@ use Rattle.klsm_lsm.specs.Adding.{without_items}
 use Rattle.klsm_lsm.proofs.CutLemmas.{length_without, all_without}
 use Rattle.klsm_lsm.proofs.MovingLemmas.{shorter}
 use Rattle.klsm_parts.specs.Pivots.{marked, unmarked, AreWithin, ArePivots}
-use Rattle.klsm_parts.specs.Mending.{joined_pivots, fewer_marked}
 use Rattle.klsm_parts.proofs.PivotLemmas.{marked_and_unmarked, unmarked_is_rest}
 
 -- what is true of each marked item, and of each other
@@ -138,77 +137,3 @@ skips_apart c n x y few many = by_test (is_smaller x y) refl
     by_test : (b : Bool) → is_smaller x y ≡ b → IsSmaller x y
     by_test true smaller = less_if_smaller x y smaller
     by_test false not_smaller = absurd (omega (arith, few, many, skipped_not_above y x c not_smaller))
-
-pub split_if_pivots : (n : ℕ) (bs : List (List Item)) (ps : List ℕ) → IsAscending (sorted (content bs)) → ArePivots n bs ps → AreSplit (SkipsFew (content bs) n) (SkipsMany (content bs) n) bs ps
-split_if_pivots n bs ps up pivots =
-    let c = content bs in
-    split_of (SkipsFew c n) (SkipsMany c n) bs ps pivots.within
-    (all_unsorted (SkipsFew c n) (marked bs ps) (subst (AllByRecursion (SkipsFew c n)) (sym pivots.exact) (least_skip_few n c up)))
-    (all_unsorted (SkipsMany c n) (content (unmarked bs ps)) (subst (AllByRecursion (SkipsMany c n)) (sym (unmarked_is_rest n bs ps up pivots)) (rest_skip_many n c up)))
-
--- some of the blocks
-split_take : (P Q : Item → Type 0) (n : ℕ) (bs : List (List Item)) (ps : List ℕ) → AreSplit P Q bs ps → AreSplit P Q (take n bs) (take n ps)
-split_take P Q zero bs ps split = tt
-split_take P Q (suc n) [] [] split = tt
-split_take P Q (suc n) [] (p ∷ ps) split = absurd split
-split_take P Q (suc n) (b ∷ bs) [] split = absurd split
-split_take P Q (suc n) (b ∷ bs) (p ∷ ps) split = (split.0, split.1, split.2, split_take P Q n bs ps split.3)
-
-split_drop : (P Q : Item → Type 0) (n : ℕ) (bs : List (List Item)) (ps : List ℕ) → AreSplit P Q bs ps → AreSplit P Q (drop n bs) (drop n ps)
-split_drop P Q zero bs ps split = split
-split_drop P Q (suc n) [] [] split = tt
-split_drop P Q (suc n) [] (p ∷ ps) split = absurd split
-split_drop P Q (suc n) (b ∷ bs) [] split = absurd split
-split_drop P Q (suc n) (b ∷ bs) (p ∷ ps) split = split_drop P Q n bs ps split.3
-
-split_append : (P Q : Item → Type 0) (bs cs : List (List Item)) (ps qs : List ℕ) → AreSplit P Q bs ps → AreSplit P Q cs qs → AreSplit P Q (bs ++ cs) (ps ++ qs)
-split_append P Q [] cs [] qs split rest = rest
-split_append P Q [] cs (p ∷ ps) qs split rest = absurd split
-split_append P Q (b ∷ bs) cs [] qs split rest = absurd split
-split_append P Q (b ∷ bs) cs (p ∷ ps) qs split rest = (split.0, split.1, split.2, split_append P Q bs cs ps qs split.3 rest)
-
--- a block and the next that become one, and their pivots
-pub split_joined : (P Q : Item → Type 0) (bs : List (List Item)) (ps : List ℕ) (at : ℕ) → AreApart P Q → at + 1 < length bs → AreSplit P Q bs ps → AreSplit P Q (take at bs ++ sorted (get_or bs at [] ++ get_or bs (at + 1) []) ∷ drop (at + 2) bs) (joined_pivots ps at)
-split_joined P Q [] ps at apart within split = absurd (omega (arith, within))
-split_joined P Q (b ∷ []) ps at apart within split = absurd (omega (arith, within))
-split_joined P Q (b ∷ c ∷ bs) [] at apart within split = absurd split
-split_joined P Q (b ∷ c ∷ bs) (p ∷ []) at apart within split = absurd split.3
-split_joined P Q (b ∷ c ∷ bs) (p ∷ q ∷ ps) zero apart within split =
-    let f = λ (x : ℕ). x in
-    let both : AreSplit P Q (b ∷ c ∷ []) (p ∷ q ∷ []) = (split.0, split.1, split.2, (split.3.0, split.3.1, split.3.2, tt)) in
-    let one = one_of P Q (b ∷ c ∷ []) (p ∷ q ∷ []) (sorted (b ++ c)) (p + q) apart both (ap (λ xs. sorted (b ++ xs)) (sym (append-nil c))) (omega (arith, sum_by-cons f p (q ∷ []), sum_by-cons f q [])) in
-    (one.within, one.some, one.rest, split.3.3)
-split_joined P Q (b ∷ c ∷ bs) (p ∷ q ∷ ps) (suc at) apart within split =
-    let one : suc at + 1 ≡ suc (at + 1) = omega arith in
-    let two : suc at + 2 ≡ suc (at + 2) = omega arith in
-    rw (one, two) (split.0, split.1, split.2, split_joined P Q (c ∷ bs) (q ∷ ps) at apart (omega (arith, within)) split.3)
-
--- a block with some marked items less
-fewer_in_block : (P Q : Item → Type 0) (b : List Item) (p from c : ℕ) → from + c ≤ p → p ≤ length b → AllByRecursion P (take p b) → AllByRecursion Q (drop p b) → IsOneOf P Q (without_items b from c) (p - c)
-fewer_in_block P Q b p from c fewer within some rest =
-    let first = take from b in let back = drop (from + c) b in let m = p - c - from in
-    let size : length first ≡ from = length-take-le from b (omega (arith, fewer, within)) in
-    let count : p - c ≡ length first + m = omega (arith, size, fewer) in
-    let whole : from + c + m ≡ p = omega (arith, fewer) in
-    let front : without_items (take p b) from c ≡ take (p - c) (first ++ back) =
-    ap (λ xs. xs ++ drop (from + c) (take p b)) (shorter from p b (omega (arith, fewer)))
-    ∙ (ap (λ xs. first ++ xs) (ap (λ n. drop (from + c) (take n b)) (sym whole) ∙ drop-take (from + c) m b)
-    ∙ sym (ap (λ n. take n (first ++ back)) count ∙ take-append-add first back m)) in
-    let behind : drop p b ≡ drop (p - c) (first ++ back) =
-    sym (ap (λ n. drop n (first ++ back)) count ∙ (drop-append-add first back m ∙ (drop-drop m (from + c) b ∙ ap (λ n. drop n b) whole))) in
-    record {
-      within = omega (arith, length_without b from c (omega (arith, fewer, within)), within);
-      some = subst (AllByRecursion P) front (all_without P (take p b) from (from + c) some);
-      rest = subst (AllByRecursion Q) behind rest;
-    }
-
-pub split_fewer : (P Q : Item → Type 0) (bs : List (List Item)) (ps : List ℕ) (at from c : ℕ) → at < length bs → from + c ≤ get_or ps at 0 → AreSplit P Q bs ps → AreSplit P Q (set bs at (without_items (get_or bs at []) from c)) (fewer_marked ps at c)
-split_fewer P Q [] ps at from c within fewer split = absurd (omega (arith, within))
-split_fewer P Q (b ∷ bs) [] at from c within fewer split = absurd split
-split_fewer P Q (b ∷ bs) (p ∷ ps) zero from c within fewer split =
-    let one = fewer_in_block P Q b p from c fewer split.0 split.1 split.2 in (one.within, one.some, one.rest, split.3)
-split_fewer P Q (b ∷ bs) (p ∷ ps) (suc at) from c within fewer split = (split.0, split.1, split.2, split_fewer P Q bs ps at from c (omega (arith, within)) fewer split.3)
-
--- without a block
-pub split_remove : (P Q : Item → Type 0) (bs : List (List Item)) (ps : List ℕ) (at : ℕ) → AreSplit P Q bs ps → AreSplit P Q (remove bs at) (remove ps at)
-split_remove P Q bs ps at split = split_append P Q (take at bs) (drop (suc at) bs) (take at ps) (drop (suc at) ps) (split_take P Q at bs ps split) (split_drop P Q (suc at) bs ps split)

@@ -3,7 +3,7 @@ use Rattle.std.specs.Prelude.{◌≡◌, ◌<◌, List, [], length, slice_get, s
 use Rattle.klsm_run.specs.declared.item.Item.{Item}
 use Rattle.klsm_run.specs.Content.{sorted}
 use Rattle.klsm_lsm.specs.Lsm.{content}
-use Rattle.klsm_parts.specs.declared.ranks.Place.{Place}
+use Rattle.klsm_parts.specs.declared.places.Place.{Place}
 
 -- the least item with its block and its index there, where there is an item: it is the first of its block
 pub record IsLeastPlace (blocks : List (List Item)) (found : Option Place) : Type 0 where

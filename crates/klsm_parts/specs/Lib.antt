@@ -14,8 +14,6 @@ pub mod EitherPart  -- a part of either kind
 pub mod Queues  -- the queue for one thread
 pub mod Laws  -- what follows from the definitions alone
 pub mod LeastPlaces  -- where the least item stands; no public contract cites it
-pub mod Ranking  -- the order of the candidates; no public contract cites it
-pub mod RankBytes  -- the bytes of a rank in their store; no public contract cites it
-pub mod Mending  -- what becomes of pivots and ranking where blocks change; no public contract cites it
 -- Callers name these by this crate.
 pub use Rattle.klsm_lsm.specs.Limit  -- how many items an LSM can hold
+pub use Rattle.klsm_pile.specs.Leaving  -- the blocks without their least items

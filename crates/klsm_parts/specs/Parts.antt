@@ -1,14 +1,13 @@
 -- Parts, as contracts see them.
-use Rattle.std.specs.Prelude.{ℕ, ◌≡◌, ◌+◌, ◌<◌, ◌≤◌, List, [], length, min, slice_get, slice_index_or, Option, Some}
+use Rattle.std.specs.Prelude.{ℕ, ◌≡◌, ◌+◌, ◌<◌, ◌≤◌, List, [], length, slice_get, slice_index_or, Option, Some}
 use Rattle.klsm_run.specs.declared.item.Item.{Item}
 use Rattle.klsm_run.specs.Capacity.{IsCapacity}
 use Rattle.klsm_run.specs.declared.limits.TheConstants.{MOST_K}
 use Rattle.klsm_run.specs.Content.{sorted}
-use Rattle.klsm_lsm.specs.Lsm.{content, IsLsm}
+use Rattle.klsm_lsm.specs.Lsm.{content}
 use Rattle.klsm_lsm.specs.Limit.{IsLevelCount}
 use Rattle.klsm_parts.specs.Least.{least}
-use Rattle.klsm_parts.specs.Pivots.{ArePivots}
-use Rattle.klsm_parts.specs.Ranking.{AreRanked}
+use Rattle.klsm_pile.specs.Piles.{PileState}
 
 -- an own part or a shared one: its k, and the blocks of its LSM
 pub record PartState : Type 0 where
@@ -39,14 +38,8 @@ pub record IsOwn (capacity : ℕ) (part : PartState) (found : Option ℕ) : Type
   pub capacity_in_range : IsCapacity capacity
   pub found_is : (at : ℕ) → found ≡ Some at → HasLeastFirst part.blocks at
 
--- a shared part is a lawful LSM. The first of its least k+1 items are ranked, the least one always: exact pivots of these are known,
--- their blocks and their owners' low bytes in their order, and the least item itself
-pub record IsShared (levels : ℕ) (part : PartState) (pivots ranking owners : List ℕ) (least : Option Item) : Type 0 where
-  pub lawful : IsLsm part.blocks
-  pub pivots_exact : ArePivots (length ranking) part.blocks pivots
-  pub ranking_exact : AreRanked part.blocks ranking owners
-  pub ranking_some : min 1 (length (content part.blocks)) ≤ length ranking
-  pub ranking_few : length ranking ≤ min (part.k + 1) (length (content part.blocks))
-  pub least_found : least ≡ least_in part
-  pub k_in_range : part.k ≤ MOST_K
+-- a shared part is a pile of which the k+1 least items can be looked at
+pub record IsShared (levels k : ℕ) (pile : PileState) : Type 0 where
+  pub reach : pile.reach ≡ k + 1
+  pub k_in_range : k ≤ MOST_K
   pub levels_in_range : IsLevelCount levels

@@ -1,8 +1,7 @@
 -- The pivots of a shared part: how many of each block's first items are candidates.
-use Rattle.std.specs.Prelude.{ℕ, ◌≡◌, ◌≤◌, List, [], ◌∷◌, ◌++◌, length, take, drop, nat_lt, slice_get, Some}
-use Rattle.std.specs.List.{count_by}
+use Rattle.std.specs.Prelude.{ℕ, ◌≡◌, ◌≤◌, List, [], ◌∷◌, ◌++◌, length, take, drop, slice_get, Some}
 use Rattle.klsm_run.specs.declared.item.Item.{Item}
-use Rattle.klsm_run.specs.Content.{sorted, skipped}
+use Rattle.klsm_run.specs.Content.{sorted}
 use Rattle.klsm_lsm.specs.Lsm.{content}
 use Rattle.klsm_parts.specs.Least.{least}
 
@@ -33,7 +32,3 @@ pub record ArePivots (n : ℕ) (blocks : List (List Item)) (pivots : List ℕ) :
 -- block `at` has this pivot
 abbrev pub IsPivotAt : ℕ → List (List Item) → ℕ → ℕ → Type 0
 IsPivotAt n blocks at pivot = (pivots : List ℕ) × ArePivots n blocks pivots × (slice_get pivots at ≡ Some pivot)
-
--- how many items of a block are among the least n of a content: fewer than n items are smaller
-abbrev pub count_in_least : ℕ → List Item → List Item → ℕ
-count_in_least n c block = count_by (λ x. nat_lt (skipped c x) n) block

@@ -19,7 +19,7 @@ use std::alloc::Allocator;
 /// With k = 0 the item itself goes there.
 ///
 /// It costs one copy of what moves, the merges of the shared part and, whatever k is, one comparison a
-/// block of that, by which its least item is found. After a refusal its blocks are as they were.
+/// block of both parts, by which their least items are found. After a refusal its blocks are as they were.
 pub fn flush<const CAP: usize, const LEVELS: usize, A: Allocator + Copy>(
     own: &mut Local<CAP>,
     shared: &mut Shared<LEVELS, A>,

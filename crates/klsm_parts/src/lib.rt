@@ -60,33 +60,28 @@
 //!   its callers.
 //! - **A deletion takes no memory** and is never refused. `flush` makes one growth, before anything
 //!   changes; refused, it has changed nothing: clauses `unchanged`.
-//! - **Candidates are ranked when they are asked for.** A deletion that picks index i ranks the items up to
-//!   that one, at one comparison a block each, and they stay ranked until items come: two bytes for each, its
-//!   block and its owner, so that the next deletions find them without a comparison, and the first of an
-//!   owner's by its byte. A flush forgets them and ranks the least item, so it costs one comparison a
-//!   block whatever k is. `Shared::pivot` and `Shared::candidate` search anew, for tests and readers.
+//! - **The candidates lie side by side.** The shared part is a pile of `klsm_pile`, whose least k+1 items, or all, are
+//!   copied to one place in their order, each with the level of its block. A deletion that picks index i costs one access,
+//!   and an owner's item is looked for in one array. A flush merges what is below the last of them in there, and the rest
+//!   of it is a piece of its own, which is not moved for as long as it becomes one with no other piece.
 #![tactic(auto)]
 
 mod appending;
 mod choice;
 mod flushing;
-mod known;
 pub mod laws;
-mod leaving;
 mod local;
-mod mending;
 mod part;
 mod picker;
+mod places;
 mod queue;
-mod rank_bytes;
-mod ranking;
-mod ranks;
 mod refilling;
 mod shared;
 mod sharing;
 mod spying;
 mod stealing;
 mod taking;
+mod unions;
 
 pub use choice::{Choice, Pick};
 pub use flushing::flush;
@@ -101,3 +96,4 @@ pub use sharing::share;
 pub use spying::spy;
 pub use stealing::steal;
 pub use taking::take;
+pub use unions::Unions;

@@ -1,5 +1,5 @@
 //! The part of one member.
-ghost use Rattle.std.specs.Prelude.{ℕ, ◌≡◌, ◌<◌, ◌≤◌, ◌↔◌, ◌∷◌, [], length, slice_get, slice_index_or, Some, IsTrue, ◌+◌, ◌++◌, IsOk, OnOk, vec_len, vec_capacity};
+ghost use Rattle.std.specs.Prelude.{ℕ, ◌≡◌, ◌<◌, ◌≤◌, ◌↔◌, ◌∷◌, [], length, slice_get, slice_index_or, Some, IsTrue, ◌+◌, ◌++◌, IsOk, OnOk, vec_len, vec_capacity, min, option_map};
 ghost use Rattle.std.specs.List.{Contains};
 ghost use Rattle.std.specs.Option.{option_to_list};
 ghost use Rattle.klsm_run.specs.Capacity.{IsCapacity};
@@ -9,13 +9,13 @@ ghost use Rattle.klsm_lsm.specs.Adding.{add};
 ghost use Rattle.klsm_lsm.specs.Spying.{spied, left_by_spy};
 ghost use Rattle.klsm_parts.specs.Least.{IsLeast};
 ghost use Rattle.klsm_parts.specs.LeastPlaces.{IsLeastPlace};
-ghost use Rattle.klsm_parts.specs.Parts.{PartState, IsOwn, items_in, least_in};
+ghost use Rattle.klsm_parts.specs.Parts.{PartState, IsOwn, HasLeastFirst, items_in, least_in};
 ghost use Rattle.klsm_parts.specs.Events.{MayPut, MayTake, MayTakeEarly, own_after_put, own_after_take, own_after_early, own_after_refill};
 ghost use Rattle.klsm_parts.specs.Flushing.{kept};
 ghost use Rattle.klsm_parts.specs.Taking.{IsCutFrom};
 
 use crate::appending::append_blocks;
-use crate::ranks::{Place, first_of, least_place};
+use crate::places::{Place, first_of, item_of, least_place};
 use klsm_lsm::Lsm;
 use klsm_run::{FixedRun, Item, OWN_LEVELS};
 use std::alloc::{AllocError, Allocator};
@@ -27,7 +27,7 @@ use std::marker::Model;
 pub struct Local<const CAP: usize> {
     lsm: Lsm<FixedRun<CAP>, OWN_LEVELS>,
     k: usize,
-    // The block of the least item, where a look has found it and nothing has changed since.
+    // The block of the least item. `None`: there is no item, or the block has not been searched for.
     found: Option<usize>,
 }
 
@@ -82,11 +82,11 @@ impl<const CAP: usize> Local<CAP> {
         self.len() == 0
     }
 
-    /// The least item, if there is one. It costs one comparison a block.
+    /// The least item, if there is one. Each change keeps its place or searches for it, so that this reads one item.
     pub fn least(&self) -> Option<Item>
         ensures { result ≡ least_in self.now }
     {
-        self.lsm.least()
+        item_of(self.least_place())
     }
 
     /// The items, as an LSM.
@@ -108,7 +108,7 @@ impl<const CAP: usize> Local<CAP> {
     }
 
     // Puts an item in the place of the largest block, which has gone to the shared part. Where
-    // there is none, as k is 0, the item has gone there.
+    // there is none, as k is 0, the item has gone there. Then it searches for the least item.
     pub(crate) fn replace_largest(&mut self, item: Item)
         requires capacity { IsCapacity CAP }
         requires lawful { IsLsm self.old.blocks }
@@ -118,14 +118,14 @@ impl<const CAP: usize> Local<CAP> {
         if self.lsm.blocks() == 0 {
             return;
         }
-        self.found = None;
         self.lsm.discard_largest();
         let Ok(()) = self.lsm.insert(item) else {
             unreachable!();
         };
+        self.found = self.lsm.least_block();
     }
 
-    /// The least item, if there is one, as `least`. The next deletion need then not search for it, if nothing changes before.
+    /// The least item, if there is one, as `least`. If its place was not known, it is known from then on.
     pub fn find_least(&mut self) -> Option<Item>
         ensures least { result ≡ least_in self.old }
         ensures same { self.new ≡ self.old }
@@ -146,7 +146,25 @@ impl<const CAP: usize> Local<CAP> {
         }
     }
 
-    // Takes the least item out, which is item `index` of block `block`.
+    // The block of the least item if an item stood behind the others as a block of its own. `None`: not known.
+    #[inline]
+    fn place_with(&self, item: Item) -> Option<usize>
+        ensures { (at : ℕ) → result ≡ Some at
+            → HasLeastFirst (self.now.blocks ++ (item ∷ []) ∷ []) at }
+    {
+        let count = self.lsm.blocks();
+        if count == 0 {
+            return Some(0);
+        }
+        let found = self.found?;
+        let least = first_of(&self.lsm, found).item;
+        if item.is_before(&least) {
+            return Some(count);
+        }
+        Some(found)
+    }
+
+    // Takes the least item out, which is item `index` of block `block`, and searches for the next one.
     pub(crate) fn remove(&mut self, block: usize, index: usize) -> Item
         requires block { block < length self.old.blocks }
         requires index { index < length (slice_index_or self.old.blocks block []) }
@@ -158,11 +176,13 @@ impl<const CAP: usize> Local<CAP> {
         ensures event { ((owner : ℕ) → MayTake self.old.k owner (items_in self.old) [] result)
             × (items_in self.new ≡ own_after_take (items_in self.old) result) }
     {
-        self.found = None;
-        self.lsm.remove(block, index)
+        let taken = self.lsm.remove(block, index);
+        self.found = self.lsm.least_block();
+        taken
     }
 
-    /// Merges ascending items in, for which there is room. It takes no memory, and costs one merge.
+    /// Merges ascending items in, for which there is room. It takes no memory, and costs one merge and one comparison a block,
+    /// by which the least item is found.
     ///
     /// With what `fetch` moved out of the shared part it carries the event Refill out. It asks nothing of the shared
     /// part, which may be in other hands by then.
@@ -176,10 +196,10 @@ impl<const CAP: usize> Local<CAP> {
         ensures blocks { self.new.blocks ≡ add self.old.blocks items.now }
         ensures items { items_in self.new ≡ own_after_refill (items_in self.old) items.now }
     {
-        self.found = None;
         let Ok(()) = self.lsm.absorb_items(items) else {
             unreachable!();
         };
+        self.found = self.lsm.least_block();
     }
 
     // Loses all items.
@@ -190,7 +210,7 @@ impl<const CAP: usize> Local<CAP> {
         self.lsm.clear();
     }
 
-    // Takes what goes to a member that spies from a victim.
+    // Takes what goes to a member that spies from a victim, and searches both parts for their least items.
     pub(crate) fn spy_from(&mut self, victim: &mut Self) -> usize
         requires same_k { self.old.k ≡ victim.old.k }
         requires empty { self.old.blocks ≡ [] }
@@ -202,9 +222,10 @@ impl<const CAP: usize> Local<CAP> {
     {
         // For the proof: the victim has at most k items.
         let _known = victim.len();
-        self.found = None;
-        victim.found = None;
-        self.lsm.spy(&mut victim.lsm)
+        let count = self.lsm.spy(&mut victim.lsm);
+        self.found = self.lsm.least_block();
+        victim.found = victim.lsm.least_block();
+        count
     }
 }
 
@@ -218,7 +239,8 @@ impl<const CAP: usize> fmt::Debug for Local<CAP> {
     }
 }
 
-/// Puts an item into an own part that has room. It takes no memory.
+/// Puts an item into an own part that has room. It takes no memory. If the place of the least item was known, one comparison with
+/// that item keeps it known.
 #[inline]
 pub fn put<const CAP: usize>(own: &mut Local<CAP>, item: Item)
     requires capacity { IsCapacity CAP }
@@ -228,14 +250,27 @@ pub fn put<const CAP: usize>(own: &mut Local<CAP>, item: Item)
     ensures event { MayPut own.old.k (items_in own.old)
         × (items_in own.new ≡ own_after_put (items_in own.old) item) }
 {
-    own.found = None;
+    // For the proof: the LSM is lawful.
+    let _known = own.len();
+    let place = own.place_with(item);
     let Ok(()) = own.lsm.insert(item) else {
         unreachable!();
     };
+
+    // The item is the last block, or has become one with blocks up to it. Those before are as they were.
+    own.found = at_most(place, own.lsm.blocks() - 1);
 }
 
-/// Takes the least item out of an own part that is not empty. It takes no memory, and costs one comparison a block, or none where
-/// `find_least` has found it.
+// The block of a place, or the last block if that is before it.
+#[inline]
+fn at_most(place: Option<usize>, last: usize) -> Option<usize>
+    ensures { result ≡ option_map (λ block. min block last) place }
+{
+    place.map(|block| block.min(last))
+}
+
+/// Takes the least item out of an own part that is not empty. It takes no memory, and costs one comparison a block, by which the
+/// next least one is found.
 ///
 /// Where its key is below the front of the shared part, that is a deletion which looks at no shared item.
 #[inline]

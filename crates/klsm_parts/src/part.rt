@@ -55,8 +55,8 @@ impl<const CAP: usize, const LEVELS: usize> Part<CAP, LEVELS> {
         }
     }
 
-    /// Item `index`, counted block after block, the greatest level first. It costs one step a
-    /// block.
+    /// Item `index`, counted block after block, the greatest level first. In an own part it costs one step a
+    /// block; in the shared one it is searched for, by one pass over its pieces for each item of its block up to it.
     pub fn item_at(&self, index: usize) -> Item
         requires capacity { IsCapacity CAP }
         requires levels { IsLevelCount LEVELS }
@@ -65,7 +65,7 @@ impl<const CAP: usize, const LEVELS: usize> Part<CAP, LEVELS> {
     {
         match self {
             Part::Own(own) => item_listed(own.lsm(), index),
-            Part::Common(shared) => item_listed(shared.lsm(), index),
+            Part::Common(shared) => shared.item_at(index),
         }
     }
 }

@@ -9,7 +9,7 @@ ghost use Rattle.klsm_parts.specs.Taking.{Leaves};
 ghost use Rattle.klsm_parts.specs.Queues.{QueueState, IsNumbered, IsQueue, items_of, least_of, next_item, Joins, HaveNoPlace, IsFull};
 
 use crate::taking::is_smaller_own;
-use crate::{First, Local, Shared, flush, put, take};
+use crate::{First, Local, Shared, Unions, flush, put, take};
 use klsm_lsm::LsmError;
 use klsm_run::{Item, Stamp};
 use std::alloc::{Allocator, Global};
@@ -28,6 +28,7 @@ const OWNER: u32 = 0;
 pub struct Queue<const CAP: usize, const LEVELS: usize, A: Allocator + Copy = Global> {
     own: Local<CAP>,
     shared: Shared<LEVELS, A>,
+    unions: Unions<A>,
     // How many items were inserted, which is the number of the next one.
     inserted: u64,
 }
@@ -55,6 +56,7 @@ impl<const CAP: usize, const LEVELS: usize, A: Allocator + Copy> Queue<CAP, LEVE
         Queue {
             own: Local::new(k),
             shared: Shared::new(alloc, k),
+            unions: Unions::new(alloc),
             inserted: 0,
         }
     }
@@ -168,7 +170,7 @@ impl<const CAP: usize, const LEVELS: usize, A: Allocator + Copy> Queue<CAP, LEVE
             return Err(LsmError::Full);
         };
         let item = item_of(key, self.inserted, load);
-        match put_or_flush(&mut self.own, &mut self.shared, item) {
+        match put_or_flush(&mut self.own, &mut self.shared, &mut self.unions, item) {
             Ok(()) => {
                 self.inserted = next;
                 Ok(item)
@@ -191,6 +193,7 @@ impl<const CAP: usize, const LEVELS: usize, A: Allocator + Copy> Queue<CAP, LEVE
         ensures k { self.new.own.k ≡ self.old.own.k }
         ensures inserted { self.new.inserted ≡ self.old.inserted }
     {
+        self.unions.carry_on_in_place();
         take(OWNER, &mut self.own, &mut self.shared, &mut First)
     }
 }
@@ -227,6 +230,7 @@ fn item_of(key: u64, number: u64, load: u64) -> Item
 fn put_or_flush<const CAP: usize, const LEVELS: usize, A: Allocator + Copy>(
     own: &mut Local<CAP>,
     shared: &mut Shared<LEVELS, A>,
+    unions: &mut Unions<A>,
     item: Item,
 ) -> Result<(), LsmError>
     requires capacity { IsCapacity CAP }
@@ -242,7 +246,12 @@ fn put_or_flush<const CAP: usize, const LEVELS: usize, A: Allocator + Copy>(
 {
     if own.len() < own.k() {
         put(own, item);
+        unions.carry_on_in_place();
         return Ok(());
     }
-    flush(own, shared, item)
+    unions.prepare();
+    let answer = flush(own, shared, item);
+    unions.exchange(shared);
+    unions.carry_on();
+    answer
 }

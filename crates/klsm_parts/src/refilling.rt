@@ -4,7 +4,8 @@ ghost use Rattle.std.specs.Prelude.{◌≡◌, ◌+◌, ◌<◌, ◌≤◌, leng
 ghost use Rattle.klsm_lsm.specs.Lsm.{IsLsm};
 ghost use Rattle.klsm_parts.specs.Parts.{items_in};
 ghost use Rattle.klsm_parts.specs.Events.{MayRefill, shared_after_refill};
-ghost use Rattle.klsm_parts.specs.Refilling.{cut_least, refill_count, refill_of};
+ghost use Rattle.klsm_pile.specs.Leaving.{cut_least};
+ghost use Rattle.klsm_parts.specs.Refilling.{refill_count, refill_of};
 
 use crate::{Local, Shared};
 use klsm_run::Item;

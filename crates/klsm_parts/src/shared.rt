@@ -1,53 +1,42 @@
 //! The part that all members share.
 ghost use Rattle.std.specs.Prelude.{◌≡◌, ◌≢◌, ◌+◌, ◌<◌, ◌≤◌, ◌↔◌, [], length, min, slice_get, slice_index_or, Some, IsTrue, IsOk, IfOk, IfErr, OnOk, OnErr, IsErrAnd, ◌++◌, take, drop, vec_len, vec_capacity};
-ghost use Rattle.klsm_run.specs.Capacity.{IsCapacity, heap_room};
+ghost use Rattle.klsm_run.specs.Capacity.{heap_room};
 ghost use Rattle.klsm_run.specs.declared.limits.TheConstants.{MOST_K};
 ghost use Rattle.klsm_run.specs.Content.{sorted, ShareNone};
 ghost use Rattle.klsm_lsm.specs.Lsm.{content, IsLsm};
 ghost use Rattle.klsm_lsm.specs.Limit.{IsLevelCount, limit_of};
-ghost use Rattle.klsm_lsm.specs.Adding.{add, cut};
-ghost use Rattle.klsm_parts.specs.Pivots.{ArePivots, IsPivotAt, count_in_least};
+ghost use Rattle.klsm_lsm.specs.Adding.{add};
+ghost use Rattle.klsm_pile.specs.Leaving.{count_in_least, cut_least};
+ghost use Rattle.klsm_parts.specs.Pivots.{IsPivotAt};
 ghost use Rattle.klsm_parts.specs.Events.{front_of};
-ghost use Rattle.klsm_parts.specs.Refilling.{cut_least};
-ghost use Rattle.klsm_parts.specs.Taking.{own_first};
+ghost use Rattle.klsm_parts.specs.Taking.{own_first, IsCutFrom};
 ghost use Rattle.klsm_parts.specs.Parts.{PartState, IsShared, items_in, least_in, candidates_of};
 
-use crate::appending::append_blocks;
-use crate::known::{LeastItems, know_anew, know_least, rank_up_to};
-use crate::leaving::{copy_least, cut_block, cut_blocks};
-use crate::ranking::Ranking;
-use crate::ranks::{Place, item_of_rank, pivots_of};
-use arrayvec::ArrayVec;
 use klsm_lsm::{Lsm, LsmError};
+use klsm_pile::Pile;
 use klsm_run::{HeapRun, Item, Run};
+use klsm_union::{SharedRun, Spent, UnionBlank, Work};
 use std::alloc::{AllocError, Allocator, Global};
 use std::fmt;
 use std::marker::Model;
 
 /// The part that all members share: an LSM whose blocks take memory. The least k+1 of its items, or
 /// all where there are fewer, are the candidates of a deletion, and a block's pivot is how many of
-/// them it has.
-///
-/// It keeps the least item, and the first candidates in their order, as many as deletions asked for since the
-/// last flush. A flush looks for the least one alone, so it costs the same whatever k is.
+/// them it has. They lie side by side, in their order.
 #[derive(Drop)]
 pub struct Shared<const LEVELS: usize, A: Allocator + Copy = Global> {
-    lsm: Lsm<HeapRun<A>, LEVELS>,
+    // Its `reach` is k+1.
+    pile: Pile<LEVELS, A>,
     k: usize,
-    // How many of each block's first items are ranked.
-    pivots: ArrayVec<usize, LEVELS>,
-    least: LeastItems,
     alloc: A,
 }
 
 impl<const LEVELS: usize, A: Allocator + Copy> Model for Shared<LEVELS, A> {
     ghost Value = { PartState };
 
-    ghost view = { λ shared. record { k = shared.k; blocks = shared.lsm } };
+    ghost view = { λ shared. record { k = shared.k; blocks = shared.pile.blocks } };
 
-    ghost invariant = { λ shared. IsShared LEVELS
-        (record { k = shared.k; blocks = shared.lsm }) shared.pivots.items
-        shared.least.ranking.blocks.items shared.least.ranking.owners.items shared.least.first };
+    ghost invariant = { λ shared. IsShared LEVELS shared.k shared.pile };
 }
 
 impl<const LEVELS: usize, A: Allocator + Copy> Shared<LEVELS, A> {
@@ -59,13 +48,8 @@ impl<const LEVELS: usize, A: Allocator + Copy> Shared<LEVELS, A> {
         ensures { result ≡ record { k = k; blocks = [] } }
     {
         Shared {
-            lsm: Lsm::new(),
+            pile: Pile::new(alloc, k + 1),
             k,
-            pivots: ArrayVec::new(),
-            least: LeastItems {
-                first: None,
-                ranking: Ranking::new(),
-            },
             alloc,
         }
     }
@@ -86,7 +70,7 @@ impl<const LEVELS: usize, A: Allocator + Copy> Shared<LEVELS, A> {
         ensures limit { length (content self.now.blocks) ≤ limit_of LEVELS heap_room }
         ensures lawful { IsLsm self.now.blocks }
     {
-        self.lsm.len()
+        self.pile.len()
     }
 
     /// Whether there is no item.
@@ -102,7 +86,7 @@ impl<const LEVELS: usize, A: Allocator + Copy> Shared<LEVELS, A> {
     pub fn least(&self) -> Option<Item>
         ensures { result ≡ least_in self.now }
     {
-        self.least.first
+        self.pile.least()
     }
 
     /// The front: the key of the least item, and the greatest number where there is no item. It costs
@@ -111,18 +95,10 @@ impl<const LEVELS: usize, A: Allocator + Copy> Shared<LEVELS, A> {
     pub fn front(&self) -> u64
         ensures { result ≡ front_of (items_in self.now) }
     {
-        match self.least.first {
+        match self.pile.least() {
             Some(item) => item.key,
             None => u64::MAX,
         }
-    }
-
-    /// The items, as an LSM.
-    #[inline]
-    pub fn lsm(&self) -> &Lsm<HeapRun<A>, LEVELS>
-        ensures { result.now ≡ self.now.blocks }
-    {
-        &self.lsm
     }
 
     /// Appends the items to a list, block after block. It takes no memory where the list has room.
@@ -132,51 +108,84 @@ impl<const LEVELS: usize, A: Allocator + Copy> Shared<LEVELS, A> {
         ensures succeeds { vec_len all.old + length (content self.now.blocks) ≤ vec_capacity all.old
             → IsOk result }
     {
-        append_blocks(&self.lsm, all)
+        self.pile.append_to(all)
+    }
+
+    /// Item `index`, counted block after block, the greatest level first. It is searched for, by one pass over the pieces
+    /// for each item of its block up to it.
+    pub fn item_at(&self, index: usize) -> Item
+        requires { index < length (content self.now.blocks) }
+        ensures { slice_get (content self.now.blocks) index ≡ Some result }
+    {
+        self.pile.item_at(index)
+    }
+
+    /// The items as an LSM of its own, in memory of `alloc`, which is made at each call: the blocks lie in pieces. It is
+    /// refused only for want of memory.
+    pub fn lsm<B: Allocator + Copy>(&self, alloc: B) -> Result<Lsm<HeapRun<B>, LEVELS>, AllocError>
+        ensures { IfOk result (λ lsm. lsm ≡ self.now.blocks) }
+    {
+        self.pile.lsm(alloc)
+    }
+
+    /// The number of blocks.
+    pub fn blocks(&self) -> usize
+        ensures { result ≡ length self.now.blocks }
+    {
+        self.pile.blocks()
     }
 
     /// How many candidates block `block` has. They are its first items. They are counted at each call, at
-    /// `k + 1` comparisons a block: no other call needs it.
+    /// a look at each candidate: no other call needs it.
     pub fn pivot(&self, block: usize) -> usize
         requires { block < length self.now.blocks }
         ensures exact { IsPivotAt (self.now.k + 1) self.now.blocks block result }
         ensures counts { result ≡ count_in_least (self.now.k + 1) (content self.now.blocks)
             (slice_index_or self.now.blocks block []) }
     {
-        candidate_pivots(&self.lsm, self.k).as_slice()[block]
+        // For the proof: the blocks are lawful.
+        let _known = self.pile.len();
+        self.pile.pivot(block)
+    }
+
+    /// How many items of block `block` are candidates, counted anew. So does `pivot`, of which this is another name.
+    pub fn pivot_anew(&self, block: usize) -> usize
+        requires { block < length self.now.blocks }
+        ensures counts { result ≡ count_in_least (self.now.k + 1) (content self.now.blocks)
+            (slice_index_or self.now.blocks block []) }
+    {
+        self.pivot(block)
     }
 
     /// The number of candidates.
     pub fn candidates(&self) -> usize
         ensures { result ≡ length (candidates_of self.now) }
     {
-        (self.k + 1).min(self.lsm.len())
+        (self.k + 1).min(self.pile.len())
     }
 
-    /// Candidate `index`, counted from the least. It is searched for at each call, at `index + 1`
-    /// comparisons a block: a deletion finds its own from what is ranked.
+    /// Candidate `index`, counted from the least. It costs one access.
     pub fn candidate(&self, index: usize) -> Item
         requires { index < length (candidates_of self.now) }
         ensures { slice_get (candidates_of self.now) index ≡ Some result }
     {
-        item_of_rank(&self.lsm, index)
+        self.pile.item(index)
     }
 
-    // Of the candidates up to one, the first that an owner inserted, or that one where there is none: where it stands, and
-    // its index. Those up to that one which are not ranked yet are ranked first.
-    pub(crate) fn own_first(&mut self, owner: u32, index: usize) -> (Place, usize)
-        requires { index < length (candidates_of self.old) }
-        ensures same { self.new ≡ self.old }
-        ensures first { result.1 ≡ own_first owner index (candidates_of self.old) }
-        ensures block { result.0.block < length self.old.blocks }
-        ensures index { slice_get (slice_index_or self.old.blocks result.0.block []) result.0.index
-            ≡ Some result.0.item }
-        ensures candidate { slice_get (candidates_of self.old) result.1 ≡ Some result.0.item }
+    // Of the candidates up to one, the first that an owner inserted, or that one where there is none, and its index. It costs
+    // a look at each up to it.
+    pub(crate) fn own_first(&self, owner: u32, index: usize) -> (Item, usize)
+        requires { index < length (candidates_of self.now) }
+        ensures first { result.1 ≡ own_first owner index (candidates_of self.now) }
+        ensures candidate { slice_get (candidates_of self.now) result.1 ≡ Some result.0 }
     {
-        let ranking = &mut self.least.ranking;
-        rank_up_to(&self.lsm, &mut self.pivots, ranking, index + 1);
-        let rank = ranking.own_first(&self.lsm, owner, index);
-        (ranking.place(&self.lsm, rank), rank)
+        for earlier in 0..index {
+            let item = self.candidate(earlier);
+            if item.stamp.owner == owner {
+                return (item, earlier);
+            }
+        }
+        (self.candidate(index), index)
     }
 
     // Puts a copy of a run in. What can be refused comes first, and Full before a growth.
@@ -190,12 +199,12 @@ impl<const LEVELS: usize, A: Allocator + Copy> Shared<LEVELS, A> {
             < length (content self.old.blocks) + length (R.items run.now)) }
         ensures unchanged { OnErr result (self.new ≡ self.old) }
     {
-        match self.lsm.absorb_copy(self.alloc, run) {
-            Ok(()) => {
-                know_anew(&self.lsm, &mut self.pivots, &mut self.least);
-                Ok(())
-            }
-            Err(why) => Err(why),
+        if run.len() > self.pile.limit() - self.pile.len() {
+            return Err(LsmError::Full);
+        }
+        match HeapRun::copy_of(self.alloc, run) {
+            Ok(copy) => absorb(&mut self.pile, self.alloc, copy),
+            Err(_) => Err(LsmError::NoMemory),
         }
     }
 
@@ -215,45 +224,53 @@ impl<const LEVELS: usize, A: Allocator + Copy> Shared<LEVELS, A> {
             < length (content self.old.blocks) + length (content others.now)) }
         ensures unchanged { OnErr result (self.new ≡ self.old) }
     {
-        match self.lsm.absorb_all(self.alloc, others) {
-            Ok(()) => {
-                know_anew(&self.lsm, &mut self.pivots, &mut self.least);
-                Ok(())
-            }
-            Err(why) => Err(why),
+        if others.len() > self.pile.limit() - self.pile.len() {
+            return Err(LsmError::Full);
+        }
+        match others.to_run(self.alloc) {
+            Ok(copy) => absorb(&mut self.pile, self.alloc, copy),
+            Err(_) => Err(LsmError::NoMemory),
         }
     }
 
     // Takes the least items out, as many as there are places, and puts them there in their order.
     pub(crate) fn take_least(&mut self, places: &mut [Item])
-        requires { length places.old ≤ length (candidates_of self.old) }
+        requires some { 0 < length places.old }
+        requires there { length places.old ≤ length (candidates_of self.old) }
         ensures k { self.new.k ≡ self.old.k }
         ensures taken { places.new ≡ take (length places.old) (items_in self.old) }
         ensures blocks { self.new.blocks ≡ cut_least (length places.old) self.old.blocks }
         ensures left { items_in self.new ≡ drop (length places.old) (items_in self.old) }
     {
-        let ranking = &mut self.least.ranking;
-        rank_up_to(&self.lsm, &mut self.pivots, ranking, places.len());
-        let counts = copy_least(ranking, &self.lsm, places);
-        ranking.remove_first(places.len());
-        cut_blocks(&mut self.lsm, &mut self.pivots, ranking, counts.as_slice());
-        know_least(&self.lsm, &mut self.pivots, &mut self.least);
+        self.pile.take_least(places);
     }
 
-    // Takes the candidate of a rank out, which is item `index` of block `block`.
-    pub(crate) fn remove(&mut self, block: usize, index: usize, rank: usize)
-        requires block { block < length self.old.blocks }
-        requires index { index < length (slice_index_or self.old.blocks block []) }
-        requires rank { slice_get (slice_index_or self.old.blocks block []) index
-            ≡ slice_get (candidates_of self.old) rank }
-        ensures { self.new
-            ≡ record { k = self.old.k; blocks = cut self.old.blocks block index } }
+    // Takes the candidate of a rank out.
+    pub(crate) fn remove(&mut self, rank: usize) -> Item
+        requires { rank < length (candidates_of self.old) }
+        ensures item { slice_get (candidates_of self.old) rank ≡ Some result }
+        ensures cut { IsCutFrom result self.old.blocks self.new.blocks }
+        ensures k { self.new.k ≡ self.old.k }
     {
-        let ranking = &mut self.least.ranking;
-        rank_up_to(&self.lsm, &mut self.pivots, ranking, rank + 1);
-        ranking.remove(rank);
-        cut_block(&mut self.lsm, &mut self.pivots, ranking, block, index, 1);
-        know_least(&self.lsm, &mut self.pivots, &mut self.least);
+        self.pile.remove(rank)
+    }
+
+    // The work that makes one run of two pieces of a block. The blank comes back if there are no two, and nothing if a run
+    // has too many owners.
+    pub(crate) fn hand_out(
+        &mut self,
+        blank: UnionBlank<A>,
+    ) -> Result<Work<A>, Option<UnionBlank<A>>>
+        ensures { self.new ≡ self.old }
+    {
+        self.pile.hand_out(blank)
+    }
+
+    // Takes over a union that was handed in, if there is one: what may be freed then.
+    pub(crate) fn collect(&mut self) -> Option<Spent<A>>
+        ensures { self.new ≡ self.old }
+    {
+        self.pile.collect()
     }
 }
 
@@ -262,20 +279,30 @@ impl<const LEVELS: usize, A: Allocator + Copy> fmt::Debug for Shared<LEVELS, A> 
     fn fmt<W: fmt::Write>(&self, f: &mut fmt::Formatter<W>) -> fmt::Result {
         f.debug_struct("Shared")
             .field("k", &self.k)
-            .field("lsm", &self.lsm)
+            .field("lsm", &self.pile)
             .finish()
     }
 }
 
-// The pivots of an LSM's least k+1 items.
-fn candidate_pivots<R: Run, const LEVELS: usize>(
-    lsm: &Lsm<R, LEVELS>,
-    k: usize,
-) -> ArrayVec<usize, LEVELS>
-    requires levels { IsLevelCount LEVELS }
-    requires k { k ≤ MOST_K }
-    ensures lawful { IsLsm lsm.now }
-    ensures pivots { ArePivots (k + 1) lsm.now result.items }
+// Puts a run in, for which there is room.
+fn absorb<const LEVELS: usize, A: Allocator + Copy>(
+    pile: &mut Pile<LEVELS, A>,
+    alloc: A,
+    run: HeapRun<A>,
+) -> Result<(), LsmError>
+    requires some { 0 < length run.items }
+    requires apart { ShareNone (content pile.old.blocks) run.items }
+    requires limit { length (content pile.old.blocks) + length run.items ≤ limit_of LEVELS heap_room }
+    ensures added { OnOk result (pile.new
+        ≡ record { blocks = add pile.old.blocks run.items; reach = pile.old.reach }) }
+    ensures memory { IfErr result (λ why. why ≡ LsmError.NoMemory) }
+    ensures unchanged { OnErr result (pile.new ≡ pile.old) }
 {
-    pivots_of(lsm, lsm.len().min(k + 1))
+    let Ok(shared) = SharedRun::new(alloc, run) else {
+        return Err(LsmError::NoMemory);
+    };
+    match pile.absorb(shared) {
+        Ok(()) => Ok(()),
+        Err(AllocError) => Err(LsmError::NoMemory),
+    }
 }

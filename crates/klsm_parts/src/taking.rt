@@ -7,7 +7,7 @@ ghost use Rattle.klsm_parts.specs.Parts.{items_in, least_in, candidates_of};
 ghost use Rattle.klsm_parts.specs.Events.{MayTake, MayFindNothing, own_after_take, shared_after_take};
 ghost use Rattle.klsm_parts.specs.Taking.{own_first, picks, lesser_of, unless_smaller, IsPicked, Leaves};
 
-use crate::ranks::{Place, item_of};
+use crate::places::item_of;
 use crate::{Local, Picker, Shared};
 use klsm_run::Item;
 use std::alloc::Allocator;
@@ -17,10 +17,9 @@ use std::alloc::Allocator;
 /// first before it that `owner` inserted, if there is one. `None` where both parts are empty.
 ///
 /// What it takes skips at most k items of the two parts, and none that `owner` inserted. It takes no
-/// memory. It costs one comparison a block of the own part and, where a shared item goes, a look at a byte
-/// of each candidate before that one. Candidates up to the picked one that no deletion asked for since the
-/// last flush are ranked first, at one comparison a block of the shared part each; so is the least item
-/// that is left, where no other is ranked.
+/// memory. It costs one comparison a block of the own part and, where a shared item goes, a look at each candidate before
+/// that one, and at each that is kept side by side with them, which moves up. Some hundreds of deletions find them so; then
+/// as many more are fetched, at a comparison a piece for each run of items of one piece.
 pub fn take<const CAP: usize, const LEVELS: usize, A: Allocator + Copy, P: Picker>(
     owner: u32,
     own: &mut Local<CAP>,
@@ -55,9 +54,9 @@ pub fn take<const CAP: usize, const LEVELS: usize, A: Allocator + Copy, P: Picke
     // Each part is searched once.
     let least_own = own.least_place();
     match choose(owner, item_of(least_own), shared, picker) {
-        Some((place, rank)) => {
-            shared.remove(place.block, place.index, rank);
-            Some(place.item)
+        Some((item, rank)) => {
+            shared.remove(rank);
+            Some(item)
         }
         None => {
             let least = least_own?;
@@ -67,24 +66,20 @@ pub fn take<const CAP: usize, const LEVELS: usize, A: Allocator + Copy, P: Picke
 }
 
 // The candidate to take, and how many candidates are smaller. `None` where the least own item is to be taken, if there is one.
-// The part stays as it is, and has more items ranked.
 fn choose<const LEVELS: usize, A: Allocator + Copy, P: Picker>(
     owner: u32,
     least_own: Option<Item>,
-    shared: &mut Shared<LEVELS, A>,
+    shared: &Shared<LEVELS, A>,
     picker: &mut P,
-) -> Option<(Place, usize)>
-    ensures same { shared.new ≡ shared.old }
-    ensures unasked { picks least_own (least_in shared.old) ≡ false
+) -> Option<(Item, usize)>
+    ensures unasked { picks least_own (least_in shared.now) ≡ false
         → (picker.new ≡ picker.old) × (result ≡ None) }
-    ensures asked { IsTrue (picks least_own (least_in shared.old))
-        → IsPicked P.may_pick picker.old picker.new owner (candidates_of shared.old)
-        (λ candidate. option_map (λ chosen. chosen.0.item) result
+    ensures asked { IsTrue (picks least_own (least_in shared.now))
+        → IsPicked P.may_pick picker.old picker.new owner (candidates_of shared.now)
+        (λ candidate. option_map (λ chosen. chosen.0) result
         ≡ unless_smaller candidate least_own) }
-    ensures place { IfSome result (λ chosen. (chosen.0.block < length shared.old.blocks)
-        × (slice_get (slice_index_or shared.old.blocks chosen.0.block []) chosen.0.index
-        ≡ Some chosen.0.item)
-        × (slice_get (candidates_of shared.old) chosen.1 ≡ Some chosen.0.item)) }
+    ensures candidate { IfSome result (λ chosen.
+        slice_get (candidates_of shared.now) chosen.1 ≡ Some chosen.0) }
 {
     let least = shared.least()?;
     if is_smaller_own(least_own, least) {
@@ -92,7 +87,7 @@ fn choose<const LEVELS: usize, A: Allocator + Copy, P: Picker>(
     }
     let index = picker.pick(shared.candidates());
     let (candidate, rank) = shared.own_first(owner, index);
-    if is_smaller_own(least_own, candidate.item) {
+    if is_smaller_own(least_own, candidate) {
         return None;
     }
     Some((candidate, rank))

@@ -1,10 +1,9 @@
-//! The knapsack client: its worked instance, its rows, its workers, and drawn instances beside a
+//! The knapsack client: its worked instance, its workers, and drawn instances beside a
 //! plain loop over all selections.
 
 mod alone;
 mod drawn;
 mod gated;
 mod pruned;
-mod reading;
 mod reordered;
 mod worked;

@@ -17,20 +17,20 @@ mod threads;
 mod waiting;
 mod worked;
 
+use klsm_test_support::{Input, Output};
 use klsm_tool::{Silent, run_program};
-use process::{Input, Output, Process};
+use process::Process;
 use std::alloc::Global;
 use std::io::Read;
 use std::sync::Wait;
 use std::thread::Threads;
-use std::time::Clock;
 
 /// The words of a process that answers a script.
 const REPLAY: &[&[u8]] = &[b"klsm", b"replay"];
 
 /// The status of the program as a process of these words.
 fn run(
-    rt: &(impl Wait + Clock + Threads + Sync),
+    rt: &(impl Wait + Threads + Sync),
     alloc: Global,
     words: &[&[u8]],
     input: impl Read + Drop,
@@ -41,7 +41,7 @@ fn run(
 
 /// Whether the program ends with this status, and this text is all that it writes.
 fn gives(
-    rt: &(impl Wait + Clock + Threads + Sync),
+    rt: &(impl Wait + Threads + Sync),
     alloc: Global,
     words: &[&[u8]],
     input: Input,
@@ -56,7 +56,7 @@ fn gives(
 type Told = (&'static [&'static [u8]], &'static [u8], u8, &'static [u8]);
 
 /// Whether each row goes as it has to.
-fn all_go(rt: &(impl Wait + Clock + Threads + Sync), alloc: Global, rows: &[Told]) -> bool {
+fn all_go(rt: &(impl Wait + Threads + Sync), alloc: Global, rows: &[Told]) -> bool {
     for (words, input, status, text) in rows {
         if !gives(rt, alloc, words, Input::whole(input), *status, text) {
             return false;

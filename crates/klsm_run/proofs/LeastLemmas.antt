@@ -60,7 +60,7 @@ pub placed_least : (x : Item) (ys : List Item) → IsNoneBelow x ys → placed x
 placed_least x [] h = refl
 placed_least x (y ∷ ys) h = ap (λ b. if b then y ∷ placed x ys else x ∷ y ∷ ys) h.0
 
-none_below_sorted : (x : Item) (xs : List Item) → IsNoneBelow x xs → IsNoneBelow x (sorted xs)
+pub none_below_sorted : (x : Item) (xs : List Item) → IsNoneBelow x xs → IsNoneBelow x (sorted xs)
 none_below_sorted x xs h = all_sorted (λ y. is_smaller y x ≡ false) xs h
 
 -- another item than the first is taken from the rest

@@ -2,6 +2,7 @@ pub mod AllLemmas
 pub mod ApartLemmas
 pub mod ContainsLemmas
 pub mod ContentLemmas
+pub mod FirstLemmas
 pub mod HalfLemmas
 pub mod IndexLemmas
 pub mod KeyLemmas

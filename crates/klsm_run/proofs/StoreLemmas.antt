@@ -1,15 +1,17 @@
 -- Runs in their stores.
 use Rattle.std.proofs.Common.{◌≡◌, ◌⊎◌, ℕ, ◌+◌, ◌-◌, ◌<◌, ◌≤◌, ◌^◌, List, [], ◌∷◌, ◌++◌, length, take, drop, get_or, Some, refl, sym, ap, ◌∙◌, subst, arith, inl, inr, zero, suc}
 use Rattle.std.specs.List.{refill, slice_get}
-use Rattle.std.proofs.lemmas.List.{take_all, take-append-drop, take-append-le, drop-drop, drop-take, length-take, length-drop}
+use Rattle.std.proofs.lemmas.List.{take_all, take-append-drop, take-append-le, drop-drop, drop-append-le, drop-take, length-take, length-drop}
 use Rattle.std.proofs.lemmas.Bool.{cases_lt}
 use Rattle.std.proofs.Math.Pow.{pow_mono}
 use Rattle.klsm_run.specs.declared.item.Item.{Item}
 use Rattle.klsm_run.specs.declared.span.Span.{Span}
+use Rattle.klsm_run.specs.ItemOrder.{IsSmaller}
 use Rattle.klsm_run.specs.Block.{HasLevel}
 use Rattle.klsm_run.specs.Content.{IsAscending}
 use Rattle.klsm_run.specs.Capacity.{IsCapacity, IsRunCapacity, heap_room}
 use Rattle.klsm_run.specs.Stores.{spanned, IsSpan, IsFixedRun, IsHeapRun}
+use Rattle.klsm_run.proofs.AllLemmas.{all_front}
 use Rattle.klsm_run.proofs.ShiftLemmas.{get_spanned}
 
 -- the first of the first items
@@ -151,3 +153,35 @@ pub item_in_store : (span : Span) (stored : List Item) {items : List Item} {inde
 item_in_store span stored {items} {index} d within view less =
     let few : index < span.end - span.start = omega (arith, length_spanned span stored within, ap length view, less) in
     ap (λ xs. slice_get xs index) (sym view) ∙ get_spanned span.start span.end index stored d few within.within
+
+-- a span of the first places
+pub spanned_first : (count : ℕ) (span : Span) (stored : List Item) → span.start ≡ 0 → span.end ≡ count → spanned span stored ≡ take count stored
+spanned_first count span stored start end =
+    let places : span.end - span.start ≡ count = omega (arith, start, end) in
+    rw (places, start) refl
+
+-- what lies behind a span may go
+pub spanned_cut : (span : Span) (stored : List Item) → span.start ≤ span.end → spanned span (take span.end stored) ≡ spanned span stored
+spanned_cut span stored order =
+    let count = span.end - span.start in
+    let places : span.end ≡ span.start + count = omega (arith, order) in
+    let cut : drop span.start (take span.end stored) ≡ take count (drop span.start stored) = ap (λ n. drop span.start (take n stored)) places ∙ drop-take span.start count stored in
+    ap (take count) cut ∙ take_within count count (drop span.start stored) (omega arith)
+
+-- a span up to the end of its store
+pub spanned_last : (span : Span) (stored : List Item) → span.start ≤ span.end → span.end ≡ length stored → spanned span stored ≡ drop span.start stored
+spanned_last span stored order end = take_all (span.end - span.start) (drop span.start stored) (omega (arith, end, length-drop span.start stored))
+
+-- a run that goes up to the end of its store, once more lies behind it
+pub spanned_grown : (span : Span) (end : ℕ) (old new rest whole : List Item) → span.start ≤ span.end → span.end ≡ length old → end ≡ length new → length old ≤ length new → new ++ rest ≡ old ++ whole
+    → spanned record { start = span.start; end = end } new ++ rest ≡ spanned span old ++ whole
+spanned_grown span end old new rest whole order old_end new_end longer same =
+    ap (λ xs. xs ++ rest) (spanned_last record { start = span.start; end = end } new (omega (arith, order, old_end, new_end, longer)) new_end)
+    ∙ (sym (drop-append-le span.start new rest (omega (arith, order, old_end, longer)))
+    ∙ (ap (drop span.start) same
+    ∙ (drop-append-le span.start old whole (omega (arith, order, old_end))
+    ∙ ap (λ xs. xs ++ whole) (sym (spanned_last span old order old_end)))))
+
+pub ascending_front : (xs ys : List Item) → IsAscending (xs ++ ys) → IsAscending xs
+ascending_front [] ys up = tt
+ascending_front (x ∷ xs) ys up = (all_front (IsSmaller x) xs ys up.0, ascending_front xs ys up.1)

@@ -52,6 +52,14 @@ impl<const CAP: usize> FixedRun<CAP> {
         }
     }
 
+    /// How many items the store has places for: what `Run::capacity` returns, `CAP`.
+    #[inline]
+    pub fn room(&self) -> usize
+        ensures { result ≡ CAP }
+    {
+        self.capacity()
+    }
+
     /// Has these items in place of its own. It costs one copy of each.
     pub fn set(&mut self, items: &[Item])
         requires ascending { IsAscending items.now }

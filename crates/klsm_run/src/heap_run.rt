@@ -1,10 +1,11 @@
 //! A run in a store of the heap, of the least power of two that holds its items when it is made.
-ghost use Rattle.std.specs.Prelude.{◌≡◌, ◌+◌, ◌≤◌, ◌++◌, List, length, take, max, false, IfOk, vec_capacity};
+ghost use Rattle.std.specs.Prelude.{◌≡◌, ◌+◌, ◌≤◌, ◌++◌, List, [], length, take, drop, min, max, false, IfOk, vec_capacity};
 ghost use Rattle.klsm_run.specs.declared.item.Item.{Item};
 ghost use Rattle.klsm_run.specs.Content.{sorted, IsAscending, ShareNone};
-ghost use Rattle.klsm_run.specs.Capacity.{heap_room, IsPowerFor};
+ghost use Rattle.klsm_run.specs.Capacity.{heap_room, IsPowerFor, IsRunCapacity};
 ghost use Rattle.klsm_run.specs.Stores.{spanned, HeapState, IsHeapRun};
 
+use crate::appending::{clear_behind, push_all, push_least};
 use crate::run::level_of;
 use crate::span::Span;
 use crate::{Item, MOST_SHARED, Run, RunError};
@@ -55,6 +56,31 @@ impl<A: Allocator + Copy> HeapRun<A> {
         stored_for(alloc, run.as_slice(), count)
     }
 
+    /// A run of no item, with room for `count`. It costs one growth, of the least power of two that is at
+    /// least `count`.
+    pub fn empty_for(alloc: A, count: usize) -> Result<Self, RunError>
+        requires room { count ≤ heap_room }
+        ensures empty { IfOk result (λ run. run.items ≡ []) }
+        ensures reserved { IfOk result (λ run. IsPowerFor count run.capacity) }
+    {
+        stored_for(alloc, &[], count)
+    }
+
+    /// What its store takes memory from.
+    #[inline]
+    pub fn allocator(&self) -> A {
+        *self.items.allocator()
+    }
+
+    /// How many items the store has places for: what `Run::capacity` returns.
+    #[inline]
+    pub fn room(&self) -> usize
+        ensures room { result ≡ self.now.capacity }
+        ensures lawful { IsRunCapacity heap_room (length self.now.items) self.now.capacity }
+    {
+        self.capacity()
+    }
+
     /// Puts the items of a list in, in place, as `unite` does with those of a run. It takes no memory.
     pub fn unite_items(&mut self, joining: &[Item])
         requires ascending { IsAscending joining.now }
@@ -66,6 +92,39 @@ impl<A: Allocator + Copy> HeapRun<A> {
         let end = (self.span.end + joining.len()).min(self.places);
         fill_up(&mut self.items, end, joining);
         self.span.unite(self.items.as_mut_slice(), joining);
+    }
+
+    /// Puts items behind all others, in place, at one copy of each. It takes no memory.
+    pub fn append(&mut self, joining: &[Item])
+        requires ascending { IsAscending (self.old.items ++ joining.now) }
+        requires room { length self.old.items + length joining.now ≤ self.old.capacity }
+        ensures items { self.new.items ≡ self.old.items ++ joining.now }
+        ensures capacity { self.new.capacity ≡ self.old.capacity }
+    {
+        self.span = clear_behind(&mut self.items, self.span, self.places, joining.len());
+        push_all(&mut self.items, joining);
+        self.span.end = self.items.len();
+    }
+
+    /// Puts the least items of two ascending lists behind all others, in place: `most` of them or all. It answers how
+    /// many of each list these are. An item costs one comparison and one copy, and it takes no memory.
+    pub fn append_least(&mut self, left: &[Item], right: &[Item], most: usize) -> (usize, usize)
+        requires left { IsAscending left.now }
+        requires right { IsAscending right.now }
+        requires ascending { IsAscending (self.old.items ++ sorted (left.now ++ right.now)) }
+        requires room { length self.old.items + length left.now + length right.now
+            ≤ self.old.capacity }
+        ensures within { (result.0 ≤ length left.now) × (result.1 ≤ length right.now) }
+        ensures count { result.0 + result.1 ≡ min most (length left.now + length right.now) }
+        ensures items { self.new.items ++ sorted (drop result.0 left.now ++ drop result.1 right.now)
+            ≡ self.old.items ++ sorted (left.now ++ right.now) }
+        ensures capacity { self.new.capacity ≡ self.old.capacity }
+    {
+        let more = left.len() + right.len();
+        self.span = clear_behind(&mut self.items, self.span, self.places, more);
+        let counts = push_least(&mut self.items, left, right, most);
+        self.span.end = self.items.len();
+        counts
     }
 }
 
@@ -198,7 +257,6 @@ impl<A: Allocator + Copy> Run for HeapRun<A> {
     }
 
     fn copy_for(&self, count: usize) -> Result<Self, RunError> {
-        let alloc = *self.items.allocator();
-        stored_for(alloc, self.span.of(self.items.as_slice()), count)
+        stored_for(self.allocator(), self.span.of(self.items.as_slice()), count)
     }
 }

@@ -25,12 +25,15 @@
 //! - **Runs unite in place** and take no memory: clauses `union` and `capacity` of `Run::unite`.
 //! - **The least item leaves by one assignment**, and no other moves. `Run::remove_at` moves the
 //!   shorter side; no contract can say so.
-//! - **A store on the heap is made by `Run::merge` and the copies alone**, in one growth, and its
-//!   size is said: clauses `reserved`. A store has places for a whole block of its run's level:
-//!   `Run::capacity`.
+//! - **A store on the heap is made by `Run::merge`, the copies and `HeapRun::empty_for` alone**, in one
+//!   growth, and its size is said: clauses `reserved`. A store has places for a whole block of its run's
+//!   level: `Run::capacity`.
+//! - **A run on the heap can be written from its least item on**, in steps and with no memory taken:
+//!   `HeapRun::append` and `append_least`, which leaves to a later call what it did not reach.
 //! - **A fixed run is never refused memory**: clauses `fixed`.
 #![tactic(auto)]
 
+mod appending;
 mod fixed_run;
 mod heap_run;
 mod item;

@@ -18,9 +18,9 @@ pub const MOST_THREADS: usize = 64;
 /// The greatest k of the program `klsm`, and the most items of an own part of its boards.
 pub const PROGRAM_K: usize = 64;
 
-/// The most threads of the program `klsm`.
+/// The most threads of the program `klsm`, and the most members of a board that `Board::new` makes.
 pub const PROGRAM_THREADS: usize = 16;
 
-/// The levels of a search's board in the program `klsm`, which so has room for some million nodes. Then workers go on
-/// depth first: more would take gigabytes.
+/// The levels of the shared part of the program's boards, which so has room for 1,048,576 items. A search that fills it
+/// goes on depth first: more would take gigabytes.
 pub const PROGRAM_LEVELS: usize = 21;

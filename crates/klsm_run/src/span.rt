@@ -100,8 +100,17 @@ fn with_room(store: &mut [Item], start: usize, count: usize, more: usize) -> usi
     if more <= store.len() - start - count {
         return start;
     }
-    store.copy_within(start..start + count, 0);
+    to_front(store, start, count);
     0
+}
+
+/// Moves `count` items from `start` on to the front.
+pub(crate) fn to_front(store: &mut [Item], start: usize, count: usize)
+    requires { start + count ≤ length store.old }
+    ensures kept { take count store.new ≡ take count (drop start store.old) }
+    ensures len { length store.new ≡ length store.old }
+{
+    store.copy_within(start..start + count, 0);
 }
 
 // Unites `count` items from `start` on with others, which go behind them.

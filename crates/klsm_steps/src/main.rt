@@ -9,7 +9,6 @@ use std::alloc::Global;
 use std::sync::Wait;
 use std::sync::atomic::{AtomicU64, Ordering};
 use std::thread::Threads;
-use std::time::Clock;
 use std::{io, thread};
 
 const TARGET: u64 = 1_003;
@@ -36,7 +35,7 @@ struct Worker<'a, R> {
     ghost of: { IsOf member board.now },
 }
 
-impl<R: Wait + Clock> Worker<'_, R> {
+impl<R: Wait> Worker<'_, R> {
     /// Takes nodes, one of the least bounds first, and opens what follows, until no node is open.
     fn work(&mut self) {
         for _ in self.rt.forever() {
@@ -79,12 +78,7 @@ impl<R: Wait + Clock> Worker<'_, R> {
 }
 
 /// What the thread of a member does.
-fn take_part<R: Wait + Clock>(
-    rt: &R,
-    board: &StandardBoard,
-    member: StandardMember,
-    search: &Search,
-)
+fn take_part<R: Wait>(rt: &R, board: &StandardBoard, member: StandardMember, search: &Search)
     requires { IsOf member board.now }
 {
     let is_first = member.number() == 0;
@@ -116,7 +110,7 @@ fn bound_of(number: u64, steps: u64) -> u64 {
 }
 
 /// The fewest steps, as so many threads find them. `None` where a node found no room.
-fn fewest<R: Threads + Wait + Clock + Sync>(
+fn fewest<R: Threads + Wait + Sync>(
     rt: &R,
     alloc: Global,
     threads: usize,

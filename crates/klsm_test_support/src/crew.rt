@@ -6,14 +6,13 @@ ghost use Rattle.klsm_board.specs.Boards.{IsOf, IsHeldOf};
 
 use klsm_board::{
     Account, Board, Bound, Busy, FinishError, FinishRefused, Held, HoldError, HoldRefused,
-    InsertError, MakeError, Member, ShareError, TryInsertError, TryShareError,
+    InsertError, MakeError, Member, ShareError, SizesError, TryInsertError, TryShareError,
 };
 use klsm_parts::{First, Picker};
 use klsm_run::{Item, Stamp};
 use std::alloc::Global;
 use std::mem;
 use std::sync::Wait;
-use std::time::Clock;
 
 /// A board, those of its members that hold no part, the one that holds one, and those that are away.
 pub struct Crew<const LEVELS: usize> {
@@ -54,7 +53,7 @@ impl<const LEVELS: usize> Crew<LEVELS> {
         k: usize,
         quota: u64,
         refill: usize,
-    ) -> Result<Self, MakeError>
+    ) -> Result<Self, SizesError>
         requires { IsLevelCount LEVELS }
     {
         let (board, members) = Board::with_refill(alloc, threads, k, quota, refill)?;
@@ -86,7 +85,7 @@ impl<const LEVELS: usize> Crew<LEVELS> {
     /// How a member's insertion ends that may wait.
     pub fn insert(
         &mut self,
-        rt: &(impl Wait + Clock),
+        rt: &impl Wait,
         member: usize,
         key: u64,
         load: u64,
@@ -111,7 +110,7 @@ impl<const LEVELS: usize> Crew<LEVELS> {
     }
 
     /// How a member's deletion of the first candidate ends that may wait.
-    pub fn delete_min(&mut self, rt: &(impl Wait + Clock), member: usize) -> Option<Option<Item>> {
+    pub fn delete_min(&mut self, rt: &impl Wait, member: usize) -> Option<Option<Item>> {
         let member = self.members.get_mut(member)?;
         Some(member.delete_min(rt, &self.board, &mut First))
     }
@@ -127,11 +126,7 @@ impl<const LEVELS: usize> Crew<LEVELS> {
     }
 
     /// How one of the first candidate ends that may wait, and behind which no items move.
-    pub fn delete_min_alone(
-        &mut self,
-        rt: &(impl Wait + Clock),
-        member: usize,
-    ) -> Option<Option<Item>> {
+    pub fn delete_min_alone(&mut self, rt: &impl Wait, member: usize) -> Option<Option<Item>> {
         let member = self.members.get_mut(member)?;
         Some(member.delete_min_alone(rt, &self.board, &mut First))
     }
@@ -143,11 +138,7 @@ impl<const LEVELS: usize> Crew<LEVELS> {
     }
 
     /// How one ends that may wait.
-    pub fn share(
-        &mut self,
-        rt: &(impl Wait + Clock),
-        member: usize,
-    ) -> Option<Result<usize, ShareError>> {
+    pub fn share(&mut self, rt: &impl Wait, member: usize) -> Option<Result<usize, ShareError>> {
         let member = self.members.get_mut(member)?;
         Some(member.share(rt, &self.board))
     }
@@ -159,7 +150,7 @@ impl<const LEVELS: usize> Crew<LEVELS> {
     }
 
     /// What one comes to that may wait.
-    pub fn bound(&mut self, rt: &(impl Wait + Clock), member: usize) -> Option<Bound> {
+    pub fn bound(&mut self, rt: &impl Wait, member: usize) -> Option<Bound> {
         let member = self.members.get_mut(member)?;
         Some(member.bound(rt, &self.board))
     }
@@ -171,7 +162,7 @@ impl<const LEVELS: usize> Crew<LEVELS> {
     }
 
     /// A member rests, and may wait.
-    pub fn rest(&mut self, rt: &(impl Wait + Clock), member: usize) -> Option<()> {
+    pub fn rest(&mut self, rt: &impl Wait, member: usize) -> Option<()> {
         let member = self.members.get_mut(member)?;
         member.rest(rt, &self.board);
         Some(())

@@ -2,7 +2,7 @@
 ghost use Rattle.std.specs.Prelude.{◌≡◌, length, All, IfOk};
 ghost use Rattle.klsm_board.specs.Boards.{AreNewMembersOf, IsOf};
 
-use klsm_board::{AllStandardMembers, Board, MakeError, StandardBoard, StandardMember};
+use klsm_board::{AllStandardMembers, Board, SizesError, StandardBoard, StandardMember};
 use std::alloc::Global;
 
 /// A board and all its members.
@@ -29,7 +29,7 @@ impl Made {
         k: usize,
         quota: u64,
         refill: usize,
-    ) -> Result<Self, MakeError>
+    ) -> Result<Self, SizesError>
         ensures sizes { IfOk result (λ made. made.board.sizes
             ≡ record { threads = threads; k = k; quota = quota; refill = refill }) }
         ensures of { IfOk result (λ made. All (λ member. IsOf member made.board) made.members.items) }

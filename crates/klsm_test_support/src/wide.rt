@@ -2,7 +2,7 @@
 ghost use Rattle.std.specs.Prelude.{All};
 ghost use Rattle.klsm_board.specs.Boards.{IsOf};
 
-use klsm_board::{Board, Busy, MakeError, TryInsertError, WideBoard, WideMember};
+use klsm_board::{Board, Busy, SizesError, TryInsertError, WideBoard, WideMember};
 use klsm_parts::First;
 use klsm_run::{Item, Stamp};
 use std::alloc::Global;
@@ -26,7 +26,7 @@ impl Drop for WideCrew {
 
 impl WideCrew {
     /// A new board, and all its members.
-    pub fn new(alloc: Global, threads: usize, k: usize, refill: usize) -> Result<Self, MakeError> {
+    pub fn new(alloc: Global, threads: usize, k: usize, refill: usize) -> Result<Self, SizesError> {
         let (board, members) = Board::with_refill(alloc, threads, k, 1 << 40, refill)?;
         Ok(WideCrew { board, members })
     }

@@ -3,14 +3,12 @@
 mod balanced;
 mod bounded;
 mod dropped;
-mod finished;
 mod front;
 mod greatest_k;
 mod mixed;
 mod most_members;
 mod plain;
 mod refused;
-mod script;
 mod shared;
 mod skips;
 mod threads;

@@ -5,7 +5,7 @@
 //!
 //! - `board`: a board and its members, in one thread and in several;
 //! - `given_back`: that a queue that is let go keeps no memory;
-//! - `runs`: copies, merges, removals and unions of runs;
+//! - `runs`: copies and merges of runs;
 //! - `lsm`: LSMs over runs on the heap and fixed ones, with the blocks that each call leaves;
 //! - `parts`: a queue for one thread and its parts, beside a plain program written from the rules;
 //! - `printed`: what runs, LSMs, parts and worlds print, and the texts of refusals;
@@ -22,11 +22,11 @@ pub mod letting_go;
 #[cfg(test)]
 mod lsm;
 #[cfg(test)]
-mod owned;
-#[cfg(test)]
 mod parts;
 #[cfg(test)]
 mod printed;
+#[cfg(test)]
+mod queues;
 #[cfg(test)]
 mod rationed;
 #[cfg(test)]

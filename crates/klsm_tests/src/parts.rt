@@ -6,7 +6,7 @@ mod mixed;
 mod pickers;
 mod plain;
 mod refused;
-mod spied;
 mod stolen;
 mod taken;
+mod unions;
 mod worked;

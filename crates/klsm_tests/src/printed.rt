@@ -1,10 +1,11 @@
 //! What runs, LSMs, parts and worlds print, and the texts of refusals.
 
-use super::owned::{heap_run_of, queue_of, run_of};
+use super::queues::queue_of;
 use klsm_lsm::{LsmError, Refused};
-use klsm_model::{StepError, World, WorldError};
 use klsm_parts::{Local, Shared};
 use klsm_run::RunError;
+use klsm_test_support::{heap_run_of, run_of};
+use klsm_world::{StepError, World, WorldError};
 use std::alloc::Global;
 use std::fmt::{Debug, Display};
 

@@ -1,11 +1,9 @@
 //! Runs on the heap: what a copy's store has places for, and the one growth of a copy or a merge
-//! refused. And that a run of either kind loses an item and takes others in where it stands.
+//! refused.
 ghost use Rattle.std.specs.Prelude.{◌≡◌, ◌+◌, ◌<◌, ◌≤◌, length};
-ghost use Rattle.std.specs.List.{AllByRecursion};
 
-use super::owned::{has_keys, heap_run_of, run_of};
 use klsm_run::{HeapRun, Run};
-use klsm_test_support::Rationed;
+use klsm_test_support::{Rationed, has_keys, merged, run_of};
 use std::alloc::{Allocator, Global};
 
 // The capacity and the level of a run. `None` where it has other keys than these, or none.
@@ -33,11 +31,9 @@ fn copied_for_nine<A: Allocator + Copy>(alloc: A, keys: &[u64]) -> Option<(usize
     )
 }
 
-// The shape of the merge of the items 1 and 3 with the item 2.
-fn merged<A: Allocator + Copy>(alloc: A) -> Option<(usize, usize)> {
-    let run = heap_run_of(alloc, 0, &[1, 3])?;
-    let other = heap_run_of(alloc, 1, &[2])?;
-    shape_of(&run.merge(&other).ok()?, &[1, 2, 3])
+// The shape of the merge of two runs.
+fn merged_shape<A: Allocator + Copy>(alloc: A) -> Option<(usize, usize)> {
+    shape_of(&merged(alloc)?, &[1, 2, 3])
 }
 
 // Whether copies of these keys are refused without a growth, and have this level with one, and this
@@ -62,45 +58,7 @@ fn copies_and_merges(rt: HostRuntime) {
     }
     // Each of the two runs takes a growth, and their merge takes one.
     heap.allow(2);
-    assert!(rt; merged(&heap).is_none());
+    assert!(rt; merged_shape(&heap).is_none());
     heap.allow(3);
-    assert!(rt; merged(&heap) == Some((4, 2)));
-}
-
-// Merges two runs to 1, 2 and 3, takes the least item out, and puts the item 4 of a third one in.
-// Whether all of that goes on in a store of this capacity.
-fn unites<R: Run>(one: &R, two: &R, three: &R, capacity: usize) -> Option<bool>
-    requires one { AllByRecursion (λ x. x.stamp.owner ≡ 0) (R.items one.now) }
-    requires two { AllByRecursion (λ x. x.stamp.owner ≡ 1) (R.items two.now) }
-    requires three { AllByRecursion (λ x. x.stamp.owner ≡ 2) (R.items three.now) }
-    requires room { length (R.items one.now) + length (R.items two.now) ≤ R.ROOM }
-{
-    let mut run = one.merge(two).ok()?;
-    let merged = has_keys(&run, &[1, 2, 3]) && run.capacity() == capacity;
-    if run.len() == 0 || run.capacity() - run.len() < three.len() {
-        return None;
-    }
-    let least = run.remove_at(0);
-    run.unite(three);
-    Some(merged && least.key == 1 && has_keys(&run, &[2, 3, 4]) && run.capacity() == capacity)
-}
-
-fn heap_runs_unite<A: Allocator + Copy>(alloc: A) -> Option<bool> {
-    let one = heap_run_of(alloc, 0, &[3, 1])?;
-    let two = heap_run_of(alloc, 1, &[2])?;
-    let three = heap_run_of(alloc, 2, &[4])?;
-    unites(&one, &two, &three, 4)
-}
-
-fn fixed_runs_unite() -> Option<bool> {
-    unites(&run_of(0, &[3, 1]), &run_of(1, &[2]), &run_of(2, &[4]), 64)
-}
-
-#[test]
-fn removals_and_unions_in_place(rt: HostRuntime) {
-    let heap = Rationed::new(rt.alloc());
-    // Each of the three runs takes a growth, and the merge takes the last one.
-    heap.allow(4);
-    assert!(rt; heap_runs_unite(&heap) == Some(true) && !heap.has_refused());
-    assert!(rt; fixed_runs_unite() == Some(true));
+    assert!(rt; merged_shape(&heap) == Some((4, 2)));
 }

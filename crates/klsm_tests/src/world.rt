@@ -4,5 +4,4 @@ mod compared;
 mod refused;
 mod shown;
 mod steps;
-mod worked;
 mod wrong;

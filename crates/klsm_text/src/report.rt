@@ -7,7 +7,10 @@ pub enum End {
     Done,
     /// A row was refused.
     Refused,
-    /// A growth was refused.
+    /// The shared part had no room. No run ends so: a script has fewer rows than the shared part has room for, and a
+    /// search goes on without.
+    Full,
+    /// An allocation was refused.
     NoMemory,
     /// The reader failed.
     ReadFault,

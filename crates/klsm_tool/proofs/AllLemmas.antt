@@ -5,16 +5,16 @@ use Rattle.std.proofs.Math.Logic.{∥∥₁_map}
 use Rattle.std.proofs.lemmas.Bool.{cases_lt}
 use Rattle.std.proofs.lemmas.Grind.{flat_map-append}
 use Rattle.klsm_run.specs.declared.item.Item.{Item}
-use Rattle.klsm_run.specs.declared.limits.TheConstants.{MOST_LEVELS, MOST_SHARED, PROGRAM_K}
+use Rattle.klsm_run.specs.declared.limits.TheConstants.{PROGRAM_LEVELS, PROGRAM_K}
 use Rattle.klsm_run.specs.Capacity.{heap_room}
 use Rattle.klsm_run.specs.Content.{skipped}
 use Rattle.klsm_parts.specs.Limit.{limit_of}
-use Rattle.klsm_world.specs.declared.step.Event.{Event}
-use Rattle.klsm_world.specs.declared.step.Event.TheVariants as event
-use Rattle.klsm_world.specs.declared.step.Entry.{Entry}
-use Rattle.klsm_world.specs.OwnSteps.{deleted, deleted_by, inserted}
-use Rattle.klsm_world.specs.Account.{account}
-use Rattle.klsm_world.proofs.lemmas.theorems.AccountLemmas.{one_of_all}
+use Rattle.klsm_schedules.specs.declared.step.Event.{Event}
+use Rattle.klsm_schedules.specs.declared.step.Event.TheVariants as event
+use Rattle.klsm_schedules.specs.declared.step.Entry.{Entry}
+use Rattle.klsm_schedules.specs.OwnSteps.{deleted, deleted_by, inserted}
+use Rattle.klsm_schedules.specs.Account.{account}
+use Rattle.klsm_schedules.proofs.lemmas.theorems.AccountLemmas.{one_of_all}
 use Rattle.klsm_board.specs.declared.all_members.AllMembers.{AllMembers}
 use Rattle.klsm_board.specs.declared.rule.Own.{Own}
 use Rattle.klsm_board.specs.declared.sizes.Sizes.{Sizes}
@@ -33,7 +33,7 @@ use Rattle.klsm_tool.specs.Shown.{AreShown, IsFew, shown_in}
 steps_are : (n : ℕ) (os : List Own) (u : ℕ) → u < n → steps_in (lists_known n os) u ≡ steps_known os u
 steps_are n os u below = list_at (lists_known n os) u (steps_known os u) (known_at n os u below)
 
-pub steps_of_all : (all : AllMembers PROGRAM_K MOST_LEVELS) (t : ℕ) → t < (sizes_of_all all).threads → steps_in (all_lists all) t ≡ steps_for all t
+pub steps_of_all : (all : AllMembers PROGRAM_K PROGRAM_LEVELS) (t : ℕ) → t < (sizes_of_all all).threads → steps_in (all_lists all) t ≡ steps_for all t
 steps_of_all all t below = steps_are (sizes_of_all all).threads all.acting.seat.me.0.lists t below
 
 -- and none behind them
@@ -42,7 +42,7 @@ beyond [] u past = refl
 beyond (x ∷ xs) zero past = absurd (omega (arith, past))
 beyond (x ∷ xs) (suc u) past = beyond xs u (omega (arith, past))
 
-module _ (all after : AllMembers PROGRAM_K MOST_LEVELS) (t : ℕ) (acts : ActsFor t all after) (thread : t < (sizes_of_all all).threads) where
+module _ (all after : AllMembers PROGRAM_K PROGRAM_LEVELS) (t : ℕ) (acts : ActsFor t all after) (thread : t < (sizes_of_all all).threads) where
   abbrev many : ℕ
   many = (sizes_of_all all).threads
 
@@ -83,7 +83,7 @@ goes_then t a b c answers first later = record {
 }
 
 -- no thread inserted more than all did
-pub few_of_one : (all : AllMembers PROGRAM_K MOST_LEVELS) (t : ℕ) → t < (sizes_of_all all).threads → length (inserted (steps_for all t)) ≤ (account (all_lists all)).inserted
+pub few_of_one : (all : AllMembers PROGRAM_K PROGRAM_LEVELS) (t : ℕ) → t < (sizes_of_all all).threads → length (inserted (steps_for all t)) ≤ (account (all_lists all)).inserted
 few_of_one all t below =
     let lists = all_lists all in let same = ap (λ es. length (inserted es)) (steps_are (sizes_of_all all).threads all.acting.seat.me.0.lists t below) in
     let few = one_of_all inserted lists t (let n = so_many_known (sizes_of_all all).threads all.acting.seat.me.0.lists in omega (arith, n, below)) in
@@ -119,15 +119,15 @@ pub few_none : (threads k : ℕ) → IsFew threads k 0
 few_none threads k = (omega arith, λ one. refl)
 
 -- the shared part has room for more items than a script has rows
-pub has_room : (insertions k : ℕ) → insertions ≤ row_limit → k ≤ PROGRAM_K → limit_of MOST_LEVELS heap_room < insertions + max 1 k → ⊥
+pub has_room : (insertions k : ℕ) → insertions ≤ row_limit → k ≤ PROGRAM_K → limit_of PROGRAM_LEVELS heap_room < insertions + max 1 k → ⊥
 has_room insertions k few small full =
-    let limit : limit_of MOST_LEVELS heap_room ≡ MOST_SHARED = refl in
+    let limit : limit_of PROGRAM_LEVELS heap_room ≡ 1048576 = refl in
     let most : ℕ = max 1 k in let most_small : most ≤ PROGRAM_K = omega (arith, small) in
-    let full' : limit_of MOST_LEVELS heap_room < insertions + most = full in
+    let full' : limit_of PROGRAM_LEVELS heap_room < insertions + most = full in
     omega (arith, limit, few, most_small, full')
 
 -- at all times their lists are those of one schedule
-pub rule_of_all : (all : AllMembers PROGRAM_K MOST_LEVELS) → ∥ AreListsAtEnd (sizes_of_all all) (all_lists all) ∥₁
+pub rule_of_all : (all : AllMembers PROGRAM_K PROGRAM_LEVELS) → ∥ AreListsAtEnd (sizes_of_all all) (all_lists all) ∥₁
 rule_of_all all =
     let me = all.acting in let whole = all.whole in let rests = me.rests in
     ∥∥₁_map rests.reached (λ r. all_at_end me.sizes me.number me.seat.me.0 r whole.has)
@@ -138,7 +138,7 @@ nothing_in f none zero os each = refl
 nothing_in f none (suc n) os each =
     flat_map-append f (lists_known n os) (steps_known os n ∷ []) ∙ λ i. nothing_in f none n os (λ t below. each t (omega (arith, below))) i ++ ((ap f (each n (omega arith)) ∙ none) i ++ [])
 
-module _ (all : AllMembers PROGRAM_K MOST_LEVELS) (fresh : HaveNoSteps all) where
+module _ (all : AllMembers PROGRAM_K PROGRAM_LEVELS) (fresh : HaveNoSteps all) where
   pub fresh_inserts_none : (account (all_lists all)).inserted ≡ 0
   fresh_inserts_none = ap length (nothing_in inserted refl (sizes_of_all all).threads all.acting.seat.me.0.lists fresh)
 

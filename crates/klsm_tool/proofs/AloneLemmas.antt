@@ -4,13 +4,13 @@ use Rattle.std.specs.List.{flat_map}
 use mathlib.Core.Option.{some}
 use lib.ListN.{get_elem?}
 use Rattle.klsm_run.specs.declared.item.Item.{Item}
-use Rattle.klsm_run.specs.declared.limits.TheConstants.{MOST_LEVELS, PROGRAM_K}
+use Rattle.klsm_run.specs.declared.limits.TheConstants.{PROGRAM_LEVELS, PROGRAM_K}
 use Rattle.klsm_run.specs.Content.{sorted}
 use Rattle.klsm_parts.specs.Events.{minus}
-use Rattle.klsm_world.specs.declared.step.Entry.{Entry}
-use Rattle.klsm_world.specs.OwnSteps.{deleted, inserted}
-use Rattle.klsm_world.specs.Worlds.{first_world}
-use Rattle.klsm_world.proofs.lemmas.theorems.OwnEventLemmas.{lists_have_events}
+use Rattle.klsm_schedules.specs.declared.step.Entry.{Entry}
+use Rattle.klsm_schedules.specs.OwnSteps.{deleted, inserted}
+use Rattle.klsm_schedules.specs.Worlds.{first_world}
+use Rattle.klsm_schedules.proofs.lemmas.theorems.OwnEventLemmas.{lists_have_events}
 use Rattle.klsm_board.specs.declared.all_members.AllMembers.{AllMembers}
 use Rattle.klsm_board.specs.declared.board.Board.{Board}
 use Rattle.klsm_board.specs.declared.board.Member.{Member}
@@ -26,7 +26,7 @@ use Rattle.klsm_text.specs.declared.report.End.{End}
 use Rattle.klsm_text.specs.declared.report.End.TheVariants as end
 use Rattle.klsm_text.specs.declared.report.Report.{Report}
 use Rattle.klsm_text.specs.Reports.{GoesOrFails}
-use Rattle.klsm_words.specs.declared.settings.Settings.{Settings}
+use Rattle.klsm_words.specs.declared.settings.ScriptSettings.{ScriptSettings}
 use Rattle.klsm_tool.specs.Courses.{GoInOneHand}
 use Rattle.klsm_tool.specs.Crews.{board_sizes, steps_in}
 use Rattle.klsm_tool.specs.Shown.{shown_in}
@@ -62,8 +62,8 @@ not_done before after text written written' result (inl whole) done = let bad = 
 not_done before after text written written' result (inr cut) done = let bad = sym cut.0 ∙ done in cc
 
 -- members that were in one hand have the lists that they had there
-module _ (board : Board PROGRAM_K MOST_LEVELS) (all : AllMembers PROGRAM_K MOST_LEVELS) (members : List (Member PROGRAM_K MOST_LEVELS)) (crew : AreMembersOf board members) (sizes : sizes_of_all all ≡ board.sizes)
-    (steps : (i : ℕ) (member : Member PROGRAM_K MOST_LEVELS) → get_elem? members i ≡ some member → own_steps member ≡ steps_for all i) where
+module _ (board : Board PROGRAM_K PROGRAM_LEVELS) (all : AllMembers PROGRAM_K PROGRAM_LEVELS) (members : List (Member PROGRAM_K PROGRAM_LEVELS)) (crew : AreMembersOf board members) (sizes : sizes_of_all all ≡ board.sizes)
+    (steps : (i : ℕ) (member : Member PROGRAM_K PROGRAM_LEVELS) → get_elem? members i ≡ some member → own_steps member ≡ steps_for all i) where
   pub spread_lists_of : all_lists all ≡ lists_of board.sizes.threads members
   spread_lists_of = are_lists (all_lists all) board.sizes.threads members (so_many_known (sizes_of_all all).threads all.acting.seat.me.0.lists ∙ ap (λ (z : Sizes). z.threads) sizes)
       (all_there board members crew)
@@ -72,12 +72,12 @@ module _ (board : Board PROGRAM_K MOST_LEVELS) (all : AllMembers PROGRAM_K MOST_
       subst (λ n. get_elem? (all_lists all) n ≡ some (own_steps member)) (sym (crew.numbered i member there))
       (known_at (sizes_of_all all).threads all.acting.seat.me.0.lists i (omega (arith, inside, crew.many, ap (λ (z : Sizes). z.threads) sizes)) ∙ ap some (sym (steps i member there))))
 
-module _ (settings : Settings) (input before after : Option (List ℕ)) (report : Report) where
+module _ (settings : ScriptSettings) (input before after : Option (List ℕ)) (report : Report) where
   abbrev m : Sizes
   m = board_sizes settings
 
   -- the lists are those of the members
-  pub alone : (all : AllMembers PROGRAM_K MOST_LEVELS) → sizes_of_all all ≡ m → GoInOneHand settings (all_lists all) → ReplaysToTheEnd settings.threads settings.k (all_lists all) input before after report
+  pub alone : (all : AllMembers PROGRAM_K PROGRAM_LEVELS) → sizes_of_all all ≡ m → GoInOneHand settings (all_lists all) → ReplaysToTheEnd settings.threads settings.k (all_lists all) input before after report
       → (report.end ≡ end.Done → AreListsAtEnd m (all_lists all)) → ReplaysAlone settings input before after report
   alone all sizes course replays at_end = record {
     lists = all_lists all;

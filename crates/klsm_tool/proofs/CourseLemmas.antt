@@ -3,13 +3,13 @@ use Rattle.std.proofs.Common.{◌≡◌, ◌≢◌, ◌<◌, ◌∙◌, ℕ, Lis
 use Rattle.std.proofs.lemmas.List.{get_or-set_same, get_or-set_other}
 use mathlib.Core.Logic.{dite}
 use native.Mathlib.Decide.{ℕ_discrete}
-use Rattle.klsm_run.specs.declared.limits.TheConstants.{MOST_LEVELS, PROGRAM_K}
-use Rattle.klsm_world.specs.declared.step.Entry.{Entry}
+use Rattle.klsm_run.specs.declared.limits.TheConstants.{PROGRAM_LEVELS, PROGRAM_K}
+use Rattle.klsm_schedules.specs.declared.step.Entry.{Entry}
 use Rattle.klsm_board.specs.declared.all_members.AllMembers.{AllMembers}
 use Rattle.klsm_board.specs.declared.sizes.Sizes.{Sizes}
 use Rattle.klsm_board.specs.Together.{all_lists, sizes_of_all}
 use Rattle.klsm_text.specs.declared.answer.Answer.{Answer}
-use Rattle.klsm_words.specs.declared.settings.Settings.{Settings}
+use Rattle.klsm_words.specs.declared.settings.ScriptSettings.{ScriptSettings}
 use Rattle.klsm_knapsack.specs.Courses.{IsOnCourse}
 use Rattle.klsm_knapsack.proofs.CourseLemmas.{no_calls, one_call}
 use Rattle.klsm_tool.specs.declared.picking.ThreadPicker.{ThreadPicker}
@@ -49,18 +49,18 @@ module _ (m : Sizes) (first : ℕ → ThreadPicker) where
       subst (λ (es : List Entry). IsOnCourse (CallsInOneHand m u) (first u) (slice_index_or pickers u d) es) (sym still) (on u d below)
 
 -- where no step was made, the pickers are where they begin
-pub fresh_on_course : (settings : Settings) (m : Sizes) (all : AllMembers PROGRAM_K MOST_LEVELS) (pickers : List ThreadPicker) → HaveNoSteps all → settings.threads ≡ (sizes_of_all all).threads → ArePickers settings pickers → AreOnCourse m (picker_of settings) (all_lists all) pickers
+pub fresh_on_course : (settings : ScriptSettings) (m : Sizes) (all : AllMembers PROGRAM_K PROGRAM_LEVELS) (pickers : List ThreadPicker) → HaveNoSteps all → settings.threads ≡ (sizes_of_all all).threads → ArePickers settings pickers → AreOnCourse m (picker_of settings) (all_lists all) pickers
 fresh_on_course settings m all pickers fresh same are t d below =
     let within : t < settings.threads = omega (arith, below, are.many) in
     let inside : t < (sizes_of_all all).threads = omega (arith, within, same) in
     no_calls (CallsInOneHand m t) (picker_of settings t) (slice_index_or pickers t d) (steps_in (all_lists all) t) (are.each t d within) (steps_of_all all t inside ∙ fresh t inside)
 
 -- lists without steps go as any settings choose
-pub none_go : (settings : Settings) (lists : List (List Entry)) → ((t : ℕ) → t < settings.threads → steps_in lists t ≡ []) → GoInOneHand settings lists
+pub none_go : (settings : ScriptSettings) (lists : List (List Entry)) → ((t : ℕ) → t < settings.threads → steps_in lists t ≡ []) → GoInOneHand settings lists
 none_go settings lists none t below = (picker_of settings t, no_calls (CallsInOneHand (board_sizes settings) t) (picker_of settings t) (picker_of settings t) (steps_in lists t) refl (none t below))
 
 -- lists on their course go as these settings choose
-pub all_go_on : (settings : Settings) (m : Sizes) (lists : List (List Entry)) (pickers : List ThreadPicker) → m ≡ board_sizes settings → length pickers ≡ m.threads → AreOnCourse m (picker_of settings) lists pickers → GoInOneHand settings lists
+pub all_go_on : (settings : ScriptSettings) (m : Sizes) (lists : List (List Entry)) (pickers : List ThreadPicker) → m ≡ board_sizes settings → length pickers ≡ m.threads → AreOnCourse m (picker_of settings) lists pickers → GoInOneHand settings lists
 all_go_on settings m lists pickers sizes many on t below =
     let first = picker_of settings t in
     let threads : m.threads ≡ settings.threads = ap (λ (z : Sizes). z.threads) sizes in

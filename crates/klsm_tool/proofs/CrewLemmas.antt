@@ -1,10 +1,10 @@
 -- One member of a board goes on, and the others stay as they are.
 use Rattle.std.proofs.Common.{◌≡◌, ℕ, zero, suc, ◌<◌, List, [], ◌∷◌, ◌++◌, length, take, sym, ap, subst, ◌∙◌, arith, IfOk, IfErr, Result, Ok, Err}
 use Rattle.std.proofs.Math.Seq.{take-append_seam}
-use Rattle.klsm_run.specs.declared.limits.TheConstants.{MOST_LEVELS, PROGRAM_K}
+use Rattle.klsm_run.specs.declared.limits.TheConstants.{PROGRAM_LEVELS, PROGRAM_K}
 use mathlib.Core.Option.{some, some-injective, some-ne-none}
 use lib.ListN.{get_elem?}
-use Rattle.klsm_world.specs.declared.step.Entry.{Entry}
+use Rattle.klsm_schedules.specs.declared.step.Entry.{Entry}
 use Rattle.klsm_board.specs.declared.board.Board.{Board}
 use Rattle.klsm_board.specs.declared.board.Member.{Member}
 use Rattle.klsm_board.specs.Boards.{AreMembersOf, AreNewMembersOf, own_steps}
@@ -45,7 +45,7 @@ module _ {CAP LEVELS : ℕ} where
         (subst (λ m. ∥ IsReached m member.number (own_steps member) ∥₁) (crew.of t member one.1).1 (each_reached member.sizes member.number member.seat.me.0 member.rests.reached)))
 
 -- the members of a new board have made no step in one hand
-pub gathered_fresh : (all : AllMembers PROGRAM_K MOST_LEVELS) (board : Board PROGRAM_K MOST_LEVELS) (members : List (Member PROGRAM_K MOST_LEVELS)) (m : Sizes) → sizes_of_all all ≡ m → AreAll members m.threads → all_lists all ≡ lists_of m.threads members → AreNewMembersOf board members → HaveNoSteps all
+pub gathered_fresh : (all : AllMembers PROGRAM_K PROGRAM_LEVELS) (board : Board PROGRAM_K PROGRAM_LEVELS) (members : List (Member PROGRAM_K PROGRAM_LEVELS)) (m : Sizes) → sizes_of_all all ≡ m → AreAll members m.threads → all_lists all ≡ lists_of m.threads members → AreNewMembersOf board members → HaveNoSteps all
 gathered_fresh all board members m sizes each same crew t below =
     let inside : t < m.threads = subst (λ (z : Sizes). t < z.threads) sizes below in
     let first = found_first members t (each t inside) in

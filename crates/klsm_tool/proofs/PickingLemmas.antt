@@ -3,7 +3,7 @@ use Rattle.std.proofs.Common.{◌≡◌, ◌<◌, ◌+◌, ◌-◌, ◌∙◌, �
 use Rattle.std.proofs.lemmas.List.{get_or_append_left, get_or-append_right, get_or-set_same, get_or-set_other}
 use mathlib.Core.Logic.{dite}
 use native.Mathlib.Decide.{ℕ_discrete}
-use Rattle.klsm_words.specs.declared.settings.Settings.{Settings}
+use Rattle.klsm_words.specs.declared.settings.ScriptSettings.{ScriptSettings}
 use Rattle.klsm_tool.specs.declared.picking.ThreadPicker.{ThreadPicker}
 use Rattle.klsm_tool.specs.Picking.{ArePickers, ArePlaced, picker_of}
 
@@ -12,7 +12,7 @@ last_picker : (pickers : List ThreadPicker) (picker d : ThreadPicker) (t : ℕ) 
 last_picker pickers picker d t many = get_or-append_right pickers (picker ∷ []) t t d many (omega arith) ∙ ap (λ i. slice_index_or (picker ∷ []) i d) (let none : t - t ≡ 0 = omega arith in none)
 
 -- the next thread's picker is put behind those of the threads before it
-pub one_picker_more : (settings : Settings) (pickers pickers' : List ThreadPicker) (picker : ThreadPicker) (n : ℕ) → length pickers ≡ n → ((t : ℕ) (d : ThreadPicker) → t < n → slice_index_or pickers t d ≡ picker_of settings t) → pickers' ≡ pickers ++ picker ∷ [] → picker ≡ picker_of settings n
+pub one_picker_more : (settings : ScriptSettings) (pickers pickers' : List ThreadPicker) (picker : ThreadPicker) (n : ℕ) → length pickers ≡ n → ((t : ℕ) (d : ThreadPicker) → t < n → slice_index_or pickers t d ≡ picker_of settings t) → pickers' ≡ pickers ++ picker ∷ [] → picker ≡ picker_of settings n
     → (length pickers' ≡ n + 1) × ((t : ℕ) (d : ThreadPicker) → t < n + 1 → slice_index_or pickers' t d ≡ picker_of settings t)
 one_picker_more settings pickers pickers' picker n many each pushed is = (
   ap (λ (z : List ThreadPicker). length z) pushed ∙ (length-append pickers (picker ∷ []) ∙ ap (λ i. i + 1) many),
@@ -22,7 +22,7 @@ one_picker_more settings pickers pickers' picker n many each pushed is = (
 )
 
 -- those of all threads stand at their places
-pub pickers_placed : (settings : Settings) (pickers : List ThreadPicker) → ArePickers settings pickers → ArePlaced pickers
+pub pickers_placed : (settings : ScriptSettings) (pickers : List ThreadPicker) → ArePickers settings pickers → ArePlaced pickers
 pickers_placed settings pickers are t d below = ap (λ (p : ThreadPicker). p.thread) (are.each t d (omega (arith, below, are.many)))
 
 -- and still do when one of them has picked

@@ -2,10 +2,10 @@
 use Rattle.std.proofs.Common.{◌≡◌, ℕ, Bool, zero, suc, ◌+◌, ◌<◌, ◌≤◌, List, [], ◌∷◌, length, map, slice_index_or, Option, Some, None, Result, Ok, Err, IfOk, IfErr, refl, sym, ap, ◌∙◌, subst, arith}
 use Rattle.std.specs.List.{All}
 use Rattle.std.proofs.lemmas.List.{length-map}
-use Rattle.klsm_run.specs.declared.limits.TheConstants.{MOST_LEVELS, PROGRAM_K}
+use Rattle.klsm_run.specs.declared.limits.TheConstants.{PROGRAM_LEVELS, PROGRAM_K}
 use mathlib.Core.Option.{some, some-injective, some-ne-none}
 use lib.ListN.{get_elem?}
-use Rattle.klsm_world.specs.declared.step.Entry.{Entry}
+use Rattle.klsm_schedules.specs.declared.step.Entry.{Entry}
 use Rattle.klsm_board.specs.declared.board.Board.{Board}
 use Rattle.klsm_board.specs.declared.board.Member.{Member}
 use Rattle.klsm_board.specs.declared.sizes.Sizes.{Sizes}
@@ -18,7 +18,7 @@ use Rattle.klsm_text.specs.declared.stop.Closing.{Closing}
 use Rattle.klsm_text.specs.declared.totals.Totals.{Totals}
 use Rattle.klsm_tool.specs.declared.member_calls.Want.{Want}
 use Rattle.klsm_tool.specs.declared.member_calls.Want.TheVariants as want
-use Rattle.klsm_words.specs.declared.settings.Settings.{Settings}
+use Rattle.klsm_words.specs.declared.settings.ScriptSettings.{ScriptSettings}
 use Rattle.klsm_tool.specs.declared.picking.ThreadPicker.{ThreadPicker}
 use Rattle.klsm_tool.specs.declared.worker.Worker.{Worker}
 use Rattle.klsm_knapsack.specs.Courses.{IsOnCourse}
@@ -38,7 +38,7 @@ use Rattle.klsm_tool.proofs.TotalLemmas.{adds_up, insertions_are}
 
 -- ---- before they begin
 
-ready_from : (board : Board PROGRAM_K MOST_LEVELS) (members : List (Member PROGRAM_K MOST_LEVELS)) (n : ℕ) → ((i : ℕ) (member : Member PROGRAM_K MOST_LEVELS) → get_elem? members i ≡ some member → IsReady board (n + i) member) → (t : ℕ) (d : Option Worker) → t < length (map ready members) → IsReadyAt board (n + t) (slice_index_or (map ready members) t d)
+ready_from : (board : Board PROGRAM_K PROGRAM_LEVELS) (members : List (Member PROGRAM_K PROGRAM_LEVELS)) (n : ℕ) → ((i : ℕ) (member : Member PROGRAM_K PROGRAM_LEVELS) → get_elem? members i ≡ some member → IsReady board (n + i) member) → (t : ℕ) (d : Option Worker) → t < length (map ready members) → IsReadyAt board (n + t) (slice_index_or (map ready members) t d)
 ready_from board [] n each t d within = absurd (omega (arith, within))
 ready_from board (m ∷ members) n each zero d within = each 0 m refl
 ready_from board (m ∷ members) n each (suc t) d within =
@@ -46,7 +46,7 @@ ready_from board (m ∷ members) n each (suc t) d within =
     (ready_from board members (n + 1) (λ i member there. subst (λ j. IsReady board j member) (let e : n + suc i ≡ (n + 1) + i = omega arith in e) (each (suc i) member there)) t d (omega (arith, within)))
 
 -- the members of a new board are ready at their places
-pub crew_ready : (board : Board PROGRAM_K MOST_LEVELS) (members : List (Member PROGRAM_K MOST_LEVELS)) → All (λ member. IsOf member board) members → AreNewMembersOf board members → (t : ℕ) (d : Option Worker) → t < length (map ready members)
+pub crew_ready : (board : Board PROGRAM_K PROGRAM_LEVELS) (members : List (Member PROGRAM_K PROGRAM_LEVELS)) → All (λ member. IsOf member board) members → AreNewMembersOf board members → (t : ℕ) (d : Option Worker) → t < length (map ready members)
     → IsReadyAt board t (slice_index_or (map ready members) t d)
 crew_ready board members of crew t d within =
     subst (λ j. IsReadyAt board j (slice_index_or (map ready members) t d)) (let e : 0 + t ≡ t = omega arith in e)
@@ -55,23 +55,23 @@ crew_ready board members of crew t d within =
 -- ---- when all are back
 
 -- what stands at the places from the n-th on
-record AreBack (board : Board PROGRAM_K MOST_LEVELS) (n : ℕ) (crew : List (Option Worker)) : Type 0 where
-  of : (i : ℕ) (member : Member PROGRAM_K MOST_LEVELS) → get_elem? (members_in crew) i ≡ some member → IsOf member board
-  numbered : (i : ℕ) (member : Member PROGRAM_K MOST_LEVELS) → get_elem? (members_in crew) i ≡ some member → member.number ≡ n + i
+record AreBack (board : Board PROGRAM_K PROGRAM_LEVELS) (n : ℕ) (crew : List (Option Worker)) : Type 0 where
+  of : (i : ℕ) (member : Member PROGRAM_K PROGRAM_LEVELS) → get_elem? (members_in crew) i ≡ some member → IsOf member board
+  numbered : (i : ℕ) (member : Member PROGRAM_K PROGRAM_LEVELS) → get_elem? (members_in crew) i ≡ some member → member.number ≡ n + i
   lists : lists_in (members_in crew) ≡ map steps_at crew
 
-one_more : (board : Board PROGRAM_K MOST_LEVELS) (n : ℕ) (worker : Worker) (crew : List (Option Worker)) → IsOf worker.member board → worker.member.number ≡ n → AreBack board (n + 1) crew → AreBack board n (Some worker ∷ crew)
+one_more : (board : Board PROGRAM_K PROGRAM_LEVELS) (n : ℕ) (worker : Worker) (crew : List (Option Worker)) → IsOf worker.member board → worker.member.number ≡ n → AreBack board (n + 1) crew → AreBack board n (Some worker ∷ crew)
 one_more board n worker crew is_of number rest = record { of = of; numbered = numbered; lists = ap (λ z. own_steps worker.member ∷ z) rest.lists }
   where
-    of : (i : ℕ) (member : Member PROGRAM_K MOST_LEVELS) → get_elem? (worker.member ∷ members_in crew) i ≡ some member → IsOf member board
-    of zero member there = subst (λ (z : Member PROGRAM_K MOST_LEVELS). IsOf z board) (some-injective worker.member member there) is_of
+    of : (i : ℕ) (member : Member PROGRAM_K PROGRAM_LEVELS) → get_elem? (worker.member ∷ members_in crew) i ≡ some member → IsOf member board
+    of zero member there = subst (λ (z : Member PROGRAM_K PROGRAM_LEVELS). IsOf z board) (some-injective worker.member member there) is_of
     of (suc i) member there = rest.of i member there
 
-    numbered : (i : ℕ) (member : Member PROGRAM_K MOST_LEVELS) → get_elem? (worker.member ∷ members_in crew) i ≡ some member → member.number ≡ n + i
-    numbered zero member there = subst (λ (z : Member PROGRAM_K MOST_LEVELS). z.number ≡ n + 0) (some-injective worker.member member there) (omega (arith, number))
+    numbered : (i : ℕ) (member : Member PROGRAM_K PROGRAM_LEVELS) → get_elem? (worker.member ∷ members_in crew) i ≡ some member → member.number ≡ n + i
+    numbered zero member there = subst (λ (z : Member PROGRAM_K PROGRAM_LEVELS). z.number ≡ n + 0) (some-injective worker.member member there) (omega (arith, number))
     numbered (suc i) member there = let behind = rest.numbered i member there in omega (arith, behind)
 
-are_back : (settings : Settings) (board : Board PROGRAM_K MOST_LEVELS) (asked : ℕ → List Operation) (crew : List (Option Worker)) (n : ℕ) → ((t : ℕ) (d : Option Worker) → t < length crew → HasRunAt settings board (n + t) (asked (n + t)) (slice_index_or crew t d)) → AreBack board n crew
+are_back : (settings : ScriptSettings) (board : Board PROGRAM_K PROGRAM_LEVELS) (asked : ℕ → List Operation) (crew : List (Option Worker)) (n : ℕ) → ((t : ℕ) (d : Option Worker) → t < length crew → HasRunAt settings board (n + t) (asked (n + t)) (slice_index_or crew t d)) → AreBack board n crew
 are_back settings board asked [] n ran = record { of = λ i member there. absurd (some-ne-none member (sym there)); numbered = λ i member there. absurd (some-ne-none member (sym there)); lists = refl }
 are_back settings board asked (None ∷ crew) n ran = absurd (ran 0 None (omega arith))
 are_back settings board asked (Some worker ∷ crew) n ran =
@@ -80,7 +80,7 @@ are_back settings board asked (Some worker ∷ crew) n ran =
     one_more board n worker crew here.of here.number rest
 
 -- they are the members of the board, and their lists stand at their places
-pub all_back : (settings : Settings) (board : Board PROGRAM_K MOST_LEVELS) (asked : ℕ → List Operation) (crew : List (Option Worker)) → length crew ≡ board.sizes.threads → ((t : ℕ) (d : Option Worker) → t < length crew → HasRunAt settings board t (asked t) (slice_index_or crew t d))
+pub all_back : (settings : ScriptSettings) (board : Board PROGRAM_K PROGRAM_LEVELS) (asked : ℕ → List Operation) (crew : List (Option Worker)) → length crew ≡ board.sizes.threads → ((t : ℕ) (d : Option Worker) → t < length crew → HasRunAt settings board t (asked t) (slice_index_or crew t d))
     → AreMembersOf board (members_in crew) × (lists_in (members_in crew) ≡ map steps_at crew)
 all_back settings board asked crew many ran =
     let from_zero = λ (t : ℕ). let e : t ≡ 0 + t = omega arith in e in
@@ -95,18 +95,18 @@ steps_there [] t d below = absurd (omega (arith, below))
 steps_there (place ∷ crew) zero d below = refl
 steps_there (place ∷ crew) (suc t) d below = steps_there crew t d (omega (arith, below))
 
-works_at : (settings : Settings) (board : Board PROGRAM_K MOST_LEVELS) (t : ℕ) (asked : List Operation) (place : Option Worker) → HasRunAt settings board t asked place → Works board.sizes.k t asked (steps_at place) (gave_up_at place)
+works_at : (settings : ScriptSettings) (board : Board PROGRAM_K PROGRAM_LEVELS) (t : ℕ) (asked : List Operation) (place : Option Worker) → HasRunAt settings board t asked place → Works board.sizes.k t asked (steps_at place) (gave_up_at place)
 works_at settings board t asked None ran = absurd ran
 works_at settings board t asked (Some worker) ran = ran.works
 
 -- one that did not give up made calls as the settings choose them
-calls_at : (settings : Settings) (board : Board PROGRAM_K MOST_LEVELS) (t : ℕ) (asked : List Operation) (place : Option Worker) → HasRunAt settings board t asked place → gave_up_at place ≡ None
+calls_at : (settings : ScriptSettings) (board : Board PROGRAM_K PROGRAM_LEVELS) (t : ℕ) (asked : List Operation) (place : Option Worker) → HasRunAt settings board t asked place → gave_up_at place ≡ None
     → (picker : ThreadPicker) × IsOnCourse (CallsInTurn board.sizes t) (picker_of settings t) picker (steps_at place)
 calls_at settings board t asked None ran none = absurd ran
 calls_at settings board t asked (Some worker) ran none = ran.course none
 
 -- the totals of members that are back
-pub all_run : (settings : Settings) (input : Option (List ℕ)) (rows : List Row) (lists : List (List Entry)) (totals : Totals) → AreAllRows input rows → AreAccepted settings.threads rows → length lists ≡ settings.threads → GoInTurn settings lists
+pub all_run : (settings : ScriptSettings) (input : Option (List ℕ)) (rows : List Row) (lists : List (List Entry)) (totals : Totals) → AreAllRows input rows → AreAccepted settings.threads rows → length lists ≡ settings.threads → GoInTurn settings lists
     → ((t : ℕ) → t < settings.threads → AreAnswers (asked_of settings.threads t rows) (shown_in (steps_in lists t))) → AreAccounted (board_sizes settings) lists totals → RunsAll settings input totals
 all_run settings input rows lists totals all accepted many course answers accounted =
     let insertions = insertions_are settings.threads rows lists accepted many answers in
@@ -127,7 +127,7 @@ all_run settings input rows lists totals all accepted many course answers accoun
       sum = omega (arith, sum, accounted.inserted_is, accounted.deleted_is, accounted.left_is);
     }
 
-module _ (settings : Settings) (rows : List Row) (accepted : AreAccepted settings.threads rows) (board : Board PROGRAM_K MOST_LEVELS) (sizes : board.sizes ≡ board_sizes settings) (crew : List (Option Worker)) (many : length crew ≡ settings.threads)
+module _ (settings : ScriptSettings) (rows : List Row) (accepted : AreAccepted settings.threads rows) (board : Board PROGRAM_K PROGRAM_LEVELS) (sizes : board.sizes ≡ board_sizes settings) (crew : List (Option Worker)) (many : length crew ≡ settings.threads)
     (ran : (t : ℕ) (d : Option Worker) → t < length crew → HasRunAt settings board t (asked_of settings.threads t rows) (slice_index_or crew t d)) where
   abbrev m : Sizes
   m = board_sizes settings
@@ -169,7 +169,7 @@ module _ (settings : Settings) (rows : List Row) (accepted : AreAccepted setting
   pub room_was_there : (lacked : Want) (t : ℕ) → t < settings.threads → settings.k ≤ PROGRAM_K → gave_up_at (slice_index_or crew t None) ≡ Some lacked → lacked ≡ want.Room → AreListsAtEnd board.sizes (lists_in (members_in crew)) → ⊥
   room_was_there lacked t below small is room at_end =
       never_full m (lists_in (members_in crew)) t (subst (λ (z : Sizes). AreListsAtEnd z (lists_in (members_in crew))) sizes at_end) few small
-      (subst (Wants MOST_LEVELS settings.k t (steps_in (lists_in (members_in crew)) t)) room (subst (Works settings.k t (asked_of settings.threads t rows) (steps_in (lists_in (members_in crew)) t)) is (works t below)).wants)
+      (subst (Wants PROGRAM_LEVELS settings.k t (steps_in (lists_in (members_in crew)) t)) room (subst (Works settings.k t (asked_of settings.threads t rows) (steps_in (lists_in (members_in crew)) t)) is (works t below)).wants)
     where
       few : insertions (lists_in (members_in crew)) ≤ row_limit
       few = all_few settings.threads rows (lists_in (members_in crew)) accepted so_many

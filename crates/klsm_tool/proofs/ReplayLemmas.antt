@@ -11,9 +11,9 @@ use Rattle.klsm_run.specs.Content.{placed, sorted, without}
 use Rattle.klsm_run.proofs.ContentLemmas.{sorted_itself}
 use Rattle.klsm_run.proofs.RankLemmas.{count_sorted}
 use Rattle.klsm_run.proofs.WithoutLemmas.{sorted_without}
-use Rattle.klsm_world.specs.declared.step.Entry.{Entry}
-use Rattle.klsm_world.specs.Account.{account}
-use Rattle.klsm_world.proofs.lemmas.hands.HandLemmas.{choice_hit, choice_miss}
+use Rattle.klsm_schedules.specs.declared.step.Entry.{Entry}
+use Rattle.klsm_schedules.specs.Account.{account}
+use Rattle.klsm_schedules.proofs.lemmas.hands.HandLemmas.{choice_hit, choice_miss}
 use Rattle.klsm_text.specs.declared.answer.Line.{Line}
 use Rattle.klsm_text.specs.declared.answer.Printed.{Printed}
 use Rattle.klsm_text.specs.declared.answer.Answer.{Answer}

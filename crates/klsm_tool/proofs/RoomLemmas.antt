@@ -1,11 +1,11 @@
 -- No worker of a script finds the shared part full.
 use Rattle.std.proofs.Common.{◌≡◌, ℕ, ◌+◌, ◌<◌, ◌≤◌, max, List, [], ◌∷◌, length, get_or, Option, Some, None, ap, ◌∙◌, arith}
-use Rattle.klsm_run.specs.declared.limits.TheConstants.{MOST_LEVELS, PROGRAM_K}
+use Rattle.klsm_run.specs.declared.limits.TheConstants.{PROGRAM_LEVELS, PROGRAM_K}
 use lib.ListN.{get_elem?}
 use Rattle.klsm_run.specs.Capacity.{heap_room}
 use Rattle.klsm_parts.specs.Limit.{limit_of}
-use Rattle.klsm_world.specs.declared.step.Entry.{Entry}
-use Rattle.klsm_world.specs.OwnSteps.{inserted, shared_part}
+use Rattle.klsm_schedules.specs.declared.step.Entry.{Entry}
+use Rattle.klsm_schedules.specs.OwnSteps.{inserted, shared_part}
 use Rattle.klsm_board.specs.declared.sizes.Sizes.{Sizes}
 use Rattle.klsm_board.specs.Finishing.{AreListsAtEnd}
 use Rattle.klsm_board.specs.Inserting.{LacksRoom}
@@ -42,15 +42,15 @@ all_few threads rows lists accepted many less =
     omega (arith, within, most, few)
 
 -- and in one world with the others none of them finds the shared part full
-pub never_full : (m : Sizes) (lists : List (List Entry)) (t : ℕ) → AreListsAtEnd m lists → insertions lists ≤ row_limit → m.k ≤ PROGRAM_K → EndsFull MOST_LEVELS m.k t (steps_in lists t) → ⊥
+pub never_full : (m : Sizes) (lists : List (List Entry)) (t : ℕ) → AreListsAtEnd m lists → insertions lists ≤ row_limit → m.k ≤ PROGRAM_K → EndsFull PROGRAM_LEVELS m.k t (steps_in lists t) → ⊥
 never_full m lists t at_end few small full =
     let up = full.1.2 in
-    let at = gave_up_at m.k t full.1.0 (steps_in lists t) (LacksRoom MOST_LEVELS m.k) up in
+    let at = gave_up_at m.k t full.1.0 (steps_in lists t) (LacksRoom PROGRAM_LEVELS m.k) up in
     let there = ap (λ (z : List (List Entry)). get_elem? (get_or z t []) at.0) at_end.lists_are ∙ at.1 in
     let found = found_few (world_limits m) at_end.schedule at_end.world at_end.leads t at.0 shared_part up.shared there in
     let all : insertions at_end.world.lists ≡ insertions lists = ap insertions at_end.lists_are in
     let most : ℕ = max 1 m.k in
-    let limit : ℕ = limit_of MOST_LEVELS heap_room in
+    let limit : ℕ = limit_of PROGRAM_LEVELS heap_room in
     let lacks : limit < length up.shared + most = up.found in
     let beyond : limit < insertions lists + most = omega (arith, found, all, lacks) in
     has_room (insertions lists) m.k few small beyond

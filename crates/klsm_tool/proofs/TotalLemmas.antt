@@ -6,14 +6,14 @@ use native.Mathlib.Decide.{ℕ_discrete}
 use Rattle.std.specs.List.{flat_map}
 use Rattle.std.proofs.lemmas.List.Concat.{flat_map-cons}
 use Rattle.std.proofs.lemmas.Bool.Decides.{nat_tests}
-use Rattle.klsm_world.specs.declared.step.Event.{Event}
-use Rattle.klsm_world.specs.declared.step.Event.TheVariants as event
-use Rattle.klsm_world.specs.declared.step.Entry.{Entry}
-use Rattle.klsm_world.specs.OwnSteps.{event_at, inserted, inserted_by}
-use Rattle.klsm_world.specs.Account.{account}
-use Rattle.klsm_world.proofs.lemmas.hands.HandLemmas.{choice_hit, choice_miss}
-use Rattle.klsm_world.proofs.lemmas.theorems.AccountLemmas.{accounts_add_up}
-use Rattle.klsm_world.proofs.lemmas.theorems.RunLemmas.{schedules_keep_lawful}
+use Rattle.klsm_schedules.specs.declared.step.Event.{Event}
+use Rattle.klsm_schedules.specs.declared.step.Event.TheVariants as event
+use Rattle.klsm_schedules.specs.declared.step.Entry.{Entry}
+use Rattle.klsm_schedules.specs.OwnSteps.{event_at, inserted, inserted_by}
+use Rattle.klsm_schedules.specs.Account.{account}
+use Rattle.klsm_schedules.proofs.lemmas.hands.HandLemmas.{choice_hit, choice_miss}
+use Rattle.klsm_schedules.proofs.lemmas.theorems.AccountLemmas.{accounts_add_up}
+use Rattle.klsm_schedules.proofs.lemmas.theorems.RunLemmas.{schedules_keep_lawful}
 use Rattle.klsm_board.specs.declared.sizes.Sizes.{Sizes}
 use Rattle.klsm_board.specs.Rule.{world_limits}
 use Rattle.klsm_board.specs.Finishing.{AreListsAtEnd}

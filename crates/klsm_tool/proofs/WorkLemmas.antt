@@ -1,8 +1,8 @@
 -- What a worker's rows are answered with.
 use Rattle.std.proofs.Common.{◌≡◌, ℕ, zero, suc, ◌+◌, ◌<◌, ◌≤◌, List, [], ◌∷◌, ◌++◌, length, map, take, drop, get_or, refl, sym, ap, ◌∙◌, subst, arith}
 use Rattle.std.proofs.lemmas.List.{length-map, map_more, take_all}
-use Rattle.klsm_run.specs.declared.limits.TheConstants.{MOST_LEVELS}
-use Rattle.klsm_world.specs.declared.step.Entry.{Entry}
+use Rattle.klsm_run.specs.declared.limits.TheConstants.{PROGRAM_LEVELS}
+use Rattle.klsm_schedules.specs.declared.step.Entry.{Entry}
 use Rattle.klsm_text.specs.declared.answer.Answer.{Answer}
 use Rattle.klsm_text.specs.declared.thread_rows.ThreadRow.{ThreadRow}
 use Rattle.klsm_text.specs.Keeping.{operation_in}
@@ -45,7 +45,7 @@ module _ (rows : List ThreadRow) (i : ℕ) (d : ThreadRow) (within : i < length 
       rw (more, shows) (answers_more (map operation_in (take i rows)) (shown_in es) (operation_in (get_or rows i d)) answer before is_answer)
 
   -- the worker gives up at it
-  pub row_given_up : (k t : ℕ) (es es' : List Entry) (want : Want) → AreAnswers (map operation_in (take i rows)) (shown_in es) → shown_in es' ≡ shown_in es → Wants MOST_LEVELS k t es' want → GaveUpAt k t (map operation_in rows) es' want
+  pub row_given_up : (k t : ℕ) (es es' : List Entry) (want : Want) → AreAnswers (map operation_in (take i rows)) (shown_in es) → shown_in es' ≡ shown_in es → Wants PROGRAM_LEVELS k t es' want → GaveUpAt k t (map operation_in rows) es' want
   row_given_up k t es es' want before same wants = record {
     earlier = map operation_in (take i rows);
     here = operation_in (get_or rows i d);

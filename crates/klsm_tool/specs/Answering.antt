@@ -2,8 +2,8 @@
 use Rattle.std.specs.Prelude.{ℕ, ◌≡◌, List, [], ◌∷◌, length, max}
 use Rattle.klsm_run.specs.declared.item.Item.{Item}
 use Rattle.klsm_run.specs.Content.{sorted}
-use Rattle.klsm_world.specs.declared.step.Entry.{Entry}
-use Rattle.klsm_world.specs.Account.{account}
+use Rattle.klsm_schedules.specs.declared.step.Entry.{Entry}
+use Rattle.klsm_schedules.specs.Account.{account}
 use Rattle.klsm_text.specs.declared.answer.Printed.{Printed}
 use Rattle.klsm_tool.specs.declared.replay_state.ReplayState.{ReplayState}
 use Rattle.klsm_tool.specs.declared.picking.ThreadPicker.{ThreadPicker}

@@ -1,9 +1,9 @@
 -- What the calls of a thread's member add to its list, one after another, and how they go by its picker.
 use Rattle.std.specs.Prelude.{ℕ, ◌≡◌, ◌<◌, ◌⊎◌, Bool, List, length, slice_index_or, Option, Some, None}
 use Rattle.klsm_run.specs.declared.item.Item.{Item}
-use Rattle.klsm_run.specs.declared.limits.TheConstants.{MOST_LEVELS}
+use Rattle.klsm_run.specs.declared.limits.TheConstants.{PROGRAM_LEVELS}
 use Rattle.klsm_parts.specs.Choices.{may_choose}
-use Rattle.klsm_world.specs.declared.step.Entry.{Entry}
+use Rattle.klsm_schedules.specs.declared.step.Entry.{Entry}
 use Rattle.klsm_board.specs.declared.balancing.TheConstants.{MOST_BALANCED}
 use Rattle.klsm_board.specs.declared.sizes.Sizes.{Sizes}
 use Rattle.klsm_board.specs.Balancing.{HasBalanced, after_deletion, after_turn, victim_now}
@@ -13,7 +13,7 @@ use Rattle.klsm_board.specs.Stealing.{Balances}
 use Rattle.klsm_knapsack.specs.Courses.{IsOnCourse}
 use Rattle.klsm_text.specs.declared.answer.Answer.{Answer}
 use Rattle.klsm_text.specs.declared.answer.Answer.TheVariants.{Inserted, Deleted, Nothing}
-use Rattle.klsm_words.specs.declared.settings.Settings.{Settings}
+use Rattle.klsm_words.specs.declared.settings.ScriptSettings.{ScriptSettings}
 use Rattle.klsm_tool.specs.declared.picking.ThreadPicker.{ThreadPicker}
 use Rattle.klsm_tool.specs.Crews.{board_sizes, steps_in}
 use Rattle.klsm_tool.specs.Picking.{picker_of}
@@ -48,13 +48,13 @@ pub record DeletesInOneHand (m : Sizes) (t : ℕ) (picker picker' : ThreadPicker
 -- One call of thread t: an item was inserted, and the picker is as it was. Or the thread deleted by its picker.
 abbrev pub CallsInTurn : Sizes → ℕ → ThreadPicker → ThreadPicker → List Entry → List Entry → Type 0
 CallsInTurn m t picker picker' es es' =
-    (((x : Item) × InsertsWaiting MOST_LEVELS m.k t es es' x) × (picker' ≡ picker))
+    (((x : Item) × InsertsWaiting PROGRAM_LEVELS m.k t es es' x) × (picker' ≡ picker))
     ⊎ ((answer : Answer) × DeletesInTurn m t picker picker' es es' answer)
 
 -- an item was inserted, or memory was wanted for that
 abbrev pub InsertsOrLacksMemory : Sizes → ℕ → List Entry → List Entry → Type 0
 InsertsOrLacksMemory m t es es' =
-    ((x : Item) × Inserts MOST_LEVELS m.k t es es' x) ⊎ GivesUp m.k t es es' (IsBelowLimit MOST_LEVELS)
+    ((x : Item) × Inserts PROGRAM_LEVELS m.k t es es' x) ⊎ GivesUp m.k t es es' (IsBelowLimit PROGRAM_LEVELS)
 
 -- the same as above, of a thread whose member is in one hand with all others
 abbrev pub CallsInOneHand : Sizes → ℕ → ThreadPicker → ThreadPicker → List Entry → List Entry → Type 0
@@ -70,11 +70,11 @@ AreOnCourse m first lists pickers = (t : ℕ) (d : ThreadPicker) → t < length 
 -- Each thread's list is that of some calls over a board of these settings, the refill among them. Its deletions go
 -- by the picker that the settings choose for it, which goes on from each of them to the next, and the balances
 -- between are those that are due.
-abbrev pub GoInTurn : Settings → List (List Entry) → Type 0
+abbrev pub GoInTurn : ScriptSettings → List (List Entry) → Type 0
 GoInTurn settings lists = (t : ℕ) → t < settings.threads → (picker : ThreadPicker)
     × IsOnCourse (CallsInTurn (board_sizes settings) t) (picker_of settings t) picker (steps_in lists t)
 
 -- the same of threads that are in one hand
-abbrev pub GoInOneHand : Settings → List (List Entry) → Type 0
+abbrev pub GoInOneHand : ScriptSettings → List (List Entry) → Type 0
 GoInOneHand settings lists = (t : ℕ) → t < settings.threads → (picker : ThreadPicker)
     × IsOnCourse (CallsInOneHand (board_sizes settings) t) (picker_of settings t) picker (steps_in lists t)

@@ -1,11 +1,11 @@
 -- The board that answers the rows of a script, the lists of its members, and how one of them goes on.
 use Rattle.std.specs.Prelude.{ℕ, ◌≡◌, ◌≢◌, ◌+◌, ◌<◌, ◌≤◌, List, [], ◌∷◌, ◌++◌, length, map, slice_index_or}
 use Rattle.klsm_run.specs.declared.item.Item.{Item}
-use Rattle.klsm_run.specs.declared.limits.TheConstants.{MOST_LEVELS, PROGRAM_K}
+use Rattle.klsm_run.specs.declared.limits.TheConstants.{PROGRAM_LEVELS, PROGRAM_K}
 use Rattle.klsm_run.specs.Content.{without}
 use Rattle.klsm_parts.specs.Events.{plus}
-use Rattle.klsm_world.specs.declared.step.Entry.{Entry}
-use Rattle.klsm_world.specs.Account.{account}
+use Rattle.klsm_schedules.specs.declared.step.Entry.{Entry}
+use Rattle.klsm_schedules.specs.Account.{account}
 use Rattle.klsm_board.specs.declared.all_members.AllMembers.{AllMembers}
 use Rattle.klsm_board.specs.declared.board.Member.{Member}
 use Rattle.klsm_board.specs.declared.sizes.Sizes.{Sizes}
@@ -14,11 +14,11 @@ use Rattle.klsm_board.specs.Members.{sizes_of}
 use Rattle.klsm_board.specs.Together.{sizes_of_all, steps_for}
 use Rattle.klsm_text.specs.declared.answer.Answer.{Answer}
 use Rattle.klsm_text.specs.declared.answer.Answer.TheVariants.{Inserted, Deleted, Nothing}
-use Rattle.klsm_words.specs.declared.settings.Settings.{Settings}
+use Rattle.klsm_words.specs.declared.settings.ScriptSettings.{ScriptSettings}
 use Rattle.klsm_tool.specs.Shown.{shown_in}
 
 -- the sizes of a board over which a script is run by these settings
-abbrev pub board_sizes : Settings → Sizes
+abbrev pub board_sizes : ScriptSettings → Sizes
 board_sizes settings = record (sizes_of settings.threads settings.k) { refill = settings.refill }
 
 module _ {CAP LEVELS : ℕ} where
@@ -52,5 +52,5 @@ abbrev pub AreFew : ℕ → List (List Entry) → Type 0
 AreFew n lists = (account lists).inserted ≤ n
 
 -- no member has made a step
-abbrev pub HaveNoSteps : AllMembers PROGRAM_K MOST_LEVELS → Type 0
+abbrev pub HaveNoSteps : AllMembers PROGRAM_K PROGRAM_LEVELS → Type 0
 HaveNoSteps all = (t : ℕ) → t < (sizes_of_all all).threads → steps_for all t ≡ []

@@ -1,5 +1,5 @@
 -- What `knapsack_over` promises.
-use Rattle.std.specs.Prelude.{ℕ, ◌⊎◌, List, codes, Option, min}
+use Rattle.std.specs.Prelude.{ℕ, ◌⊎◌, List, codes, Option}
 use Rattle.klsm_run.specs.declared.limits.TheConstants.{PROGRAM_LEVELS}
 use Rattle.klsm_instance.specs.declared.errors.ReadError.{ReadError}
 use Rattle.klsm_instance.specs.declared.errors.ReadError.TheVariants as read_error
@@ -7,9 +7,8 @@ use Rattle.klsm_instance.specs.declared.search.Best.{Best}
 use Rattle.klsm_instance.specs.Answers.{IsBestAnswer}
 use Rattle.klsm_instance.specs.Format.{IsProblemIn, RefusesInput}
 use Rattle.klsm_instance.specs.Selections.{Problem}
-use Rattle.klsm_world.specs.declared.step.Entry.{Entry}
-use Rattle.klsm_knapsack.specs.declared.options.SearchOptions.{SearchOptions}
-use Rattle.klsm_knapsack.specs.Searches.{HasSearched}
+use Rattle.klsm_schedules.specs.declared.step.Entry.{Entry}
+use Rattle.klsm_knapsack.specs.Searches.{HasSearched, usual_options}
 use Rattle.klsm_words.specs.declared.settings.Search.{Search}
 use Rattle.klsm_text.specs.declared.report.End.{End}
 use Rattle.klsm_text.specs.declared.report.End.TheVariants as end
@@ -40,13 +39,10 @@ WritesBest before after p best report =
     Writes before after (best_text p best) end.Done report
     ⊎ Writes before after (codes "no memory\n") end.NoMemory report
 
--- what a search is made with of which the words say this: its deletions move 16 nodes at most
-abbrev pub options_of : Search → SearchOptions
-options_of search = record { threads = search.threads; k = search.k; refill = min search.k 16; idle = search.idle }
-
 -- some workers have made that search, each by a generator of its own
 abbrev pub IsSearchedBy : Search → Type 0
-IsSearchedBy search = (lists : List (List Entry)) × HasSearched PROGRAM_LEVELS (options_of search) lists
+IsSearchedBy search = (lists : List (List Entry))
+    × HasSearched PROGRAM_LEVELS (usual_options search.threads search.k search.idle) lists
 
 -- the problem of the input is solved by that search: a best selection is written; or memory was wanted
 abbrev pub SolvesProblem : Search → Problem → Option (List ℕ) → Option (List ℕ) → Report → Type 0

@@ -9,6 +9,7 @@ pub mod Answering  -- what a replay keeps beside the board, and how a row is ans
 pub mod Replay  -- what `replay_over` promises
 pub mod Live  -- what `live_over` promises
 pub mod Knapsack  -- what `knapsack_over` promises
+pub mod Settings  -- settings with no refill and no balance
 pub mod Program  -- what `run_words` promises
 pub mod Progress  -- how far a replay has come; no public contract cites it
 pub mod Working  -- what the workers of a script do; no public contract cites it

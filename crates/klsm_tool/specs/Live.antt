@@ -1,7 +1,7 @@
 -- What `live_over` promises: the rows of a script run by threads.
 use Rattle.std.specs.Prelude.{ℕ, ⊤, Bool, true, ◌≡◌, ◌+◌, ◌<◌, List, length, Option, Result, Ok, Err}
-use Rattle.klsm_world.specs.declared.step.Entry.{Entry}
-use Rattle.klsm_world.specs.Account.{account}
+use Rattle.klsm_schedules.specs.declared.step.Entry.{Entry}
+use Rattle.klsm_schedules.specs.Account.{account}
 use Rattle.klsm_board.specs.Finishing.{AreListsAtEnd}
 use Rattle.klsm_text.specs.declared.report.End.{End}
 use Rattle.klsm_text.specs.declared.report.End.TheVariants as end
@@ -14,7 +14,7 @@ use Rattle.klsm_rows.specs.Rows.{Row, AreAllRows}
 use Rattle.klsm_text.specs.AnswerText.{closing_text}
 use Rattle.klsm_text.specs.TotalsText.{totals_text}
 use Rattle.klsm_tool.specs.Shown.{shown_in}
-use Rattle.klsm_words.specs.declared.settings.Settings.{Settings}
+use Rattle.klsm_words.specs.declared.settings.ScriptSettings.{ScriptSettings}
 use Rattle.klsm_tool.specs.Courses.{GoInTurn}
 use Rattle.klsm_tool.specs.Crews.{board_sizes, steps_in}
 use Rattle.klsm_text.specs.Reports.{GoesOrFails, end_of}
@@ -24,7 +24,7 @@ use Rattle.klsm_tool.specs.MemberCalls.{AreAnswers}
 -- all rows were run over a board of these settings: each thread's list answers its rows, one by one and
 -- in order, by calls as the settings choose them, the lists are those of one world to which a schedule
 -- leads, and the totals are those of their account
-pub record RunsAll (settings : Settings) (input : Option (List ℕ)) (totals : Totals) : Type 0 where
+pub record RunsAll (settings : ScriptSettings) (input : Option (List ℕ)) (totals : Totals) : Type 0 where
   pub rows : List Row
   pub all : AreAllRows input rows
   pub accepted : AreAccepted settings.threads rows
@@ -59,7 +59,7 @@ HasNoTotals failed threads input number stop.ReadFault =
 HasNoTotals failed threads input number stop.WriteFault = ⊥
 
 -- how the run of a script ends
-abbrev pub RunsScript : Bool → Settings → Option (List ℕ) → Result Totals Closing → Type 0
+abbrev pub RunsScript : Bool → ScriptSettings → Option (List ℕ) → Result Totals Closing → Type 0
 RunsScript failed settings input (Ok totals) = RunsAll settings input totals
 RunsScript failed settings input (Err closing) =
     HasNoTotals failed settings.threads input closing.row closing.stop
@@ -73,7 +73,7 @@ outcome_end (Ok totals) = end.Done
 outcome_end (Err closing) = end_of closing.stop
 
 -- the line of the outcome goes out, or the writer fails before its end
-abbrev pub LivesBy : Bool → Settings → Option (List ℕ) → Option (List ℕ) → Option (List ℕ) → Report
+abbrev pub LivesBy : Bool → ScriptSettings → Option (List ℕ) → Option (List ℕ) → Option (List ℕ) → Report
     → Type 0
 LivesBy failed settings input before after report =
     (outcome : Result Totals Closing) × RunsScript failed settings input outcome
@@ -81,6 +81,6 @@ LivesBy failed settings input before after report =
     report.end
 
 -- the same, where nothing is known of the reader
-abbrev pub Lives : Settings → Option (List ℕ) → Option (List ℕ) → Option (List ℕ) → Report → Type 0
+abbrev pub Lives : ScriptSettings → Option (List ℕ) → Option (List ℕ) → Option (List ℕ) → Report → Type 0
 Lives settings input before after report =
     (failed : Bool) × LivesBy failed settings input before after report

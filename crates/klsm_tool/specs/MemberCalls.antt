@@ -1,6 +1,6 @@
 -- What a member may answer to a row, and what one alone may lack.
 use Rattle.std.specs.Prelude.{ℕ, ⊤, ◌≡◌, List, [], ◌∷◌}
-use Rattle.klsm_world.specs.declared.step.Entry.{Entry}
+use Rattle.klsm_schedules.specs.declared.step.Entry.{Entry}
 use Rattle.klsm_board.specs.Inserting.{RefusesInsertWaiting}
 use Rattle.klsm_board.specs.declared.errors.InsertError.TheVariants as insert
 use Rattle.klsm_text.specs.declared.answer.Answer.{Answer}

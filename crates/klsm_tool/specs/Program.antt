@@ -8,7 +8,7 @@ use Rattle.klsm_text.specs.declared.report.End.{End}
 use Rattle.klsm_text.specs.declared.report.End.TheVariants as end
 use Rattle.klsm_text.specs.declared.report.Report.{Report}
 use Rattle.klsm_words.specs.declared.settings.Search.{Search}
-use Rattle.klsm_words.specs.declared.settings.Settings.{Settings}
+use Rattle.klsm_words.specs.declared.settings.ScriptSettings.{ScriptSettings}
 use Rattle.klsm_words.specs.CommandLine.{HasStatus, IsCommand, action_in, usual_settings}
 use Rattle.klsm_tool.specs.Replay.{ReplaysAlone}
 use Rattle.klsm_tool.specs.Live.{Lives}
@@ -18,6 +18,7 @@ use Rattle.klsm_tool.specs.Knapsack.{Solves}
 abbrev pub status_of : End → ℕ
 status_of end.Done = 0
 status_of end.Refused = 1
+status_of end.Full = 3
 status_of end.NoMemory = 3
 status_of end.ReadFault = 4
 status_of end.WriteFault = 4
@@ -46,13 +47,13 @@ AnswersWords words before after result =
     ⊎ LacksMemory before after result)
 
 -- the input is replayed, and the status is that of the replay's end
-abbrev pub RunsReplay : Settings → Option (List ℕ) → Option (List ℕ) → Option (List ℕ) → ℕ → Type 0
+abbrev pub RunsReplay : ScriptSettings → Option (List ℕ) → Option (List ℕ) → Option (List ℕ) → ℕ → Type 0
 RunsReplay settings input before after result =
     (report : Report) × ReplaysAlone settings input before after report
     × (result ≡ status_of report.end)
 
 -- the rows of the input are run by threads, and the status is that of the run's end
-abbrev pub RunsLive : Settings → Option (List ℕ) → Option (List ℕ) → Option (List ℕ) → ℕ → Type 0
+abbrev pub RunsLive : ScriptSettings → Option (List ℕ) → Option (List ℕ) → Option (List ℕ) → ℕ → Type 0
 RunsLive settings input before after result =
     (report : Report) × Lives settings input before after report
     × (result ≡ status_of report.end)
@@ -64,7 +65,7 @@ RunsKnapsack search input before after result =
     × (result ≡ status_of report.end)
 
 -- a script is run by its settings, unless deletions were to move more items to a thread than it keeps
-abbrev pub RunsIfFits : Settings → Type 0 → Option (List ℕ) → Option (List ℕ) → ℕ → Type 0
+abbrev pub RunsIfFits : ScriptSettings → Type 0 → Option (List ℕ) → Option (List ℕ) → ℕ → Type 0
 RunsIfFits settings Run before after result =
     ((settings.refill ≤ settings.k) × Run)
     ⊎ ((settings.k < settings.refill) × Says before after (codes "refused: refill\n") 2 result)

@@ -2,7 +2,7 @@
 use Rattle.std.specs.Prelude.{ℕ, Bool, true, ◌≡◌, ◌≢◌, ◌+◌, ◌<◌, List, ◌++◌, length, take, Option}
 use Rattle.std.specs.Io.KnownBytes.{Appends}
 use Rattle.klsm_run.specs.declared.item.Item.{Item}
-use Rattle.klsm_world.specs.declared.step.Entry.{Entry}
+use Rattle.klsm_schedules.specs.declared.step.Entry.{Entry}
 use Rattle.klsm_run.specs.Content.{sorted}
 use Rattle.klsm_text.specs.declared.answer.Line.{Line}
 use Rattle.klsm_text.specs.declared.output.Output.{Output}

@@ -2,7 +2,7 @@
 use Rattle.std.specs.Prelude.{ℕ, ◌≡◌, ◌*◌, ◌<◌, ◌≤◌, ◌≢◌, ◌⊎◌, List, [], ◌∷◌, length, take, Option}
 use Rattle.std.specs.Prelude.{Ok, Err, codes}
 use Rattle.std.specs.Io.KnownBytes.{Appends}
-use Rattle.klsm_world.specs.declared.step.Entry.{Entry}
+use Rattle.klsm_schedules.specs.declared.step.Entry.{Entry}
 use Rattle.klsm_board.specs.Finishing.{AreListsAtEnd}
 use Rattle.klsm_text.specs.declared.answer.Line.{Line}
 use Rattle.klsm_text.specs.declared.request.Request.{Request}
@@ -14,7 +14,7 @@ use Rattle.klsm_rows.specs.Rows.{Row, AreFirstRows, AreAllRows}
 use Rattle.klsm_text.specs.Script.{request_after}
 use Rattle.klsm_text.specs.Reports.{GoesOrFails, end_of}
 use Rattle.klsm_text.specs.AnswerText.{greatest_skip, text_of}
-use Rattle.klsm_words.specs.declared.settings.Settings.{Settings}
+use Rattle.klsm_words.specs.declared.settings.ScriptSettings.{ScriptSettings}
 use Rattle.klsm_tool.specs.Courses.{GoInOneHand}
 use Rattle.klsm_tool.specs.Crews.{board_sizes}
 use Rattle.klsm_tool.specs.Shown.{IsFew, Show}
@@ -73,7 +73,7 @@ ReplaysToTheEnd threads k lists input before after report =
 
 -- the lists are those of a board of its own, of these settings: all of them are those of one schedule of
 -- legal steps, and of calls as the settings choose them, and where all is done the board has ended with them
-pub record ReplaysAlone (settings : Settings) (input before after : Option (List ℕ)) (report : Report)
+pub record ReplaysAlone (settings : ScriptSettings) (input before after : Option (List ℕ)) (report : Report)
     : Type 0 where
   pub lists : List (List Entry)
   pub run : ∥ AreListsAtEnd (board_sizes settings) lists ∥₁

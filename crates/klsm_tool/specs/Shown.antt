@@ -1,11 +1,11 @@
 -- What a member's list of own steps shows in the text, and what the lines of its thread show.
 use Rattle.std.specs.Prelude.{ℕ, ◌≡◌, ◌*◌, ◌<◌, ◌≤◌, ◌==◌, if◌then◌else◌, List, [], ◌∷◌, ◌++◌, slice_index_or}
 use Rattle.std.specs.List.{flat_map}
-use Rattle.klsm_world.specs.declared.step.Event.{Event}
-use Rattle.klsm_world.specs.declared.step.Event.TheVariants as event
-use Rattle.klsm_world.specs.declared.step.Entry.{Entry}
-use Rattle.klsm_world.specs.OwnSteps.{event_at}
-use Rattle.klsm_world.specs.Account.{account}
+use Rattle.klsm_schedules.specs.declared.step.Event.{Event}
+use Rattle.klsm_schedules.specs.declared.step.Event.TheVariants as event
+use Rattle.klsm_schedules.specs.declared.step.Entry.{Entry}
+use Rattle.klsm_schedules.specs.OwnSteps.{event_at}
+use Rattle.klsm_schedules.specs.Account.{account}
 use Rattle.klsm_run.specs.Content.{sorted}
 use Rattle.klsm_text.specs.AnswerText.{live_by, skip_of}
 use Rattle.klsm_text.specs.declared.answer.Answer.{Answer}

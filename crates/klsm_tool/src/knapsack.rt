@@ -18,14 +18,13 @@ use std::alloc::Global;
 use std::io::{Read, Write};
 use std::sync::Wait;
 use std::thread::Threads;
-use std::time::Clock;
 
 /// Reads an instance, solves it with workers in threads of their own, and writes a best selection.
 ///
 /// Each worker passes the gate first, and ends after `idle` answers "nothing" in a row. A long search is told
 /// of while it lasts.
-pub fn knapsack_over<
-    P: AllocGlobal + Wait + Clock + Threads + Sync,
+pub fn knapsack_with<
+    P: AllocGlobal + Wait + Threads + Sync,
     R: Read + Drop,
     W: Write,
     G: Gate,
@@ -47,7 +46,7 @@ pub fn knapsack_over<
 }
 
 // Solves an instance, and writes a best selection or why there is none.
-fn solve_read<P: AllocGlobal + Wait + Clock + Threads + Sync, W: Write, G: Gate, H: Progress>(
+fn solve_read<P: AllocGlobal + Wait + Threads + Sync, W: Write, G: Gate, H: Progress>(
     rt: &P,
     writer: &mut W,
     instance: &Instance,
@@ -67,7 +66,7 @@ fn solve_read<P: AllocGlobal + Wait + Clock + Threads + Sync, W: Write, G: Gate,
 
 // Solves an instance, whatever the order of its things: the search goes over them with those of the
 // greatest value for their weight first, since bounds are closer then.
-fn solve_reordered<P: AllocGlobal + Wait + Clock + Threads + Sync, G: Gate, H: Progress>(
+fn solve_reordered<P: AllocGlobal + Wait + Threads + Sync, G: Gate, H: Progress>(
     rt: &P,
     instance: &Instance,
     search: &Search,
@@ -89,7 +88,7 @@ fn solve_reordered<P: AllocGlobal + Wait + Clock + Threads + Sync, G: Gate, H: P
 
 // Solves an instance. Who hears of it is told when it begins and ends, so that no line stands before the
 // answer.
-fn solve_heard<P: AllocGlobal + Wait + Clock + Threads + Sync, G: Gate, H: Progress>(
+fn solve_heard<P: AllocGlobal + Wait + Threads + Sync, G: Gate, H: Progress>(
     rt: &P,
     instance: &Instance,
     search: &Search,

@@ -1,22 +1,23 @@
 //! What the program `klsm` does, over any reader and writer.
 //!
 //! The program's `main` gives `run_program` its input and output, and returns the `Status` that
-//! comes back. A caller with words of its own takes `run_words`, which `run_program` calls with those of
-//! its process, and one that has a script takes `replay_over`:
+//! comes back. A caller with words of its own takes `run_words`, and one that has a script takes `replay_over`:
 //!
 //! ```text
 //! let script: &[u8] = b"0,i,5,50\n0,i,3,30\n0,d,,\n";
 //! let mut text = Vec::new(rt.alloc());
-//! let settings = Settings { threads: 1, k: 64, refill: 0, balance: 0, pick: Pick::First, seed: 1 };
-//! let report = replay_over(&rt, script, &mut text, &settings, &Silent);
+//! let settings = Settings { threads: 1, k: 64, pick: Pick::First, seed: 1 };
+//! let report = replay_over(&rt, script, &mut text, &settings);
 //! // report.end is End::Done, and the text ends with "max skip 0 bound 64"
 //! ```
 //!
-//! `live_over` runs a script's rows in threads, and `knapsack_over` solves an instance, both with `Listeners`: a
+//! `live_over` runs a script's rows in threads, and `knapsack_over` solves an instance, both behind a gate. `replay_on`
+//! has a board of the caller's. Each is a case of a call with more: `replay_with`, `live_with` and `knapsack_with` take
+//! a refill and a balance (`ScriptSettings`) and a progress, the last two with `Listeners`: a
 //! gate that each thread passes first, and a progress, which is told how far a long run has come. Whoever keeps
 //! its script, to see afterwards how far it was read, takes `live_script`, or `replay_script` with a board and its
 //! members in one hand, as `board_in_one_hand` gives them. No crate but that of the tests calls these two for
-//! itself: `replay_over` and `live_over` are made of them, and their clauses say most.
+//! itself: `replay_with` and `live_with` are made of them, and their clauses say most.
 //!
 //! Rows are read and judged by `klsm_text`, which also makes the lines and sends them. `replay` reads
 //! a row, `replay_state` lets the member of its thread answer and has `skip_counter` count the skip, and
@@ -49,7 +50,7 @@
 //! - **The selection that is written is a best one**, and a search as the words say has found it: `Solves`, the clause
 //!   of `knapsack_over`.
 //! - **Words are a run or are answered with one text**, and each end has its status: clauses `runs` and
-//!   `replays` of `run_words`.
+//!   `replays` of `run_with`.
 //! - **The process ends with that status.** Nothing outside this crate makes a `Status`, and
 //!   `Status::report` says that the process ends with its number.
 //! - **Calls obey the settings**: the refill of the board, each thread's one picker, and the balances that are
@@ -63,11 +64,13 @@ mod knapsack;
 mod live;
 mod making;
 mod member_calls;
+mod over;
 mod picking;
 mod process_words;
 mod program;
 mod replay;
 mod replay_state;
+mod settings;
 mod skip_counter;
 mod status;
 mod worker;
@@ -75,10 +78,12 @@ mod worker;
 pub use klsm_knapsack::Listeners;
 pub use klsm_progress::{Counted, Progress, Silent, TerminalLine, Terminals};
 pub use klsm_text::{End, Report, Script};
-pub use klsm_words::{Pick, Search, Settings};
-pub use knapsack::knapsack_over;
-pub use live::{live_over, live_script};
+pub use klsm_words::{Pick, ScriptSettings, Search};
+pub use knapsack::knapsack_with;
+pub use live::{live_script, live_with};
 pub use making::board_in_one_hand;
-pub use program::{run_program, run_words};
-pub use replay::{replay_over, replay_script};
+pub use over::{knapsack_over, live_over, replay_on, replay_over};
+pub use program::{run_program, run_with, run_words};
+pub use replay::{replay_script, replay_with};
+pub use settings::Settings;
 pub use status::Status;

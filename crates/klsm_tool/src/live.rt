@@ -25,13 +25,12 @@ use klsm_progress::Progress;
 use klsm_text::{
     Closing, End, Report, Script, Stop, ThreadRow, Totals, keep_rows, no_rows, write_last,
 };
-use klsm_words::Settings;
+use klsm_words::ScriptSettings;
 use std::alloc::{AllocError, Global};
 use std::io::{Read, Write};
 use std::sync::Wait;
 use std::thread;
 use std::thread::Threads;
-use std::time::Clock;
 
 /// Reads a whole script, then runs each thread's rows in a thread of its own over one board, each
 /// thread's in their order, and writes the totals. Each of these threads passes the gate first.
@@ -40,13 +39,19 @@ use std::time::Clock;
 /// row, and the others go on; then `no memory` is written in place of the totals. There is always room, as
 /// the shared part can have more items than a script has rows. Where no thread can be made, the rows are run
 /// one thread after the other. A long run is told of while it lasts.
-pub fn live_over<
-    P: AllocGlobal + Wait + Clock + Threads + Sync,
+pub fn live_with<
+    P: AllocGlobal + Wait + Threads + Sync,
     R: Read + Drop,
     W: Write,
     G: Gate,
     H: Progress,
->(rt: &P, reader: R, writer: &mut W, settings: &Settings, listeners: &Listeners<G, H>) -> Report
+>(
+    rt: &P,
+    reader: R,
+    writer: &mut W,
+    settings: &ScriptSettings,
+    listeners: &Listeners<G, H>,
+) -> Report
     requires some_thread { 1 ≤ settings.now.threads }
     requires threads { settings.now.threads ≤ PROGRAM_THREADS }
     requires k { settings.now.k ≤ PROGRAM_K }
@@ -61,7 +66,7 @@ pub fn live_over<
 /// The same over a script of the caller's, of which no row was read yet. A read fault is answered only
 /// where the reader of that has failed. Behind a row that is refused none is read.
 pub fn live_script<
-    P: AllocGlobal + Wait + Clock + Threads + Sync,
+    P: AllocGlobal + Wait + Threads + Sync,
     R: Read + Drop,
     W: Write,
     G: Gate,
@@ -70,7 +75,7 @@ pub fn live_script<
     rt: &P,
     script: &mut Script<R>,
     writer: &mut W,
-    settings: &Settings,
+    settings: &ScriptSettings,
     listeners: &Listeners<G, H>,
 ) -> Report
     requires some_thread { 1 ≤ settings.now.threads }
@@ -106,10 +111,10 @@ fn write_outcome<W: Write>(writer: &mut W, outcome: &Result<Totals, Closing>) ->
 }
 
 // Reads a whole script and runs it.
-fn run_script<P: AllocGlobal + Wait + Clock + Threads + Sync, R: Read + Drop, G: Gate, H: Progress>(
+fn run_script<P: AllocGlobal + Wait + Threads + Sync, R: Read + Drop, G: Gate, H: Progress>(
     rt: &P,
     script: &mut Script<R>,
-    settings: &Settings,
+    settings: &ScriptSettings,
     listeners: &Listeners<G, H>,
 ) -> Result<Totals, Closing>
     requires some_thread { 1 ≤ settings.now.threads }
@@ -137,10 +142,10 @@ fn run_script<P: AllocGlobal + Wait + Clock + Threads + Sync, R: Read + Drop, G:
 }
 
 // Runs the rows of all threads over a new board.
-fn run_rows<P: AllocGlobal + Wait + Clock + Threads + Sync, G: Gate, H: Progress>(
+fn run_rows<P: AllocGlobal + Wait + Threads + Sync, G: Gate, H: Progress>(
     rt: &P,
     rows: &[Vec<ThreadRow>],
-    settings: &Settings,
+    settings: &ScriptSettings,
     listeners: &Listeners<G, H>,
 ) -> Result<Totals, Closing>
     requires some_thread { 1 ≤ settings.now.threads }
@@ -180,12 +185,12 @@ fn run_rows<P: AllocGlobal + Wait + Clock + Threads + Sync, G: Gate, H: Progress
 struct LiveRun<'a, G, P> {
     board: &'a StandardBoard,
     rows: &'a [Vec<ThreadRow>],
-    settings: &'a Settings,
+    settings: &'a ScriptSettings,
     listeners: &'a Listeners<'a, G, P>,
 }
 
 // Runs the rows of each thread by the member of its number, and gives the workers back.
-fn run_members<R: AllocGlobal + Wait + Clock + Threads + Sync, G: Gate, P: Progress>(
+fn run_members<R: AllocGlobal + Wait + Threads + Sync, G: Gate, P: Progress>(
     rt: &R,
     live: &LiveRun<G, P>,
     members: Vec<StandardMember>,
@@ -210,7 +215,7 @@ fn run_members<R: AllocGlobal + Wait + Clock + Threads + Sync, G: Gate, P: Progr
 
 // Each worker in a thread of its own. It leaves its place while it runs, so that what it changes at
 // each row lies on its own stack, and not beside what the next one changes.
-fn run_all<R: Wait + Clock + Threads + Sync, G: Gate, P: Progress>(
+fn run_all<R: Wait + Threads + Sync, G: Gate, P: Progress>(
     rt: &R,
     live: &LiveRun<G, P>,
     crew: &mut [Option<Worker>],
@@ -245,7 +250,7 @@ fn run_all<R: Wait + Clock + Threads + Sync, G: Gate, P: Progress>(
 
 // The worker at its place, which passes the gate and then runs its rows.
 fn run_at<G: Gate, P: Progress>(
-    rt: &(impl Wait + Clock),
+    rt: &impl Wait,
     live: &LiveRun<G, P>,
     place: &mut Option<Worker>,
     index: usize,

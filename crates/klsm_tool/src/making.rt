@@ -6,14 +6,14 @@ ghost use Rattle.klsm_board.specs.Together.{AreOf};
 ghost use Rattle.klsm_tool.specs.Crews.{HaveNoSteps, board_sizes};
 
 use klsm_board::{AllStandardMembers, Board, MOST_INSERTIONS, StandardBoard, StandardMember};
-use klsm_words::Settings;
+use klsm_words::ScriptSettings;
 use std::alloc::{AllocError, Global};
 
 /// The board of these settings with all its members in one hand, of which none has made a step, unless a growth
 /// was refused. So `replay_script` wants them.
 pub fn board_in_one_hand(
     alloc: Global,
-    settings: &Settings,
+    settings: &ScriptSettings,
 ) -> Result<(StandardBoard, AllStandardMembers), AllocError>
     requires some_thread { 1 ≤ settings.now.threads }
     requires threads { settings.now.threads ≤ PROGRAM_THREADS }
@@ -34,7 +34,7 @@ pub fn board_in_one_hand(
 /// The board of these settings, and its members, unless a growth was refused.
 pub(crate) fn board_for(
     alloc: Global,
-    settings: &Settings,
+    settings: &ScriptSettings,
 ) -> Result<(StandardBoard, Vec<StandardMember>), AllocError>
     requires some_thread { 1 ≤ settings.now.threads }
     requires threads { settings.now.threads ≤ PROGRAM_THREADS }
@@ -45,7 +45,7 @@ pub(crate) fn board_for(
     ensures count { IfOk result (λ made. length made.1.items ≡ settings.now.threads) }
     ensures crew { IfOk result (λ made. AreNewMembersOf made.0 made.1.items) }
 {
-    let Settings {
+    let ScriptSettings {
         threads,
         k,
         refill,

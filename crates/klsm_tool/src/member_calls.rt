@@ -1,9 +1,9 @@
 //! What the members of a board do for a row.
 ghost use Rattle.std.specs.Prelude.{◌≡◌, ◌<◌, ◌++◌, ◌∷◌, [], length, IfOk, IfErr, OnErr};
 ghost use Rattle.klsm_run.specs.declared.item.Item.{Item};
-ghost use Rattle.klsm_run.specs.declared.limits.TheConstants.{MOST_LEVELS};
-ghost use Rattle.klsm_world.specs.Account.{account};
-ghost use Rattle.klsm_world.specs.OwnSteps.{inserted};
+ghost use Rattle.klsm_run.specs.declared.limits.TheConstants.{PROGRAM_LEVELS};
+ghost use Rattle.klsm_schedules.specs.Account.{account};
+ghost use Rattle.klsm_schedules.specs.OwnSteps.{inserted};
 ghost use Rattle.klsm_parts.specs.Choices.{may_choose};
 ghost use Rattle.klsm_board.specs.Balancing.{HasBalanced, after_turn, victim_now};
 ghost use Rattle.klsm_board.specs.Boards.{IsOf, IsSame, own_steps};
@@ -27,7 +27,6 @@ use klsm_parts::Choice;
 use klsm_run::Item;
 use klsm_text::{Answer, Stop};
 use std::sync::Wait;
-use std::time::Clock;
 
 /// What an insertion by a member alone was refused for.
 #[derive(Clone, Copy)]
@@ -40,7 +39,7 @@ pub(crate) enum Want {
 
 /// An insertion, whose item is answered.
 pub(crate) fn insert<const CAP: usize, const LEVELS: usize>(
-    rt: &(impl Wait + Clock),
+    rt: &impl Wait,
     board: &Board<CAP, LEVELS>,
     member: &mut Member<CAP, LEVELS>,
     key: u64,
@@ -68,7 +67,7 @@ pub(crate) fn insert<const CAP: usize, const LEVELS: usize>(
 
 /// A deletion, by the picker of the member's thread. Where it is time the member balances first.
 pub(crate) fn delete<const CAP: usize, const LEVELS: usize>(
-    rt: &(impl Wait + Clock),
+    rt: &impl Wait,
     board: &Board<CAP, LEVELS>,
     member: &mut Member<CAP, LEVELS>,
     picker: &mut ThreadPicker,
@@ -110,7 +109,7 @@ fn balance<const CAP: usize, const LEVELS: usize>(
 
 // A deletion without more.
 fn delete_item<const CAP: usize, const LEVELS: usize>(
-    rt: &(impl Wait + Clock),
+    rt: &impl Wait,
     board: &Board<CAP, LEVELS>,
     member: &mut Member<CAP, LEVELS>,
     choice: &mut Choice,
@@ -145,12 +144,12 @@ pub(crate) fn insert_by(
     ensures item { IfOk result (λ x. (x.key ≡ key) × (x.load ≡ load)) }
     ensures goes { IfOk result (λ x.
         Goes thread (all_lists all.old) (all_lists all.new) (Inserted x ∷ [])) }
-    ensures inserts { IfOk result (Inserts MOST_LEVELS board.now.sizes.k thread
+    ensures inserts { IfOk result (Inserts PROGRAM_LEVELS board.now.sizes.k thread
         (steps_for all.old thread) (steps_for all.new thread)) }
     ensures refused { IfErr result (λ why. (why ≡ stop.NoMemory)
         × Goes thread (all_lists all.old) (all_lists all.new) []) }
     ensures lacks { OnErr result (GivesUp board.now.sizes.k thread (steps_for all.old thread)
-        (steps_for all.new thread) (IsBelowLimit MOST_LEVELS)) }
+        (steps_for all.new thread) (IsBelowLimit PROGRAM_LEVELS)) }
 {
     match all.insert(board, thread, key, load) {
         Ok(stamp) => Ok(Item { key, stamp, load }),

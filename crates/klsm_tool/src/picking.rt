@@ -4,7 +4,7 @@ ghost use Rattle.klsm_tool.specs.Picking.{ArePickers, picker_of};
 
 use klsm_board::Balancing;
 use klsm_parts::Choice;
-use klsm_words::Settings;
+use klsm_words::ScriptSettings;
 use std::alloc::{AllocError, Global};
 
 /// What the deletions of one thread go by.
@@ -20,7 +20,7 @@ pub(crate) struct ThreadPicker {
 
 impl ThreadPicker {
     /// That of the thread of this number, which has deleted nothing yet. Each thread has a seed of its own.
-    pub(crate) fn of(settings: &Settings, thread: u64) -> ThreadPicker
+    pub(crate) fn of(settings: &ScriptSettings, thread: u64) -> ThreadPicker
         ensures { result ≡ picker_of settings.now thread }
     {
         let seed = settings.seed.wrapping_add(thread);
@@ -35,7 +35,7 @@ impl ThreadPicker {
 /// The pickers of all threads, in their order.
 pub(crate) fn pickers_of(
     alloc: Global,
-    settings: &Settings,
+    settings: &ScriptSettings,
 ) -> Result<Vec<ThreadPicker>, AllocError>
     ensures { IfOk result (λ pickers. ArePickers settings.now pickers.items) }
 {

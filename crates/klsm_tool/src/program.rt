@@ -1,29 +1,29 @@
 //! The program on its words.
-ghost use Rattle.std.specs.Prelude.{◌≡◌, Some, map};
+ghost use Rattle.std.specs.Prelude.{◌≡◌, Some, IfOk, drop, map, string_bytes};
 ghost use Rattle.klsm_words.specs.CommandLine.{IsActionInRange, replay_words};
 ghost use Rattle.klsm_tool.specs.Program.{RefusesBytes, Runs, RunsBy, RunsReplayOrLacksMemory};
 ghost use Rattle.klsm_tool.specs.Program.{RunsSome, Says};
 ghost use Rattle.klsm_tool.specs.Program.{status_of as status_of_end};
 
 use crate::advising::advise_on_end;
-use crate::knapsack::knapsack_over;
-use crate::live::live_over;
+use crate::knapsack::knapsack_with;
+use crate::live::live_with;
 use crate::process_words::process_words;
-use crate::replay::replay_over;
+use crate::replay::replay_with;
 use crate::status::Status;
 use klsm_board::Open;
 use klsm_knapsack::Listeners;
-use klsm_progress::{Hint, Progress};
+use klsm_progress::{Hint, Progress, Silent};
 use klsm_text::{End, NO_MEMORY, write_text};
 use klsm_words::{Action, Fault, USAGE, parse};
+use std::alloc::{AllocError, Global};
 use std::io::{Read, Write};
 use std::rt::Env;
 use std::sync::Wait;
 use std::thread::Threads;
-use std::time::Clock;
 
 /// Runs the program on the words that its process was given. Of a long run it tells while it lasts.
-pub fn run_program<P: Env + AllocGlobal + Wait + Clock + Threads + Sync, R: Read + Drop, W: Write>(
+pub fn run_program<P: Env + AllocGlobal + Wait + Threads + Sync, R: Read + Drop, W: Write>(
     rt: &P,
     reader: R,
     writer: &mut W,
@@ -33,16 +33,56 @@ pub fn run_program<P: Env + AllocGlobal + Wait + Clock + Threads + Sync, R: Read
         result.code }
 {
     match process_words(rt) {
-        Ok(words) => run_words(rt, words.as_slice(), reader, writer, progress),
+        Ok(words) => run_with(rt, words.as_slice(), reader, writer, progress),
         Err(_) => say(writer, NO_MEMORY, EXHAUSTED),
     }
 }
 
-/// Runs the program on its words, which are those after its own name, tells of a long run, and answers its
-/// status: 0 where all is done, 1 where a row is refused, 2 for a fault of the command line, 3 where memory is
-/// wanted, and 4 where reading or writing failed.
+/// Runs the program on its words, the first of which is its own name, and returns its status: 0 if all is done, 1 if a row
+/// is refused, 2 for a fault of the command line, 3 if memory is wanted, and 4 if reading or writing failed.
 pub fn run_words<R: Read + Drop, W: Write>(
-    rt: &(impl AllocGlobal + Wait + Clock + Threads + Sync),
+    rt: &(impl AllocGlobal + Wait + Threads + Sync),
+    words: &[String],
+    reader: R,
+    writer: &mut W,
+) -> u8
+    ensures { Runs (map string_bytes (drop 1 words.now)) (R.remaining reader)
+        (W.contents writer.old) (W.contents writer.new) result }
+{
+    let Ok(bytes) = bytes_of(rt.alloc(), without_name(words)) else {
+        return say(writer, NO_MEMORY, EXHAUSTED).code();
+    };
+    run_with(rt, bytes.as_slice(), reader, writer, &Silent).code()
+}
+
+// The words after the program's own name.
+fn without_name(words: &[String]) -> &[String]
+    ensures { result.now ≡ drop 1 words.now }
+{
+    if words.is_empty() {
+        return words;
+    }
+    &words[1..]
+}
+
+// Words as bytes.
+fn bytes_of(alloc: Global, words: &[String]) -> Result<Vec<Vec<u8>>, AllocError>
+    ensures { IfOk result (λ all.
+        map (λ word. word.items) all.items ≡ map string_bytes words.now) }
+{
+    let mut all = Vec::new(alloc);
+    for index in 0..words.len() {
+        let mut word = Vec::new(alloc);
+        word.extend_from_slice(words[index].as_bytes())?;
+        all.push(word)?;
+    }
+    Ok(all)
+}
+
+/// Runs the program on its words, which are those after its own name and may be any bytes, tells of a long run, and
+/// returns its status, as `run_words` does.
+pub fn run_with<R: Read + Drop, W: Write>(
+    rt: &(impl AllocGlobal + Wait + Threads + Sync),
     words: &[Vec<u8>],
     reader: R,
     writer: &mut W,
@@ -68,7 +108,7 @@ pub fn run_words<R: Read + Drop, W: Write>(
 
 // Does what the words ask for.
 fn run_action<R: Read + Drop, W: Write>(
-    rt: &(impl AllocGlobal + Wait + Clock + Threads + Sync),
+    rt: &(impl AllocGlobal + Wait + Threads + Sync),
     action: &Action,
     reader: R,
     writer: &mut W,
@@ -85,15 +125,15 @@ fn run_action<R: Read + Drop, W: Write>(
     };
     match action {
         Action::Replay(settings) => {
-            let report = replay_over(rt, reader, writer, settings, progress);
+            let report = replay_with(rt, reader, writer, settings, progress);
             ended(progress, report.end)
         }
         Action::Live(settings) => {
-            let report = live_over(rt, reader, writer, settings, &listeners);
+            let report = live_with(rt, reader, writer, settings, &listeners);
             ended(progress, report.end)
         }
         Action::Knapsack(search) => {
-            let report = knapsack_over(rt, reader, writer, search, &listeners);
+            let report = knapsack_with(rt, reader, writer, search, &listeners);
             ended(progress, report.end)
         }
     }
@@ -146,7 +186,7 @@ fn status_of(end: End) -> Status
     Status::new(match end {
         End::Done => 0,
         End::Refused => REFUSED,
-        End::NoMemory => EXHAUSTED,
+        End::Full | End::NoMemory => EXHAUSTED,
         End::ReadFault | End::WriteFault => FAULT,
     })
 }

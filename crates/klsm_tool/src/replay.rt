@@ -3,9 +3,9 @@ ghost use Rattle.std.specs.Prelude.{◌≡◌, ℕ, ◌+◌, ◌*◌, ◌<◌, �
 ghost use Rattle.std.specs.Prelude.{length, Option, IfErr, IfOk, MatchResult, true};
 ghost use Rattle.klsm_run.specs.declared.item.Item.{Item};
 ghost use Rattle.klsm_run.specs.declared.limits.TheConstants.{PROGRAM_K, PROGRAM_THREADS};
-ghost use Rattle.klsm_world.specs.declared.step.Entry.{Entry};
+ghost use Rattle.klsm_schedules.specs.declared.step.Entry.{Entry};
 ghost use Rattle.klsm_board.specs.Together.{AreOf, all_lists};
-ghost use Rattle.klsm_world.specs.Account.{account};
+ghost use Rattle.klsm_schedules.specs.Account.{account};
 ghost use Rattle.klsm_text.specs.Output.{pending, put_count};
 ghost use Rattle.klsm_text.specs.AnswerText.{live_by, skip_of};
 ghost use Rattle.klsm_text.specs.declared.answer.Line.{Line};
@@ -33,17 +33,17 @@ use klsm_text::{
     Closing, End, NO_MEMORY, Output, Printed, ROW_LIMIT, Refusal, Report, Script, Stop, request_of,
     write_last,
 };
-use klsm_words::Settings;
+use klsm_words::ScriptSettings;
 use std::alloc::{AllocError, Global};
 use std::io::{Read, Write};
 
 /// Answers the rows of a script over a board of its own, which is finished where all are answered, and tells
 /// of a long run while it lasts. It waits for no lock.
-pub fn replay_over<P: AllocGlobal, R: Read + Drop, W: Write>(
+pub fn replay_with<P: AllocGlobal, R: Read + Drop, W: Write>(
     rt: &P,
     reader: R,
     writer: &mut W,
-    settings: &Settings,
+    settings: &ScriptSettings,
     progress: &impl Progress,
 ) -> Report
     requires some_thread { 1 ≤ settings.now.threads }
@@ -87,7 +87,7 @@ pub fn replay_script<P: AllocGlobal, R: Read + Drop, W: Write>(
     rt: &P,
     script: &mut Script<R>,
     writer: &mut W,
-    settings: &Settings,
+    settings: &ScriptSettings,
     board: &StandardBoard,
     all: &mut AllStandardMembers,
     progress: &impl Progress,
@@ -126,7 +126,7 @@ struct Replay {
 }
 
 impl Replay {
-    fn new(alloc: Global, settings: &Settings) -> Result<Self, AllocError>
+    fn new(alloc: Global, settings: &ScriptSettings) -> Result<Self, AllocError>
         ensures pickers { IfOk result (λ replay.
             picker_count replay.state ≡ settings.now.threads) }
         ensures choices { IfOk result (λ replay.
@@ -148,7 +148,7 @@ impl Replay {
         writer: &mut W,
         board: &StandardBoard,
         all: &mut AllStandardMembers,
-        settings: &Settings,
+        settings: &ScriptSettings,
         progress: &impl Progress,
     ) -> Closing
         requires sizes { board.now.sizes ≡ board_sizes settings.now }

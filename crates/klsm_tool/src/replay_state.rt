@@ -7,7 +7,7 @@ use crate::skip_counter::SkipCounter;
 use klsm_board::{AllStandardMembers, StandardBoard};
 use klsm_run::Item;
 use klsm_text::{Answer, Line, Operation, Printed, Request, Stop};
-use klsm_words::Settings;
+use klsm_words::ScriptSettings;
 use std::alloc::{AllocError, Global};
 
 /// What each thread's deletions go by, at the thread's place, the live items, and the greatest skip so far.
@@ -22,8 +22,8 @@ pub(crate) struct ReplayState {
 impl ReplayState {
     ghost use Rattle.std.specs.Prelude.{◌≡◌, ◌<◌, ◌⊎◌, [], ◌∷◌, ℕ, max, slice_index_or, IfOk, IfErr, OnErr};
     ghost use Rattle.klsm_run.specs.Content.{sorted};
-    ghost use Rattle.klsm_run.specs.declared.limits.TheConstants.{MOST_LEVELS};
-    ghost use Rattle.klsm_world.specs.Account.{account};
+    ghost use Rattle.klsm_run.specs.declared.limits.TheConstants.{PROGRAM_LEVELS};
+    ghost use Rattle.klsm_schedules.specs.Account.{account};
     ghost use Rattle.klsm_text.specs.AnswerText.{live_after, skip_of};
     ghost use Rattle.klsm_tool.specs.Crews.{Goes};
     ghost use Rattle.klsm_tool.specs.Answering.{Answers, picker_count, pickers_kept, live_kept};
@@ -37,7 +37,7 @@ impl ReplayState {
     ghost use Rattle.klsm_text.specs.declared.stop.Stop.TheVariants as stop;
     ghost use Rattle.klsm_text.specs.declared.answer.Answer.TheVariants.{Inserted};
 
-    pub(crate) fn new(alloc: Global, settings: &Settings) -> Result<Self, AllocError>
+    pub(crate) fn new(alloc: Global, settings: &ScriptSettings) -> Result<Self, AllocError>
         ensures pickers { IfOk result (λ state. picker_count state ≡ settings.now.threads) }
         ensures choices { IfOk result (λ state.
             ArePickers settings.now (pickers_kept state)) }
@@ -122,7 +122,7 @@ impl ReplayState {
         ensures item { IfOk result (λ x. (x.key ≡ key) × (x.load ≡ load)) }
         ensures goes { IfOk result (λ x.
             Goes thread (all_lists all.old) (all_lists all.new) (Inserted x ∷ [])) }
-        ensures inserts { IfOk result (Inserts MOST_LEVELS board.now.sizes.k thread
+        ensures inserts { IfOk result (Inserts PROGRAM_LEVELS board.now.sizes.k thread
             (steps_for all.old thread) (steps_for all.new thread)) }
         ensures live { IfOk result (λ x. sorted (live_kept self.new)
             ≡ sorted (x ∷ live_kept self.old)) }
@@ -130,7 +130,7 @@ impl ReplayState {
             × Goes thread (all_lists all.old) (all_lists all.new) []) }
         ensures lacks { OnErr result ((steps_for all.new thread ≡ steps_for all.old thread)
             ⊎ GivesUp board.now.sizes.k thread (steps_for all.old thread)
-            (steps_for all.new thread) (IsBelowLimit MOST_LEVELS)) }
+            (steps_for all.new thread) (IsBelowLimit PROGRAM_LEVELS)) }
     {
         if self.live.reserve().is_err() {
             return Err(Stop::NoMemory);

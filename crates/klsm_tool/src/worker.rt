@@ -1,7 +1,7 @@
 //! A worker of `klsm live`: a member of the board that runs the rows of its thread.
 ghost use Rattle.std.specs.Prelude.{◌≡◌, ◌<◌, ◌++◌, [], ◌∷◌, None, length, map, IfOk, IfErr, OnOk};
-ghost use Rattle.klsm_run.specs.declared.limits.TheConstants.{MOST_LEVELS};
-ghost use Rattle.klsm_world.specs.OwnSteps.{inserted};
+ghost use Rattle.klsm_run.specs.declared.limits.TheConstants.{PROGRAM_LEVELS};
+ghost use Rattle.klsm_schedules.specs.OwnSteps.{inserted};
 ghost use Rattle.klsm_board.specs.Boards.{IsOf, IsSame, own_steps};
 ghost use Rattle.klsm_tool.specs.Shown.{shown_in};
 ghost use Rattle.klsm_tool.specs.MemberCalls.{IsAnswerTo, Wants};
@@ -18,9 +18,8 @@ use klsm_board::{StandardBoard, StandardMember};
 use klsm_knapsack::Passed;
 use klsm_progress::{Counted, Pace, Progress};
 use klsm_text::{Answer, Operation, ThreadRow};
-use klsm_words::Settings;
+use klsm_words::ScriptSettings;
 use std::sync::Wait;
-use std::time::Clock;
 
 /// A member, that it has passed the gate, once it has, and what it lacked when it gave up, if it did.
 #[derive(Drop)]
@@ -35,10 +34,10 @@ impl Worker {
     /// thread. It has passed the gate before.
     pub(crate) fn run(
         self,
-        rt: &(impl Wait + Clock),
+        rt: &impl Wait,
         board: &StandardBoard,
         rows: &[ThreadRow],
-        settings: &Settings,
+        settings: &ScriptSettings,
         passed: Passed,
         progress: &impl Progress,
     ) -> Worker
@@ -70,10 +69,10 @@ impl Worker {
 // Runs no further row where one is refused, and answers what was lacked. The settings are only looked at by
 // the premise that they chose the picker.
 fn answer_all(
-    rt: &(impl Wait + Clock),
+    rt: &impl Wait,
     board: &StandardBoard,
     member: &mut StandardMember,
-    settings: &Settings,
+    settings: &ScriptSettings,
     picker: &mut ThreadPicker,
     rows: &[ThreadRow],
     progress: &impl Progress,
@@ -99,7 +98,7 @@ fn answer_all(
 }
 
 fn answer(
-    rt: &(impl Wait + Clock),
+    rt: &impl Wait,
     board: &StandardBoard,
     member: &mut StandardMember,
     picker: &mut ThreadPicker,
@@ -115,7 +114,7 @@ fn answer(
         shown_in (own_steps member.new) ≡ shown_in (own_steps member.old) ++ answer ∷ []) }
     ensures refused { IfErr result (λ wanted.
         (shown_in (own_steps member.new) ≡ shown_in (own_steps member.old))
-        × Wants MOST_LEVELS member.old.sizes.k member.old.number (own_steps member.new) wanted) }
+        × Wants PROGRAM_LEVELS member.old.sizes.k member.old.number (own_steps member.new) wanted) }
     ensures deletes { operation ≡ Operation.Delete
         → IfOk result (DeletesInTurn member.old.sizes member.old.number picker.old picker.new
         (own_steps member.old) (own_steps member.new)) }

@@ -13,7 +13,7 @@ use Rattle.klsm_words.specs.declared.command_line.Action.TheVariants.{Replay, Li
 use Rattle.klsm_words.specs.declared.command_line.Fault.{Fault}
 use Rattle.klsm_words.specs.declared.command_line.Fault.TheVariants.{Said, UnknownPick, BadRefill, NotText, NoMemory}
 use Rattle.klsm_parts.specs.declared.choice.Pick.TheVariants.{First}
-use Rattle.klsm_words.specs.declared.settings.Settings.{Settings}
+use Rattle.klsm_words.specs.declared.settings.ScriptSettings.{ScriptSettings}
 use Rattle.klsm_words.specs.Options.{AreInRange, IsSearchInRange, search_at, settings_at, with_options, with_search_options}
 
 -- the command `replay`
@@ -63,7 +63,7 @@ unfoldable pub found_in : List (List ℕ) → Kinds
 found_in words = fault_of klsm_command words
 
 -- what the command of this name does over scripts
-abbrev pub script_action : Text → Settings → Action
+abbrev pub script_action : Text → ScriptSettings → Action
 script_action name settings =
     if bytes_eq name (codes "live") then Live settings else Replay settings
 
@@ -94,7 +94,7 @@ RefillsAtMostK (Live settings) = settings.refill ≤ settings.k
 RefillsAtMostK (Knapsack search) = ⊤
 
 -- where no option is given
-abbrev pub usual_settings : Settings
+abbrev pub usual_settings : ScriptSettings
 usual_settings = record { threads = 1; k = 64; refill = 0; balance = 0; pick = First; seed = 1 }
 
 -- the words are text, in which the parser finds a command

@@ -12,7 +12,7 @@ use Rattle.klsm_run.specs.declared.limits.TheConstants.{PROGRAM_K, PROGRAM_THREA
 use Rattle.klsm_parts.specs.declared.choice.Pick.{Pick}
 use Rattle.klsm_parts.specs.declared.choice.Pick.TheVariants as pick
 use Rattle.klsm_words.specs.declared.settings.Search.{Search}
-use Rattle.klsm_words.specs.declared.settings.Settings.{Settings}
+use Rattle.klsm_words.specs.declared.settings.ScriptSettings.{ScriptSettings}
 
 -- an option that takes one value, with what it has where no word gives it one
 abbrev pub option_rule : Text → Text → Option ValueParser → Rule
@@ -90,7 +90,7 @@ abbrev pub pick_at : List Row → Option Pick
 pick_at rows = option_and_then pick_of (first_of (codes "pick") rows)
 
 -- what the options come to, where the word of `--pick` names one
-abbrev pub settings_at : List Row → Option Settings
+abbrev pub settings_at : List Row → Option ScriptSettings
 settings_at rows = option_map (λ pick. record {
   threads = number_at rows (codes "threads") 1 PROGRAM_THREADS;
   k = number_at rows (codes "k") 0 PROGRAM_K;
@@ -112,7 +112,7 @@ abbrev pub IsSearchInRange : Search → Type 0
 IsSearchInRange search = (1 ≤ search.threads) × (search.threads ≤ PROGRAM_THREADS) × (search.k ≤ PROGRAM_K)
 
 -- what a script can be run by
-abbrev pub AreInRange : Settings → Type 0
+abbrev pub AreInRange : ScriptSettings → Type 0
 AreInRange settings =
     (1 ≤ settings.threads) × (settings.threads ≤ PROGRAM_THREADS) × (settings.k ≤ PROGRAM_K)
     × (settings.refill ≤ settings.k)

@@ -11,7 +11,7 @@ ghost use Rattle.klsm_words.specs.Options.{AreInRange};
 
 use crate::help::{KNAPSACK_HELP, LIVE_HELP, REPLAY_HELP};
 use crate::options::{search_of, settings_of, with_options, with_search_options};
-use crate::settings::{Search, Settings};
+use crate::settings::{ScriptSettings, Search};
 use crate::version::VERSION;
 use clap::error::ErrorKind;
 use clap::{ArgMatches, Command, Error};
@@ -25,9 +25,9 @@ pub const USAGE: u8 = 2;
 #[derive(Clone, Copy, Debug, PartialEq, Eq)]
 pub enum Action {
     /// A script is answered row by row.
-    Replay(Settings),
+    Replay(ScriptSettings),
     /// The rows of a script are run by threads.
-    Live(Settings),
+    Live(ScriptSettings),
     /// An instance of the knapsack problem is solved.
     Knapsack(Search),
 }
@@ -112,7 +112,7 @@ fn action_named(name: &str, options: &ArgMatches) -> Option<Action>
     }
 }
 
-fn over_scripts(name: &str, settings: Settings) -> Action
+fn over_scripts(name: &str, settings: ScriptSettings) -> Action
     requires { settings.refill ≤ settings.k → AreInRange settings }
     ensures action { result ≡ script_action name.now settings }
     ensures range { RefillsAtMostK result → IsActionInRange result }

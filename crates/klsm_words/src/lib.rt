@@ -15,7 +15,7 @@
 //!
 //! - **Words are a command or are answered with a text or a fault**: the clauses of `parse`, by the
 //!   definitions of `clap` of what it finds in words.
-//! - **Settings are in their range**: clause `range`.
+//! - **ScriptSettings are in their range**: clause `range`.
 #![tactic(auto)]
 
 mod command_line;
@@ -26,4 +26,4 @@ mod version;
 
 pub use command_line::{Action, Fault, USAGE, parse};
 pub use klsm_parts::Pick;
-pub use settings::{Search, Settings};
+pub use settings::{ScriptSettings, Search};

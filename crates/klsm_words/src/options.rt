@@ -11,7 +11,7 @@ ghost use Rattle.klsm_words.specs.Options.{with_pick as with_pick_of};
 ghost use Rattle.klsm_words.specs.Options.{with_refill as with_refill_of};
 ghost use Rattle.klsm_words.specs.Options.{with_threads as with_threads_of};
 
-use crate::settings::{Search, Settings};
+use crate::settings::{ScriptSettings, Search};
 use clap::builder::ValueParser;
 use clap::{Arg, ArgMatches, Command, value_parser};
 use klsm_parts::Pick;
@@ -136,13 +136,13 @@ fn option<'a>(
 
 /// The settings that the options come to, or `None` where the word of `--pick` is no pick. Whether the
 /// number of `--refill` is at most that of `--k` is still to be seen.
-pub(crate) fn settings_of(options: &ArgMatches) -> Option<Settings>
+pub(crate) fn settings_of(options: &ArgMatches) -> Option<ScriptSettings>
     ensures settings { result ≡ settings_at (rows_of (found_of options.now)) }
     ensures range { IfSome result (λ settings.
         settings.refill ≤ settings.k → AreInRange settings) }
 {
     let pick = pick_in(options)?;
-    Some(Settings {
+    Some(ScriptSettings {
         threads: number_in(options, THREADS, 1, PROGRAM_THREADS as u64) as usize,
         k: number_in(options, K, 0, PROGRAM_K as u64) as usize,
         refill: number_in(options, REFILL, 0, PROGRAM_K as u64) as usize,

@@ -4,7 +4,7 @@ use klsm_parts::Pick;
 
 /// How a script is run.
 #[derive(Clone, Copy, Debug, PartialEq, Eq)]
-pub struct Settings {
+pub struct ScriptSettings {
     /// How many threads the rows may name, 1 to 16.
     pub threads: usize,
     /// How many items a thread keeps for itself, at most 64.

@@ -1,37 +1,48 @@
-//! The pure world of a k-LSM: threads that acquire parts, commit events and release the parts, one
-//! step after another.
+//! A pure world that runs: it takes the steps of a schedule one after another, and refuses those
+//! that are not legal.
 //!
-//! A queue with locks is as good as the interleavings of its locked steps. This crate says what
-//! these are, apart from any lock that runs: a world has T threads, T + 1 parts, the shared part 0
-//! and thread t's own part t + 1, and a front word. A step acquires a free part, releases one, tries
-//! one in vain, looks at the front, marks the key of the item that its thread works at, or commits
-//! an event on parts in hand. A list of legal steps is a schedule. Whoever wants to know what a
-//! relaxed queue can do reads `specs/`. There is no code beside it but the words in which steps and
-//! lists are told (`Step`, `Event` and `Entry`) and the laws; `klsm_model` runs a schedule.
+//! What a world, a step and a schedule are, `klsm_schedules` says, in definitions alone. This crate has
+//! such a world in memory, for whoever wants to try a schedule, as the tests do:
 //!
-//! - **The laws** hold of every schedule, for every T and k, and each is the contract of a function
-//!   of `laws`: each world is lawful; a deletion skips at most T·k of all live items, and one by the
-//!   front at most (T-1)·k; neither skips an item of its own thread's in the two parts that it is
-//!   from; "nothing" is answered only where at most (T-1)·k items live; the events are a run of the
-//!   relaxed queue of one thread; an acquire records the content that was at home, which ascends,
-//!   and a look the front; where no item is inserted with a key below that of the one at which its
-//!   thread works, the least key of all that live and of these never falls.
-//! - **A thread's own list is enough** to know that its deletion skips few, that the parts in its
-//!   hand are disjoint, and that its next item is new: `laws::own_lists_tell`. So whoever runs
-//!   threads has to keep each thread's list, and no picture of the world.
+//! ```text
+//! let steps = [
+//!     Step::Acquire { thread: 0, part: 1 },
+//!     Step::Commit { thread: 0, event: Event::Put(item) },
+//!     Step::Release { thread: 0, part: 1 },
+//! ];
+//! let trace = run(alloc, 2, 1, &steps)?;      // two threads, at most one item in an own part
+//! let mut world = World::new(alloc, 2, 1)?;   // the same by steps
+//! world.step(&steps[0])?;
+//! ```
 //!
-//! A world also has a front word: the key of the least item of the shared part, be it free or held. A
-//! thread whose least own item has a key below it may delete that item with its own part alone in hand.
+//! - **A step is taken exactly where it is legal**, and leads to the next world of the definition;
+//!   else it is refused for the first reason that holds, and nothing changes: the contract of
+//!   `World::step`. That a refused step is not legal, memory aside, is
+//!   `laws::refused_steps_are_not_legal`.
+//! - **A run is a schedule.** `run` says what the steps insert, delete and leave, and the greatest
+//!   skip, which is at most T·k: clause `trace`. A fault is that of the first step that is refused:
+//!   clause `refused`.
 //!
-//! Why a deletion skips so few: its item is among the least k+1 of the shared part, or smaller, and
-//! no own item is smaller, so at most k items of the two parts are; each other own part holds at
-//! most k items, whatever they are. Where the key is below the front, no item of the two parts is
-//! smaller, so only the other own parts count.
+//! A world keeps for each part its word and its items in ascending order, be it free or held, and
+//! for each thread its list of own steps. The definition has a held part's content in the holder's
+//! hand, which it replays from the list; that the two agree is the invariant of `World` (`IsKept`).
+//! `world/checking.rt` decides whether a step is legal, from the words and the items, and
+//! `world/stepping.rt` takes it: what needs memory comes first, so that nothing has changed where
+//! that is refused.
+//!
+//! Nothing of a queue stands on this crate. It shows that the definitions are of something that can
+//! run, and lets a plain program of the tests be compared with them step by step.
 #![tactic(auto)]
 
-mod items;
+mod conditions;
+mod contents;
+mod errors;
 pub mod laws;
-mod step;
+mod own_steps;
+mod running;
+mod world;
 
-pub use items::Items;
-pub use step::{Entry, Event, Step};
+pub use errors::{StepError, WorldError};
+pub use klsm_schedules::{Entry, Event, Items, Step};
+pub use running::{Trace, run};
+pub use world::World;

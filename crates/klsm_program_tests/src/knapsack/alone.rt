@@ -9,11 +9,10 @@ use std::alloc::Global;
 use std::sync::Wait;
 use std::sync::atomic::{AtomicU64, Ordering};
 use std::thread::Threads;
-use std::time::Clock;
 
 // How a search of the worked instance ends.
 fn solved<const LEVELS: usize>(
-    rt: &(impl Threads + Wait + Clock + Sync),
+    rt: &(impl Threads + Wait + Sync),
     alloc: Global,
     threads: usize,
     k: usize,
@@ -42,7 +41,7 @@ fn small_boards_are_no_hindrance(rt: HostRuntime) {
 
 // How a search with this refill ends.
 fn refilled(
-    rt: &(impl Threads + Wait + Clock + Sync),
+    rt: &(impl Threads + Wait + Sync),
     alloc: Global,
     threads: usize,
     k: usize,
@@ -92,7 +91,7 @@ capacity,401
 ";
 
 // The value that one worker finds on a board with room for one node, and how many nodes it told of.
-fn searched_alone(rt: &(impl Threads + Wait + Clock + Sync), alloc: Global) -> Option<(u64, u64)> {
+fn searched_alone(rt: &(impl Threads + Wait + Sync), alloc: Global) -> Option<(u64, u64)> {
     let instance = Instance::read(alloc, THINGS).ok()?;
     let examined = Examined(AtomicU64::new(0));
     let listeners = Listeners {

@@ -10,7 +10,6 @@ use rand_pcg::Pcg32;
 use std::alloc::Global;
 use std::sync::Wait;
 use std::thread::Threads;
-use std::time::Clock;
 
 // Adds the rows of up to 12 things.
 fn add_drawn(text: &mut Vec<u8>, mix: &mut Pcg32) -> Option<()> {
@@ -69,7 +68,7 @@ fn agrees_in_turn(instance: &Instance, best: u64) -> bool {
 
 // Whether one by so many threads does at this k, on a board of so many levels.
 fn agrees<const LEVELS: usize>(
-    rt: &(impl Threads + Wait + Clock + Sync),
+    rt: &(impl Threads + Wait + Sync),
     alloc: Global,
     instance: &Instance,
     best: u64,
@@ -104,7 +103,7 @@ const BOARDS: &[(usize, usize)] = &[
 
 // Whether all searches of an instance give a selection of the best value, also those that find no room on
 // a board of two levels.
-fn agree(rt: &(impl Threads + Wait + Clock + Sync), alloc: Global, instance: &Instance) -> bool {
+fn agree(rt: &(impl Threads + Wait + Sync), alloc: Global, instance: &Instance) -> bool {
     let best = best_value(instance);
     for board in BOARDS {
         if !agrees::<21>(rt, alloc, instance, best, *board)
@@ -117,11 +116,7 @@ fn agree(rt: &(impl Threads + Wait + Clock + Sync), alloc: Global, instance: &In
 }
 
 // The same of a drawn one.
-fn agree_on_drawn(
-    rt: &(impl Threads + Wait + Clock + Sync),
-    alloc: Global,
-    seed: u64,
-) -> Option<bool> {
+fn agree_on_drawn(rt: &(impl Threads + Wait + Sync), alloc: Global, seed: u64) -> Option<bool> {
     let text = drawn(alloc, seed)?;
     let instance = Instance::read(alloc, text.as_slice()).ok()?;
     Some(agree(rt, alloc, &instance))

@@ -1,21 +1,20 @@
-//! Workers that are held up at the gate: by each other, so that they run side by side, until all
-//! others have passed, or until one of them has told how far the search has come.
+//! Workers that are held up at the gate: by each other, so that they run side by side, or until one of them has told
+//! how far the search has come.
 
 use super::worked::{BEST, worked};
 use crate::crowd::Crowd;
 use klsm_board::Gate;
 use klsm_knapsack::{Best, Instance, Listeners, SearchOptions, solve_to_the_end};
-use klsm_test_support::{LOOKS, Meeting};
+use klsm_test_support::LOOKS;
 use klsm_tool::{Counted, Progress, Silent};
 use std::alloc::Global;
 use std::sync::Wait;
 use std::sync::atomic::{AtomicBool, AtomicU64, Ordering};
 use std::thread::Threads;
-use std::time::Clock;
 
 // What workers that pass this gate find of the worked instance.
 fn found_behind<G: Gate>(
-    rt: &(impl Threads + Wait + Clock + Sync),
+    rt: &(impl Threads + Wait + Sync),
     alloc: Global,
     gate: &G,
     options: &SearchOptions,
@@ -29,48 +28,11 @@ fn found_behind<G: Gate>(
 }
 
 #[test]
-fn two_workers_run_side_by_side(rt: HostRuntime) {
-    let meeting = Meeting::new();
-    let answer = found_behind(&rt, rt.alloc(), &meeting, &SearchOptions::new(2, 1, 8));
-    assert!(rt; answer == Some(BEST));
-    assert!(rt; meeting.took_place());
-}
-
-#[test]
 fn three_workers_run_side_by_side(rt: HostRuntime) {
     let gate = Crowd::of_three();
     let answer = found_behind(&rt, rt.alloc(), &gate, &SearchOptions::new(3, 1, 8));
     assert!(rt; answer == Some(BEST));
     assert!(rt; gate.took_place());
-}
-
-// Holds worker 3 until three others have passed.
-#[derive(Drop)]
-struct LastOfFour {
-    passed: AtomicU64,
-}
-
-impl Gate for LastOfFour {
-    fn pass(&self, worker: usize) {
-        if worker < 3 {
-            self.passed.fetch_add(1, Ordering::SeqCst);
-            return;
-        }
-        for _ in 0..LOOKS {
-            if self.passed.load(Ordering::SeqCst) == 3 {
-                return;
-            }
-        }
-    }
-}
-
-#[test]
-fn a_worker_that_comes_late_changes_no_answer(rt: HostRuntime) {
-    let late = LastOfFour {
-        passed: AtomicU64::new(0),
-    };
-    let answer = found_behind(&rt, rt.alloc(), &late, &SearchOptions::new(4, 16, 1));
-    assert!(rt; answer == Some(BEST));
 }
 
 // Lets one of three workers pass, and holds the two others until it has told of nodes. Then that one waits
@@ -126,7 +88,7 @@ capacity,15
 // The value that three workers find, how many of them waited until the first one told of nodes, and whether that
 // one then heard of theirs.
 fn heard_of(
-    rt: &(impl Threads + Wait + Clock + Sync),
+    rt: &(impl Threads + Wait + Sync),
     alloc: Global,
     first: usize,
 ) -> Option<(u64, u64, bool)> {

@@ -2,20 +2,19 @@
 ghost use Rattle.klsm_parts.specs.Limit.{IsLevelCount};
 
 use klsm_board::Open;
-use klsm_knapsack::{Best, Instance, Listeners, SearchOptions, SolveError, solve};
+use klsm_knapsack::{Best, Instance, Listeners, SearchError, SearchOptions, solve_with};
 use klsm_tool::Silent;
 use std::alloc::Global;
 use std::sync::Wait;
 use std::thread::Threads;
-use std::time::Clock;
 
 // How a search of these rows ends, by one worker that takes the least node first and ends at the
 // first answer "nothing".
 fn solved<const LEVELS: usize>(
-    rt: &(impl Threads + Wait + Clock + Sync),
+    rt: &(impl Threads + Wait + Sync),
     alloc: Global,
     text: &[u8],
-) -> Option<Result<Best, SolveError>>
+) -> Option<Result<Best, SearchError>>
     requires { IsLevelCount LEVELS }
 {
     let instance = Instance::read(alloc, text).ok()?;
@@ -24,7 +23,7 @@ fn solved<const LEVELS: usize>(
         progress: &Silent,
     };
     let options = SearchOptions::new(1, 0, 1);
-    Some(solve::<_, _, LEVELS>(rt, alloc, &instance, &options, &listeners))
+    Some(solve_with::<_, _, LEVELS>(rt, alloc, &instance, &options, &listeners))
 }
 
 // Where only selections of the last level raise the incumbent, more nodes are open at once.

@@ -3,17 +3,17 @@
 
 use super::knapsack::{INSTANCE, KNAPSACK, LINE};
 use super::live::{LIVE, TOTALS};
-use super::process::{Input, Output};
 use super::worked::{ANSWERS, SCRIPT};
 use super::{REPLAY, gives, run};
 use klsm_board::Open;
+use klsm_test_support::{Input, Output};
 use klsm_tool::{
-    End, Listeners, Pick, Report, Search, Settings, Silent, knapsack_over, live_over, replay_over,
+    End, Listeners, Pick, Report, ScriptSettings, Search, Silent, knapsack_with, live_with,
+    replay_with,
 };
 use std::alloc::Global;
 use std::sync::Wait;
 use std::thread::Threads;
-use std::time::Clock;
 
 /// Words, the bytes of an input that then fails, and all that the program writes: a replay's answers
 /// before it, and the one line of another command.
@@ -36,7 +36,7 @@ const UNREAD: &[(&[&[u8]], &[u8], &[u8])] = &[
 ];
 
 /// Whether the inputs that give so many bytes at a time are told so.
-fn are_told(rt: &(impl Wait + Clock + Threads + Sync), alloc: Global, at_a_time: usize) -> bool {
+fn are_told(rt: &(impl Wait + Threads + Sync), alloc: Global, at_a_time: usize) -> bool {
     for (words, left, text) in UNREAD {
         let input = Input {
             left,
@@ -63,7 +63,7 @@ type Written = (&'static [&'static [u8]], &'static [u8], &'static [u8]);
 /// Whether an output that refuses after so many bytes has just so many, the first of them those of
 /// the text, and the program then tries no further write and ends with status 4.
 fn leaves_first(
-    rt: &(impl Wait + Clock + Threads + Sync),
+    rt: &(impl Wait + Threads + Sync),
     alloc: Global,
     (words, input, text): Written,
     room: usize,
@@ -75,11 +75,7 @@ fn leaves_first(
 }
 
 /// The same for each number of bytes below that of the text, and for both kinds of refusal.
-fn leaves_any_first(
-    rt: &(impl Wait + Clock + Threads + Sync),
-    alloc: Global,
-    written: Written,
-) -> bool {
+fn leaves_any_first(rt: &(impl Wait + Threads + Sync), alloc: Global, written: Written) -> bool {
     for room in 0..written.2.len() {
         if !leaves_first(rt, alloc, written, room, true)
             || !leaves_first(rt, alloc, written, room, false)
@@ -99,7 +95,7 @@ fn a_failed_write_leaves_the_first_bytes(rt: HostRuntime) {
 }
 
 /// The settings of a run whose words name none.
-const USUAL: Settings = Settings {
+const USUAL: ScriptSettings = ScriptSettings {
     threads: 1,
     k: 64,
     refill: 0,
@@ -125,7 +121,7 @@ enum Command {
 
 /// What a run of a command leaves.
 fn report_of(
-    rt: &(impl AllocGlobal + Wait + Clock + Threads + Sync),
+    rt: &(impl AllocGlobal + Wait + Threads + Sync),
     command: Command,
     output: &mut Output,
 ) -> Report {
@@ -134,16 +130,16 @@ fn report_of(
         progress: &Silent,
     };
     match command {
-        Command::Replay => replay_over(rt, SCRIPT, output, &USUAL, &Silent),
-        Command::Live => live_over(rt, SCRIPT, output, &USUAL, &listeners),
-        Command::Knapsack => knapsack_over(rt, INSTANCE, output, &BY_ONE, &listeners),
+        Command::Replay => replay_with(rt, SCRIPT, output, &USUAL, &Silent),
+        Command::Live => live_with(rt, SCRIPT, output, &USUAL, &listeners),
+        Command::Knapsack => knapsack_with(rt, INSTANCE, output, &BY_ONE, &listeners),
     }
 }
 
 /// Whether a run over an output that refuses after so many bytes says that it wrote just those that
 /// the output took.
 fn tells_written(
-    rt: &(impl AllocGlobal + Wait + Clock + Threads + Sync),
+    rt: &(impl AllocGlobal + Wait + Threads + Sync),
     command: Command,
     room: usize,
     fails: bool,
@@ -157,7 +153,7 @@ fn tells_written(
 
 /// The same for each number of bytes below that of the text, and for both kinds of refusal.
 fn tells_any_written(
-    rt: &(impl AllocGlobal + Wait + Clock + Threads + Sync),
+    rt: &(impl AllocGlobal + Wait + Threads + Sync),
     command: Command,
     text: &[u8],
 ) -> bool {
@@ -194,7 +190,7 @@ fn a_failed_write_of_another_text_is_status_4(rt: HostRuntime) {
 
 /// Whether an output that takes so many bytes at a time, and no more than the answers have, takes
 /// them all.
-fn takes_all(rt: &(impl Wait + Clock + Threads + Sync), alloc: Global, at_a_time: usize) -> bool {
+fn takes_all(rt: &(impl Wait + Threads + Sync), alloc: Global, at_a_time: usize) -> bool {
     let mut output = Output {
         room: 134,
         at_a_time,

@@ -3,11 +3,10 @@ ghost use Rattle.std.specs.Prelude.{◌≤◌};
 
 use super::{Told, all_go};
 use klsm_board::Open;
-use klsm_tool::{End, Listeners, Search, Silent, knapsack_over};
+use klsm_tool::{End, Listeners, Search, Silent, knapsack_with};
 use std::alloc::Global;
 use std::sync::Wait;
 use std::thread::Threads;
-use std::time::Clock;
 
 /// The words of a process that solves an instance.
 pub(super) const KNAPSACK: &[&[u8]] = &[b"klsm", b"knapsack"];
@@ -93,7 +92,7 @@ fn instances_are_solved_or_refused(rt: HostRuntime) {
 
 /// What a search writes that solves its instance.
 fn line_of(
-    rt: &(impl AllocGlobal + Wait + Clock + Threads + Sync),
+    rt: &(impl AllocGlobal + Wait + Threads + Sync),
     instance: &[u8],
     search: &Search,
 ) -> Option<Vec<u8>>
@@ -106,7 +105,7 @@ fn line_of(
         gate: &Open,
         progress: &Silent,
     };
-    let report = knapsack_over(rt, instance, &mut text, search, &listeners);
+    let report = knapsack_with(rt, instance, &mut text, search, &listeners);
     if report.end == End::Done {
         Some(text)
     } else {
@@ -115,11 +114,7 @@ fn line_of(
 }
 
 /// Whether four workers find a selection of this value and this weight.
-fn finds(
-    rt: &(impl AllocGlobal + Wait + Clock + Threads + Sync),
-    instance: &[u8],
-    head: &[u8],
-) -> bool {
+fn finds(rt: &(impl AllocGlobal + Wait + Threads + Sync), instance: &[u8], head: &[u8]) -> bool {
     let search = Search {
         threads: 4,
         k: 16,
@@ -139,7 +134,7 @@ fn things_that_are_as_steep(rt: HostRuntime) {
 
 /// Whether one worker that ends after so many answers "nothing" leads to this line.
 fn leads_to(
-    rt: &(impl AllocGlobal + Wait + Clock + Threads + Sync),
+    rt: &(impl AllocGlobal + Wait + Threads + Sync),
     instance: &[u8],
     idle: u32,
     line: &[u8],

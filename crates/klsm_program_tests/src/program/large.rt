@@ -2,9 +2,8 @@
 //!
 //! What a contract says of a write is met by one that gives up too early: no contract says that the writer failed.
 
-use super::process::{Input, Output};
-use klsm_test_support::add_words;
-use klsm_tool::{End, Pick, Report, Settings, Silent, replay_over};
+use klsm_test_support::{Input, Output, add_words};
+use klsm_tool::{End, Pick, Report, ScriptSettings, Silent, replay_with};
 use std::alloc::Global;
 
 /// How many items are inserted, and then deleted.
@@ -15,7 +14,7 @@ const ITEMS: u64 = 1050;
 const AT_A_TIME: usize = 6900;
 
 /// The settings of a run whose words name none.
-const USUAL: Settings = Settings {
+const USUAL: ScriptSettings = ScriptSettings {
     threads: 1,
     k: 64,
     refill: 0,
@@ -60,7 +59,7 @@ fn replayed(rt: &impl AllocGlobal, large: &Large, output: &mut Output) -> Report
         at_a_time: AT_A_TIME,
         fails: false,
     };
-    replay_over(rt, input, output, &USUAL, &Silent)
+    replay_with(rt, input, output, &USUAL, &Silent)
 }
 
 /// Whether an output that takes so many bytes at a time, and fails after so many of the answers to deletions, has all

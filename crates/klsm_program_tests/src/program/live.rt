@@ -1,11 +1,10 @@
 //! Scripts whose rows are run by threads: the line of each run, what becomes of a script that is not
 //! run, that threads run side by side, and that each passes the gate once.
 
-use super::worked::SCRIPT;
 use super::{Told, all_go};
 use crate::crowd::Crowd;
-use klsm_test_support::{Counting, Meeting};
-use klsm_tool::{End, Listeners, Pick, Report, Settings, Silent, live_over};
+use klsm_test_support::Counting;
+use klsm_tool::{End, Listeners, Pick, Report, ScriptSettings, Silent, live_with};
 
 /// The words of a process that lets threads run a script.
 pub(super) const LIVE: &[&[u8]] = &[b"klsm", b"live"];
@@ -20,17 +19,10 @@ pub(super) const TOTALS: &[u8] = b"inserted 3 deleted 3 left 0\n";
 // What each thread does does not depend on the others here, or not how many items are deleted: one thread, insertions
 // alone, one item that one of four threads deletes, whichever comes first, or a script that is not run.
 const WORKED: &[Told] = &[
-    (LIVE, SCRIPT, 0, TOTALS),
     (LIVE, b"", 0, b"inserted 0 deleted 0 left 0\n"),
     (
         LIVE,
         b"0,d,,\n0,i,1,0\n0,i,2,0",
-        0,
-        b"inserted 2 deleted 0 left 2\n",
-    ),
-    (
-        LIVE_OF_TWO,
-        b"0,i,1,0\n1,i,2,0\n",
         0,
         b"inserted 2 deleted 0 left 2\n",
     ),
@@ -58,7 +50,6 @@ const WORKED: &[Told] = &[
         0,
         b"inserted 1 deleted 1 left 0\n",
     ),
-    (LIVE, b"0,x,1,2", 1, b"refused row 1: operation\n"),
     (
         LIVE,
         b"0,i,5,0\n0,q,,\n0,d\n",
@@ -73,33 +64,7 @@ fn scripts_are_run_by_threads(rt: HostRuntime) {
     assert!(rt; all_go(&rt, rt.alloc(), WORKED));
 }
 
-#[test]
-fn two_threads_run_side_by_side(rt: HostRuntime) {
-    let settings = Settings {
-        threads: 2,
-        k: 64,
-        refill: 0,
-        balance: 0,
-        pick: Pick::First,
-        seed: 1,
-    };
-    let meeting = Meeting::new();
-    let mut text = Vec::new(rt.alloc());
-    let script: &[u8] = b"0,i,1,0\n1,i,2,0\n";
-    let listeners = Listeners {
-        gate: &meeting,
-        progress: &Silent,
-    };
-    let report = live_over(&rt, script, &mut text, &settings, &listeners);
-    let want = Report {
-        end: End::Done,
-        written: text.len() as u64,
-    };
-    assert!(rt; text.as_slice() == b"inserted 2 deleted 0 left 2\n".as_slice() && report == want);
-    assert!(rt; meeting.took_place());
-}
-
-const OF_THREE: Settings = Settings {
+const OF_THREE: ScriptSettings = ScriptSettings {
     threads: 3,
     k: 64,
     refill: 0,
@@ -118,12 +83,12 @@ fn three_threads_run_side_by_side(rt: HostRuntime) {
         gate: &gate,
         progress: &Silent,
     };
-    let report = live_over(&rt, script, &mut text, &OF_THREE, &listeners);
+    let report = live_with(&rt, script, &mut text, &OF_THREE, &listeners);
     assert!(rt; text.as_slice() == b"inserted 3 deleted 0 left 3\n".as_slice());
     assert!(rt; report.end == End::Done && gate.took_place());
 }
 
-const OF_SIXTEEN: Settings = Settings {
+const OF_SIXTEEN: ScriptSettings = ScriptSettings {
     threads: 16,
     k: 64,
     refill: 0,
@@ -142,7 +107,7 @@ fn sixteen_threads_pass_the_gate_side_by_side(rt: HostRuntime) {
         gate: &gate,
         progress: &Silent,
     };
-    let report = live_over(&rt, script, &mut text, &OF_SIXTEEN, &listeners);
+    let report = live_with(&rt, script, &mut text, &OF_SIXTEEN, &listeners);
     assert!(rt; report.end == End::Done && gate.took_place());
 }
 
@@ -156,7 +121,7 @@ fn each_thread_passes_the_gate_once(rt: HostRuntime) {
         gate: &gate,
         progress: &Silent,
     };
-    let report = live_over(&rt, script, &mut text, &OF_THREE, &listeners);
+    let report = live_with(&rt, script, &mut text, &OF_THREE, &listeners);
     assert!(rt; text.as_slice() == b"inserted 3 deleted 0 left 3\n".as_slice());
     assert!(rt; report.end == End::Done && gate.passed() == [1, 1, 1]);
 }

@@ -2,14 +2,14 @@
 //! instance is refused, and each worker passes its gate before its first row.
 
 use super::knapsack::{INSTANCE, LINE};
-use super::process::{Input, Output};
 use super::repeated::repeated;
 use super::run;
 use crate::crowd::Crowd;
 use klsm_board::Gate;
-use klsm_test_support::{Counting, Meeting};
+use klsm_test_support::{Counting, Input, Meeting, Output};
 use klsm_tool::{
-    Counted, End, Listeners, Pick, Progress, Search, Settings, Silent, knapsack_over, live_over,
+    Counted, End, Listeners, Pick, Progress, ScriptSettings, Search, Silent, knapsack_with,
+    live_with,
 };
 use std::alloc::Global;
 use std::cell::Cell;
@@ -18,7 +18,6 @@ use std::io::Read;
 use std::sync::Wait;
 use std::sync::atomic::{AtomicU64, Ordering};
 use std::thread::Threads;
-use std::time::Clock;
 
 /// Notes how often an input is asked for bytes.
 #[derive(Drop)]
@@ -35,7 +34,7 @@ impl Read for Noting<'_> {
 }
 
 /// How often a process of these words asks for input.
-fn reads_of(rt: &(impl Wait + Clock + Threads + Sync), alloc: Global, words: &[&[u8]]) -> u64 {
+fn reads_of(rt: &(impl Wait + Threads + Sync), alloc: Global, words: &[&[u8]]) -> u64 {
     let reads = Cell::new(0);
     let input = Noting {
         input: Input::whole(b"0,d,,\n"),
@@ -82,7 +81,7 @@ fn words_are_judged_before_any_input_is_read(rt: HostRuntime) {
     }
 }
 
-const OF_TWO: Settings = Settings {
+const OF_TWO: ScriptSettings = ScriptSettings {
     threads: 2,
     k: 64,
     refill: 0,
@@ -91,7 +90,7 @@ const OF_TWO: Settings = Settings {
     seed: 1,
 };
 
-const OF_THREE: Settings = Settings {
+const OF_THREE: ScriptSettings = ScriptSettings {
     threads: 3,
     k: 64,
     refill: 0,
@@ -101,17 +100,14 @@ const OF_THREE: Settings = Settings {
 };
 
 /// How often each of three threads passes the gate, and how the run ends, over this input.
-fn passed_over(
-    rt: &(impl AllocGlobal + Wait + Clock + Threads + Sync),
-    input: Input,
-) -> ([u64; 3], End) {
+fn passed_over(rt: &(impl AllocGlobal + Wait + Threads + Sync), input: Input) -> ([u64; 3], End) {
     let gate = Counting::new();
     let mut text = Vec::new(rt.alloc());
     let listeners = Listeners {
         gate: &gate,
         progress: &Silent,
     };
-    let report = live_over(rt, input, &mut text, &OF_THREE, &listeners);
+    let report = live_with(rt, input, &mut text, &OF_THREE, &listeners);
     (gate.passed(), report.end)
 }
 
@@ -144,7 +140,7 @@ fn no_thread_runs_where_reading_fails(rt: HostRuntime) {
 
 /// How often each of three workers passes the gate, and how the search ends, over this instance.
 fn passed_by_workers(
-    rt: &(impl AllocGlobal + Wait + Clock + Threads + Sync),
+    rt: &(impl AllocGlobal + Wait + Threads + Sync),
     instance: &[u8],
 ) -> ([u64; 3], End) {
     let gate = Counting::new();
@@ -158,7 +154,7 @@ fn passed_by_workers(
         k: 1,
         idle: 8,
     };
-    let report = knapsack_over(rt, instance, &mut text, &search, &listeners);
+    let report = knapsack_with(rt, instance, &mut text, &search, &listeners);
     (gate.passed(), report.end)
 }
 
@@ -184,7 +180,7 @@ fn sixteen_workers_of_a_search_pass_the_gate_side_by_side(rt: HostRuntime) {
         k: 1,
         idle: 8,
     };
-    let report = knapsack_over(&rt, INSTANCE, &mut text, &search, &listeners);
+    let report = knapsack_with(&rt, INSTANCE, &mut text, &search, &listeners);
     assert!(rt; text.as_slice() == LINE && report.end == End::Done);
     assert!(rt; gate.took_place());
 }
@@ -234,7 +230,7 @@ impl Gate for Hall {
 
 /// Whether each of two threads, which have rows enough to tell of, came to the gate before any row was
 /// run, and told of its rows behind it.
-fn come_before_rows(rt: &(impl AllocGlobal + Wait + Clock + Threads + Sync)) -> Option<bool> {
+fn come_before_rows(rt: &(impl AllocGlobal + Wait + Threads + Sync)) -> Option<bool> {
     let script = repeated(rt.alloc(), b"0,d,,\n1,d,,\n", STRIDE)?;
     let hall = Hall::new();
     let mut text = Vec::new(rt.alloc());
@@ -242,7 +238,7 @@ fn come_before_rows(rt: &(impl AllocGlobal + Wait + Clock + Threads + Sync)) -> 
         gate: &hall,
         progress: &hall,
     };
-    let report = live_over(rt, script.as_slice(), &mut text, &OF_TWO, &listeners);
+    let report = live_with(rt, script.as_slice(), &mut text, &OF_TWO, &listeners);
     let [first, second] = &hall.heard;
     let heard = (first.load(Ordering::SeqCst), second.load(Ordering::SeqCst));
     let rows = hall.rows.load(Ordering::SeqCst);

@@ -2,8 +2,9 @@
 //! where standard error is a terminal and the run has lasted for more than a second, and goes away at
 //! the end.
 
-use super::process::{Input, Output, Process};
+use super::process::Process;
 use super::repeated::repeated;
+use klsm_test_support::{Input, Output};
 use klsm_tool::{Counted, Progress, TerminalLine, Terminals, run_program};
 use std::alloc::Global;
 use std::fmt::Display;
@@ -286,7 +287,7 @@ impl Progress for Heard {
 
 /// A run over an input, of which all is heard.
 fn run_heard(
-    rt: &(impl Wait + Clock + Threads + Sync),
+    rt: &(impl Wait + Threads + Sync),
     alloc: Global,
     words: &[&[u8]],
     input: &[u8],
@@ -302,7 +303,7 @@ fn run_heard(
 
 /// What is heard of a run of this command over an input.
 fn heard_of(
-    rt: &(impl Wait + Clock + Threads + Sync),
+    rt: &(impl Wait + Threads + Sync),
     alloc: Global,
     command: &[u8],
     input: &[u8],
@@ -359,7 +360,7 @@ impl Write for SameTerminal<'_> {
 
 /// All that a command writes over an input, where each look at the clock takes more than a second.
 fn shown(
-    rt: &(impl Wait + Clock + Threads + Sync),
+    rt: &(impl Wait + Threads + Sync),
     alloc: Global,
     command: &[u8],
     input: &[u8],

@@ -3,10 +3,10 @@
 //! that fails one allocation after another refuses each growth here.
 
 use super::replayed::{Counts, Run, run_on, run_over};
-use klsm_tool::{End, Pick, Report, Settings};
+use klsm_tool::{End, Pick, Report, ScriptSettings};
 use std::alloc::Global;
 
-const TWO_THREADS: Settings = Settings {
+const TWO_THREADS: ScriptSettings = ScriptSettings {
     threads: 2,
     k: 1,
     refill: 0,

@@ -3,7 +3,7 @@
 
 use klsm_test_support::InOneHand;
 use klsm_tool::{
-    End, Report, Script, Settings, Silent, board_in_one_hand, replay_over, replay_script,
+    End, Report, Script, ScriptSettings, Silent, board_in_one_hand, replay_script, replay_with,
 };
 
 /// What a run wrote, and what it says of how it ended.
@@ -29,7 +29,7 @@ pub(super) type Counts = (u64, u64);
 pub(super) fn run_over(
     rt: &impl AllocGlobal,
     script: &[u8],
-    settings: &Settings,
+    settings: &ScriptSettings,
     empty: Vec<u8>,
 ) -> Option<Run> {
     let has_board = settings.threads >= 1 && settings.threads <= 16 && settings.k <= 64;
@@ -37,7 +37,7 @@ pub(super) fn run_over(
         return None;
     }
     let mut text = empty;
-    let report = replay_over(rt, script, &mut text, settings, &Silent);
+    let report = replay_with(rt, script, &mut text, settings, &Silent);
     Some(Run { text, report })
 }
 
@@ -46,7 +46,7 @@ pub(super) fn run_over(
 pub(super) fn run_on(
     rt: &impl AllocGlobal,
     script: &[u8],
-    settings: &Settings,
+    settings: &ScriptSettings,
     empty: Vec<u8>,
 ) -> Option<(Run, Vec<Counts>)> {
     let has_board = settings.threads >= 1 && settings.threads <= 16 && settings.k <= 64;

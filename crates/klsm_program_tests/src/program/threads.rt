@@ -4,14 +4,14 @@
 
 use super::replayed::{Counts, run_on, run_over};
 use klsm_test_support::add_words;
-use klsm_tool::{End, Pick, Settings};
+use klsm_tool::{End, Pick, ScriptSettings};
 
 /// A script, how it ends, its text, and what each member inserted and deleted.
 type Worked = (&'static [u8], End, &'static [u8], &'static [Counts]);
 
 /// Scripts that are run alike.
 struct Scripts {
-    settings: Settings,
+    settings: ScriptSettings,
     worked: &'static [Worked],
 }
 
@@ -19,7 +19,7 @@ struct Scripts {
 // skips no item of its own thread, so it takes 2. And the same by a thread that inserted none of the
 // three items, so it takes 3.
 const LAST_OF_TWO: Scripts = Scripts {
-    settings: Settings {
+    settings: ScriptSettings {
         threads: 2,
         k: 1,
         refill: 0,
@@ -58,7 +58,7 @@ max skip 2 bound 2
 
 // One thread takes its items in order, whatever candidate is picked.
 const LAST_OF_ONE: Scripts = Scripts {
-    settings: Settings {
+    settings: ScriptSettings {
         threads: 1,
         k: 1,
         refill: 0,
@@ -84,7 +84,7 @@ max skip 0 bound 1
 
 // Where no member keeps an item for itself, all of them take the least one.
 const NONE_KEPT: Scripts = Scripts {
-    settings: Settings {
+    settings: ScriptSettings {
         threads: 4,
         k: 0,
         refill: 0,
@@ -114,7 +114,7 @@ const ONE_ITEM: &[Counts] = &[(1, 0), (0, 0)];
 // A member that has nothing takes the upper half of the other's items; and what is no row of a
 // script of two threads.
 const FIRST_OF_TWO: Scripts = Scripts {
-    settings: Settings {
+    settings: ScriptSettings {
         threads: 2,
         k: 4,
         refill: 0,
@@ -176,7 +176,7 @@ max skip 1 bound 8
 // Before each of its deletions a thread takes over the lower half of what the other one has. In the script from above
 // it is the item that the deletion passes over there. And 20 comes over, which is less than 30, but not 40.
 const BALANCED: Scripts = Scripts {
-    settings: Settings {
+    settings: ScriptSettings {
         threads: 2,
         k: 4,
         refill: 0,
@@ -217,7 +217,7 @@ max skip 0 bound 8
 
 // Each second deletion alone is one before which a thread balances.
 const BALANCED_BY_TWO: Scripts = Scripts {
-    settings: Settings {
+    settings: ScriptSettings {
         threads: 2,
         k: 4,
         refill: 0,
@@ -243,7 +243,7 @@ max skip 1 bound 8
 
 // The number of threads is the least number that no thread has.
 const OF_SIXTEEN: Scripts = Scripts {
-    settings: Settings {
+    settings: ScriptSettings {
         threads: 16,
         k: 64,
         refill: 0,
@@ -279,7 +279,7 @@ const OF_SIXTEEN: Scripts = Scripts {
 /// Whether a script goes so over a board of its own, and over one that is given.
 fn goes_so(
     rt: &impl AllocGlobal,
-    settings: &Settings,
+    settings: &ScriptSettings,
     (script, end, text, counts): Worked,
 ) -> Option<bool> {
     let over = run_over(rt, script, settings, Vec::new(rt.alloc()))?;
@@ -312,7 +312,7 @@ fn scripts_of_several_threads(rt: HostRuntime) {
     }
 }
 
-const ONE_THREAD: Settings = Settings {
+const ONE_THREAD: ScriptSettings = ScriptSettings {
     threads: 1,
     k: 64,
     refill: 0,

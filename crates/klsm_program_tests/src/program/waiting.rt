@@ -11,7 +11,6 @@ use std::io;
 use std::io::{Read, Write};
 use std::sync::Wait;
 use std::thread::Threads;
-use std::time::Clock;
 
 /// What was seen of a run.
 #[derive(Drop)]
@@ -107,11 +106,7 @@ impl Read for Pieces<'_> {
 }
 
 /// What is seen of a run over this script, and its status.
-fn run_over(
-    rt: &(impl Wait + Clock + Threads + Sync),
-    alloc: Global,
-    pieces: &[Piece],
-) -> (Seen, u8) {
+fn run_over(rt: &(impl Wait + Threads + Sync), alloc: Global, pieces: &[Piece]) -> (Seen, u8) {
     let seen = Seen::nothing();
     let reader = Pieces {
         pieces,
@@ -210,7 +205,7 @@ const SCRIPTS: &[(&[Piece], usize, u8)] = &[
 /// Whether no answer is kept back in a run over this script, which has so many lines and this
 /// status.
 fn keeps_nothing_back(
-    rt: &(impl Wait + Clock + Threads + Sync),
+    rt: &(impl Wait + Threads + Sync),
     alloc: Global,
     pieces: &[Piece],
     lines: usize,
@@ -230,7 +225,7 @@ fn no_answer_is_kept_back_while_a_row_is_waited_for(rt: HostRuntime) {
 /// Whether the answers to a first row, and then to a thousand rows that are all alike, go out in few
 /// writes.
 fn go_out_at_once(
-    rt: &(impl Wait + Clock + Threads + Sync),
+    rt: &(impl Wait + Threads + Sync),
     alloc: Global,
     first: &[u8],
     row: &[u8],
@@ -254,7 +249,7 @@ fn many_answers_go_out_at_once_behind_quotes(rt: HostRuntime) {
 }
 
 /// Whether each of a thousand rows is answered before the next one is asked for.
-fn answers_each(rt: &(impl Wait + Clock + Threads + Sync), alloc: Global) -> Option<bool> {
+fn answers_each(rt: &(impl Wait + Threads + Sync), alloc: Global) -> Option<bool> {
     let mut pieces: Vec<Piece> = Vec::new(alloc);
     for number in 0..1000usize {
         pieces.push((b"0,d,,\n", number.saturating_add(1))).ok()?;
@@ -269,7 +264,7 @@ fn a_thousand_rows_one_by_one(rt: HostRuntime) {
 }
 
 /// Whether the answers to a million rows have gone out before a row more is asked for.
-fn answers_a_million(rt: &(impl Wait + Clock + Threads + Sync), alloc: Global) -> Option<bool> {
+fn answers_a_million(rt: &(impl Wait + Threads + Sync), alloc: Global) -> Option<bool> {
     let rows = repeated(alloc, b"0,d,,\n", 1_000_000)?;
     let (seen, status) = run_over(rt, alloc, &[(rows.as_slice(), 1_000_000)]);
     Some(status == 0 && seen.faults.get() == 0)

@@ -1,7 +1,7 @@
 //! Which items a balance moves, and where it moves none.
 
-use super::script::{Script, Step, passes};
 use klsm_board::Busy;
+use klsm_test_support::{Script, Step, passes};
 
 const MANY: u64 = 1000;
 

@@ -2,15 +2,14 @@
 ghost use Rattle.std.specs.Prelude.{All};
 ghost use Rattle.klsm_board.specs.Boards.{IsOf};
 
-use super::script::{Script, Step, passes};
 use klsm_board::{Bound, Busy, StandardBoard, StandardMember};
 use klsm_parts::Last;
+use klsm_test_support::{Script, Step, passes};
 use std::alloc::Global;
 use std::sync::Wait;
 use std::sync::atomic::{AtomicU64, Ordering};
 use std::thread;
 use std::thread::Threads;
-use std::time::Clock;
 
 const MANY: u64 = 10_000;
 
@@ -159,7 +158,7 @@ struct Player<'a, R> {
     ghost of: { IsOf member board.now },
 }
 
-impl<R: Wait + Clock> Player<'_, R> {
+impl<R: Wait> Player<'_, R> {
     // Inserts its items: whether all found room.
     fn insert_all(&mut self) -> bool {
         let mut all = true;
@@ -226,12 +225,7 @@ impl<R: Wait + Clock> Player<'_, R> {
 }
 
 // What a member does by its number: whether all was right.
-fn plays<R: Wait + Clock>(
-    rt: &R,
-    board: &StandardBoard,
-    member: StandardMember,
-    told: &Told,
-) -> bool
+fn plays<R: Wait>(rt: &R, board: &StandardBoard, member: StandardMember, told: &Told) -> bool
     requires { IsOf member board.now }
 {
     let reads = u64::from(member.number()) < READERS;
@@ -245,7 +239,7 @@ fn plays<R: Wait + Clock>(
 }
 
 // Lets each member play in a thread of its own.
-fn play_all<R: Threads + Wait + Clock + Sync>(
+fn play_all<R: Threads + Wait + Sync>(
     rt: &R,
     board: &StandardBoard,
     members: Vec<StandardMember>,
@@ -264,7 +258,7 @@ fn play_all<R: Threads + Wait + Clock + Sync>(
 }
 
 // Whether all goes right where each own part has so many items at most.
-fn all_play<R: Threads + Wait + Clock + Sync>(rt: &R, alloc: Global, k: usize) -> Option<bool> {
+fn all_play<R: Threads + Wait + Sync>(rt: &R, alloc: Global, k: usize) -> Option<bool> {
     let threads = (READERS + WORKERS) as usize;
     let (board, members) = StandardBoard::new(alloc, threads, k, MANY).ok()?;
     let all = play_all(rt, &board, members, &Told::new())?;

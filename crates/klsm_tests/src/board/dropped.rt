@@ -1,11 +1,9 @@
 //! Members that are dropped, one of them with a part in its hand.
 
-use super::script::{Step, all_go};
 use klsm_board::{Busy, FinishError, HoldError, TryInsertError};
-use klsm_test_support::{Crew, refused};
+use klsm_test_support::{Calls, Crew, Step, all_go, refused};
 use std::alloc::Global;
 use std::sync::Wait;
-use std::time::Clock;
 
 // What one is answered who needs the shared part, which member 1 held when it was dropped.
 const BY_ONE: Busy = Busy { lock: 0, by: 1 };
@@ -34,11 +32,11 @@ const WITH_THE_SHARED_PART: &[Step] = &[
 ];
 
 // Whether the steps go as they have to, and the board of two members then misses member 1.
-fn misses_one(rt: &(impl Wait + Clock), alloc: Global, steps: &[Step]) -> bool {
+fn misses_one(rt: &impl Wait, alloc: Global, steps: &[Step]) -> bool {
     let Ok(mut crew) = Crew::<21>::new(alloc, 2, 1, 10) else {
         return false;
     };
-    all_go(rt, &mut crew, false, steps)
+    all_go(rt, &mut crew, Calls::Trying, steps)
         && refused(alloc, crew, FinishError::Missing(1), &[0]).is_some()
 }
 

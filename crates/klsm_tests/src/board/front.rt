@@ -1,12 +1,10 @@
 //! Deletions by the front, which go through while another member holds the shared part, and those
 //! that have to look at it; and which items a flush and a spy move.
 
-use super::script::{Script, Step, item, passes};
 use klsm_board::{Busy, TryInsertError};
-use klsm_test_support::Crew;
+use klsm_test_support::{Crew, Script, Step, loaded, passes};
 use std::alloc::Global;
 use std::sync::Wait;
-use std::time::Clock;
 
 const MANY: u64 = 1000;
 
@@ -14,49 +12,6 @@ const MANY: u64 = 1000;
 const BY_ONE: Busy = Busy { lock: 0, by: 1 };
 
 const BY_THE_FRONT: &[Script] = &[
-    // The shared part is empty, so each own item is below the front. Where there is none, the shared
-    // part is needed.
-    Script {
-        threads: 2,
-        k: 4,
-        quota: MANY,
-        steps: &[
-            Step::Inserts((5, 0, 0)),
-            Step::Holds(1, 0, 0, None),
-            Step::Deletes(0, Some((5, 0, 0))),
-            Step::Misses(0, BY_ONE),
-        ],
-    },
-    // A key that is the front is not below it, and the shared item goes first. Once the shared part
-    // is empty, the own item is below the front.
-    Script {
-        threads: 2,
-        k: 1,
-        quota: MANY,
-        steps: &[
-            Step::Inserts((4, 0, 0)),
-            Step::Inserts((4, 0, 1)),
-            Step::Holds(1, 0, 1, Some((4, 0, 0))),
-            Step::Misses(0, BY_ONE),
-            Step::PutsBack,
-            Step::Deletes(0, Some((4, 0, 0))),
-            Step::Holds(1, 0, 0, None),
-            Step::Deletes(0, Some((4, 0, 1))),
-        ],
-    },
-    // The greatest key is not below the front of an empty part.
-    Script {
-        threads: 2,
-        k: 1,
-        quota: MANY,
-        steps: &[
-            Step::Inserts((u64::MAX, 0, 0)),
-            Step::Holds(1, 0, 0, None),
-            Step::Misses(0, BY_ONE),
-            Step::PutsBack,
-            Step::Deletes(0, Some((u64::MAX, 0, 0))),
-        ],
-    },
     // The front is that of the last change: a flush sets it to 3 and the next to 2, and a deletion of
     // the shared 2 to 3 again. An own 2 is below it then, and an own 3 is not.
     Script {
@@ -127,12 +82,12 @@ fn insert_each(crew: &mut Crew<21>) -> Option<()> {
 }
 
 // Whether the member at a place, which is this one, deletes what it inserted, by the call that may wait.
-fn deletes_own(rt: &(impl Wait + Clock), crew: &mut Crew<21>, place: usize, member: u32) -> bool {
-    crew.delete_min(rt, place) == Some(Some(item((9, member, 0))))
+fn deletes_own(rt: &impl Wait, crew: &mut Crew<21>, place: usize, member: u32) -> bool {
+    crew.delete_min(rt, place) == Some(Some(loaded((9, member, 0))))
 }
 
 // Whether all but the last do so while that one holds the shared part.
-fn all_others_delete(rt: &(impl Wait + Clock), crew: &mut Crew<21>) -> Option<bool> {
+fn all_others_delete(rt: &impl Wait, crew: &mut Crew<21>) -> Option<bool> {
     crew.try_hold(0)?.ok()?;
     for member in 0..LAST {
         if !deletes_own(rt, crew, member as usize, member) {
@@ -144,14 +99,14 @@ fn all_others_delete(rt: &(impl Wait + Clock), crew: &mut Crew<21>) -> Option<bo
 }
 
 // Whether the last does so while the one before it holds the shared part.
-fn the_last_deletes(rt: &(impl Wait + Clock), crew: &mut Crew<21>) -> Option<bool> {
+fn the_last_deletes(rt: &impl Wait, crew: &mut Crew<21>) -> Option<bool> {
     crew.leave()?;
     crew.try_hold(0)?.ok()?;
     crew.relieve();
     Some(deletes_own(rt, crew, 0, LAST))
 }
 
-fn each_goes_by_the_front(rt: &(impl Wait + Clock), alloc: Global) -> Option<bool> {
+fn each_goes_by_the_front(rt: &impl Wait, alloc: Global) -> Option<bool> {
     let mut crew = Crew::new(alloc, MEMBERS as usize, 4, MANY).ok()?;
     insert_each(&mut crew)?;
     Some(all_others_delete(rt, &mut crew)? && the_last_deletes(rt, &mut crew)?)

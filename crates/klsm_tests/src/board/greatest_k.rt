@@ -1,6 +1,6 @@
 //! Own parts of as many items as any may have, and refills as great.
 
-use klsm_board::MakeError;
+use klsm_board::SizesError;
 use klsm_run::MOST_K;
 use klsm_test_support::WideCrew;
 use rand_core::{Rng, SeedableRng};
@@ -27,9 +27,9 @@ fn an_own_part_keeps_k_items(rt: HostRuntime) {
 #[test]
 fn none_is_greater(rt: HostRuntime) {
     let greater = WideCrew::new(rt.alloc(), 1, MOST_K + 1, 0);
-    assert!(rt; greater.err() == Some(MakeError::BadK));
+    assert!(rt; greater.err() == Some(SizesError::BadK));
     let refilled = WideCrew::new(rt.alloc(), 1, MOST_K, MOST_K + 1);
-    assert!(rt; refilled.err() == Some(MakeError::BadRefill));
+    assert!(rt; refilled.err() == Some(SizesError::BadRefill));
 }
 
 // Whether one member gets its items back in order, though they move between the parts.

@@ -1,23 +1,22 @@
 //! As many members as a board can have, and what no board is made for.
 
-use super::script::item;
-use klsm_board::{Board, MakeError};
+use klsm_board::{Board, SizesError};
 use klsm_parts::Last;
 use klsm_run::Item;
-use klsm_test_support::Crew;
+use klsm_test_support::{Crew, loaded};
 use std::alloc::Global;
 
 // Members, k, quota and refill of a board, and why there is none.
-const CAUSES: &[(usize, usize, u64, usize, Option<MakeError>)] = &[
-    (0, 0, 1, 1, Some(MakeError::BadThreads)),
-    (0, 65, 281_474_976_710_657, 0, Some(MakeError::BadThreads)),
-    (65, 65, 1, 66, Some(MakeError::BadThreads)),
-    (65, 64, 281_474_976_710_657, 0, Some(MakeError::BadThreads)),
-    (16, 65, 1, 66, Some(MakeError::BadK)),
-    (2, 65, 281_474_976_710_657, 0, Some(MakeError::BadK)),
-    (16, 64, 281_474_976_710_657, 65, Some(MakeError::BadQuota)),
-    (16, 64, 281_474_976_710_656, 65, Some(MakeError::BadRefill)),
-    (1, 0, 0, 1, Some(MakeError::BadRefill)),
+const CAUSES: &[(usize, usize, u64, usize, Option<SizesError>)] = &[
+    (0, 0, 1, 1, Some(SizesError::BadThreads)),
+    (0, 65, 281_474_976_710_657, 0, Some(SizesError::BadThreads)),
+    (65, 65, 1, 66, Some(SizesError::BadThreads)),
+    (65, 64, 281_474_976_710_657, 0, Some(SizesError::BadThreads)),
+    (16, 65, 1, 66, Some(SizesError::BadK)),
+    (2, 65, 281_474_976_710_657, 0, Some(SizesError::BadK)),
+    (16, 64, 281_474_976_710_657, 65, Some(SizesError::BadQuota)),
+    (16, 64, 281_474_976_710_656, 65, Some(SizesError::BadRefill)),
+    (1, 0, 0, 1, Some(SizesError::BadRefill)),
     (16, 64, 281_474_976_710_656, 64, None),
     (64, 64, 281_474_976_710_656, 64, None),
     (2, 64, 281_474_976_710_656, 16, None),
@@ -41,12 +40,12 @@ fn is_new(crew: &Crew<21>, threads: usize, k: usize, quota: u64, refill: usize) 
 
 // Whether there is such a board, or none for this cause.
 fn is_made(
-    made: Result<Crew<21>, MakeError>,
+    made: Result<Crew<21>, SizesError>,
     threads: usize,
     k: usize,
     quota: u64,
     refill: usize,
-    cause: Option<MakeError>,
+    cause: Option<SizesError>,
 ) -> bool {
     match made {
         Ok(crew) => cause.is_none() && is_new(&crew, threads, k, quota, refill),
@@ -62,10 +61,15 @@ fn causes_in_their_order(rt: HostRuntime) {
     }
 }
 
+// Whether a board that was asked for no refill has none.
+fn has_no_refill(alloc: Global) -> Option<bool> {
+    let crew = Crew::<21>::new(alloc, 2, 64, 1).ok()?;
+    Some(is_new(&crew, 2, 64, 1, 0))
+}
+
 #[test]
 fn none_moves_where_none_was_asked_for(rt: HostRuntime) {
-    let made = Crew::new(rt.alloc(), 2, 64, 1);
-    assert!(rt; is_made(made, 2, 64, 1, 0, None));
+    assert!(rt; has_no_refill(rt.alloc()) == Some(true));
 }
 
 // How many members there are, and how many items each of them inserts.
@@ -76,7 +80,7 @@ const EACH: u64 = 5;
 // The item that a member inserts after so many. Keys of all members mix, and some are equal.
 fn nth_item(member: u32, number: u64) -> Item {
     let key = (u64::from(member) * 7 + number % EACH * 5) % 31;
-    item((key, member, number))
+    loaded((key, member, number))
 }
 
 // Each member inserts an item.
@@ -136,7 +140,7 @@ fn delete_all(alloc: Global, crew: &mut Crew<21>) -> Option<bool> {
 
 // The same on a new board.
 fn find_all_once(alloc: Global, k: usize) -> Option<bool> {
-    let mut crew = Crew::new(alloc, MEMBERS as usize, k, EACH).ok()?;
+    let mut crew = Crew::with_refill(alloc, MEMBERS as usize, k, EACH, 0).ok()?;
     delete_all(alloc, &mut crew)
 }
 

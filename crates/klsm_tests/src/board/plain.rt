@@ -1,7 +1,7 @@
 //! The plain board: the rules over lists of items, in one thread, as slow as they read. It calls
 //! nothing of the code under test.
 
-use crate::owned::same_items;
+use crate::queues::same_items;
 use crate::rules::{Blocks, Pick, add, chosen, remove, sorted, spied};
 use klsm_board::{Account, Bound, Busy, HoldError};
 use klsm_run::{Item, Stamp};

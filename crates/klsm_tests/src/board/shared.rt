@@ -2,15 +2,13 @@
 ghost use Rattle.std.specs.Prelude.{All};
 ghost use Rattle.klsm_board.specs.Boards.{IsOf};
 
-use super::script::{Script, Step, all_go, passes};
 use klsm_board::{Busy, MakeError, StandardBoard, StandardMember, TryShareError};
 use klsm_parts::First;
-use klsm_test_support::Crew;
+use klsm_test_support::{Calls, Crew, Script, Step, all_go, passes};
 use std::alloc::Global;
 use std::sync::Wait;
 use std::thread;
 use std::thread::Threads;
-use std::time::Clock;
 
 const MANY: u64 = 1000;
 
@@ -146,15 +144,15 @@ const ALONE: &[Step] = &[
 ];
 
 // Whether all goes so where a deletion moves two items at most.
-fn brings_nothing_home(rt: &(impl Wait + Clock), alloc: Global, waits: bool) -> Option<bool> {
+fn brings_nothing_home(rt: &impl Wait, alloc: Global, calls: Calls) -> Option<bool> {
     let mut crew = Crew::<21>::with_refill(alloc, 2, 8, MANY, 2).ok()?;
-    Some(all_go(rt, &mut crew, waits, ALONE))
+    Some(all_go(rt, &mut crew, calls, ALONE))
 }
 
 #[test]
 fn a_deletion_alone_brings_nothing_home(rt: HostRuntime) {
-    for waits in [false, true] {
-        assert!(rt; brings_nothing_home(&rt, rt.alloc(), waits) == Some(true));
+    for calls in [Calls::Trying, Calls::Waiting] {
+        assert!(rt; brings_nothing_home(&rt, rt.alloc(), calls) == Some(true));
     }
 }
 
@@ -212,7 +210,7 @@ fn what_finds_no_memory_is_not_shared(rt: HostRuntime) {
 const ITEMS: u64 = 64;
 
 // A member inserts these items, which no other sees, and then shares them: whether all went so.
-fn gives(rt: &(impl Wait + Clock), board: &StandardBoard, member: &mut StandardMember) -> bool
+fn gives(rt: &impl Wait, board: &StandardBoard, member: &mut StandardMember) -> bool
     requires { IsOf member.old board.now }
     ensures { IsOf member.new board.now }
 {
@@ -225,7 +223,7 @@ fn gives(rt: &(impl Wait + Clock), board: &StandardBoard, member: &mut StandardM
 }
 
 // A member waits until items are shared.
-fn see_shared(rt: &(impl Wait + Clock), board: &StandardBoard, member: &mut StandardMember)
+fn see_shared(rt: &impl Wait, board: &StandardBoard, member: &mut StandardMember)
     requires { IsOf member.old board.now }
     ensures { IsOf member.new board.now }
 {
@@ -237,7 +235,7 @@ fn see_shared(rt: &(impl Wait + Clock), board: &StandardBoard, member: &mut Stan
 }
 
 // A member deletes these items in order, once they are shared: whether all went so.
-fn finds(rt: &(impl Wait + Clock), board: &StandardBoard, member: &mut StandardMember) -> bool
+fn finds(rt: &impl Wait, board: &StandardBoard, member: &mut StandardMember) -> bool
     requires { IsOf member.old board.now }
     ensures { IsOf member.new board.now }
 {
@@ -252,7 +250,7 @@ fn finds(rt: &(impl Wait + Clock), board: &StandardBoard, member: &mut StandardM
 }
 
 // What a member does by its number.
-fn plays(rt: &(impl Wait + Clock), board: &StandardBoard, mut member: StandardMember) -> bool
+fn plays(rt: &impl Wait, board: &StandardBoard, mut member: StandardMember) -> bool
     requires { IsOf member board.now }
 {
     if member.number() == 0 {
@@ -263,7 +261,7 @@ fn plays(rt: &(impl Wait + Clock), board: &StandardBoard, mut member: StandardMe
 }
 
 // Lets each member play in a thread of its own.
-fn play_all<R: Threads + Wait + Clock + Sync>(
+fn play_all<R: Threads + Wait + Sync>(
     rt: &R,
     board: &StandardBoard,
     members: Vec<StandardMember>,
@@ -281,7 +279,7 @@ fn play_all<R: Threads + Wait + Clock + Sync>(
 }
 
 // Whether one of two members in threads of their own shares items, and the other finds them.
-fn are_found<R: Threads + Wait + Clock + Sync>(rt: &R, alloc: Global) -> Option<bool> {
+fn are_found<R: Threads + Wait + Sync>(rt: &R, alloc: Global) -> Option<bool> {
     let (board, members) = StandardBoard::new(alloc, 2, ITEMS as usize, MANY).ok()?;
     let all = play_all(rt, &board, members)?;
     Some(all.iter().all(|went| *went))

@@ -5,7 +5,7 @@ ghost use Rattle.klsm_board.specs.Boards.{IsOf};
 
 use klsm_board::{Account, StandardBoard, StandardMember};
 use klsm_parts::Last;
-use klsm_run::{Item, MOST_LEVELS, Stamp};
+use klsm_run::{Item, PROGRAM_LEVELS, Stamp};
 use klsm_test_support::Crew;
 use rand_core::{Rng, SeedableRng};
 use rand_pcg::Pcg32;
@@ -13,7 +13,6 @@ use std::alloc::Global;
 use std::sync::Wait;
 use std::thread;
 use std::thread::Threads;
-use std::time::Clock;
 
 // What a thread does in each of its rounds.
 #[derive(Clone, Copy)]
@@ -124,7 +123,7 @@ impl Worker {
     }
 
     // Inserts an item of a key, by a call that may wait or by one that does not.
-    fn insert(&mut self, rt: &(impl Wait + Clock), board: &StandardBoard, waits: bool, key: u64)
+    fn insert(&mut self, rt: &impl Wait, board: &StandardBoard, waits: bool, key: u64)
         requires { IsOf self.old.member board.now }
         ensures { IsOf self.new.member board.now }
     {
@@ -138,7 +137,7 @@ impl Worker {
     }
 
     // Deletes an item likewise.
-    fn delete(&mut self, rt: &(impl Wait + Clock), board: &StandardBoard, waits: bool)
+    fn delete(&mut self, rt: &impl Wait, board: &StandardBoard, waits: bool)
         requires { IsOf self.old.member board.now }
         ensures { IsOf self.new.member board.now }
     {
@@ -151,7 +150,7 @@ impl Worker {
     }
 
     // Deletes an item likewise, and no items move behind it.
-    fn delete_alone(&mut self, rt: &(impl Wait + Clock), board: &StandardBoard, waits: bool)
+    fn delete_alone(&mut self, rt: &impl Wait, board: &StandardBoard, waits: bool)
         requires { IsOf self.old.member board.now }
         ensures { IsOf self.new.member board.now }
     {
@@ -166,7 +165,7 @@ impl Worker {
     }
 
     // Shares its items likewise.
-    fn give_back(&mut self, rt: &(impl Wait + Clock), board: &StandardBoard, waits: bool)
+    fn give_back(&mut self, rt: &impl Wait, board: &StandardBoard, waits: bool)
         requires { IsOf self.old.member board.now }
         ensures { IsOf self.new.member board.now }
     {
@@ -178,7 +177,7 @@ impl Worker {
     }
 
     // Asks for a bound likewise.
-    fn ask(&mut self, rt: &(impl Wait + Clock), board: &StandardBoard, waits: bool)
+    fn ask(&mut self, rt: &impl Wait, board: &StandardBoard, waits: bool)
         requires { IsOf self.old.member board.now }
         ensures { IsOf self.new.member board.now }
     {
@@ -190,7 +189,7 @@ impl Worker {
     }
 
     // Works at nothing any more, likewise.
-    fn rest(&mut self, rt: &(impl Wait + Clock), board: &StandardBoard, waits: bool)
+    fn rest(&mut self, rt: &impl Wait, board: &StandardBoard, waits: bool)
         requires { IsOf self.old.member board.now }
         ensures { IsOf self.new.member board.now }
     {
@@ -227,7 +226,7 @@ impl Worker {
     }
 
     // Makes a call of some kind. Deletions are more than insertions, so that parts are often empty.
-    fn mix(mut self, rt: &(impl Wait + Clock), board: &StandardBoard) -> Self
+    fn mix(mut self, rt: &impl Wait, board: &StandardBoard) -> Self
         requires { IsOf self.member board.now }
         ensures { IsOf result.member board.now }
     {
@@ -250,7 +249,7 @@ impl Worker {
     }
 
     // Makes a call that may wait. Insertions and deletions are alike in number.
-    fn wait(mut self, rt: &(impl Wait + Clock), board: &StandardBoard) -> Self
+    fn wait(mut self, rt: &impl Wait, board: &StandardBoard) -> Self
         requires { IsOf self.member board.now }
         ensures { IsOf result.member board.now }
     {
@@ -265,7 +264,7 @@ impl Worker {
 
     // Inserts an item whose key is below all shared ones and deletes it, by calls that may wait or by
     // others.
-    fn stay_below(mut self, rt: &(impl Wait + Clock), board: &StandardBoard, waits: bool) -> Self
+    fn stay_below(mut self, rt: &impl Wait, board: &StandardBoard, waits: bool) -> Self
         requires { IsOf self.member board.now }
         ensures { IsOf result.member board.now }
     {
@@ -277,7 +276,7 @@ impl Worker {
     }
 
     // Inserts an item that may be shared, and then stays below.
-    fn share(mut self, rt: &(impl Wait + Clock), board: &StandardBoard) -> Self
+    fn share(mut self, rt: &impl Wait, board: &StandardBoard) -> Self
         requires { IsOf self.member board.now }
         ensures { IsOf result.member board.now }
     {
@@ -287,7 +286,7 @@ impl Worker {
     }
 
     // Does what there is to do in a round.
-    fn go_on(self, rt: &(impl Wait + Clock), board: &StandardBoard, kind: Kind, round: u32) -> Self
+    fn go_on(self, rt: &impl Wait, board: &StandardBoard, kind: Kind, round: u32) -> Self
         requires { IsOf self.member board.now }
         ensures { IsOf result.member board.now }
     {
@@ -301,7 +300,7 @@ impl Worker {
     }
 
     // Does what there is to do in each of its rounds.
-    fn run(self, rt: &(impl Wait + Clock), board: &StandardBoard, team: &Team) -> Self
+    fn run(self, rt: &impl Wait, board: &StandardBoard, team: &Team) -> Self
         requires { IsOf self.member board.now }
         ensures { IsOf result.member board.now }
     {
@@ -322,7 +321,7 @@ impl Worker {
 }
 
 // Lets each member work in a thread of its own.
-fn run_all<R: Threads + Wait + Clock + Sync>(
+fn run_all<R: Threads + Wait + Sync>(
     rt: &R,
     alloc: Global,
     board: &StandardBoard,
@@ -346,7 +345,7 @@ fn run_all<R: Threads + Wait + Clock + Sync>(
 // A board whose members are back, and what they noted.
 #[derive(Drop)]
 struct Found {
-    crew: Crew<MOST_LEVELS>,
+    crew: Crew<PROGRAM_LEVELS>,
     inserted: Vec<Item>,
     deleted: Vec<Item>,
 }
@@ -432,7 +431,7 @@ fn tells_all(account: Account, inserted: Vec<Item>, deleted: Vec<Item>) -> Optio
 }
 
 // What is found once these workers are back.
-fn found_by(alloc: Global, crew: Crew<MOST_LEVELS>, workers: Vec<Worker>) -> Option<Found>
+fn found_by(alloc: Global, crew: Crew<PROGRAM_LEVELS>, workers: Vec<Worker>) -> Option<Found>
     requires { All (λ worker. IsOf worker.member crew.board) workers.items }
 {
     let found = Found {
@@ -446,7 +445,7 @@ fn found_by(alloc: Global, crew: Crew<MOST_LEVELS>, workers: Vec<Worker>) -> Opt
 }
 
 // The board of a team, whose last member may hold the shared part.
-fn crew_of(alloc: Global, team: &Team) -> Option<Crew<MOST_LEVELS>> {
+fn crew_of(alloc: Global, team: &Team) -> Option<Crew<PROGRAM_LEVELS>> {
     let quota = u64::from(team.calls).saturating_mul(2);
     let mut crew = Crew::with_refill(alloc, team.threads, team.k, quota, team.refill).ok()?;
     if team.work == Work::BelowHeld {
@@ -456,7 +455,7 @@ fn crew_of(alloc: Global, team: &Team) -> Option<Crew<MOST_LEVELS>> {
 }
 
 // What is found once all threads of a team have ended.
-fn run_team<R: Threads + Wait + Clock + Sync>(rt: &R, alloc: Global, team: &Team) -> Option<Found> {
+fn run_team<R: Threads + Wait + Sync>(rt: &R, alloc: Global, team: &Team) -> Option<Found> {
     let mut crew = crew_of(alloc, team)?;
     let members = crew.take_members(alloc);
     let workers = run_all(rt, alloc, &crew.board, members, team)?;
@@ -465,7 +464,7 @@ fn run_team<R: Threads + Wait + Clock + Sync>(rt: &R, alloc: Global, team: &Team
 
 // Whether each item was inserted once, and deleted once by a thread or by some member afterwards,
 // or is left in the account.
-fn each_once<R: Threads + Wait + Clock + Sync>(rt: &R, alloc: Global, team: &Team) -> Option<bool> {
+fn each_once<R: Threads + Wait + Sync>(rt: &R, alloc: Global, team: &Team) -> Option<bool> {
     let mut found = run_team(rt, alloc, team)?;
     let many = found.inserted.len() > team.calls as usize / 4;
     let all = team

@@ -3,16 +3,15 @@
 ghost use Rattle.std.specs.Prelude.{All};
 ghost use Rattle.klsm_board.specs.Boards.{IsOf};
 
-use super::script::{Script, Step, passes};
 use klsm_board::{Bound, Busy, StandardBoard, StandardMember};
 use klsm_parts::Last;
 use klsm_run::Item;
+use klsm_test_support::{Script, Step, passes};
 use std::alloc::Global;
 use std::sync::Wait;
 use std::sync::atomic::{AtomicU64, Ordering};
 use std::thread;
 use std::thread::Threads;
-use std::time::Clock;
 
 const MANY: u64 = 10_000;
 
@@ -179,7 +178,7 @@ struct Player<'a, R> {
     ghost of: { IsOf member board.now },
 }
 
-impl<R: Wait + Clock> Player<'_, R> {
+impl<R: Wait> Player<'_, R> {
     // Inserts an item, which is then open: whether it found room.
     fn insert(&mut self, key: u64, load: u64) -> bool {
         self.told.open.fetch_add(1, Ordering::SeqCst);
@@ -267,12 +266,7 @@ impl<R: Wait + Clock> Player<'_, R> {
 }
 
 // What a member does by its number: whether all was right. The last one begins.
-fn plays<R: Wait + Clock>(
-    rt: &R,
-    board: &StandardBoard,
-    member: StandardMember,
-    told: &Told,
-) -> bool
+fn plays<R: Wait>(rt: &R, board: &StandardBoard, member: StandardMember, told: &Told) -> bool
     requires { IsOf member board.now }
 {
     let number = u64::from(member.number());
@@ -294,7 +288,7 @@ fn plays<R: Wait + Clock>(
 }
 
 // Lets each member play in a thread of its own.
-fn play_all<R: Threads + Wait + Clock + Sync>(
+fn play_all<R: Threads + Wait + Sync>(
     rt: &R,
     board: &StandardBoard,
     members: Vec<StandardMember>,
@@ -313,7 +307,7 @@ fn play_all<R: Threads + Wait + Clock + Sync>(
 }
 
 // Whether all goes right where each own part has so many items at most.
-fn all_play<R: Threads + Wait + Clock + Sync>(rt: &R, alloc: Global, k: usize) -> Option<bool> {
+fn all_play<R: Threads + Wait + Sync>(rt: &R, alloc: Global, k: usize) -> Option<bool> {
     let threads = (READERS + WORKERS) as usize;
     let (board, members) = StandardBoard::new(alloc, threads, k, MANY).ok()?;
     let all = play_all(rt, &board, members, &Told::new())?;

@@ -1,8 +1,7 @@
 //! Refusals: an LSM that is full, and a growth that is refused. Nothing changes, and a run comes
 //! back.
-use super::grown::{Grown, How, RationedGrown};
 use klsm_lsm::LsmError;
-use klsm_test_support::Rationed;
+use klsm_test_support::{Grown, How, Rationed, RationedGrown};
 use std::alloc::Global;
 
 // The keys of the runs of an LSM, and of one that is added with so many growths granted; what comes

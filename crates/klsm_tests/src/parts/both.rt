@@ -80,15 +80,16 @@ pub(super) fn are_same(queue: &RationedQueue, plain: &Plain) -> Option<bool> {
 /// Whether an own part and a shared one show the blocks of the plain one, its pivots and candidates.
 pub(super) fn show_same(own: &Local<64>, shared: &RationedShared, plain: &Plain) -> Option<bool> {
     let candidates = plain.candidates().ok()?;
+    let lsm = shared.lsm(*plain.shared.allocator()).ok()?;
     Some(
         has_blocks(own.lsm(), plain.own.as_slice())
+            && has_blocks(&lsm, plain.shared.as_slice())
             && has_shared(shared, plain.shared.as_slice(), candidates.as_slice()),
     )
 }
 
 fn has_shared(shared: &RationedShared, blocks: &[Vec<Item>], candidates: &[Item]) -> bool {
-    has_blocks(shared.lsm(), blocks)
-        && has_pivots(shared, blocks, candidates)
+    has_pivots(shared, blocks, candidates)
         && has_candidates(shared, candidates)
         && has_least(shared, candidates.first().copied())
 }
@@ -116,7 +117,7 @@ fn has_blocks<R: Run, const LEVELS: usize>(lsm: &Lsm<R, LEVELS>, blocks: &[Vec<I
 
 // Whether each pivot marks the block's candidates.
 fn has_pivots(shared: &RationedShared, blocks: &[Vec<Item>], candidates: &[Item]) -> bool {
-    if shared.lsm().blocks() != blocks.len() {
+    if shared.blocks() != blocks.len() {
         return false;
     }
     for (index, block) in blocks.iter().enumerate() {

@@ -5,10 +5,9 @@ ghost use Rattle.std.specs.Prelude.{◌≤◌};
 
 use super::both::{Both, both_at, delete, insert};
 use super::taken::{Parts, parts_at};
-use crate::owned::item;
 use crate::rules::Pick;
 use klsm_parts::Random;
-use klsm_test_support::Rationed;
+use klsm_test_support::{Rationed, item};
 use rand_core::{Rng, SeedableRng};
 use rand_pcg::Pcg32;
 use std::alloc::Global;

@@ -1,8 +1,8 @@
 //! What a steal moves, and what it leaves.
 
-use super::spied::own_part;
-use crate::owned::has_blocks;
+use crate::queues::queue_of;
 use klsm_parts::{Local, steal};
+use klsm_test_support::has_blocks;
 use std::alloc::Global;
 
 // What an empty own part may have, and how many items may move to it.
@@ -21,7 +21,7 @@ fn moves(
     moved: &[&[u64]],
     left: &[&[u64]],
 ) -> Option<bool> {
-    let mut victim = own_part(alloc, keys, 0)?;
+    let mut victim = queue_of(alloc, 8, keys)?.into_parts().0;
     let mut own: Local<64> = Local::new(room.k.min(64));
     let answer = steal(&mut own, &mut victim, room.most);
     let moves = has_blocks(own.lsm(), moved) && has_blocks(victim.lsm(), left);

@@ -10,7 +10,7 @@ use super::plain::Plain;
 use crate::rules::Pick;
 use klsm_parts::{Local, Picker, Shared, flush, put, take, take_least};
 use klsm_run::Item;
-use klsm_test_support::Rationed;
+use klsm_test_support::{Rationed, are_apart, is_in};
 use std::alloc::Global;
 
 /// The two parts, and the plain program.
@@ -106,61 +106,4 @@ fn take_for<P: Picker>(
         return None;
     }
     Some(take(owner, own, shared, picker))
-}
-
-// The items of an own part, block after block.
-fn own_items(alloc: Global, own: &Local<64>) -> Option<Vec<Item>>
-    ensures { IfSome result (λ items. items.items ≡ content own.now.blocks) }
-{
-    let mut items = Vec::new(alloc);
-    own.append_to(&mut items).ok()?;
-    Some(items)
-}
-
-// Those of a shared part.
-fn shared_items(alloc: Global, shared: &RationedShared) -> Option<Vec<Item>>
-    ensures { IfSome result (λ items. items.items ≡ content shared.now.blocks) }
-{
-    let mut items = Vec::new(alloc);
-    shared.append_to(&mut items).ok()?;
-    Some(items)
-}
-
-// Whether no item is in both parts.
-fn are_apart(alloc: Global, own: &Local<64>, shared: &RationedShared) -> Option<bool>
-    ensures { IfSome result (λ apart.
-        IsTrue apart → ShareNone (content own.now.blocks) (content shared.now.blocks)) }
-{
-    let items = own_items(alloc, own)?;
-    let others = shared_items(alloc, shared)?;
-    Some(share_none(items.as_slice(), others.as_slice()))
-}
-
-// Whether no item is in both lists.
-fn share_none(items: &[Item], others: &[Item]) -> bool
-    ensures { IsTrue result → ShareNone items.now others.now }
-{
-    for item in items {
-        if has(others, item) {
-            return false;
-        }
-    }
-    true
-}
-
-// Whether an item is in a list.
-fn has(items: &[Item], item: &Item) -> bool
-    ensures { result ≡ false → ¬ Contains items.now item.now }
-{
-    items.contains(item)
-}
-
-// Whether an item is in one of the parts.
-fn is_in(alloc: Global, own: &Local<64>, shared: &RationedShared, item: Item) -> Option<bool>
-    ensures { IfSome result (λ is_in. is_in ≡ false
-        → ¬ Contains (content own.now.blocks) item × ¬ Contains (content shared.now.blocks) item) }
-{
-    let items = own_items(alloc, own)?;
-    let others = shared_items(alloc, shared)?;
-    Some(items.contains(&item) || others.contains(&item))
 }

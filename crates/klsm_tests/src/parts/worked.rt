@@ -2,12 +2,11 @@
 ghost use Rattle.std.specs.Prelude.{◌≤◌};
 
 use super::both::{Both, both_at, insert_all, item};
-use super::spied::own_part;
 use super::taken::{Parts, parts_at};
-use crate::owned::same_item;
+use crate::queues::same_item;
 use crate::rules::Pick;
 use klsm_lsm::LsmError;
-use klsm_parts::{Last, Local, Part, Queue, Shared, flush};
+use klsm_parts::{Last, Queue};
 use klsm_run::Item;
 use klsm_test_support::Rationed;
 use std::alloc::Global;
@@ -40,8 +39,6 @@ fn finds(parts: &mut Parts, want: Item) -> Option<bool> {
     Some(same_item(parts.find_least()?, Some(want)))
 }
 
-const SEVEN: &[u64] = &[5, 1, 4, 2, 3, 9, 8];
-
 // What two parts have, as the plain program shows it: the own blocks, the shared ones, their pivots and
 // the candidates.
 type Shown = (
@@ -53,42 +50,6 @@ type Shown = (
 
 fn shows(parts: &Parts, (own, shared, pivots, candidates): &Shown) -> Option<bool> {
     parts.plain.shows(own, shared, pivots, candidates)
-}
-
-// The parts of seven insertions at k = 2, of which each has the owner 0; after a deletion by another
-// owner, which takes the greatest candidate; after one by the owner, which takes its least item; and
-// without the own item, which is not below the front, and is taken by itself all the same.
-const OF_SEVEN: Shown = (&[&[8]], &[&[1, 2, 4, 5], &[3, 9]], &[2, 1], &[1, 2, 3]);
-
-const WITHOUT_THREE: Shown = (&[&[8]], &[&[1, 2, 4, 5], &[9]], &[3, 0], &[1, 2, 4]);
-
-const WITHOUT_ONE: Shown = (&[&[8]], &[&[2, 4, 5], &[3, 9]], &[2, 1], &[2, 3, 4]);
-
-const WITHOUT_EIGHT: Shown = (&[], &[&[1, 2, 4, 5], &[3, 9]], &[2, 1], &[1, 2, 3]);
-
-// Makes the seven insertions. Whether the parts then show them.
-fn has_seven(parts: &mut Parts) -> Option<bool> {
-    insert_parts(parts, SEVEN)?;
-    shows(parts, &OF_SEVEN)
-}
-
-fn another_takes(parts: &mut Parts) -> Option<bool> {
-    let seven = has_seven(parts)?;
-    let takes_three = takes(parts, 1, &[Some(item(3, 4))])?;
-    Some(seven && takes_three && shows(parts, &WITHOUT_THREE)?)
-}
-
-fn the_owner_takes(parts: &mut Parts) -> Option<bool> {
-    let seven = has_seven(parts)?;
-    let takes_one = takes(parts, 0, &[Some(item(1, 1))])?;
-    Some(seven && takes_one && shows(parts, &WITHOUT_ONE)?)
-}
-
-fn own_goes_alone(parts: &mut Parts) -> Option<bool> {
-    let seven = has_seven(parts)? && parts.shared.front() == 1;
-    let takes_eight = takes_least(parts, Some(item(8, 6)))?;
-    let after = shows(parts, &WITHOUT_EIGHT)?;
-    Some(seven && takes_eight && after && takes_least(parts, None)?)
 }
 
 // Own items go that are the least of both parts, or less than the candidate; or a candidate that is
@@ -123,9 +84,6 @@ fn finds_anew(parts: &mut Parts) -> Option<bool> {
 // What is done with new parts.
 #[derive(Clone, Copy)]
 enum Steps {
-    AnotherTakes,
-    TheOwnerTakes,
-    OwnGoesAlone,
     OwnItemsGo,
     AllShared,
     FindsAnew,
@@ -133,9 +91,6 @@ enum Steps {
 
 fn go(parts: &mut Parts, steps: Steps) -> Option<bool> {
     match steps {
-        Steps::AnotherTakes => another_takes(parts),
-        Steps::TheOwnerTakes => the_owner_takes(parts),
-        Steps::OwnGoesAlone => own_goes_alone(parts),
         Steps::OwnItemsGo => own_items_go(parts),
         Steps::AllShared => all_shared(parts),
         Steps::FindsAnew => finds_anew(parts),
@@ -149,13 +104,6 @@ fn all_go(alloc: Global, k: usize, steps: Steps) -> bool
     let heap = Rationed::new(alloc);
     let mut parts = parts_at(alloc, &heap, k);
     go(&mut parts, steps) == Some(true)
-}
-
-#[test]
-fn blocks_pivots_and_candidates(rt: HostRuntime) {
-    assert!(rt; all_go(rt.alloc(), 2, Steps::AnotherTakes));
-    assert!(rt; all_go(rt.alloc(), 2, Steps::TheOwnerTakes));
-    assert!(rt; all_go(rt.alloc(), 2, Steps::OwnGoesAlone));
 }
 
 #[test]
@@ -203,39 +151,4 @@ fn full(alloc: Global) -> Option<bool> {
 #[test]
 fn full_shared_part(rt: HostRuntime) {
     assert!(rt; full(rt.alloc()) == Some(true));
-}
-
-// Whether a part of either kind tells these of its items.
-fn is_part(part: &Part<64, 21>, least: Option<Item>, items: &[Item]) -> bool {
-    if part.len() != items.len() || part.is_empty() != items.is_empty() || part.least() != least {
-        return false;
-    }
-    for (index, item) in items.iter().enumerate() {
-        if part.item_at(index) != *item {
-            return false;
-        }
-    }
-    true
-}
-
-// The own part after three insertions.
-fn own_tells(alloc: Global) -> Option<bool> {
-    let part = Part::Own(own_part(alloc, &[4, 6, 5], 0)?);
-    let (four, six, five) = (item(4, 0), item(6, 1), item(5, 2));
-    Some(is_part(&part, Some(four), &[four, six, five]))
-}
-
-// The shared part after one insertion at k = 0.
-fn shared_tells(alloc: Global) -> Option<bool> {
-    let mut none: Local<64> = Local::new(0);
-    let mut shared: Shared<21> = Shared::new(alloc, 0);
-    let seven = item(7, 0);
-    flush(&mut none, &mut shared, seven).ok()?;
-    Some(is_part(&Part::Common(shared), Some(seven), &[seven]))
-}
-
-#[test]
-fn parts_of_either_kind(rt: HostRuntime) {
-    assert!(rt; own_tells(rt.alloc()) == Some(true));
-    assert!(rt; shared_tells(rt.alloc()) == Some(true));
 }

@@ -4,10 +4,10 @@
 mod plain;
 mod proposed;
 
-use crate::owned::same_items;
-use klsm_model::{StepError, Trace, World, WorldError, run};
+use crate::queues::same_items;
 use klsm_run::Item;
-use klsm_world::Step;
+use klsm_schedules::Step;
+use klsm_world::{StepError, Trace, World, WorldError, run};
 use plain::Plain;
 use proposed::proposed;
 use rand_core::SeedableRng;

@@ -1,9 +1,9 @@
 //! Each growth refused in turn: nothing changes, and the same call goes through later.
 
-use super::steps::{Moved, Name, Row, steps_of, world_after};
-use klsm_model::{StepError, World, WorldError, run};
-use klsm_test_support::Rationed;
-use klsm_world::{Items, Step};
+use super::steps::{Moved, Row, steps_of, world_after};
+use klsm_schedules::{Items, Step};
+use klsm_test_support::{Name, Rationed};
+use klsm_world::{StepError, World, WorldError, run};
 use std::alloc::Global;
 
 const FIVE: Name = (5, 1, 0);

@@ -1,23 +1,11 @@
-//! Items, and steps as tables have them. A helper of these tests answers `None` where a call was
+//! Steps as tables have them. A helper of these tests answers `None` where a call was
 //! refused that should not be.
 
-use klsm_model::World;
-use klsm_run::{Item, Stamp};
-use klsm_world::{Event, Items, Step};
+use klsm_run::Item;
+use klsm_schedules::{Event, Items, Step};
+use klsm_test_support::{Name, named};
+use klsm_world::World;
 use std::alloc::Global;
-
-/// A key, an owner and a number, which name an item.
-pub(super) type Name = (u64, u32, u64);
-
-/// The item of a name.
-pub(super) fn item(name: Name) -> Item {
-    let (key, owner, number) = name;
-    Item {
-        key,
-        stamp: Stamp { owner, number },
-        load: 0,
-    }
-}
 
 /// The items that move at a flush, a spy, a refill, a steal or a sharing.
 #[derive(Clone, Copy)]
@@ -56,10 +44,10 @@ pub(super) fn step_of(alloc: Global, row: Row) -> Option<Step> {
         Row::Look(thread) => Step::Look { thread },
         Row::Mark(thread, key) => Step::Mark { thread, key },
         Row::See(thread, of) => Step::See { thread, of },
-        Row::Put(thread, name) => commit(thread, Event::Put(item(name))),
-        Row::Flush(thread, name, moved) => flush(thread, item(name), moved_items(alloc, moved)?),
-        Row::Take(thread, name) => commit(thread, Event::Take(item(name))),
-        Row::Early(thread, name, front) => early(thread, item(name), front),
+        Row::Put(thread, name) => commit(thread, Event::Put(named(name))),
+        Row::Flush(thread, name, moved) => flush(thread, named(name), moved_items(alloc, moved)?),
+        Row::Take(thread, name) => commit(thread, Event::Take(named(name))),
+        Row::Early(thread, name, front) => early(thread, named(name), front),
         Row::Nothing(thread) => commit(thread, Event::Nothing),
         Row::Spy(thread, victim, moved) => spy(thread, victim, moved_items(alloc, moved)?),
         Row::Refill(thread, moved) => refill(thread, moved_items(alloc, moved)?),
@@ -106,8 +94,8 @@ pub(super) fn share(thread: u32, moved: Items) -> Step {
 fn moved_items(alloc: Global, moved: Moved) -> Option<Items> {
     match moved {
         Moved::None => items_of(alloc, &[]),
-        Moved::One(name) => items_of(alloc, &[item(name)]),
-        Moved::Two(name, other) => items_of(alloc, &[item(name), item(other)]),
+        Moved::One(name) => items_of(alloc, &[named(name)]),
+        Moved::Two(name, other) => items_of(alloc, &[named(name), named(other)]),
     }
 }
 

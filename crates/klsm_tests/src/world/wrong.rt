@@ -1,7 +1,8 @@
 //! Steps of each kind that are refused, with each reason for which they can be, among legal ones.
 
-use super::steps::{Moved, Name, Row, item, step_of};
-use klsm_model::{StepError, World};
+use super::steps::{Moved, Row, step_of};
+use klsm_test_support::{Name, named};
+use klsm_world::{StepError, World};
 use std::alloc::Global;
 
 const TWO: Name = (2, 1, 0);
@@ -210,7 +211,7 @@ fn are_answered(alloc: Global) -> Option<bool> {
     let mut world = World::new(alloc, 3, 1).ok()?;
     let other = first_other(alloc, &mut world);
     let live = world.live(alloc).ok()?;
-    let three = [item(TWO), item(FOUR), item(SEVEN)];
+    let three = [named(TWO), named(FOUR), named(SEVEN)];
     Some(other.is_none() && live.as_slice() == three.as_slice())
 }
 

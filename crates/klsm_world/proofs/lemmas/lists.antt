@@ -1,3 +1,5 @@
--- Lists of items.
-pub mod EqualLemmas  -- lists that are equal item by item are one
-pub mod ListLemmas  -- lists that are joined, and lists that are put in order
+-- Tests on lists of items, and lists that are merged.
+pub mod RestLemmas  -- what a loop has seen of a list
+pub mod ConditionLemmas  -- the conditions of events
+pub mod TakeConditionLemmas  -- the condition of a Take
+pub mod PlacingLemmas  -- merging, and taking items out

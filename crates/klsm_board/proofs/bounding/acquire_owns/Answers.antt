@@ -1,5 +1,5 @@
 use Rattle.std.proofs.Common.{rules, arith, ◌≡◌, ℕ, ◌+◌, ◌<◌, [], ◌∷◌, ◌++◌, refl, sym, ap, ◌∙◌, subst, append_assoc}
-use Rattle.klsm_world.specs.declared.step.Entry.TheVariants.{Missed}
+use Rattle.klsm_schedules.specs.declared.step.Entry.TheVariants.{Missed}
 use Rattle.klsm_board.specs.Bounding.{owns_in_hand, owns_released}
 use Rattle.klsm_board.specs.Effects.{MeetsHolder}
 use Rattle.klsm_board.specs.Steps.{mine}

@@ -1,5 +1,5 @@
 use Rattle.std.proofs.Common.{[], ◌∷◌, ◌++◌, sym, ap, ◌∙◌, subst, arith, append_assoc}
-use Rattle.klsm_world.specs.declared.step.Entry.TheVariants.{Acquired, Missed}
+use Rattle.klsm_schedules.specs.declared.step.Entry.TheVariants.{Acquired, Missed}
 use Rattle.klsm_board.specs.Bounding.{MissesSome, all_acquired, all_in_hand, all_released, keys_seen, owns_acquired, owns_in_hand, owns_released}
 use Rattle.klsm_board.specs.Effects.{MeetsHolder}
 use Rattle.klsm_board.specs.Steps.{mine, rest_of}

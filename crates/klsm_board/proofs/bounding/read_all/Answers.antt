@@ -1,5 +1,5 @@
 use Rattle.std.proofs.Common.{[], ◌∷◌, ◌++◌, refl, ap, ◌∙◌, arith, append_assoc, length-append}
-use Rattle.klsm_world.specs.declared.step.Entry.TheVariants.{Released}
+use Rattle.klsm_schedules.specs.declared.step.Entry.TheVariants.{Released}
 use Rattle.klsm_board.specs.Bounding.{owns_in_hand, owns_items, owns_released}
 use Rattle.klsm_board.specs.Steps.{mine}
 use Rattle.klsm_board.proofs.lemmas.calls.BoundingLemmas.{owns_lack_shared}

@@ -1,5 +1,5 @@
 use Rattle.std.proofs.Common.{[], ◌∷◌, ◌++◌, refl, ap, ◌∙◌, arith, length-append}
-use Rattle.klsm_world.specs.declared.step.Entry.TheVariants.{Released}
+use Rattle.klsm_schedules.specs.declared.step.Entry.TheVariants.{Released}
 use Rattle.klsm_board.specs.Steps.{mine, rest_of}
 use Rattle.klsm_board.proofs.lemmas.calls.ReadingLemmas.{first_is_least}
 use Rattle.klsm_board.proofs.lemmas.hands.CommitLemmas.{has_still}

@@ -1,5 +1,5 @@
 use Rattle.std.specs.Prelude.{◌≡◌}
-use Rattle.klsm_world.specs.OwnSteps.{Hand}
+use Rattle.klsm_schedules.specs.OwnSteps.{Hand}
 use Rattle.klsm_board.specs.Seats.{Has}
 use Rattle.klsm_board.specs.Steps.{mine, rest_of}
 use Rattle.klsm_board.proofs.lemmas.calls.SeenLemmas.{Seeing}

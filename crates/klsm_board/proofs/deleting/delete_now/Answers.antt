@@ -1,6 +1,6 @@
 use Rattle.std.proofs.Common.{◌≡◌, ◌+◌, ◌∷◌, ◌++◌, ◌∙◌, [], ap, refl, sym, subst, inl, inr, append_assoc}
 use Rattle.std.specs.Prelude.{MatchOption, Some}
-use Rattle.klsm_world.specs.declared.step.Entry.TheVariants.{Acquired, Released, Missed}
+use Rattle.klsm_schedules.specs.declared.step.Entry.TheVariants.{Acquired, Released, Missed}
 use Rattle.klsm_board.specs.Steps.{mine, rest_of}
 use Rattle.klsm_board.specs.Seats.{own_in_hand}
 use Rattle.klsm_board.specs.Entries.{both_looked, own_looked, with_look}

@@ -1,6 +1,6 @@
 use Rattle.std.proofs.Common.{◌∷◌, ◌++◌, ◌∙◌, [], ap, sym, append_assoc, inl}
-use Rattle.klsm_world.specs.declared.step.Entry.TheVariants.{Committed, Released}
-use Rattle.klsm_world.specs.OwnSteps.{work_of}
+use Rattle.klsm_schedules.specs.declared.step.Entry.TheVariants.{Committed, Released}
+use Rattle.klsm_schedules.specs.OwnSteps.{work_of}
 use Rattle.klsm_board.specs.Steps.{mine}
 use Rattle.klsm_board.specs.Entries.{own_marked}
 use Rattle.klsm_board.proofs.lemmas.hands.WorkLemmas.{work_append}

@@ -3,9 +3,9 @@ use Rattle.atomic_table.specs.Table.{Me, rest}
 use Rattle.klsm_run.specs.declared.item.Item.{Item}
 use Rattle.klsm_run.specs.Content.{ShareNone}
 use Rattle.klsm_parts.specs.Events.{MayRefill, own_after_refill, shared_after_refill}
-use Rattle.klsm_world.specs.declared.step.Entry.TheVariants.{Committed, Released}
-use Rattle.klsm_world.specs.declared.step.Event.TheVariants.{Refill}
-use Rattle.klsm_world.specs.OwnSteps.{hand_of, work_of}
+use Rattle.klsm_schedules.specs.declared.step.Entry.TheVariants.{Committed, Released}
+use Rattle.klsm_schedules.specs.declared.step.Event.TheVariants.{Refill}
+use Rattle.klsm_schedules.specs.OwnSteps.{hand_of, work_of}
 use Rattle.klsm_board.specs.declared.sizes.Sizes.{Sizes}
 use Rattle.klsm_board.specs.declared.rule.View.{View}
 use Rattle.klsm_board.specs.Steps.{gain, mine, rest_of}

@@ -1,9 +1,9 @@
 use Rattle.std.proofs.Common.{◌+◌, ◌∷◌, ◌++◌, ◌∙◌, ap, sym, subst}
 use Rattle.klsm_parts.specs.Events.{own_after_take, shared_after_take}
 use Rattle.klsm_parts.specs.Refilling.{refill_of}
-use Rattle.klsm_world.specs.declared.step.Entry.TheVariants.{Committed}
-use Rattle.klsm_world.specs.declared.step.Event.TheVariants.{Take}
-use Rattle.klsm_world.specs.OwnSteps.{hand_of}
+use Rattle.klsm_schedules.specs.declared.step.Entry.TheVariants.{Committed}
+use Rattle.klsm_schedules.specs.declared.step.Event.TheVariants.{Take}
+use Rattle.klsm_schedules.specs.OwnSteps.{hand_of}
 use Rattle.klsm_board.specs.Steps.{mine}
 use Rattle.klsm_board.specs.Seats.{Carries, both_in_hand, last_arriving}
 use Rattle.klsm_board.specs.Entries.{both_marked}

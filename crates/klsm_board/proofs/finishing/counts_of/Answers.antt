@@ -1,5 +1,5 @@
 use Rattle.std.proofs.Common.{length, sym, ap, ◌∙◌, arith}
-use Rattle.klsm_world.specs.OwnSteps.{inserted, deleted}
+use Rattle.klsm_schedules.specs.OwnSteps.{inserted, deleted}
 use Rattle.klsm_board.proofs.lemmas.ending.NumberLemmas.{first_of_number, item_at, none_more, none_numbered}
 use Rattle.klsm_board.proofs.finishing.counts_of.Goals as goal
 

@@ -2,8 +2,8 @@ use Rattle.std.proofs.Common.{ℕ, ◌+◌, ◌≤◌, ◌∷◌, ◌++◌, ◌�
 use Rattle.klsm_run.specs.Capacity.{heap_room}
 use Rattle.klsm_parts.specs.Limit.{limit_of}
 use Rattle.klsm_parts.specs.Events.{own_after_flush, shared_after_flush}
-use Rattle.klsm_world.specs.declared.step.Entry.TheVariants.{Committed}
-use Rattle.klsm_world.specs.declared.step.Event.TheVariants.{Flush}
+use Rattle.klsm_schedules.specs.declared.step.Entry.TheVariants.{Committed}
+use Rattle.klsm_schedules.specs.declared.step.Event.TheVariants.{Flush}
 use Rattle.klsm_board.specs.Steps.{mine}
 use Rattle.klsm_board.specs.Seats.{both_in_hand}
 use Rattle.klsm_board.specs.Entries.{both_released}

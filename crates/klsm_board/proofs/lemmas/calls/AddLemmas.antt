@@ -4,10 +4,10 @@ use Rattle.std.proofs.lemmas.Grind.{flat_map-append}
 use Rattle.std.specs.Prelude.{Option, Some, None}
 use Rattle.std.specs.List.{flat_map}
 use Rattle.klsm_run.specs.declared.item.Item.{Item}
-use Rattle.klsm_world.specs.declared.step.Event.{Event}
-use Rattle.klsm_world.specs.declared.step.Entry.{Entry}
-use Rattle.klsm_world.specs.declared.step.Entry.TheVariants.{Acquired, Looked}
-use Rattle.klsm_world.specs.OwnSteps.{inserted, inserted_by, deleted, deleted_by, own_part}
+use Rattle.klsm_schedules.specs.declared.step.Event.{Event}
+use Rattle.klsm_schedules.specs.declared.step.Entry.{Entry}
+use Rattle.klsm_schedules.specs.declared.step.Entry.TheVariants.{Acquired, Looked}
+use Rattle.klsm_schedules.specs.OwnSteps.{inserted, inserted_by, deleted, deleted_by, own_part}
 use Rattle.klsm_board.specs.Effects.{committed_in}
 use Rattle.klsm_board.specs.Entries.{own_acquired, both_acquired, own_looked, both_looked}
 use Rattle.klsm_board.proofs.lemmas.calls.EventLemmas.{events_append, same_events}

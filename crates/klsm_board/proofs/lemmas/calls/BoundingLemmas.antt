@@ -6,14 +6,14 @@ use Rattle.std.proofs.lemmas.Option.{none-some}
 use Rattle.std.proofs.Math.Nat.{mul-le-mul_left, mul-le-mul_right}
 use Rattle.klsm_run.specs.declared.item.Item.{Item}
 use Rattle.klsm_run.specs.declared.limits.TheConstants.{MOST_THREADS}
-use Rattle.klsm_world.specs.declared.step.Entry.{Entry}
-use Rattle.klsm_world.specs.declared.step.Entry.TheVariants.{Acquired, Missed, Released, Saw}
-use Rattle.klsm_world.specs.OwnSteps.{Hand, Holds, HoldsSome, content_in, found_in, hand_of, shared_part}
-use Rattle.klsm_world.specs.Worlds.{hand_in, live}
-use Rattle.klsm_world.specs.LiveLaws.{HasAllParts, held_below}
-use Rattle.klsm_world.specs.WorkLaws.{least_work}
-use Rattle.klsm_world.proofs.lemmas.hands.HandLemmas.{found_behind, found_first}
-use Rattle.klsm_world.proofs.lemmas.theorems.LiveLemmas.{full_hands_have_live, live_are_few}
+use Rattle.klsm_schedules.specs.declared.step.Entry.{Entry}
+use Rattle.klsm_schedules.specs.declared.step.Entry.TheVariants.{Acquired, Missed, Released, Saw}
+use Rattle.klsm_schedules.specs.OwnSteps.{Hand, Holds, HoldsSome, content_in, found_in, hand_of, shared_part}
+use Rattle.klsm_schedules.specs.Worlds.{hand_in, live}
+use Rattle.klsm_schedules.specs.LiveLaws.{HasAllParts, held_below}
+use Rattle.klsm_schedules.specs.WorkLaws.{least_work}
+use Rattle.klsm_schedules.proofs.lemmas.hands.HandLemmas.{found_behind, found_first}
+use Rattle.klsm_schedules.proofs.lemmas.theorems.LiveLemmas.{full_hands_have_live, live_are_few}
 use Rattle.klsm_board.specs.declared.bounding.Bound.{Bound}
 use Rattle.klsm_board.specs.declared.errors.Busy.{Busy}
 use Rattle.klsm_board.specs.declared.rule.Own.{Own}

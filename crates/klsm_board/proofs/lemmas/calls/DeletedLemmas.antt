@@ -6,11 +6,11 @@ use Rattle.std.proofs.lemmas.List.{append-nil}
 use Rattle.std.proofs.lemmas.List.Concat.{flat_map-cons}
 use Rattle.std.specs.Option.{is_some, option_to_list}
 use Rattle.klsm_run.specs.declared.item.Item.{Item}
-use Rattle.klsm_world.specs.declared.step.Event.{Event}
-use Rattle.klsm_world.specs.declared.step.Event.TheVariants.{Take, Early, Nothing, Spy}
-use Rattle.klsm_world.specs.declared.step.Entry.{Entry}
-use Rattle.klsm_world.specs.declared.step.Entry.TheVariants.{Acquired, Committed, Released}
-use Rattle.klsm_world.specs.OwnSteps.{no_key, own_part, event_at, inserted, inserted_by, deleted, deleted_by}
+use Rattle.klsm_schedules.specs.declared.step.Event.{Event}
+use Rattle.klsm_schedules.specs.declared.step.Event.TheVariants.{Take, Early, Nothing, Spy}
+use Rattle.klsm_schedules.specs.declared.step.Entry.{Entry}
+use Rattle.klsm_schedules.specs.declared.step.Entry.TheVariants.{Acquired, Committed, Released}
+use Rattle.klsm_schedules.specs.OwnSteps.{no_key, own_part, event_at, inserted, inserted_by, deleted, deleted_by}
 use Rattle.klsm_board.specs.Effects.{committed_in}
 use Rattle.klsm_board.specs.declared.sizes.Sizes.{Sizes}
 use Rattle.klsm_board.specs.declared.errors.Busy.{Busy}
@@ -50,10 +50,10 @@ spies_same threads t es es' moved spies =
     (inserts es es' added e ∙ append-nil (inserted es), deletes es es' added e ∙ append-nil (deleted es))
 
 -- a list that gained these events
-gained : (es es' : List Entry) (added : List Event) (ins dels : List Item) → committed_in es' ≡ committed_in es ++ added → (ins ≡ Rattle.std.specs.List.flat_map Rattle.klsm_world.specs.OwnSteps.inserted_by added) → (dels ≡ Rattle.std.specs.List.flat_map Rattle.klsm_world.specs.OwnSteps.deleted_by added) → Gains es es' ins dels
+gained : (es es' : List Entry) (added : List Event) (ins dels : List Item) → committed_in es' ≡ committed_in es ++ added → (ins ≡ Rattle.std.specs.List.flat_map Rattle.klsm_schedules.specs.OwnSteps.inserted_by added) → (dels ≡ Rattle.std.specs.List.flat_map Rattle.klsm_schedules.specs.OwnSteps.deleted_by added) → Gains es es' ins dels
 gained es es' added ins dels e i d = record {
-  inserted_are = inserts es es' added e ∙ ap (λ z. Rattle.klsm_world.specs.OwnSteps.inserted es ++ z) (sym i);
-  deleted_are = deletes es es' added e ∙ ap (λ z. Rattle.klsm_world.specs.OwnSteps.deleted es ++ z) (sym d);
+  inserted_are = inserts es es' added e ∙ ap (λ z. Rattle.klsm_schedules.specs.OwnSteps.inserted es ++ z) (sym i);
+  deleted_are = deletes es es' added e ∙ ap (λ z. Rattle.klsm_schedules.specs.OwnSteps.deleted es ++ z) (sym d);
 }
 
 -- items that move behind a Take are neither inserted nor deleted

@@ -6,10 +6,10 @@ use Rattle.atomic_table.specs.Table.{Me, rest}
 use Rattle.klsm_run.specs.declared.item.Item.{Item}
 use Rattle.klsm_parts.specs.Least.{IsLeast}
 use Rattle.klsm_parts.specs.Events.{MayTakeEarly, own_after_early}
-use Rattle.klsm_world.specs.declared.step.Event.TheVariants.{Early}
-use Rattle.klsm_world.specs.declared.step.Entry.{Entry}
-use Rattle.klsm_world.specs.declared.step.Entry.TheVariants.{Committed, Looked}
-use Rattle.klsm_world.specs.OwnSteps.{hand_of, own_part, work_of}
+use Rattle.klsm_schedules.specs.declared.step.Event.TheVariants.{Early}
+use Rattle.klsm_schedules.specs.declared.step.Entry.{Entry}
+use Rattle.klsm_schedules.specs.declared.step.Entry.TheVariants.{Committed, Looked}
+use Rattle.klsm_schedules.specs.OwnSteps.{hand_of, own_part, work_of}
 use Rattle.klsm_board.specs.declared.sizes.Sizes.{Sizes}
 use Rattle.klsm_board.specs.declared.rule.View.{View}
 use Rattle.klsm_board.specs.Steps.{gain, mine, rest_of, AreReached}

@@ -4,10 +4,10 @@ use Rattle.std.proofs.lemmas.List.{append-nil}
 use Rattle.std.proofs.lemmas.Grind.{flat_map-append}
 use Rattle.std.specs.List.{flat_map}
 use Rattle.klsm_run.specs.declared.item.Item.{Item}
-use Rattle.klsm_world.specs.declared.step.Event.{Event}
-use Rattle.klsm_world.specs.declared.step.Entry.{Entry}
-use Rattle.klsm_world.specs.OwnSteps.{event_at, inserted, inserted_by}
-use Rattle.klsm_world.specs.LegalSteps.{BearsStamp}
+use Rattle.klsm_schedules.specs.declared.step.Event.{Event}
+use Rattle.klsm_schedules.specs.declared.step.Entry.{Entry}
+use Rattle.klsm_schedules.specs.OwnSteps.{event_at, inserted, inserted_by}
+use Rattle.klsm_schedules.specs.LegalSteps.{BearsStamp}
 use Rattle.klsm_board.specs.Effects.{committed_in}
 
 -- entries without an event

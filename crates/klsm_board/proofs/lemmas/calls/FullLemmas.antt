@@ -5,10 +5,10 @@ use Rattle.klsm_run.specs.declared.item.Item.{Item}
 use Rattle.klsm_run.specs.Capacity.{heap_room}
 use Rattle.klsm_parts.specs.Limit.{limit_of}
 use Rattle.klsm_parts.specs.Events.{MayFlush}
-use Rattle.klsm_world.specs.declared.step.Event.TheVariants.{Flush}
-use Rattle.klsm_world.specs.declared.step.Entry.{Entry}
-use Rattle.klsm_world.specs.declared.step.Entry.TheVariants.{Acquired, Committed}
-use Rattle.klsm_world.specs.OwnSteps.{Hand, own_part, shared_part}
+use Rattle.klsm_schedules.specs.declared.step.Event.TheVariants.{Flush}
+use Rattle.klsm_schedules.specs.declared.step.Entry.{Entry}
+use Rattle.klsm_schedules.specs.declared.step.Entry.TheVariants.{Acquired, Committed}
+use Rattle.klsm_schedules.specs.OwnSteps.{Hand, own_part, shared_part}
 use Rattle.klsm_board.specs.Effects.{committed_in}
 use Rattle.klsm_board.specs.declared.sizes.Sizes.{Sizes}
 use Rattle.klsm_board.specs.declared.rule.View.{View}

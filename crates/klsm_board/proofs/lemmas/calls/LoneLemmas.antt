@@ -7,11 +7,11 @@ use Rattle.klsm_run.specs.Content.{skipped}
 use Rattle.klsm_run.specs.ItemOrder.{is_smaller}
 use Rattle.klsm_run.proofs.RankLemmas.{count_none}
 use Rattle.klsm_parts.specs.Events.{times, SkipsNoneOf}
-use Rattle.klsm_world.specs.OwnSteps.{inserted, own_part, shared_part}
-use Rattle.klsm_world.specs.Worlds.{Limits, World, content_of, live, live_below, steps_of}
-use Rattle.klsm_world.specs.LawfulWorlds.{IsLawful}
-use Rattle.klsm_world.proofs.lemmas.counts.EventCountLemmas.{contained_if_counted, times_contained}
-use Rattle.klsm_world.proofs.lemmas.theorems.StampLemmas.{inserted_bears, inserted_somewhere}
+use Rattle.klsm_schedules.specs.OwnSteps.{inserted, own_part, shared_part}
+use Rattle.klsm_schedules.specs.Worlds.{Limits, World, content_of, live, live_below, steps_of}
+use Rattle.klsm_schedules.specs.LawfulWorlds.{IsLawful}
+use Rattle.klsm_schedules.proofs.lemmas.counts.EventCountLemmas.{contained_if_counted, times_contained}
+use Rattle.klsm_schedules.proofs.lemmas.theorems.StampLemmas.{inserted_bears, inserted_somewhere}
 
 -- where all items are the owner's, and none of the owner's is smaller, none is
 none_smaller : (t : ℕ) (x : Item) (c : List Item) → AllByRecursion (λ y. y.stamp.owner ≡ t) c → SkipsNoneOf t c x → AllByRecursion (λ y. is_smaller y x ≡ false) c

@@ -15,10 +15,10 @@ use Rattle.klsm_run.proofs.RankLemmas.{empty_if_no_least}
 use Rattle.klsm_run.proofs.SortedLemmas.{length_sorted}
 use Rattle.klsm_parts.specs.Events.{front_of, key_or_greatest}
 use Rattle.klsm_parts.specs.Least.{IsLeast}
-use Rattle.klsm_world.specs.declared.step.Entry.{Entry}
-use Rattle.klsm_world.specs.declared.step.Entry.TheVariants.{Acquired, Released}
-use Rattle.klsm_world.specs.OwnSteps.{Hand, found_in}
-use Rattle.klsm_world.proofs.lemmas.theorems.LiveLemmas.{no_lesser_key}
+use Rattle.klsm_schedules.specs.declared.step.Entry.{Entry}
+use Rattle.klsm_schedules.specs.declared.step.Entry.TheVariants.{Acquired, Released}
+use Rattle.klsm_schedules.specs.OwnSteps.{Hand, found_in}
+use Rattle.klsm_schedules.proofs.lemmas.theorems.LiveLemmas.{no_lesser_key}
 use Rattle.klsm_board.specs.declared.bounding.Bound.{Bound}
 use Rattle.klsm_board.specs.declared.rule.View.{View}
 use Rattle.klsm_board.specs.declared.sizes.Sizes.{Sizes}

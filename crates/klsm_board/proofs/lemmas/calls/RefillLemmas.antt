@@ -7,9 +7,9 @@ use Rattle.klsm_parts.specs.Least.{IsLeast}
 use Rattle.klsm_parts.specs.Events.{times, MayTake, own_after_take, shared_after_take}
 use Rattle.klsm_parts.specs.Refilling.{refill_count, refill_of}
 use Rattle.klsm_parts.proofs.EventLemmas.{is_in}
-use Rattle.klsm_world.specs.declared.step.Event.TheVariants.{Refill}
-use Rattle.klsm_world.specs.declared.step.Entry.TheVariants.{Committed}
-use Rattle.klsm_world.proofs.lemmas.counts.EventCountLemmas.{length_without, times_contained, taken_from_shared}
+use Rattle.klsm_schedules.specs.declared.step.Event.TheVariants.{Refill}
+use Rattle.klsm_schedules.specs.declared.step.Entry.TheVariants.{Committed}
+use Rattle.klsm_schedules.proofs.lemmas.counts.EventCountLemmas.{length_without, times_contained, taken_from_shared}
 use Rattle.klsm_board.specs.Deleting.{refilled, refilled_after}
 
 -- items that move add one entry

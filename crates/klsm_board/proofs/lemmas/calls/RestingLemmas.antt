@@ -1,8 +1,8 @@
 -- What a rest adds to its member's list commits nothing.
 use Rattle.std.proofs.Common.{◌≡◌, ℕ, zero, suc, List, [], ◌∷◌, Result, Err, Ok, IfErr, OnOk, refl, ap, ◌∙◌}
-use Rattle.klsm_world.specs.declared.step.Entry.{Entry}
-use Rattle.klsm_world.specs.declared.step.Entry.TheVariants.{Missed}
-use Rattle.klsm_world.specs.OwnSteps.{no_key}
+use Rattle.klsm_schedules.specs.declared.step.Entry.{Entry}
+use Rattle.klsm_schedules.specs.declared.step.Entry.TheVariants.{Missed}
+use Rattle.klsm_schedules.specs.OwnSteps.{no_key}
 use Rattle.klsm_board.specs.declared.errors.Busy.{Busy}
 use Rattle.klsm_board.specs.Boards.{Gains}
 use Rattle.klsm_board.specs.Effects.{committed_in}

@@ -4,12 +4,12 @@ use Rattle.std.specs.Prelude.{min}
 use Rattle.std.proofs.lemmas.List.{append-nil}
 use Rattle.std.proofs.lemmas.List.Sums.{fold-append}
 use Rattle.atomic_table.specs.Table.{Me}
-use Rattle.klsm_world.specs.declared.step.Entry.{Entry}
-use Rattle.klsm_world.specs.declared.step.Entry.TheVariants.{Saw}
-use Rattle.klsm_world.specs.OwnSteps.{seen_after, seen_of, work_of}
-use Rattle.klsm_world.specs.Worlds.{World, steps_of}
-use Rattle.klsm_world.specs.WorkLaws.{AreAtWork, least_work}
-use Rattle.klsm_world.proofs.lemmas.theorems.SeenLemmas.{seen_keys_hold}
+use Rattle.klsm_schedules.specs.declared.step.Entry.{Entry}
+use Rattle.klsm_schedules.specs.declared.step.Entry.TheVariants.{Saw}
+use Rattle.klsm_schedules.specs.OwnSteps.{seen_after, seen_of, work_of}
+use Rattle.klsm_schedules.specs.Worlds.{World, steps_of}
+use Rattle.klsm_schedules.specs.WorkLaws.{AreAtWork, least_work}
+use Rattle.klsm_schedules.proofs.lemmas.theorems.SeenLemmas.{seen_keys_hold}
 use Rattle.klsm_board.specs.declared.rule.View.{View}
 use Rattle.klsm_board.specs.declared.sizes.Sizes.{Sizes}
 use Rattle.klsm_board.specs.Bounding.{keys_seen, least_key}

@@ -4,10 +4,10 @@ use Rattle.atomic_table.specs.Table.{Me}
 use Rattle.std.specs.List.{slice_get}
 use Rattle.klsm_run.specs.declared.item.Item.{Item}
 use Rattle.klsm_parts.specs.Stealing.{MaySteal, own_after_steal, victim_after_steal, steal_of}
-use Rattle.klsm_world.specs.declared.step.Event.TheVariants.{Steal}
-use Rattle.klsm_world.specs.declared.step.Entry.{Entry}
-use Rattle.klsm_world.specs.declared.step.Entry.TheVariants.{Acquired, Committed, Released, Missed}
-use Rattle.klsm_world.specs.OwnSteps.{own_part}
+use Rattle.klsm_schedules.specs.declared.step.Event.TheVariants.{Steal}
+use Rattle.klsm_schedules.specs.declared.step.Entry.{Entry}
+use Rattle.klsm_schedules.specs.declared.step.Entry.TheVariants.{Acquired, Committed, Released, Missed}
+use Rattle.klsm_schedules.specs.OwnSteps.{own_part}
 use Rattle.klsm_board.specs.declared.sizes.Sizes.{Sizes}
 use Rattle.klsm_board.specs.declared.rule.View.{View}
 use Rattle.klsm_board.specs.declared.errors.Busy.{Busy}

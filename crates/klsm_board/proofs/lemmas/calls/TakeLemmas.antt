@@ -7,7 +7,7 @@ use Rattle.klsm_run.specs.declared.item.Item.{Item}
 use Rattle.klsm_run.specs.Content.{without}
 use Rattle.klsm_parts.specs.Least.{IsLeast}
 use Rattle.klsm_parts.specs.Events.{times, IsInReach, MayTake, shared_after_take}
-use Rattle.klsm_world.proofs.lemmas.counts.EventCountLemmas.{length_without, taken_from_shared}
+use Rattle.klsm_schedules.proofs.lemmas.counts.EventCountLemmas.{length_without, taken_from_shared}
 
 none_within : (x : Item) → Contains [] x → ⊥
 none_within x within = omega (arith, within.1)

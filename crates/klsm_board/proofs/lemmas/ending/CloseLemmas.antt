@@ -17,16 +17,16 @@ use Rattle.klsm_run.proofs.RankLemmas.{count_sorted}
 use Rattle.klsm_run.proofs.SortedLemmas.{length_sorted}
 use Rattle.klsm_parts.specs.Events.{times}
 use Rattle.klsm_parts.specs.Parts.{PartState}
-use Rattle.klsm_world.specs.declared.step.Entry.{Entry}
-use Rattle.klsm_world.specs.OwnSteps.{content_in, deleted, found_in, hand_of}
-use Rattle.klsm_world.specs.Worlds.{World, content_of, hand_in, holder_of, live, live_below, word_of}
-use Rattle.klsm_world.specs.LawfulWorlds.{IsLawful}
-use Rattle.klsm_world.specs.Account.{account}
-use Rattle.klsm_world.proofs.lemmas.lists.ListLemmas.{items_more}
-use Rattle.klsm_world.proofs.lemmas.theorems.AccountLemmas.{left_is_live, accounts_add_up}
-use Rattle.klsm_world.proofs.lemmas.theorems.LiveOnceLemmas.{inserted_once}
-use Rattle.klsm_world.proofs.lemmas.theorems.OwnEventLemmas.{lists_have_events}
-use Rattle.klsm_world.proofs.lemmas.theorems.RunLemmas.{schedules_are_runs, schedules_keep_lawful}
+use Rattle.klsm_schedules.specs.declared.step.Entry.{Entry}
+use Rattle.klsm_schedules.specs.OwnSteps.{content_in, deleted, found_in, hand_of}
+use Rattle.klsm_schedules.specs.Worlds.{World, content_of, hand_in, holder_of, live, live_below, word_of}
+use Rattle.klsm_schedules.specs.LawfulWorlds.{IsLawful}
+use Rattle.klsm_schedules.specs.Account.{account}
+use Rattle.klsm_schedules.proofs.lemmas.lists.ListLemmas.{items_more}
+use Rattle.klsm_schedules.proofs.lemmas.theorems.AccountLemmas.{left_is_live, accounts_add_up}
+use Rattle.klsm_schedules.proofs.lemmas.theorems.LiveOnceLemmas.{inserted_once}
+use Rattle.klsm_schedules.proofs.lemmas.theorems.OwnEventLemmas.{lists_have_events}
+use Rattle.klsm_schedules.proofs.lemmas.theorems.RunLemmas.{schedules_are_runs, schedules_keep_lawful}
 use Rattle.klsm_board.specs.declared.board.Member.{Member}
 use Rattle.klsm_board.specs.declared.rule.View.{View}
 use Rattle.klsm_board.specs.declared.sizes.Sizes.{Sizes}

@@ -6,13 +6,13 @@ use mathlib.Core.Logic.{dite}
 use native.Mathlib.Decide.{ℕ_discrete}
 use mathlib.Core.Option.{some, some-injective, some-ne-none}
 use lib.ListN.{get_elem?}
-use Rattle.klsm_world.specs.declared.step.Entry.{Entry}
+use Rattle.klsm_schedules.specs.declared.step.Entry.{Entry}
 use Rattle.klsm_board.specs.declared.board.Member.{Member}
 use Rattle.klsm_board.specs.Boards.{own_steps}
 use Rattle.klsm_board.specs.Finishing.{AreAll, IsLeastAbsent, HasMember, lists_of, steps_among}
 use Rattle.klsm_board.proofs.lemmas.ending.JoinLemmas.{at_end, at_front}
 use Rattle.klsm_board.proofs.lemmas.ending.ListLemmas.{got}
-use Rattle.klsm_world.proofs.lemmas.hands.HandLemmas.{choice_hit, choice_miss}
+use Rattle.klsm_schedules.proofs.lemmas.hands.HandLemmas.{choice_hit, choice_miss}
 
 -- two lists of one length are the same where what stands in one stands in the other
 pub same_lists : {A : Type 0} (xs ys : List A) → length xs ≡ length ys → ((i : ℕ) (a : A) → get_elem? ys i ≡ some a → get_elem? xs i ≡ some a) → xs ≡ ys

@@ -11,16 +11,16 @@ use lib.ListN.{get_elem?}
 use Rattle.atomic_table.proofs.Lists.{at_snoc}
 use Rattle.klsm_run.specs.declared.item.Item.{Item}
 use Rattle.klsm_run.proofs.SortedLemmas.{length_sorted}
-use Rattle.klsm_world.specs.declared.step.Step.{Step}
-use Rattle.klsm_world.specs.declared.step.Step.TheVariants.{Acquire, Commit, Release, Miss, Look, Mark, See}
-use Rattle.klsm_world.specs.declared.step.Entry.{Entry}
-use Rattle.klsm_world.specs.declared.step.Entry.TheVariants.{Acquired, Committed, Released, Missed, Looked, Marked, Saw}
-use Rattle.klsm_world.specs.OwnSteps.{content_in, inserted, work_of}
-use Rattle.klsm_world.specs.Worlds.{Limits, World, content_of, hand_in, holder_of, home_of, live, live_below, steps_of}
-use Rattle.klsm_world.specs.LawfulWorlds.{IsLawful}
-use Rattle.klsm_world.specs.Schedules.{Leads, MayAcquire, MayStep, next, noted}
-use Rattle.klsm_world.proofs.lemmas.theorems.AccountLemmas.{accounts_add_up, left_is_live}
-use Rattle.klsm_world.proofs.lemmas.theorems.RunLemmas.{schedules_keep_lawful}
+use Rattle.klsm_schedules.specs.declared.step.Step.{Step}
+use Rattle.klsm_schedules.specs.declared.step.Step.TheVariants.{Acquire, Commit, Release, Miss, Look, Mark, See}
+use Rattle.klsm_schedules.specs.declared.step.Entry.{Entry}
+use Rattle.klsm_schedules.specs.declared.step.Entry.TheVariants.{Acquired, Committed, Released, Missed, Looked, Marked, Saw}
+use Rattle.klsm_schedules.specs.OwnSteps.{content_in, inserted, work_of}
+use Rattle.klsm_schedules.specs.Worlds.{Limits, World, content_of, hand_in, holder_of, home_of, live, live_below, steps_of}
+use Rattle.klsm_schedules.specs.LawfulWorlds.{IsLawful}
+use Rattle.klsm_schedules.specs.Schedules.{Leads, MayAcquire, MayStep, next, noted}
+use Rattle.klsm_schedules.proofs.lemmas.theorems.AccountLemmas.{accounts_add_up, left_is_live}
+use Rattle.klsm_schedules.proofs.lemmas.theorems.RunLemmas.{schedules_keep_lawful}
 use Rattle.klsm_board.proofs.lemmas.table.KeepLemmas.{insertions_more}
 
 -- how many items all threads inserted

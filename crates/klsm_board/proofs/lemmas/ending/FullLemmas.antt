@@ -9,9 +9,9 @@ use mathlib.Core.Option.{some}
 use lib.ListN.{get_elem?}
 use Rattle.klsm_run.specs.Capacity.{heap_room}
 use Rattle.klsm_parts.specs.Limit.{limit_of}
-use Rattle.klsm_world.specs.declared.step.Entry.{Entry}
-use Rattle.klsm_world.specs.declared.step.Entry.TheVariants.{Acquired}
-use Rattle.klsm_world.specs.OwnSteps.{inserted, shared_part}
+use Rattle.klsm_schedules.specs.declared.step.Entry.{Entry}
+use Rattle.klsm_schedules.specs.declared.step.Entry.TheVariants.{Acquired}
+use Rattle.klsm_schedules.specs.OwnSteps.{inserted, shared_part}
 use Rattle.klsm_board.specs.declared.board.Member.{Member}
 use Rattle.klsm_board.specs.declared.sizes.Sizes.{Sizes}
 use Rattle.klsm_board.specs.Boards.{Adds, IsSame, known_of_others, own_steps}

@@ -16,14 +16,14 @@ use Rattle.klsm_run.proofs.ContentLemmas.{sorted_itself}
 use Rattle.klsm_run.proofs.RankLemmas.{count_sorted}
 use Rattle.klsm_run.proofs.WithoutLemmas.{sorted_without, without_placed}
 use Rattle.klsm_parts.specs.Events.{minus, plus, times}
-use Rattle.klsm_world.specs.declared.step.Entry.{Entry}
-use Rattle.klsm_world.specs.OwnSteps.{deleted, inserted}
-use Rattle.klsm_world.specs.Worlds.{live}
-use Rattle.klsm_world.specs.Account.{account}
-use Rattle.klsm_world.proofs.lemmas.counts.EventCountLemmas.{times_append}
-use Rattle.klsm_world.proofs.lemmas.counts.SameLemmas.{same_if_counted}
-use Rattle.klsm_world.proofs.lemmas.theorems.AccountLemmas.{left_is_live}
-use Rattle.klsm_world.proofs.lemmas.theorems.RunLemmas.{schedules_keep_lawful}
+use Rattle.klsm_schedules.specs.declared.step.Entry.{Entry}
+use Rattle.klsm_schedules.specs.OwnSteps.{deleted, inserted}
+use Rattle.klsm_schedules.specs.Worlds.{live}
+use Rattle.klsm_schedules.specs.Account.{account}
+use Rattle.klsm_schedules.proofs.lemmas.counts.EventCountLemmas.{times_append}
+use Rattle.klsm_schedules.proofs.lemmas.counts.SameLemmas.{same_if_counted}
+use Rattle.klsm_schedules.proofs.lemmas.theorems.AccountLemmas.{left_is_live}
+use Rattle.klsm_schedules.proofs.lemmas.theorems.RunLemmas.{schedules_keep_lawful}
 use Rattle.klsm_board.specs.declared.board.Member.{Member}
 use Rattle.klsm_board.specs.declared.rule.Own.{Own}
 use Rattle.klsm_board.specs.declared.rule.View.{View}

@@ -11,7 +11,7 @@ use Rattle.klsm_run.specs.declared.item.Item.{Item}
 use Rattle.klsm_run.specs.Content.{sorted}
 use Rattle.klsm_run.proofs.SortedLemmas.{length_sorted}
 use Rattle.klsm_run.proofs.ContentLemmas.{sorted_same_behind, sorted_sorted}
-use Rattle.klsm_world.proofs.lemmas.lists.ListLemmas.{items_more}
+use Rattle.klsm_schedules.proofs.lemmas.lists.ListLemmas.{items_more}
 
 -- what is found at a place within a list
 pub got : {A : Type 0} (xs : List A) (n : ℕ) (y d : A) → get_elem? xs n ≡ some y → get_or xs n d ≡ y

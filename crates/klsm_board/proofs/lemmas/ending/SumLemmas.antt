@@ -4,9 +4,9 @@ use Rattle.std.specs.List.{flat_map}
 use mathlib.Core.Logic.{dite}
 use native.Mathlib.Decide.{ℕ_discrete}
 use Rattle.klsm_run.specs.declared.item.Item.{Item}
-use Rattle.klsm_world.specs.declared.step.Entry.{Entry}
-use Rattle.klsm_world.specs.OwnSteps.{inserted, deleted}
-use Rattle.klsm_world.proofs.lemmas.counts.ItemGrowthLemmas.{flat_map_more}
+use Rattle.klsm_schedules.specs.declared.step.Entry.{Entry}
+use Rattle.klsm_schedules.specs.OwnSteps.{inserted, deleted}
+use Rattle.klsm_schedules.proofs.lemmas.counts.ItemGrowthLemmas.{flat_map_more}
 use Rattle.klsm_board.specs.declared.board.Member.{Member}
 use Rattle.klsm_board.specs.Members.{most_insertions, most_deletions}
 use Rattle.klsm_board.specs.Finishing.{HasMember, lists_of, steps_among}

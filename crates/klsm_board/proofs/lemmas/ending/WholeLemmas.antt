@@ -18,16 +18,16 @@ use Rattle.klsm_run.proofs.RankLemmas.{count_sorted}
 use Rattle.klsm_run.proofs.SortedLemmas.{length_sorted}
 use Rattle.klsm_parts.specs.Events.{minus}
 use Rattle.klsm_parts.specs.Parts.{PartState}
-use Rattle.klsm_world.specs.declared.step.Event.{Event}
-use Rattle.klsm_world.specs.declared.step.Event.TheVariants.{Put, Flush, Take, Early, Nothing, Spy, Refill, Steal, Share}
-use Rattle.klsm_world.specs.declared.step.Entry.{Entry}
-use Rattle.klsm_world.specs.OwnSteps.{found_in, hand_of, inserted, deleted}
-use Rattle.klsm_world.specs.Worlds.{live, steps_of}
-use Rattle.klsm_world.specs.LawfulWorlds.{IsLawful}
-use Rattle.klsm_world.specs.Account.{account}
-use Rattle.klsm_world.proofs.lemmas.theorems.AccountLemmas.{left_is_live}
-use Rattle.klsm_world.proofs.lemmas.theorems.OwnEventLemmas.{lists_have_events}
-use Rattle.klsm_world.proofs.lemmas.theorems.RunLemmas.{schedules_are_runs, schedules_keep_lawful}
+use Rattle.klsm_schedules.specs.declared.step.Event.{Event}
+use Rattle.klsm_schedules.specs.declared.step.Event.TheVariants.{Put, Flush, Take, Early, Nothing, Spy, Refill, Steal, Share}
+use Rattle.klsm_schedules.specs.declared.step.Entry.{Entry}
+use Rattle.klsm_schedules.specs.OwnSteps.{found_in, hand_of, inserted, deleted}
+use Rattle.klsm_schedules.specs.Worlds.{live, steps_of}
+use Rattle.klsm_schedules.specs.LawfulWorlds.{IsLawful}
+use Rattle.klsm_schedules.specs.Account.{account}
+use Rattle.klsm_schedules.proofs.lemmas.theorems.AccountLemmas.{left_is_live}
+use Rattle.klsm_schedules.proofs.lemmas.theorems.OwnEventLemmas.{lists_have_events}
+use Rattle.klsm_schedules.proofs.lemmas.theorems.RunLemmas.{schedules_are_runs, schedules_keep_lawful}
 use Rattle.klsm_board.specs.declared.board.Member.{Member}
 use Rattle.klsm_board.specs.declared.bounding.Bound.{Bound}
 use Rattle.klsm_board.specs.declared.errors.Busy.{Busy}

@@ -9,10 +9,10 @@ use Rattle.klsm_run.proofs.WithoutLemmas.{sorted_cancel}
 use Rattle.klsm_parts.specs.Events.{MayPut, MayFlush, MayTake, MayTakeEarly, MaySpy, MayRefill, own_after_put, own_after_flush, shared_after_flush, own_after_take, shared_after_take, own_after_early, own_after_spy, victim_after_spy, own_after_refill, shared_after_refill, front_of}
 use Rattle.klsm_parts.specs.Stealing.{MaySteal, own_after_steal, victim_after_steal}
 use Rattle.klsm_parts.specs.Sharing.{MayShare, own_after_share, shared_after_share}
-use Rattle.klsm_world.specs.declared.step.Event.TheVariants.{Put, Flush, Take, Early, Spy, Refill, Steal, Share}
-use Rattle.klsm_world.specs.OwnSteps.{Hand, Holds, found_in, hand_of, inserted, content_in, after_event, shared_part}
-use Rattle.klsm_world.specs.LegalSteps.{BearsStamp, MayCommit}
-use Rattle.klsm_world.proofs.lemmas.counts.EventCountLemmas.{length_plus}
+use Rattle.klsm_schedules.specs.declared.step.Event.TheVariants.{Put, Flush, Take, Early, Spy, Refill, Steal, Share}
+use Rattle.klsm_schedules.specs.OwnSteps.{Hand, Holds, found_in, hand_of, inserted, content_in, after_event, shared_part}
+use Rattle.klsm_schedules.specs.LegalSteps.{BearsStamp, MayCommit}
+use Rattle.klsm_schedules.proofs.lemmas.counts.EventCountLemmas.{length_plus}
 use Rattle.std.specs.Prelude.{unwrap_or}
 use Rattle.std.proofs.lemmas.Option.{same_Some}
 use Rattle.klsm_board.specs.declared.sizes.Sizes.{Sizes}

@@ -4,9 +4,9 @@ use Rattle.klsm_run.specs.declared.item.Item.{Item}
 use Rattle.klsm_parts.specs.Events.{own_after_put, own_after_flush, shared_after_flush, own_after_take, shared_after_take, own_after_early, own_after_spy, victim_after_spy, own_after_refill, shared_after_refill}
 use Rattle.klsm_parts.specs.Stealing.{own_after_steal, victim_after_steal}
 use Rattle.klsm_parts.specs.Sharing.{own_after_share, shared_after_share}
-use Rattle.klsm_world.specs.declared.step.Event.TheVariants.{Put, Flush, Take, Early, Spy, Refill, Steal, Share}
-use Rattle.klsm_world.specs.OwnSteps.{Hand, found_in, content_in, changed, after_event}
-use Rattle.klsm_world.proofs.lemmas.hands.HandLemmas.{choice_hit, choice_miss, found_first, found_behind}
+use Rattle.klsm_schedules.specs.declared.step.Event.TheVariants.{Put, Flush, Take, Early, Spy, Refill, Steal, Share}
+use Rattle.klsm_schedules.specs.OwnSteps.{Hand, found_in, content_in, changed, after_event}
+use Rattle.klsm_schedules.proofs.lemmas.hands.HandLemmas.{choice_hit, choice_miss, found_first, found_behind}
 use Rattle.klsm_board.specs.Seats.{own_in_hand, both_in_hand, three_in_hand, victim_in_hand}
 use Rattle.std.specs.Prelude.{unwrap_or}
 

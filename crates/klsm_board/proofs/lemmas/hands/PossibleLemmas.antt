@@ -6,13 +6,13 @@ use Rattle.atomic_table.specs.Table.{Me}
 use Rattle.klsm_run.specs.declared.item.Item.{Item}
 use Rattle.klsm_run.specs.Content.{ShareNone}
 use Rattle.klsm_parts.specs.Events.{times, MayTake, MayTakeEarly, MayFindNothing, MayRefill}
-use Rattle.klsm_world.specs.declared.step.Entry.{Entry}
-use Rattle.klsm_world.specs.OwnSteps.{Hand, Holds, found_in, hand_of, inserted}
-use Rattle.klsm_world.specs.LegalSteps.{BearsStamp}
-use Rattle.klsm_world.specs.OwnListLaws.{IsPossible, SkipsFew, SkipsFewBy, KeepsOwnOrder, KeepsOwnOrderBy, LeavesFew}
-use Rattle.klsm_world.proofs.lemmas.counts.EventCountLemmas.{times_contained, contained_if_counted}
-use Rattle.klsm_world.proofs.lemmas.theorems.OwnListLemmas.{hands_are_apart, next_is_new_in_hand, lists_skip_few, lists_skip_few_early, lists_keep_order, lists_keep_order_early, lists_leave_few}
-use Rattle.klsm_world.proofs.lemmas.theorems.RunLemmas.{schedules_keep_lawful}
+use Rattle.klsm_schedules.specs.declared.step.Entry.{Entry}
+use Rattle.klsm_schedules.specs.OwnSteps.{Hand, Holds, found_in, hand_of, inserted}
+use Rattle.klsm_schedules.specs.LegalSteps.{BearsStamp}
+use Rattle.klsm_schedules.specs.OwnListLaws.{IsPossible, SkipsFew, SkipsFewBy, KeepsOwnOrder, KeepsOwnOrderBy, LeavesFew}
+use Rattle.klsm_schedules.proofs.lemmas.counts.EventCountLemmas.{times_contained, contained_if_counted}
+use Rattle.klsm_schedules.proofs.lemmas.theorems.OwnListLemmas.{hands_are_apart, next_is_new_in_hand, lists_skip_few, lists_skip_few_early, lists_keep_order, lists_keep_order_early, lists_leave_few}
+use Rattle.klsm_schedules.proofs.lemmas.theorems.RunLemmas.{schedules_keep_lawful}
 use Rattle.klsm_board.specs.declared.sizes.Sizes.{Sizes}
 use Rattle.klsm_board.specs.declared.rule.View.{View}
 use Rattle.klsm_board.specs.Rule.{world_limits, IsReached}

@@ -1,20 +1,20 @@
 -- The mark of a thread and the key that it works at, by its list, and when the two are the same.
-use Rattle.std.proofs.Common.{◌≡◌, ◌≢◌, ℕ, ◌+◌, List, [], ◌∷◌, ◌++◌, length, sym, refl, ap, ◌∙◌}
-use Rattle.std.specs.Prelude.{Some, None}
+use Rattle.std.proofs.Common.{◌≡◌, ◌≢◌, ℕ, List, [], ◌∷◌, ◌++◌, sym, refl, ap, ◌∙◌}
+use Rattle.std.specs.Prelude.{None}
 use Rattle.std.proofs.lemmas.Option.{none-some}
 use Rattle.std.specs.List.{fold}
 use Rattle.std.proofs.lemmas.List.Sums.{fold-append}
 use mathlib.Core.Logic.{dite}
 use native.Mathlib.Decide.{ℕ_discrete}
 use Rattle.klsm_run.specs.declared.item.Item.{Item}
-use Rattle.klsm_world.specs.declared.step.Event.{Event}
-use Rattle.klsm_world.specs.declared.step.Event.TheVariants.{Put, Flush, Take, Early, Nothing, Spy, Refill, Steal, Share}
-use Rattle.klsm_world.specs.declared.step.Entry.{Entry}
-use Rattle.klsm_world.specs.declared.step.Entry.TheVariants.{Acquired, Committed, Released}
-use Rattle.klsm_world.specs.OwnSteps.{Hand, Holds, after_entry, found_in, hand_of, mark_after, mark_of, no_key, own_part, without_part, work_after, work_at, work_of}
-use Rattle.klsm_world.specs.LegalSteps.{MayCommit}
-use Rattle.klsm_world.proofs.lemmas.hands.HandLemmas.{found_behind, found_first, held_after_event, without_part_elsewhere}
-use Rattle.klsm_world.proofs.lemmas.hands.NotedLemmas.{hand_of_more}
+use Rattle.klsm_schedules.specs.declared.step.Event.{Event}
+use Rattle.klsm_schedules.specs.declared.step.Event.TheVariants.{Put, Flush, Take, Early, Nothing, Spy, Refill, Steal, Share}
+use Rattle.klsm_schedules.specs.declared.step.Entry.{Entry}
+use Rattle.klsm_schedules.specs.declared.step.Entry.TheVariants.{Acquired, Committed, Released}
+use Rattle.klsm_schedules.specs.OwnSteps.{Hand, Holds, after_entry, found_in, hand_of, mark_after, mark_of, no_key, own_part, work_after, work_at, work_of}
+use Rattle.klsm_schedules.specs.LegalSteps.{MayCommit}
+use Rattle.klsm_schedules.proofs.lemmas.hands.HandLemmas.{found_behind, found_first, held_after_event, without_part_elsewhere}
+use Rattle.klsm_schedules.proofs.lemmas.hands.NotedLemmas.{hand_of_more}
 use Rattle.klsm_board.specs.Seats.{IsMarked, LeavesWork}
 
 -- the key in work after some more entries

@@ -9,9 +9,9 @@ use Rattle.std.proofs.Math.Nat.{mul-le-mul_left, mul-le-mul_right}
 use Rattle.atomic_table.specs.Table.{Me}
 use Rattle.klsm_run.specs.declared.limits.TheConstants.{MOST_THREADS}
 use Rattle.klsm_parts.specs.Parts.{PartState}
-use Rattle.klsm_world.specs.OwnSteps.{Hand, content_in, hand_of, inserted, deleted}
-use Rattle.klsm_world.proofs.lemmas.hands.HandLemmas.{found_first}
-use Rattle.klsm_world.proofs.lemmas.theorems.OwnListLemmas.{own_deletions_are_few}
+use Rattle.klsm_schedules.specs.OwnSteps.{Hand, content_in, hand_of, inserted, deleted}
+use Rattle.klsm_schedules.proofs.lemmas.hands.HandLemmas.{found_first}
+use Rattle.klsm_schedules.proofs.lemmas.theorems.OwnListLemmas.{own_deletions_are_few}
 use Rattle.klsm_board.specs.declared.sizes.Sizes.{Sizes}
 use Rattle.klsm_board.specs.declared.rule.View.{View}
 use Rattle.klsm_board.specs.declared.slot.Slot.{Slot}

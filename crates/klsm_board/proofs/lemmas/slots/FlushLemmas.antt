@@ -9,7 +9,7 @@ use Rattle.klsm_parts.specs.declared.LsmError.{LsmError}
 use Rattle.klsm_parts.specs.Parts.{PartState, items_in}
 use Rattle.klsm_parts.specs.Events.{MayFlush, own_after_flush, shared_after_flush}
 use Rattle.klsm_parts.specs.Flushing.{moved}
-use Rattle.klsm_world.specs.OwnSteps.{own_part}
+use Rattle.klsm_schedules.specs.OwnSteps.{own_part}
 use Rattle.klsm_board.specs.declared.slot.Slot.TheVariants.{Own, Common}
 use Rattle.klsm_board.specs.Slots.{slot_content, IsSlotOf}
 use Rattle.klsm_board.proofs.lemmas.slots.KindLemmas.{AnySlot, AnyHome, own_content, shared_content, own_k}

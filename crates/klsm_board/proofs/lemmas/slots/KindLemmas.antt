@@ -6,7 +6,7 @@ use Rattle.klsm_run.specs.Content.{sorted, ShareNone}
 use Rattle.klsm_run.proofs.ContainsLemmas.{contains_sorted}
 use Rattle.klsm_parts.specs.Parts.{PartState, items_in}
 use Rattle.klsm_parts.specs.Events.{MayPut, own_after_put}
-use Rattle.klsm_world.specs.OwnSteps.{own_part, shared_part}
+use Rattle.klsm_schedules.specs.OwnSteps.{own_part, shared_part}
 use Rattle.klsm_board.specs.declared.slot.Home.{Home}
 use Rattle.klsm_board.specs.declared.slot.Slot.{Slot}
 use Rattle.klsm_board.specs.declared.slot.Slot.TheVariants.{Own, Common, Vacant}
@@ -40,8 +40,8 @@ shared_k k p slot shared is kind = let shared_kind = subst (IsSlotOf k p) is kin
 pub has_places : (k p : ℕ) (slot : AnySlot) (own : AnyHome) → slot ≡ Own own → IsSlotOf k p slot → (k ≤ vec_len own.places) × (own.count ≤ k)
 has_places k p slot own is kind = let own_kind = subst (IsSlotOf k p) is kind in (own_kind.2, own_kind.3)
 
--- a slot stays one of a member where its part keeps its k
-pub keeps_own : (slot : AnySlot) (own : AnyHome) (new : PartState) → slot ≡ Own own → new.k ≡ own.part.k → (k p : ℕ) → IsSlotOf k p slot → IsSlotOf k p (Own (record { part = new; places = own.places; count = own.count }))
+-- a slot stays one of a member if its part keeps its k
+pub keeps_own : (slot : AnySlot) (own : AnyHome) (new : PartState) → slot ≡ Own own → new.k ≡ own.part.k → (k p : ℕ) → IsSlotOf k p slot → IsSlotOf k p (Own (record { part = new; places = own.places; count = own.count; unions = own.unions }))
 keeps_own slot own new is same k p kind = let own_kind = subst (IsSlotOf k p) is kind in (own_kind.0, same ∙ own_kind.1, own_kind.2, own_kind.3)
 
 -- the same of the shared part's slot

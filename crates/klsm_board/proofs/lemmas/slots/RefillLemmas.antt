@@ -8,7 +8,7 @@ use Rattle.klsm_run.proofs.SortedLemmas.{length_sorted}
 use Rattle.klsm_parts.specs.Parts.{PartState, items_in}
 use Rattle.klsm_parts.specs.Events.{MayRefill, shared_after_refill}
 use Rattle.klsm_parts.specs.Refilling.{refill_count, refill_of}
-use Rattle.klsm_world.specs.OwnSteps.{own_part}
+use Rattle.klsm_schedules.specs.OwnSteps.{own_part}
 use Rattle.klsm_board.specs.declared.slot.Slot.TheVariants.{Own, Common}
 use Rattle.klsm_board.specs.Slots.{slot_content, slot_arriving, IsSlotOf}
 use Rattle.klsm_board.proofs.lemmas.slots.KindLemmas.{AnySlot, AnyHome, own_content, shared_content, own_k}

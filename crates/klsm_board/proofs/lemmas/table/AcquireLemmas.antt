@@ -9,13 +9,13 @@ use Rattle.std.proofs.lemmas.Option.{none-some}
 use Rattle.atomic_table.specs.Table.{State, Me, step, keeps, takes, Allows}
 use Rattle.atomic_table.proofs.Lists.{at_set, set_here, set_else, exchanged}
 use Rattle.klsm_run.specs.declared.item.Item.{Item}
-use Rattle.klsm_world.specs.declared.step.Entry.{Entry}
-use Rattle.klsm_world.specs.declared.step.Entry.TheVariants.{Acquired, Missed}
-use Rattle.klsm_world.specs.declared.step.Step.{Step as WorldStep}
-use Rattle.klsm_world.specs.declared.step.Step.TheVariants.{Acquire, Miss}
-use Rattle.klsm_world.specs.OwnSteps.{HoldsSome, found_in, hand_of}
-use Rattle.klsm_world.specs.Worlds.{World, steps_of, hand_in, home_of}
-use Rattle.klsm_world.specs.Schedules.{Leads}
+use Rattle.klsm_schedules.specs.declared.step.Entry.{Entry}
+use Rattle.klsm_schedules.specs.declared.step.Entry.TheVariants.{Acquired, Missed}
+use Rattle.klsm_schedules.specs.declared.step.Step.{Step as WorldStep}
+use Rattle.klsm_schedules.specs.declared.step.Step.TheVariants.{Acquire, Miss}
+use Rattle.klsm_schedules.specs.OwnSteps.{HoldsSome, found_in, hand_of}
+use Rattle.klsm_schedules.specs.Worlds.{World, steps_of, hand_in, home_of}
+use Rattle.klsm_schedules.specs.Schedules.{Leads}
 use Rattle.std.specs.Prelude.{unwrap_or}
 use Rattle.klsm_board.specs.declared.sizes.Sizes.{Sizes}
 use Rattle.klsm_board.specs.declared.rule.Own.{Own}

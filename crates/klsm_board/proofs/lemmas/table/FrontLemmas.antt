@@ -10,19 +10,19 @@ use Rattle.atomic_table.proofs.Lists.{set_here, set_else}
 use Rattle.klsm_run.specs.declared.item.Item.{Item}
 use Rattle.klsm_parts.specs.Least.{IsLeast}
 use Rattle.klsm_parts.specs.Events.{front_of}
-use Rattle.klsm_world.specs.declared.step.Event.{Event}
-use Rattle.klsm_world.specs.declared.step.Event.TheVariants.{Put, Flush, Take, Early, Nothing, Spy, Refill, Steal, Share}
-use Rattle.klsm_world.specs.declared.step.Entry.{Entry}
-use Rattle.klsm_world.specs.declared.step.Entry.TheVariants.{Committed, Looked}
-use Rattle.klsm_world.specs.declared.step.Step.{Step as WorldStep}
-use Rattle.klsm_world.specs.declared.step.Step.TheVariants.{Commit, Look}
-use Rattle.klsm_world.specs.OwnSteps.{Hand, Holds, found_in, content_in, own_part, shared_part, hand_of, inserted}
-use Rattle.klsm_world.specs.LegalSteps.{MayCommit}
-use Rattle.klsm_world.specs.Worlds.{Limits, World, steps_of, hand_in, content_of}
-use Rattle.klsm_world.specs.LawfulWorlds.{IsLawful}
-use Rattle.klsm_world.specs.Schedules.{NamesFront, MayStep, front_after, Leads}
-use Rattle.klsm_world.proofs.lemmas.hands.PartContentLemmas.{content_held}
-use Rattle.klsm_world.proofs.lemmas.theorems.RunLemmas.{schedules_keep_lawful}
+use Rattle.klsm_schedules.specs.declared.step.Event.{Event}
+use Rattle.klsm_schedules.specs.declared.step.Event.TheVariants.{Put, Flush, Take, Early, Nothing, Spy, Refill, Steal, Share}
+use Rattle.klsm_schedules.specs.declared.step.Entry.{Entry}
+use Rattle.klsm_schedules.specs.declared.step.Entry.TheVariants.{Committed, Looked}
+use Rattle.klsm_schedules.specs.declared.step.Step.{Step as WorldStep}
+use Rattle.klsm_schedules.specs.declared.step.Step.TheVariants.{Commit, Look}
+use Rattle.klsm_schedules.specs.OwnSteps.{Hand, Holds, found_in, content_in, own_part, shared_part, hand_of, inserted}
+use Rattle.klsm_schedules.specs.LegalSteps.{MayCommit}
+use Rattle.klsm_schedules.specs.Worlds.{Limits, World, steps_of, hand_in, content_of}
+use Rattle.klsm_schedules.specs.LawfulWorlds.{IsLawful}
+use Rattle.klsm_schedules.specs.Schedules.{NamesFront, MayStep, front_after, Leads}
+use Rattle.klsm_schedules.proofs.lemmas.hands.PartContentLemmas.{content_held}
+use Rattle.klsm_schedules.proofs.lemmas.theorems.RunLemmas.{schedules_keep_lawful}
 use Rattle.klsm_board.specs.declared.sizes.Sizes.{Sizes}
 use Rattle.klsm_board.specs.declared.rule.Own.{Own}
 use Rattle.klsm_board.specs.declared.rule.View.{View}

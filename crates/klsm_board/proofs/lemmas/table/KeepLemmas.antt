@@ -11,17 +11,17 @@ use Rattle.std.proofs.lemmas.Option.{none-some, same_Some}
 use Rattle.std.proofs.lemmas.List.{length-append}
 use Rattle.atomic_table.specs.Table.{State, Me, Act, Valid, stepped, carried_after}
 use Rattle.klsm_run.specs.declared.item.Item.{Item}
-use Rattle.klsm_world.specs.declared.step.Event.{Event}
-use Rattle.klsm_world.specs.declared.step.Event.TheVariants.{Put, Flush, Take, Early, Nothing, Spy, Refill, Steal, Share}
-use Rattle.klsm_world.specs.declared.step.Entry.{Entry}
-use Rattle.klsm_world.specs.declared.step.Entry.TheVariants.{Committed}
-use Rattle.klsm_world.specs.declared.step.Step.{Step as WorldStep}
-use Rattle.klsm_world.specs.OwnSteps.{found_in, hand_of, inserted, inserted_by, event_at, mark_of, no_key, own_part, work_of}
-use Rattle.klsm_world.specs.Worlds.{World, steps_of}
-use Rattle.klsm_world.specs.Schedules.{Leads}
-use Rattle.klsm_world.specs.LawfulWorlds.{IsLawful, AreAgreed}
-use Rattle.klsm_world.proofs.lemmas.counts.ItemGrowthLemmas.{items_grow}
-use Rattle.klsm_world.proofs.lemmas.theorems.RunLemmas.{schedules_keep_lawful}
+use Rattle.klsm_schedules.specs.declared.step.Event.{Event}
+use Rattle.klsm_schedules.specs.declared.step.Event.TheVariants.{Put, Flush, Take, Early, Nothing, Spy, Refill, Steal, Share}
+use Rattle.klsm_schedules.specs.declared.step.Entry.{Entry}
+use Rattle.klsm_schedules.specs.declared.step.Entry.TheVariants.{Committed}
+use Rattle.klsm_schedules.specs.declared.step.Step.{Step as WorldStep}
+use Rattle.klsm_schedules.specs.OwnSteps.{found_in, hand_of, inserted, inserted_by, event_at, mark_of, no_key, own_part, work_of}
+use Rattle.klsm_schedules.specs.Worlds.{World, steps_of}
+use Rattle.klsm_schedules.specs.Schedules.{Leads}
+use Rattle.klsm_schedules.specs.LawfulWorlds.{IsLawful, AreAgreed}
+use Rattle.klsm_schedules.proofs.lemmas.counts.ItemGrowthLemmas.{items_grow}
+use Rattle.klsm_schedules.proofs.lemmas.theorems.RunLemmas.{schedules_keep_lawful}
 use Rattle.klsm_board.specs.declared.sizes.Sizes.{Sizes}
 use Rattle.klsm_board.specs.declared.rule.View.{View}
 use Rattle.klsm_board.specs.Rule.{own, view, place, mark_place, lock_words, front_word, world_limits, content_at, board_world, Ruled}

@@ -5,10 +5,10 @@ use mathlib.Core.Option.{Option as Maybe}
 use lib.ListN.{get_elem?}
 use Rattle.atomic_table.specs.Table.{Me}
 use Rattle.klsm_parts.specs.Parts.{PartState, items_in}
-use Rattle.klsm_world.specs.declared.step.Entry.{Entry}
-use Rattle.klsm_world.specs.OwnSteps.{inserted}
-use Rattle.klsm_world.specs.Worlds.{first_world}
-use Rattle.klsm_board.specs.declared.errors.MakeError.TheVariants.{BadThreads, BadK, BadQuota, BadRefill, NoMemory}
+use Rattle.klsm_schedules.specs.declared.step.Entry.{Entry}
+use Rattle.klsm_schedules.specs.OwnSteps.{inserted}
+use Rattle.klsm_schedules.specs.Worlds.{first_world}
+use Rattle.klsm_board.specs.declared.errors.SizesError.TheVariants.{BadThreads, BadK, BadQuota, BadRefill, NoMemory}
 use Rattle.klsm_board.specs.declared.sizes.Sizes.{Sizes}
 use Rattle.klsm_board.specs.declared.rule.Own.{Own as Listed}
 use Rattle.klsm_board.specs.declared.rule.View.{View}

@@ -9,22 +9,22 @@ use lib.Seq.{set-get_or}
 use Rattle.atomic_table.specs.Table.{State, step, keeps, Allows}
 use Rattle.atomic_table.proofs.Lists.{set_here, set_else}
 use Rattle.klsm_run.specs.declared.item.Item.{Item}
-use Rattle.klsm_world.specs.declared.step.Entry.{Entry}
-use Rattle.klsm_world.specs.declared.step.Entry.TheVariants.{Marked, Saw}
-use Rattle.klsm_world.specs.declared.step.Step.{Step as WorldStep}
-use Rattle.klsm_world.specs.declared.step.Step.TheVariants.{Mark, See}
-use Rattle.klsm_world.specs.OwnSteps.{Holds, HoldsSome, found_in, hand_of, mark_of, no_key, own_part, work_of}
-use Rattle.klsm_world.specs.Worlds.{World, steps_of, hand_in}
-use Rattle.klsm_world.specs.Schedules.{Leads}
+use Rattle.klsm_schedules.specs.declared.step.Entry.{Entry}
+use Rattle.klsm_schedules.specs.declared.step.Entry.TheVariants.{Marked, Saw}
+use Rattle.klsm_schedules.specs.declared.step.Step.{Step as WorldStep}
+use Rattle.klsm_schedules.specs.declared.step.Step.TheVariants.{Mark, See}
+use Rattle.klsm_schedules.specs.OwnSteps.{Holds, HoldsSome, found_in, hand_of, mark_of, no_key, own_part, work_of}
+use Rattle.klsm_schedules.specs.Worlds.{World, steps_of, hand_in}
+use Rattle.klsm_schedules.specs.Schedules.{Leads}
 use Rattle.klsm_board.specs.declared.sizes.Sizes.{Sizes}
 use Rattle.klsm_board.specs.declared.rule.Own.{Own}
 use Rattle.klsm_board.specs.declared.rule.View.{View}
-use Rattle.klsm_board.specs.Rule.{place, mark_place, lock_words, front_word, world_limits, content_at, board_world, Ruled}
+use Rattle.klsm_board.specs.Rule.{mark_place, lock_words, front_word, world_limits, content_at, board_world, Ruled}
 use Rattle.klsm_board.specs.Steps.{on_mark, mark_stored, saw}
 use Rattle.klsm_board.specs.Seats.{IsMarked}
 use Rattle.klsm_board.proofs.lemmas.hands.WorkLemmas.{away_before_note, mark_more, marked_on, work_more}
 use Rattle.klsm_board.proofs.lemmas.table.PlaceLemmas.{at_mark, front_stays_marked, locks_stay_marked, mark_set, other_mark_stays, others_stay_marked}
-use Rattle.klsm_board.proofs.lemmas.table.KeepLemmas.{AreMarks, world, acting, list_at, agrees, keeps_rule, keeps_reached, same_steps, inside, few_more, marks_kept, marked_now}
+use Rattle.klsm_board.proofs.lemmas.table.KeepLemmas.{AreMarks, world, acting, agrees, keeps_rule, keeps_reached, same_steps, inside, few_more, marks_kept, marked_now}
 
 -- a list that there is stands in its place
 list_there : (ls : List (List Entry)) (u : ℕ) → u < length ls → get_elem? ls u ≡ some (get_or ls u [])

@@ -9,17 +9,17 @@ use native.Mathlib.Decide.{ℕ_discrete}
 use Rattle.atomic_table.specs.Table.{State, step, gives, Allows}
 use Rattle.atomic_table.proofs.Lists.{at_set, set_here, set_else}
 use Rattle.klsm_run.specs.declared.item.Item.{Item}
-use Rattle.klsm_world.specs.declared.step.Event.{Event}
-use Rattle.klsm_world.specs.declared.step.Entry.{Entry}
-use Rattle.klsm_world.specs.declared.step.Entry.TheVariants.{Committed, Released}
-use Rattle.klsm_world.specs.declared.step.Step.{Step as WorldStep}
-use Rattle.klsm_world.specs.declared.step.Step.TheVariants.{Commit, Release}
-use Rattle.klsm_world.specs.OwnSteps.{Holds, found_in, content_in, after_event, hand_of, inserted, mark_of, own_part}
-use Rattle.klsm_world.specs.LegalSteps.{MayCommit}
-use Rattle.klsm_world.specs.Worlds.{World, steps_of}
-use Rattle.klsm_world.specs.Schedules.{MayStep, front_after, Leads}
-use Rattle.klsm_world.proofs.lemmas.theorems.RunLemmas.{schedules_keep_lawful}
-use Rattle.klsm_world.proofs.lemmas.hands.NotedLemmas.{hand_of_more}
+use Rattle.klsm_schedules.specs.declared.step.Event.{Event}
+use Rattle.klsm_schedules.specs.declared.step.Entry.{Entry}
+use Rattle.klsm_schedules.specs.declared.step.Entry.TheVariants.{Committed, Released}
+use Rattle.klsm_schedules.specs.declared.step.Step.{Step as WorldStep}
+use Rattle.klsm_schedules.specs.declared.step.Step.TheVariants.{Commit, Release}
+use Rattle.klsm_schedules.specs.OwnSteps.{Holds, found_in, content_in, after_event, hand_of, inserted, own_part}
+use Rattle.klsm_schedules.specs.LegalSteps.{MayCommit}
+use Rattle.klsm_schedules.specs.Worlds.{World, steps_of}
+use Rattle.klsm_schedules.specs.Schedules.{MayStep, front_after, Leads}
+use Rattle.klsm_schedules.proofs.lemmas.theorems.RunLemmas.{schedules_keep_lawful}
+use Rattle.klsm_schedules.proofs.lemmas.hands.NotedLemmas.{hand_of_more}
 use Rattle.std.specs.Prelude.{unwrap_or}
 use Rattle.klsm_board.specs.declared.sizes.Sizes.{Sizes}
 use Rattle.klsm_board.specs.declared.rule.Own.{Own}

@@ -8,12 +8,12 @@ use native.Mathlib.Decide.{ℕ_discrete}
 use mathlib.Core.Option.{none}
 use Rattle.atomic_table.specs.Table.{Me, rest, step}
 use Rattle.klsm_run.specs.declared.item.Item.{Item}
-use Rattle.klsm_world.specs.declared.step.Event.{Event}
-use Rattle.klsm_world.specs.declared.step.Entry.{Entry}
-use Rattle.klsm_world.specs.declared.step.Entry.TheVariants.{Acquired, Committed, Released, Missed, Marked}
-use Rattle.klsm_world.specs.OwnSteps.{Hand, Holds, hand_of, after_entry, after_event, found_in, mark_after, without_part, work_after}
-use Rattle.klsm_world.proofs.lemmas.hands.HandLemmas.{choice_hit, choice_miss, found_first}
-use Rattle.klsm_world.proofs.lemmas.hands.NotedLemmas.{hand_of_more}
+use Rattle.klsm_schedules.specs.declared.step.Event.{Event}
+use Rattle.klsm_schedules.specs.declared.step.Entry.{Entry}
+use Rattle.klsm_schedules.specs.declared.step.Entry.TheVariants.{Acquired, Committed, Released, Missed, Marked}
+use Rattle.klsm_schedules.specs.OwnSteps.{Hand, Holds, hand_of, after_entry, after_event, found_in, mark_after, without_part, work_after}
+use Rattle.klsm_schedules.proofs.lemmas.hands.HandLemmas.{choice_hit, choice_miss, found_first}
+use Rattle.klsm_schedules.proofs.lemmas.hands.NotedLemmas.{hand_of_more}
 use Rattle.klsm_board.specs.declared.sizes.Sizes.{Sizes}
 use Rattle.klsm_board.specs.declared.rule.Own.{Own}
 use Rattle.klsm_board.specs.declared.rule.View.{View}

@@ -1,7 +1,7 @@
-use Rattle.std.proofs.Common.{◌≡◌, ◌-◌, ◌≤◌, ◌∷◌, ◌++◌, [], refl, sym, ap, ◌∙◌, arith}
-use Rattle.klsm_world.specs.OwnSteps.{found_in, no_key, own_part}
-use Rattle.klsm_world.specs.declared.step.Entry.TheVariants.{Marked}
-use Rattle.klsm_board.specs.Steps.{gain, mine}
+use Rattle.std.proofs.Common.{◌≡◌, ◌-◌, ◌≤◌, refl, ap, ◌∙◌, arith}
+use Rattle.klsm_schedules.specs.OwnSteps.{found_in, no_key, own_part}
+use Rattle.klsm_schedules.specs.declared.step.Entry.TheVariants.{Marked}
+use Rattle.klsm_board.specs.Steps.{gain}
 use Rattle.klsm_board.specs.Seats.{own_in_hand}
 use Rattle.klsm_board.proofs.lemmas.hands.EventLemmas.{own_in_one}
 use Rattle.klsm_board.proofs.lemmas.table.SeatLemmas.{has_marked, mine_noted, noted_others}

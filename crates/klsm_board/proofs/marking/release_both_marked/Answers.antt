@@ -1,6 +1,6 @@
 use Rattle.std.proofs.Common.{◌⊎◌, ◌≡◌, ◌∷◌, ◌++◌, ◌∙◌, [], ap, append_assoc, subst, sym}
-use Rattle.klsm_world.specs.declared.step.Entry.TheVariants.{Released}
-use Rattle.klsm_world.specs.OwnSteps.{no_key, work_of}
+use Rattle.klsm_schedules.specs.declared.step.Entry.TheVariants.{Released}
+use Rattle.klsm_schedules.specs.OwnSteps.{no_key, work_of}
 use Rattle.klsm_board.specs.Entries.{own_marked}
 use Rattle.klsm_board.specs.Steps.{mine}
 use Rattle.klsm_board.proofs.lemmas.hands.WorkLemmas.{work_append}

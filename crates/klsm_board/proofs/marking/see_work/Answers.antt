@@ -1,7 +1,7 @@
-use Rattle.std.proofs.Common.{refl, ap, ◌∙◌, ◌-◌}
-use Rattle.klsm_world.specs.OwnSteps.{HoldsSome, no_key, own_part}
+use Rattle.std.proofs.Common.{refl, ◌-◌}
+use Rattle.klsm_schedules.specs.OwnSteps.{HoldsSome, no_key, own_part}
 use Rattle.std.proofs.Common.{subst, sym}
-use Rattle.klsm_world.specs.declared.step.Entry.TheVariants.{Saw}
+use Rattle.klsm_schedules.specs.declared.step.Entry.TheVariants.{Saw}
 use Rattle.klsm_board.proofs.lemmas.table.SeatLemmas.{has_noted, mine_noted, noted_others}
 use Rattle.klsm_board.proofs.marking.see_work.Goals as goal
 

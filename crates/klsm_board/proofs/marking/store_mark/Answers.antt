@@ -1,7 +1,7 @@
-use Rattle.std.proofs.Common.{ℕ, sym, subst, refl, List, ◌-◌, ◌≤◌, arith}
+use Rattle.std.proofs.Common.{ℕ, sym, subst, List, ◌-◌, ◌≤◌, arith}
 use mathlib.Core.Option.{none}
 use Rattle.atomic_table.specs.Table.{Allows, step}
-use Rattle.klsm_world.specs.OwnSteps.{no_key}
+use Rattle.klsm_schedules.specs.OwnSteps.{no_key}
 use Rattle.klsm_board.specs.declared.sizes.Sizes.{Sizes}
 use Rattle.klsm_board.specs.declared.rule.Own.{Own}
 use Rattle.klsm_board.specs.Rule.{view, mark_place, Ruled}

@@ -1,12 +1,12 @@
-use Rattle.std.proofs.Common.{◌≡◌, ◌+◌, ◌∷◌, ◌++◌, ◌∙◌, [], ap, sym, subst, inr, refl}
+use Rattle.std.proofs.Common.{◌+◌, ◌∷◌, ◌++◌, ◌∙◌, [], ap, sym, subst, inr, refl}
 use Rattle.klsm_board.specs.Effects.{MeetsHolder}
 use Rattle.klsm_board.specs.Entries.{own_marked}
 use Rattle.klsm_board.specs.Resting.{MissesRest}
 use Rattle.klsm_board.specs.Steps.{mine, rest_of}
 use Rattle.klsm_board.proofs.lemmas.calls.AddedLemmas.{passed_on}
 use Rattle.klsm_board.proofs.lemmas.calls.MissLemmas.{meets}
-use Rattle.klsm_world.specs.OwnSteps.{no_key}
-use Rattle.klsm_world.specs.declared.step.Entry.TheVariants.{Missed}
+use Rattle.klsm_schedules.specs.OwnSteps.{no_key}
+use Rattle.klsm_schedules.specs.declared.step.Entry.TheVariants.{Missed}
 use Rattle.klsm_board.proofs.resting.rest_now.Goals as goal
 
 pub release_marked-requires-clause-carries : goal.release_marked-requires-clause-carries

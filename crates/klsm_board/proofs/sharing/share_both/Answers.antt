@@ -1,7 +1,7 @@
 use Rattle.std.proofs.Common.{◌+◌, ◌∷◌, ◌++◌, ◌∙◌, [], ap, append_assoc}
 use Rattle.klsm_parts.specs.Sharing.{own_after_share, shared_after_share}
-use Rattle.klsm_world.specs.declared.step.Entry.TheVariants.{Committed}
-use Rattle.klsm_world.specs.declared.step.Event.TheVariants.{Share}
+use Rattle.klsm_schedules.specs.declared.step.Entry.TheVariants.{Committed}
+use Rattle.klsm_schedules.specs.declared.step.Event.TheVariants.{Share}
 use Rattle.klsm_board.specs.Steps.{mine}
 use Rattle.klsm_board.specs.Seats.{both_in_hand}
 use Rattle.klsm_board.specs.Entries.{both_released}

@@ -1,6 +1,6 @@
 use Rattle.std.proofs.Common.{◌+◌, ◌∷◌, ◌++◌, ◌∙◌, [], ap, refl, subst, inl, inr, append_assoc, arith}
 use Rattle.std.specs.Prelude.{None}
-use Rattle.klsm_world.specs.declared.step.Entry.TheVariants.{Missed, Released}
+use Rattle.klsm_schedules.specs.declared.step.Entry.TheVariants.{Missed, Released}
 use Rattle.klsm_board.specs.Effects.{MeetsHolder}
 use Rattle.klsm_board.specs.Steps.{mine, rest_of}
 use Rattle.klsm_board.specs.Seats.{own_in_hand}

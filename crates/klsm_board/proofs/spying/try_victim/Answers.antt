@@ -1,7 +1,7 @@
 use Rattle.std.proofs.Common.{◌≡◌, ◌+◌, ◌-◌, ◌∷◌, ◌++◌, ◌∙◌, [], ap, refl, inl, inr, append_assoc}
 use Rattle.klsm_parts.specs.Events.{own_after_spy, victim_after_spy}
-use Rattle.klsm_world.specs.declared.step.Entry.TheVariants.{Acquired, Committed, Released, Missed}
-use Rattle.klsm_world.specs.declared.step.Event.TheVariants.{Spy}
+use Rattle.klsm_schedules.specs.declared.step.Entry.TheVariants.{Acquired, Committed, Released, Missed}
+use Rattle.klsm_schedules.specs.declared.step.Event.TheVariants.{Spy}
 use Rattle.klsm_board.specs.Steps.{mine}
 use Rattle.klsm_board.specs.Seats.{both_in_hand, three_in_hand}
 use Rattle.klsm_board.proofs.lemmas.seats.StandLemmas.{stands}

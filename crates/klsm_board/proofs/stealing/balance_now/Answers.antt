@@ -1,5 +1,5 @@
 use Rattle.std.proofs.Common.{◌≡◌, ◌+◌, ◌∷◌, ◌++◌, ◌∙◌, [], Some, ap, refl, subst, sym}
-use Rattle.klsm_world.specs.declared.step.Entry.TheVariants.{Looked}
+use Rattle.klsm_schedules.specs.declared.step.Entry.TheVariants.{Looked}
 use Rattle.klsm_board.specs.Effects.{MeetsHolder}
 use Rattle.klsm_board.specs.Entries.{own_looked}
 use Rattle.klsm_board.specs.Inserting.{MissesOwn}

@@ -1,7 +1,7 @@
 use Rattle.std.proofs.Common.{◌≡◌, ◌+◌, ◌-◌, ◌∷◌, ◌++◌, ◌∙◌, [], ap, refl, sym, inl, inr, append_assoc}
 use Rattle.klsm_parts.specs.Stealing.{own_after_steal, victim_after_steal}
-use Rattle.klsm_world.specs.declared.step.Entry.TheVariants.{Acquired, Committed, Released, Missed}
-use Rattle.klsm_world.specs.declared.step.Event.TheVariants.{Steal}
+use Rattle.klsm_schedules.specs.declared.step.Entry.TheVariants.{Acquired, Committed, Released, Missed}
+use Rattle.klsm_schedules.specs.declared.step.Event.TheVariants.{Steal}
 use Rattle.klsm_board.specs.Steps.{mine}
 use Rattle.klsm_board.specs.Seats.{own_in_hand, victim_in_hand}
 use Rattle.klsm_board.specs.Stealing.{stolen}

@@ -1,5 +1,5 @@
 use Rattle.std.proofs.Common.{refl, ap, ◌∙◌}
-use Rattle.klsm_world.specs.OwnSteps.{found_in}
+use Rattle.klsm_schedules.specs.OwnSteps.{found_in}
 use Rattle.klsm_board.proofs.lemmas.table.SeatLemmas.{tried, tried_holder, tried_others}
 use Rattle.klsm_board.proofs.steps.acquire_part.Goals as goal
 

@@ -1,4 +1,4 @@
-use Rattle.klsm_world.proofs.lemmas.lists.ListLemmas.{no_item}
+use Rattle.klsm_schedules.proofs.lemmas.lists.ListLemmas.{no_item}
 use Rattle.klsm_board.proofs.steps.acquire_part.Given as goal
 
 abbrev pub ghosts-acquire : goal.ghosts-acquire

@@ -1,5 +1,5 @@
 use Rattle.std.proofs.Common.{ap, ◌∙◌, refl}
-use Rattle.klsm_world.specs.declared.step.Entry.TheVariants.{Committed}
+use Rattle.klsm_schedules.specs.declared.step.Entry.TheVariants.{Committed}
 use Rattle.klsm_board.specs.Steps.{gain}
 use Rattle.klsm_board.proofs.steps.commit_by_front.Goals as goal
 

@@ -1,5 +1,5 @@
 use Rattle.std.specs.Prelude.{◌≡◌}
-use Rattle.klsm_world.proofs.lemmas.lists.ListLemmas.{no_item}
+use Rattle.klsm_schedules.proofs.lemmas.lists.ListLemmas.{no_item}
 use Rattle.klsm_board.proofs.steps.commit_by_front.Given as goal
 
 abbrev pub ghosts-store_front : goal.ghosts-store_front

@@ -1,6 +1,6 @@
 use Rattle.std.proofs.Common.{◌∷◌, ap, ◌∙◌, refl}
 use Rattle.atomic_table.specs.Table.{rest}
-use Rattle.klsm_world.specs.declared.step.Entry.TheVariants.{Committed, Released}
+use Rattle.klsm_schedules.specs.declared.step.Entry.TheVariants.{Committed, Released}
 use Rattle.klsm_board.specs.Steps.{gain}
 use Rattle.klsm_board.proofs.lemmas.table.SeatLemmas.{can_commit, out_of, has_committed, mine_committed, committed_others}
 use Rattle.klsm_board.proofs.steps.commit_event.Goals as goal

@@ -1,4 +1,4 @@
-use Rattle.klsm_world.proofs.lemmas.lists.ListLemmas.{no_item}
+use Rattle.klsm_schedules.proofs.lemmas.lists.ListLemmas.{no_item}
 use Rattle.std.specs.Prelude.{◌≡◌, List}
 use Rattle.klsm_run.specs.declared.item.Item.{Item}
 use Rattle.klsm_board.specs.Seats.{contents, CarriedOut}

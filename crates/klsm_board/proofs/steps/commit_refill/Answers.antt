@@ -1,6 +1,6 @@
 use Rattle.std.proofs.Common.{ap, ◌∙◌, refl, arith}
-use Rattle.klsm_world.specs.declared.step.Entry.TheVariants.{Committed}
-use Rattle.klsm_world.specs.declared.step.Event.TheVariants.{Refill}
+use Rattle.klsm_schedules.specs.declared.step.Entry.TheVariants.{Committed}
+use Rattle.klsm_schedules.specs.declared.step.Event.TheVariants.{Refill}
 use Rattle.klsm_board.specs.Seats.{last_arriving}
 use Rattle.klsm_board.specs.Steps.{gain}
 use Rattle.klsm_board.proofs.steps.commit_refill.Goals as goal

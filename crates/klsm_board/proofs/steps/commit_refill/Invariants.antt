@@ -1,6 +1,6 @@
 use Rattle.std.specs.Prelude.{◌≡◌}
-use Rattle.klsm_world.specs.declared.step.Event.TheVariants.{Refill}
-use Rattle.klsm_world.proofs.lemmas.lists.ListLemmas.{no_item}
+use Rattle.klsm_schedules.specs.declared.step.Event.TheVariants.{Refill}
+use Rattle.klsm_schedules.proofs.lemmas.lists.ListLemmas.{no_item}
 use Rattle.klsm_board.specs.Seats.{last_arriving}
 use Rattle.klsm_board.proofs.steps.commit_refill.Given as goal
 

@@ -1,6 +1,6 @@
-use Rattle.std.proofs.Common.{◌∷◌, ap, ◌∙◌, refl, arith}
+use Rattle.std.proofs.Common.{ap, ◌∙◌, refl, arith}
 use Rattle.atomic_table.specs.Table.{rest}
-use Rattle.klsm_world.specs.declared.step.Entry.TheVariants.{Committed, Released}
+use Rattle.klsm_schedules.specs.declared.step.Entry.TheVariants.{Committed, Released}
 use Rattle.klsm_board.specs.Steps.{gain}
 use Rattle.klsm_board.specs.Seats.{both_in_hand, own_in_hand}
 use Rattle.klsm_board.proofs.lemmas.hands.EventLemmas.{shared_not_in_one}

@@ -1,5 +1,5 @@
 use Rattle.std.proofs.Common.{◌+◌, ◌∙◌, ap, refl}
-use Rattle.klsm_world.specs.OwnSteps.{found_in}
+use Rattle.klsm_schedules.specs.OwnSteps.{found_in}
 use Rattle.klsm_board.proofs.lemmas.hands.EventLemmas.{own_in_one}
 use Rattle.klsm_board.proofs.lemmas.calls.EarlyLemmas.{looked_others}
 use Rattle.klsm_board.proofs.steps.look_at_front.Goals as goal

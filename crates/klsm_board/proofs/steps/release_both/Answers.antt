@@ -1,5 +1,5 @@
 use Rattle.std.proofs.Common.{◌+◌, ◌∷◌, ◌++◌, ◌∙◌, [], ap, refl, append_assoc}
-use Rattle.klsm_world.specs.declared.step.Entry.TheVariants.{Released}
+use Rattle.klsm_schedules.specs.declared.step.Entry.TheVariants.{Released}
 use Rattle.klsm_board.specs.Steps.{mine}
 use Rattle.klsm_board.specs.Seats.{own_in_hand}
 use Rattle.klsm_board.proofs.lemmas.seats.StandLemmas.{stands}

@@ -1,5 +1,5 @@
 use Rattle.std.proofs.Common.{ap, ◌∙◌, refl, arith}
-use Rattle.klsm_world.specs.OwnSteps.{found_in}
+use Rattle.klsm_schedules.specs.OwnSteps.{found_in}
 use Rattle.klsm_board.specs.Seats.{own_in_hand}
 use Rattle.klsm_board.proofs.lemmas.hands.EventLemmas.{shared_in_both, shared_not_in_one}
 use Rattle.klsm_board.proofs.lemmas.table.SeatLemmas.{can_let_go, released_carries, released_hand}

@@ -1,4 +1,4 @@
-use Rattle.klsm_world.proofs.lemmas.lists.ListLemmas.{no_item}
+use Rattle.klsm_schedules.proofs.lemmas.lists.ListLemmas.{no_item}
 use Rattle.klsm_board.proofs.steps.release_shared.Given as goal
 
 abbrev pub ghosts-release : goal.ghosts-release

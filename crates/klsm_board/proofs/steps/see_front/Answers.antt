@@ -1,5 +1,5 @@
 use Rattle.std.proofs.Common.{refl}
-use Rattle.klsm_world.specs.declared.step.Entry.TheVariants.{Looked}
+use Rattle.klsm_schedules.specs.declared.step.Entry.TheVariants.{Looked}
 use Rattle.klsm_board.proofs.lemmas.table.SeatLemmas.{has_noted, mine_noted, noted_others}
 use Rattle.klsm_board.proofs.steps.see_front.Goals as goal
 

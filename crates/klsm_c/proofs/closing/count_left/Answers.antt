@@ -1,5 +1,5 @@
 use Rattle.std.proofs.Common.{rules, ◌<◌, ◌≤◌, length, slice_index_or, slice_set, sym, ap, ◌∙◌, arith}
-use Rattle.klsm_world.specs.OwnSteps.{deleted, inserted}
+use Rattle.klsm_schedules.specs.OwnSteps.{deleted, inserted}
 use Rattle.klsm_c.specs.Calls.{deleted_in, inserted_in}
 use Rattle.klsm_c.specs.Slots.{held_in}
 use Rattle.klsm_c.proofs.ListLemmas.{index_mapped, map_set, set_same}

@@ -1,7 +1,7 @@
 use Rattle.std.proofs.Common.{◌≡◌, ◌≤◌, ◌*◌, length}
 use Rattle.std.specs.Prelude.{take}
 use Rattle.std.specs.List.{flat_map}
-use Rattle.klsm_world.specs.OwnSteps.{deleted, inserted}
+use Rattle.klsm_schedules.specs.OwnSteps.{deleted, inserted}
 use Rattle.klsm_board.specs.Members.{most_deletions, most_insertions}
 use Rattle.klsm_c.specs.Closing.{all_steps}
 use Rattle.klsm_c.specs.Slots.{held_in, one_after_another}

@@ -1,8 +1,8 @@
 use Rattle.std.proofs.Common.{rules, ◌≤◌, ◌+◌, length, vec_capacity, ap, sym, subst, ◌∙◌}
 use Rattle.std.specs.List.{flat_map}
 use Rattle.klsm_run.specs.declared.limits.TheConstants.{MOST_K, MOST_LEVELS}
-use Rattle.klsm_world.specs.Account.{account}
-use Rattle.klsm_world.specs.OwnSteps.{deleted, inserted}
+use Rattle.klsm_schedules.specs.Account.{account}
+use Rattle.klsm_schedules.specs.OwnSteps.{deleted, inserted}
 use Rattle.klsm_board.specs.declared.board.Board.{Board}
 use Rattle.klsm_board.specs.Finishing.{AreEachOnce, AreListsAtEnd}
 use Rattle.klsm_c.specs.Closing.{HasOneOf}

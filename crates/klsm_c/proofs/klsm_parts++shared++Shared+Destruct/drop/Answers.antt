@@ -1,5 +1,5 @@
-use Rattle.klsm_parts.proofs.FitLemmas.{lsm_fits}
+use Rattle.std.proofs.Common.{rules}
 use Rattle.klsm_c.proofs.klsm_parts++shared++Shared+Destruct.drop.Goals as goal
 
 pub drop-requires : goal.drop-requires
-drop-requires g c = search lsm_fits
+drop-requires g c = search rules

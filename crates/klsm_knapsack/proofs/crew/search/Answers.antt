@@ -3,7 +3,7 @@ use Rattle.std.proofs.lemmas.List.{length-set}
 use Rattle.klsm_knapsack.specs.declared.search_state.Worker.{Worker}
 use Rattle.klsm_board.specs.Boards.{own_steps}
 use Rattle.klsm_board.specs.declared.sizes.Sizes.{Sizes}
-use Rattle.klsm_world.specs.declared.step.Entry.{Entry}
+use Rattle.klsm_schedules.specs.declared.step.Entry.{Entry}
 use Rattle.klsm_knapsack.specs.Answers.{GainsOthers}
 use Rattle.klsm_knapsack.specs.Work.{HasNode}
 use Rattle.klsm_knapsack.specs.Workers.{work_by}

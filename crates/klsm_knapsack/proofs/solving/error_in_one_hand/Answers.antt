@@ -1,5 +1,5 @@
 use Rattle.std.proofs.Common.{◌≡◌, ◌∙◌, sym, lit<}
-use Rattle.klsm_knapsack.specs.declared.errors.SolveError.TheVariants.{Full, NoMemory}
+use Rattle.klsm_knapsack.specs.declared.errors.SearchError.TheVariants.{Full, NoMemory}
 use Rattle.klsm_knapsack.specs.declared.search_state.NoRoom.TheVariants.{Refuses, SearchesAlone}
 use Rattle.klsm_knapsack.proofs.solving.error_in_one_hand.Goals as goal
 

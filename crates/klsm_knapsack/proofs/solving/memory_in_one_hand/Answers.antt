@@ -1,5 +1,5 @@
 use Rattle.std.proofs.Common.{refl, subst, List, lit<}
-use Rattle.klsm_world.specs.declared.step.Entry.{Entry}
+use Rattle.klsm_schedules.specs.declared.step.Entry.{Entry}
 use Rattle.klsm_board.specs.Finishing.{AreListsAtEnd}
 use Rattle.klsm_board.proofs.lemmas.ending.MemberLemmas.{all_of_board, none_missing}
 use Rattle.klsm_knapsack.proofs.solving.memory_in_one_hand.Goals as goal

@@ -7,7 +7,7 @@ use Rattle.klsm_board.specs.Boards.{AreMembersOf, IsOf}
 use Rattle.klsm_knapsack.specs.declared.search_state.SearchState.{SearchState}
 use Rattle.klsm_knapsack.specs.declared.search_state.NoRoom.{NoRoom}
 use Rattle.klsm_knapsack.specs.declared.search_state.Worker.{Worker}
-use Rattle.klsm_knapsack.specs.declared.errors.SolveError.{SolveError}
+use Rattle.klsm_knapsack.specs.declared.errors.SearchError.{SearchError}
 use Rattle.klsm_parts.specs.Generators.{generator_of}
 use Rattle.klsm_knapsack.specs.IncumbentSeats.{IsSeatAt}
 use Rattle.klsm_knapsack.specs.Ends.{IsLeastRefusal}
@@ -66,7 +66,7 @@ returns-in-Err-clause-refused g c = λ not_alone.
     let first = rw is at c.in-Err.ensures.refused in
     let least : IsLeastRefusal g.row.LEVELS c.in_ok-board.board.sizes c.in-Err.why = least_refusal state after c.search.ensures.crew c.args.options.now.idle c.in-Err.why (subst (λ (m : NoRoom). HaveEndedSo m c.args.options.now.idle after) not_alone c.search.ensures.ended) first in
     let told = refused_too g.row.LEVELS (sizes_of c.args.options.now.threads c.args.options.now.k) c.args.options.now.refill c.in-Err.why (subst (λ (m : Sizes). IsLeastRefusal g.row.LEVELS m c.in-Err.why) c.in_ok-board.ensures.sizes least) in
-    subst (λ (why : SolveError). RefusesSearch g.row.LEVELS c.args.options.now.threads c.args.options.now.k c.args.options.now.refill why) (sym c.error_in_one_hand.ensures.error)
+    subst (λ (why : SearchError). RefusesSearch g.row.LEVELS c.args.options.now.threads c.args.options.now.k c.args.options.now.refill why) (sym c.error_in_one_hand.ensures.error)
     (refuses g.row.LEVELS c.args.options.now.threads c.args.options.now.k c.args.options.now.refill c.in-Err.why c.in_ok-board.ensures.in_range told)
 
 pub finish-requires : goal.finish-requires

@@ -3,7 +3,7 @@ use Rattle.std.specs.List.{slice_get}
 use Rattle.std.proofs.lemmas.Option.{slice_get_within}
 use Rattle.klsm_run.proofs.ContentLemmas.{sorted_itself}
 use Rattle.klsm_lsm.specs.Lsm.{content}
-use Rattle.klsm_parts.proofs.FoundLemmas.{some_ranked}
+use Rattle.klsm_parts.proofs.OwnLemmas.{some_ranked}
 use Rattle.klsm_parts.proofs.local.take_least.Goals as goal
 
 pub unreachable-requires : goal.unreachable-requires

@@ -5,7 +5,7 @@ use Rattle.klsm_lsm.specs.Lsm.{content}
 use Rattle.klsm_lsm.proofs.ContentLemmas.{ascending_content}
 use Rattle.klsm_parts.specs.Parts.{items_in}
 use Rattle.klsm_parts.specs.Events.{MayRefill, plus, shared_after_refill}
-use Rattle.klsm_parts.specs.Refilling.{cut_least}
+use Rattle.klsm_pile.specs.Leaving.{cut_least}
 use Rattle.klsm_parts.proofs.RefillLemmas.{have_room, are_moved, may_refill, refill_leaves}
 use Rattle.klsm_parts.proofs.refilling.fetch.Goals as goal
 

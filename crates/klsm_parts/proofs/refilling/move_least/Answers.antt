@@ -1,8 +1,8 @@
-use Rattle.std.proofs.Common.{◌≡◌, ◌+◌, ◌-◌, ◌<◌, ◌≤◌, length, take, drop, refl, sym, ap, ◌∙◌, inl, inr, arith}
+use Rattle.std.proofs.Common.{rules, ◌≡◌, ◌+◌, ◌-◌, ◌<◌, ◌≤◌, length, take, drop, refl, sym, ap, ◌∙◌, inl, inr, arith}
 use Rattle.std.proofs.lemmas.List.{length-take, length-drop, take_all}
 use borrow.Rule.Slice.PartMut.{same_len_mid}
 use Rattle.klsm_parts.specs.Parts.{items_in}
-use Rattle.klsm_parts.specs.Refilling.{cut_least}
+use Rattle.klsm_pile.specs.Leaving.{cut_least}
 use Rattle.klsm_parts.proofs.RefillLemmas.{moved_on}
 use Rattle.klsm_parts.proofs.refilling.move_least.Goals as goal
 
@@ -10,12 +10,17 @@ pub loop-done-init : goal.loop-done-init
 loop-done-init g c = record { few = omega arith; len = refl; moved = refl; left = refl; blocks = λ few. inl (refl, refl); shared_k = refl }
 
 pub candidates-requires : goal.candidates-requires
-candidates-requires g c = search
+candidates-requires g c = search rules
 
 pub take_least-requires : goal.take_least-requires
 take_least-requires g c =
+    let now = c.loop-done.invariant in
     let k = c.loop-done.done + c.min-count.result - c.loop-done.done in
-    (search, omega (arith, length-take k (drop c.loop-done.done c.loop-done.places), c.min-count.ensures, c.candidates.ensures))
+    let lent = length-take k (drop c.loop-done.done c.loop-done.places) in
+    let rest = length-drop c.loop-done.done c.loop-done.places in
+    let left : length (items_in c.loop-done.shared) ≡ length (items_in c.args.shared.now) - c.loop-done.done = ap length now.left ∙ length-drop c.loop-done.done (items_in c.args.shared.now) in
+    let count = length-take (c.loop-done.shared.k + 1) (items_in c.loop-done.shared) in
+    (search rules, (omega (arith, lent, rest, left, count, c.min-count.ensures, c.candidates.ensures, c.loop-done-test.true, now.len, c.requires), omega (arith, lent, c.min-count.ensures, c.candidates.ensures)))
 
 pub loop-done-preserved : goal.loop-done-preserved
 loop-done-preserved g c =

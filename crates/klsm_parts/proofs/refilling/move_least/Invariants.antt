@@ -1,6 +1,6 @@
 use Rattle.std.proofs.Common.{◌≡◌, ◌⊎◌, ◌+◌, ◌-◌, ◌≤◌, length, take, drop}
 use Rattle.klsm_parts.specs.Parts.{items_in}
-use Rattle.klsm_parts.specs.Refilling.{cut_least}
+use Rattle.klsm_pile.specs.Leaving.{cut_least}
 use Rattle.klsm_parts.proofs.refilling.move_least.Given as goal
 
 -- so many items are moved

@@ -29,9 +29,9 @@ pub returns-then-is_smaller_own-2-clause-asked : goal.returns-then-is_smaller_ow
 returns-then-is_smaller_own-2-clause-asked g c asked = record {
   index = c.pick-index.result;
   picked = rw (← c.candidates.ensures) c.pick-index.ensures.picked;
-  candidate = c.own_first-rank.result.0.item;
+  candidate = c.own_first-rank.result.0;
   found = ap (slice_get (candidates_of c.args.shared.now)) (sym c.own_first-rank.ensures.first) ∙ c.own_first-rank.ensures.candidate;
-  follows = own_goes _ c.own_first-rank.result.0.item c.is_smaller_own-2.result c.is_smaller_own-2.ensures c.if-is_smaller_own-2.true;
+  follows = own_goes _ c.own_first-rank.result.0 c.is_smaller_own-2.result c.is_smaller_own-2.ensures c.if-is_smaller_own-2.true;
 }
 
 pub returns-clause-unasked : goal.returns-clause-unasked
@@ -45,14 +45,13 @@ pub returns-clause-asked : goal.returns-clause-asked
 returns-clause-asked g c asked = record {
   index = c.pick-index.result;
   picked = rw (← c.candidates.ensures) c.pick-index.ensures.picked;
-  candidate = c.own_first-rank.result.0.item;
+  candidate = c.own_first-rank.result.0;
   found = ap (slice_get (candidates_of c.args.shared.now)) (sym c.own_first-rank.ensures.first) ∙ c.own_first-rank.ensures.candidate;
-  follows = candidate_goes _ c.own_first-rank.result.0.item c.is_smaller_own-2.result c.is_smaller_own-2.ensures c.if-is_smaller_own-2.false;
+  follows = candidate_goes _ c.own_first-rank.result.0 c.is_smaller_own-2.result c.is_smaller_own-2.ensures c.if-is_smaller_own-2.false;
 }
 
-pub returns-clause-place : goal.returns-clause-place
-returns-clause-place g c =
-    (c.own_first-rank.ensures.block, c.own_first-rank.ensures.index, c.own_first-rank.ensures.candidate)
+pub returns-clause-candidate : goal.returns-clause-candidate
+returns-clause-candidate g c = c.own_first-rank.ensures.candidate
 
 pub least-requires : goal.least-requires
 least-requires g c = search
@@ -83,26 +82,14 @@ returns-in_err-least-clause-asked g c asked =
     let bad : false ≡ true = subst (λ o. picks c.args.least_own o ≡ true) (sym c.least.ensures ∙ c.in_err-least.was) asked in
     cc
 
-pub returns-in_err-least-clause-place : goal.returns-in_err-least-clause-place
-returns-in_err-least-clause-place g c = rw c.from_residual.ensures tt
+pub returns-in_err-least-clause-candidate : goal.returns-in_err-least-clause-candidate
+returns-in_err-least-clause-candidate g c = rw c.from_residual.ensures tt
 
 pub returns-then-is_smaller_own-clause-unasked : goal.returns-then-is_smaller_own-clause-unasked
 returns-then-is_smaller_own-clause-unasked g c unasked = (refl, refl)
 
-pub returns-then-is_smaller_own-clause-place : goal.returns-then-is_smaller_own-clause-place
-returns-then-is_smaller_own-clause-place g c = tt
+pub returns-then-is_smaller_own-clause-candidate : goal.returns-then-is_smaller_own-clause-candidate
+returns-then-is_smaller_own-clause-candidate g c = tt
 
-pub returns-then-is_smaller_own-2-clause-place : goal.returns-then-is_smaller_own-2-clause-place
-returns-then-is_smaller_own-2-clause-place g c = tt
-
-pub returns-in_err-least-clause-same : goal.returns-in_err-least-clause-same
-returns-in_err-least-clause-same g c = refl
-
-pub returns-then-is_smaller_own-clause-same : goal.returns-then-is_smaller_own-clause-same
-returns-then-is_smaller_own-clause-same g c = refl
-
-pub returns-then-is_smaller_own-2-clause-same : goal.returns-then-is_smaller_own-2-clause-same
-returns-then-is_smaller_own-2-clause-same g c = c.own_first-rank.ensures.same
-
-pub returns-clause-same : goal.returns-clause-same
-returns-clause-same g c = c.own_first-rank.ensures.same
+pub returns-then-is_smaller_own-2-clause-candidate : goal.returns-then-is_smaller_own-2-clause-candidate
+returns-then-is_smaller_own-2-clause-candidate g c = tt

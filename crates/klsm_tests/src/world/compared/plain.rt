@@ -1,9 +1,9 @@
 //! The plain world: the definitions over one list of items, as slow as they read. It calls nothing
 //! of the code under test.
 
-use klsm_model::StepError;
 use klsm_run::{Item, Stamp};
-use klsm_world::{Event, Step};
+use klsm_schedules::{Event, Step};
+use klsm_world::StepError;
 use std::alloc::Global;
 
 /// A live item, and the part that it is in.

@@ -3,7 +3,7 @@
 use super::super::steps::{Moved, Row, commit, early, flush, refill, share, spy, steal, step_of};
 use super::plain::Plain;
 use klsm_run::Item;
-use klsm_world::{Event, Items, Step};
+use klsm_schedules::{Event, Items, Step};
 use rand_core::Rng;
 use rand_pcg::Pcg32;
 use std::alloc::Global;

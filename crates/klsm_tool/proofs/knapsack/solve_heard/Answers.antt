@@ -2,7 +2,7 @@ use Rattle.std.proofs.Common.{◌≡◌, ◌<◌, ◌≤◌, ◌⊎◌, ◌↔�
 use Rattle.std.specs.Prelude.{IsErrAnd}
 use Rattle.klsm_run.specs.declared.limits.TheConstants.{MOST_THREADS, PROGRAM_K, PROGRAM_LEVELS}
 use Rattle.klsm_instance.specs.declared.search.Best.{Best}
-use Rattle.klsm_world.specs.declared.step.Entry.{Entry}
+use Rattle.klsm_schedules.specs.declared.step.Entry.{Entry}
 use Rattle.klsm_knapsack.specs.declared.options.SearchOptions.{SearchOptions}
 use Rattle.klsm_knapsack.specs.Searches.{HasSearched}
 use Rattle.klsm_knapsack.specs.declared.errors.UnsolvedError.{UnsolvedError}

@@ -1,7 +1,7 @@
 use Rattle.std.proofs.Common.{rules, ◌≡◌, ◌∙◌, ◌∷◌, ◌++◌, [], List, map-id, append-nil, Option, Some, None, ap, sym, refl}
 use Rattle.std.proofs.lemmas.Iterator.Consumers.{YieldsList-end}
 use Rattle.std.proofs.lemmas.Iterator.Adapters.{YieldsList-from_vec}
-use Rattle.klsm_run.specs.declared.limits.TheConstants.{MOST_LEVELS, PROGRAM_K}
+use Rattle.klsm_run.specs.declared.limits.TheConstants.{PROGRAM_LEVELS, PROGRAM_K}
 use Rattle.klsm_board.specs.declared.board.Member.{Member}
 use Rattle.klsm_tool.specs.declared.worker.Worker.{Worker}
 use Rattle.klsm_tool.specs.Working.{members_in}
@@ -10,7 +10,7 @@ use Rattle.klsm_tool.proofs.live.members_of.Goals as goal
 members_join : (crew more : List (Option Worker)) → members_in (crew ++ more) ≡ members_in crew ++ members_in more
 members_join [] more = refl
 members_join (None ∷ crew) more = members_join crew more
-members_join (Some worker ∷ crew) more = ap (λ (z : List (Member PROGRAM_K MOST_LEVELS)). worker.member ∷ z) (members_join crew more)
+members_join (Some worker ∷ crew) more = ap (λ (z : List (Member PROGRAM_K PROGRAM_LEVELS)). worker.member ∷ z) (members_join crew more)
 
 -- a worker more
 members_more : (crew : List (Option Worker)) (place : Option Worker) (worker : Worker) → place ≡ Some worker → members_in (crew ++ place ∷ []) ≡ members_in crew ++ worker.member ∷ []
@@ -24,7 +24,7 @@ members_same crew (Some worker) none = absurd (none worker refl)
 pub loop-place-preserved-in-Continue-branch-2 : goal.loop-place-preserved-in-Continue-branch-2
 loop-place-preserved-in-Continue-branch-2 c =
     let pushed : c.push.new.self.items ≡ c.loop-place.members.items ++ c.in-Some-place.worker.member ∷ [] = c.in_ok-push.ensures.items in
-    pushed ∙ (ap (λ (z : List (Member PROGRAM_K MOST_LEVELS)). z ++ c.in-Some-place.worker.member ∷ []) c.loop-place.invariant ∙ sym (members_more c.loop-place.yielded c.in-Some.place c.in-Some-place.worker c.in-Some-place.is))
+    pushed ∙ (ap (λ (z : List (Member PROGRAM_K PROGRAM_LEVELS)). z ++ c.in-Some-place.worker.member ∷ []) c.loop-place.invariant ∙ sym (members_more c.loop-place.yielded c.in-Some.place c.in-Some-place.worker c.in-Some-place.is))
 
 pub loop-place-preserved : goal.loop-place-preserved
 loop-place-preserved c = c.loop-place.invariant ∙ sym (members_same c.loop-place.yielded c.in-Some.place c.in_default.not-Some)

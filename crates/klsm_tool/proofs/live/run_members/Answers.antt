@@ -1,6 +1,6 @@
 use Rattle.std.proofs.Common.{◌≡◌, ◌<◌, ◌∙◌, ◌++◌, ℕ, List, map, length, take, drop, slice_index_or, Option, sym, ap, subst, arith}
 use Rattle.std.proofs.lemmas.List.{length-map}
-use Rattle.klsm_run.specs.declared.limits.TheConstants.{MOST_LEVELS, PROGRAM_K}
+use Rattle.klsm_run.specs.declared.limits.TheConstants.{PROGRAM_LEVELS, PROGRAM_K}
 use Rattle.klsm_board.specs.declared.board.Member.{Member}
 use Rattle.klsm_tool.specs.declared.worker.Worker.{Worker}
 use Rattle.klsm_text.specs.Keeping.{kept_for}
@@ -10,7 +10,7 @@ use Rattle.klsm_tool.proofs.PlaceLemmas.{crew_ready}
 use Rattle.klsm_tool.proofs.live.run_members.Goals as goal
 
 -- there is a place for each member
-as_many : (crew : List (Option Worker)) (members : List (Member PROGRAM_K MOST_LEVELS)) → crew ≡ map ready members → length crew ≡ length members
+as_many : (crew : List (Option Worker)) (members : List (Member PROGRAM_K PROGRAM_LEVELS)) → crew ≡ map ready members → length crew ≡ length members
 as_many crew members is = ap (λ (z : List (Option Worker)). length z) is ∙ length-map members ready
 
 pub run_all-requires-clause-some : goal.run_all-requires-clause-some
@@ -28,7 +28,7 @@ run_all-requires-clause-ready g c =
     (crew_ready c.args.live.now.board.now c.args.members.items c.requires.of c.requires.new t d)
 
 -- what was lent as a slice comes back, and it is as long
-comes_back : (crew lent items : List (Option Worker)) (n : ℕ) (members : List (Member PROGRAM_K MOST_LEVELS)) → length crew ≡ length lent → lent ≡ items → items ≡ map ready members → n ≡ length items
+comes_back : (crew lent items : List (Option Worker)) (n : ℕ) (members : List (Member PROGRAM_K PROGRAM_LEVELS)) → length crew ≡ length lent → lent ≡ items → items ≡ map ready members → n ≡ length items
     → (take n (crew ++ drop (length crew) items) ≡ crew) × (length crew ≡ length members)
 comes_back crew lent items n members same value is len =
     let many : length crew ≡ length items = same ∙ ap (λ (z : List (Option Worker)). length z) value in

@@ -1,5 +1,5 @@
 use Rattle.std.proofs.Common.{◌≡◌, length, subst}
-use Rattle.klsm_world.specs.OwnSteps.{inserted}
+use Rattle.klsm_schedules.specs.OwnSteps.{inserted}
 use Rattle.klsm_board.specs.Inserting.{RefusesInsertWaiting}
 use Rattle.klsm_board.specs.declared.errors.InsertError.TheVariants as insert
 use Rattle.klsm_board.specs.Boards.{own_steps}

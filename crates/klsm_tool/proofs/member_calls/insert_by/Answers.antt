@@ -1,6 +1,6 @@
 use Rattle.std.proofs.Common.{◌≡◌, [], ◌∷◌, length, sym, ap, subst, ◌∙◌, append-nil, arith, refl}
-use Rattle.klsm_run.specs.declared.limits.TheConstants.{MOST_LEVELS}
-use Rattle.klsm_world.specs.OwnSteps.{inserted}
+use Rattle.klsm_run.specs.declared.limits.TheConstants.{PROGRAM_LEVELS}
+use Rattle.klsm_schedules.specs.OwnSteps.{inserted}
 use Rattle.klsm_board.specs.Inserting.{GivesUp, Inserts, IsBelowLimit, RefusesInsert, as_tried}
 use Rattle.klsm_board.specs.declared.errors.InsertError.{InsertError}
 use Rattle.klsm_board.specs.declared.errors.TryInsertError.TheVariants as try_insert
@@ -28,27 +28,27 @@ returns-in-Ok-clause-goes c =
     let all = c.args.all.now in let after = c.insert.new.self in let t = c.args.thread in let told = c.in-Ok.ensures in let ok = told.ok in
     let threads = ap (λ (z : Sizes). z.threads) c.requires.of.1 in
     all_go all after t told.same (omega (arith, c.requires.thread, threads)) (Inserted (record { key = c.args.key; stamp = c.in-Ok.stamp; load = c.args.load }) ∷ [])
-    (one_shows MOST_LEVELS all.acting.sizes.k t (steps_for all t) (steps_for after t) _ ok) told.left (omega (arith, told.counts))
+    (one_shows PROGRAM_LEVELS all.acting.sizes.k t (steps_for all t) (steps_for after t) _ ok) told.left (omega (arith, told.counts))
 
 pub returns-in-Err-NoMemory-clause-refused : goal.returns-in-Err-NoMemory-clause-refused
 returns-in-Err-NoMemory-clause-refused c =
     let all = c.args.all.now in let after = c.insert.new.self in let t = c.args.thread in let told = c.in-Err-NoMemory.ensures in
     let threads = ap (λ (z : Sizes). z.threads) c.requires.of.1 in
     let spent : Type 0 = length (inserted (steps_for all t)) ≡ all.acting.sizes.quota in
-    let refused = subst (λ (why : InsertError). RefusesInsert spent MOST_LEVELS all.acting.sizes.k t (steps_for all t) (steps_for after t) (as_tried why)) c.in-Err-NoMemory.field-0-is told.refused.1 in (
+    let refused = subst (λ (why : InsertError). RefusesInsert spent PROGRAM_LEVELS all.acting.sizes.k t (steps_for all t) (steps_for after t) (as_tried why)) c.in-Err-NoMemory.field-0-is told.refused.1 in (
       refl,
       all_go all after t told.same (omega (arith, c.requires.thread, threads)) []
-          (refused_shows MOST_LEVELS all.acting.sizes.k t (steps_for all t) (steps_for after t) try_insert.NoMemory refused ∙ sym (append-nil _)) told.left_alone (omega (arith, told.counts_alone)),
+          (refused_shows PROGRAM_LEVELS all.acting.sizes.k t (steps_for all t) (steps_for after t) try_insert.NoMemory refused ∙ sym (append-nil _)) told.left_alone (omega (arith, told.counts_alone)),
     )
 
 pub returns-in-Ok-clause-inserts : goal.returns-in-Ok-clause-inserts
 returns-in-Ok-clause-inserts c =
     let t = c.args.thread in let es = steps_for c.args.all.now t in let es' = steps_for c.insert.new.self t in
-    subst (λ (z : Sizes). Inserts MOST_LEVELS z.k t es es' (record { key = c.args.key; stamp = c.in-Ok.stamp; load = c.args.load })) c.requires.of.1 c.in-Ok.ensures.ok
+    subst (λ (z : Sizes). Inserts PROGRAM_LEVELS z.k t es es' (record { key = c.args.key; stamp = c.in-Ok.stamp; load = c.args.load })) c.requires.of.1 c.in-Ok.ensures.ok
 
 pub returns-in-Err-NoMemory-clause-lacks : goal.returns-in-Err-NoMemory-clause-lacks
 returns-in-Err-NoMemory-clause-lacks c =
     let all = c.args.all.now in let t = c.args.thread in let es = steps_for all t in let es' = steps_for c.insert.new.self t in
     let spent : Type 0 = length (inserted es) ≡ all.acting.sizes.quota in
-    let refused = subst (λ (why : InsertError). RefusesInsert spent MOST_LEVELS all.acting.sizes.k t es es' (as_tried why)) c.in-Err-NoMemory.field-0-is c.in-Err-NoMemory.ensures.refused.1 in
-    subst (λ (z : Sizes). GivesUp z.k t es es' (IsBelowLimit MOST_LEVELS)) c.requires.of.1 refused
+    let refused = subst (λ (why : InsertError). RefusesInsert spent PROGRAM_LEVELS all.acting.sizes.k t es es' (as_tried why)) c.in-Err-NoMemory.field-0-is c.in-Err-NoMemory.ensures.refused.1 in
+    subst (λ (z : Sizes). GivesUp z.k t es es' (IsBelowLimit PROGRAM_LEVELS)) c.requires.of.1 refused

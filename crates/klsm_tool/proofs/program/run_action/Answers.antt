@@ -12,14 +12,14 @@ by_action action is input before after n same = subst (λ (a : Action). RunsBy (
 pub returns-in-Replay : goal.returns-in-Replay
 returns-in-Replay g c =
     by_action _ (Replay c.in-Replay.settings) _ _ _ c.ended.result.code c.in-Replay.is
-    (inl ((subst IsActionInRange c.in-Replay.is c.requires).3, (c.replay_over-report.result, c.replay_over-report.ensures, c.ended.ensures)))
+    (inl ((subst IsActionInRange c.in-Replay.is c.requires).3, (c.replay_with-report.result, c.replay_with-report.ensures, c.ended.ensures)))
 
 pub returns-in-Live : goal.returns-in-Live
 returns-in-Live g c =
     by_action _ (Live c.in-Live.settings) _ _ _ c.ended-in-Live.result.code c.in-Live.is
-    (inl ((subst IsActionInRange c.in-Live.is c.requires).3, (c.live_over-report.result, c.live_over-report.ensures, c.ended-in-Live.ensures)))
+    (inl ((subst IsActionInRange c.in-Live.is c.requires).3, (c.live_with-report.result, c.live_with-report.ensures, c.ended-in-Live.ensures)))
 
 pub returns-in-Knapsack : goal.returns-in-Knapsack
 returns-in-Knapsack g c =
     by_action _ (Knapsack c.in-Knapsack.search) _ _ _ c.ended-in-Knapsack.result.code c.in-Knapsack.is
-    (c.knapsack_over-report.result, c.knapsack_over-report.ensures, c.ended-in-Knapsack.ensures)
+    (c.knapsack_with-report.result, c.knapsack_with-report.ensures, c.ended-in-Knapsack.ensures)

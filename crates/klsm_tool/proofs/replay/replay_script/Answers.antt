@@ -1,5 +1,5 @@
 use Rattle.std.proofs.Common.{arith, ap, sym, ◌∙◌, ◌≡◌, ◌<◌, ℕ, []}
-use Rattle.klsm_run.specs.declared.limits.TheConstants.{MOST_LEVELS, PROGRAM_K}
+use Rattle.klsm_run.specs.declared.limits.TheConstants.{PROGRAM_LEVELS, PROGRAM_K}
 use Rattle.klsm_board.specs.declared.all_members.AllMembers.{AllMembers}
 use Rattle.klsm_board.specs.declared.sizes.Sizes.{Sizes}
 use Rattle.klsm_board.specs.Together.{all_lists, sizes_of_all}
@@ -14,7 +14,7 @@ use Rattle.klsm_tool.proofs.TellingLemmas.{nothing_told}
 use Rattle.klsm_tool.proofs.replay.replay_script.Goals as goal
 
 -- the lines of a replay that begins show that nothing was done
-none_shown : (all : AllMembers PROGRAM_K MOST_LEVELS) (threads k : ℕ) → HaveNoSteps all → threads ≡ (sizes_of_all all).threads → Show threads k (all_lists all) []
+none_shown : (all : AllMembers PROGRAM_K PROGRAM_LEVELS) (threads k : ℕ) → HaveNoSteps all → threads ≡ (sizes_of_all all).threads → Show threads k (all_lists all) []
 none_shown all threads k fresh same = record {
   answers = fresh_shows_none all fresh threads same;
   left_is = fresh_leaves_none all fresh;

@@ -1,5 +1,5 @@
 use Rattle.std.proofs.Common.{inl, inr, refl, subst, rules}
-use Rattle.klsm_run.specs.declared.limits.TheConstants.{MOST_LEVELS}
+use Rattle.klsm_run.specs.declared.limits.TheConstants.{PROGRAM_LEVELS}
 use Rattle.klsm_board.specs.declared.sizes.Sizes.{Sizes}
 use Rattle.klsm_board.specs.Boards.{own_steps}
 use Rattle.klsm_board.specs.Inserting.{InsertsWaiting}
@@ -23,4 +23,4 @@ pub returns-in-Ok-clause-course : goal.returns-in-Ok-clause-course
 returns-in-Ok-clause-course g c first on =
     let t = c.args.member.now.number in let picker = c.args.picker.now in let es = own_steps c.args.member.now in let es' = own_steps c.insert.new.member in
     one_call (CallsInTurn c.args.board.now.sizes t) first picker picker es es' on
-    (inl ((c.in-Ok.item, subst (λ (z : Sizes). InsertsWaiting MOST_LEVELS z.k t es es' c.in-Ok.item) c.requires.of.1 c.in-Ok.ensures.inserts), refl))
+    (inl ((c.in-Ok.item, subst (λ (z : Sizes). InsertsWaiting PROGRAM_LEVELS z.k t es es' c.in-Ok.item) c.requires.of.1 c.in-Ok.ensures.inserts), refl))

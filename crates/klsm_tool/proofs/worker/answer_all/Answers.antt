@@ -1,6 +1,6 @@
 use Rattle.std.proofs.Common.{◌≡◌, ◌∙◌, ℕ, [], None, Some, false, get_or, take, refl, subst, sym, ap, arith}
 use Rattle.std.proofs.lemmas.List.{take_all}
-use Rattle.klsm_run.specs.declared.limits.TheConstants.{MOST_LEVELS}
+use Rattle.klsm_run.specs.declared.limits.TheConstants.{PROGRAM_LEVELS}
 use Rattle.klsm_board.specs.Boards.{own_steps}
 use Rattle.klsm_text.specs.declared.thread_rows.ThreadRow.{ThreadRow}
 use Rattle.klsm_tool.specs.declared.picking.ThreadPicker.{ThreadPicker}
@@ -29,8 +29,8 @@ pub returns-in-Err-clause-works : goal.returns-in-Err-clause-works
 returns-in-Err-clause-works g c =
     let refused = c.in-Err.ensures.refused in let k = ap (λ m. m.k) (c.loop-row.invariant.same.1 ∙ c.requires.of.1) in
     row_given_up c.args.rows.now c.loop-row.row-index empty c.loop-row-test.true c.args.board.now.sizes.k c.args.member.now.number (own_steps c.loop-row.member) (own_steps c.answer.new.member) c.in-Err.want c.loop-row.invariant.answers refused.0
-    (subst (λ t. Wants MOST_LEVELS c.args.board.now.sizes.k t (own_steps c.answer.new.member) c.in-Err.want) c.loop-row.invariant.same.0
-    (subst (λ n. Wants MOST_LEVELS n c.loop-row.member.number (own_steps c.answer.new.member) c.in-Err.want) k refused.1))
+    (subst (λ t. Wants PROGRAM_LEVELS c.args.board.now.sizes.k t (own_steps c.answer.new.member) c.in-Err.want) c.loop-row.invariant.same.0
+    (subst (λ n. Wants PROGRAM_LEVELS n c.loop-row.member.number (own_steps c.answer.new.member) c.in-Err.want) k refused.1))
 
 pub loop-row-preserved : goal.loop-row-preserved
 loop-row-preserved g c =

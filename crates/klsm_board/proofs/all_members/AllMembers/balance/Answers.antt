@@ -1,6 +1,6 @@
 use Rattle.std.proofs.Common.{◌≡◌, ℕ, List, [], arith, ap, subst, lit<, ◌∙◌}
 use Rattle.std.specs.Prelude.{None}
-use Rattle.klsm_world.specs.declared.step.Entry.{Entry}
+use Rattle.klsm_schedules.specs.declared.step.Entry.{Entry}
 use Rattle.klsm_board.specs.declared.sizes.Sizes.{Sizes}
 use Rattle.klsm_board.specs.Boards.{own_steps}
 use Rattle.klsm_board.specs.Stealing.{Balances}

@@ -1,9 +1,9 @@
 use Rattle.std.proofs.Common.{◌≡◌, ℕ, List, [], ◌∷◌, arith, length, sym, ap, subst, ◌∙◌}
 use Rattle.std.specs.Prelude.{None}
-use Rattle.klsm_world.specs.declared.step.Entry.{Entry}
+use Rattle.klsm_schedules.specs.declared.step.Entry.{Entry}
 use Rattle.klsm_board.specs.declared.errors.TryInsertError.{TryInsertError}
 use Rattle.klsm_board.specs.declared.sizes.Sizes.{Sizes}
-use Rattle.klsm_world.specs.OwnSteps.{inserted}
+use Rattle.klsm_schedules.specs.OwnSteps.{inserted}
 use Rattle.klsm_board.specs.Boards.{Gains, own_steps}
 use Rattle.klsm_board.specs.Inserting.{Inserts, RefusesInsert, as_tried, stamped}
 use Rattle.klsm_board.specs.Together.{sizes_of_all, steps_for}

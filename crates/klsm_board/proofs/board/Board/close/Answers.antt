@@ -4,7 +4,7 @@ use mathlib.Core.Option.{some}
 use lib.ListN.{get_elem?}
 use Rattle.atomic_table.specs.Table.{Final, Seen}
 use Rattle.klsm_parts.specs.Parts.{PartState}
-use Rattle.klsm_world.proofs.lemmas.lists.ListLemmas.{sorted_by_sort}
+use Rattle.klsm_schedules.proofs.lemmas.lists.ListLemmas.{sorted_by_sort}
 use Rattle.klsm_parts.proofs.FitLemmas.{local_fits, shared_fits}
 use Rattle.klsm_board.specs.declared.board.Member.{Member}
 use Rattle.klsm_board.specs.declared.sizes.Sizes.{Sizes}

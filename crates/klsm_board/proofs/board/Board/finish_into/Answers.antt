@@ -1,6 +1,6 @@
 use Rattle.std.proofs.Common.{rules, ap, subst, refl, ◌∙◌, List, length, arith}
 use Rattle.std.specs.List.{flat_map}
-use Rattle.klsm_world.specs.OwnSteps.{inserted, deleted}
+use Rattle.klsm_schedules.specs.OwnSteps.{inserted, deleted}
 use Rattle.klsm_board.specs.declared.board.Member.{Member}
 use Rattle.klsm_board.specs.Finishing.{AreAll, IsLeastAbsent, lists_of}
 use Rattle.klsm_board.proofs.board.Board.finish_into.Goals as goal

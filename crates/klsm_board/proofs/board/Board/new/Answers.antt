@@ -1,8 +1,14 @@
-use Rattle.std.proofs.Common.{arith}
+use Rattle.std.proofs.Common.{rules}
 use Rattle.klsm_board.proofs.board.Board.new.Goals as goal
 
-pub returns-clause-bad_refill : goal.returns-clause-bad_refill
-returns-clause-bad_refill g c = (λ bad. let why = c.with_refill.ensures.bad_refill.0 bad in omega (arith, why.4), λ none. absurd none)
+pub returns-then-threads-eq0-clause-bad_threads : goal.returns-then-threads-eq0-clause-bad_threads
+returns-then-threads-eq0-clause-bad_threads g c = search rules
 
-pub returns-clause-sizes : goal.returns-clause-sizes
-returns-clause-sizes g c = c.with_refill.ensures.sizes
+pub returns-then-threads-eq0-clause-bad_k : goal.returns-then-threads-eq0-clause-bad_k
+returns-then-threads-eq0-clause-bad_k g c = search rules
+
+pub returns-in-Ok-clause-sizes : goal.returns-in-Ok-clause-sizes
+returns-in-Ok-clause-sizes g c = c.in-Ok.ensures.sizes
+
+pub returns-in-Ok-clause-bad_threads : goal.returns-in-Ok-clause-bad_threads
+returns-in-Ok-clause-bad_threads g c = search rules

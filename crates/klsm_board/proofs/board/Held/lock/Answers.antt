@@ -1,9 +1,9 @@
 use Rattle.std.proofs.Common.{rules, ◌≡◌, ◌∙◌, Some, List, [], sym, ap, subst}
 use Rattle.klsm_run.specs.declared.item.Item.{Item}
-use Rattle.klsm_world.specs.declared.step.Entry.{Entry}
-use Rattle.klsm_world.specs.OwnSteps.{Holds, found_in, hand_of}
-use Rattle.klsm_world.proofs.lemmas.hands.HandLemmas.{found_first}
-use Rattle.klsm_world.proofs.lemmas.hands.PartContentLemmas.{content_held}
+use Rattle.klsm_schedules.specs.declared.step.Entry.{Entry}
+use Rattle.klsm_schedules.specs.OwnSteps.{Holds, found_in, hand_of}
+use Rattle.klsm_schedules.proofs.lemmas.hands.HandLemmas.{found_first}
+use Rattle.klsm_schedules.proofs.lemmas.hands.PartContentLemmas.{content_held}
 use Rattle.klsm_board.specs.Boards.{held_content, held_steps}
 use Rattle.klsm_board.specs.Rule.{world_limits}
 use Rattle.klsm_board.proofs.board.Held.lock.Goals as goal

@@ -10,4 +10,5 @@ invariant-loop g l = record {
   others : known_of_others l.self ≡ known_of_others l.initial.self;
   waits : Waits l.initial.self.number LooksInVain (own_steps l.initial.self) (own_steps l.self);
   picker : l.picker ≡ l.initial.picker;
+  words : l.pause.waiter.table.now.table_id.words ≡ l.board.table.shared.table_id.words;
 }

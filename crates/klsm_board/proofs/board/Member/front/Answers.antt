@@ -1,5 +1,5 @@
 use Rattle.std.proofs.Common.{List, [], ◌∷◌, ◌∙◌, length, refl, sym, subst, ap}
-use Rattle.klsm_world.specs.declared.step.Entry.TheVariants.{Looked}
+use Rattle.klsm_schedules.specs.declared.step.Entry.TheVariants.{Looked}
 use Rattle.klsm_board.specs.declared.rule.Own.{Own}
 use Rattle.klsm_board.specs.declared.sizes.Sizes.{Sizes}
 use Rattle.klsm_parts.proofs.FitLemmas.{local_fits, shared_fits}

@@ -1,7 +1,7 @@
 use Rattle.std.proofs.Common.{◌∷◌, ◌++◌, ◌∙◌, [], List, length, sym, ap, refl, subst}
 use Rattle.klsm_run.specs.declared.item.Item.{Item}
-use Rattle.klsm_world.specs.declared.step.Entry.TheVariants.{Acquired, Missed}
-use Rattle.klsm_world.specs.OwnSteps.{hand_of}
+use Rattle.klsm_schedules.specs.declared.step.Entry.TheVariants.{Acquired, Missed}
+use Rattle.klsm_schedules.specs.OwnSteps.{hand_of}
 use Rattle.klsm_parts.proofs.FitLemmas.{local_fits, shared_fits}
 use Rattle.klsm_board.specs.Steps.{mine}
 use Rattle.klsm_board.specs.Seats.{Has, Stands}

@@ -1,6 +1,6 @@
 use Rattle.std.proofs.Common.{◌≡◌, ◌+◌, ◌∙◌, [], length, sym, subst, arith}
 use Rattle.std.specs.Option.{option_to_list}
-use Rattle.klsm_world.specs.OwnSteps.{inserted, deleted}
+use Rattle.klsm_schedules.specs.OwnSteps.{inserted, deleted}
 use Rattle.klsm_parts.proofs.FitLemmas.{local_fits, shared_fits}
 use Rattle.klsm_board.specs.Deleting.{AnswersDeletion, MissesDeletion, moving_at_most}
 use Rattle.klsm_board.specs.Effects.{MeetsHolder}

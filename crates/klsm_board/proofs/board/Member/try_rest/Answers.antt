@@ -1,5 +1,5 @@
-use Rattle.std.proofs.Common.{IfErr, ◌≡◌, ◌<◌, ◌∙◌, [], length, refl, sym, ap, subst, arith}
-use Rattle.klsm_world.specs.OwnSteps.{inserted, deleted}
+use Rattle.std.proofs.Common.{IfErr, ◌≡◌, ◌<◌, ◌∙◌, [], length, refl, sym, subst, arith}
+use Rattle.klsm_schedules.specs.OwnSteps.{inserted, deleted}
 use Rattle.klsm_parts.proofs.FitLemmas.{local_fits, shared_fits}
 use Rattle.klsm_board.specs.declared.sizes.Sizes.{Sizes}
 use Rattle.klsm_board.specs.Effects.{MeetsHolder}

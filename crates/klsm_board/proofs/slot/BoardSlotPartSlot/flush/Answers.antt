@@ -1,6 +1,6 @@
 use Rattle.std.proofs.Common.{◌≡◌, length, sym, ap, ◌∙◌}
 use Rattle.klsm_run.proofs.SortedLemmas.{length_sorted}
-use Rattle.klsm_parts.specs.Parts.{items_in}
+use Rattle.klsm_parts.specs.Parts.{PartState, items_in}
 use Rattle.klsm_parts.proofs.FitLemmas.{local_fits, shared_fits}
 use Rattle.klsm_board.specs.declared.slot.Slot.TheVariants.{Own, Common}
 use Rattle.klsm_board.proofs.lemmas.slots.KindLemmas.{own_content, shared_content, is_full, absent_unsorted, apart_unsorted, keeps_own, keeps_shared, holds_own, holds_shared}
@@ -8,12 +8,12 @@ use Rattle.klsm_board.proofs.lemmas.slots.FlushLemmas.{flushed, lacks_room, has_
 use Rattle.klsm_board.proofs.slot.BoardSlotPartSlot.flush.Goals.{in_default-via-in-Own+in_default, in_default-via-in_default}
 use Rattle.klsm_board.proofs.slot.BoardSlotPartSlot.flush.Goals as goal
 
-pub flush-requires : goal.flush-requires
-flush-requires g c =
-    let own = c.get_mut.result.now in
-    let common = c.get_mut-in-Own-Common.result.now in
-    let own_is : c.args.self.now ≡ Own own = c.in-Own-Common.is-0 ∙ ap Own (sym c.get_mut.ensures.value) in
-    let common_is : c.args.shared.now ≡ Common common = c.in-Own-Common.is-1 ∙ ap Common (sym c.get_mut-in-Own-Common.ensures.value) in
+pub flush-answer-requires : goal.flush-answer-requires
+flush-answer-requires g c =
+    let own = c.get_mut-home.result.now in
+    let common = c.get_mut-common.result.now in
+    let own_is : c.args.self.now ≡ Own own = c.in-Own-Common.is-0 ∙ ap Own (sym c.get_mut-home.ensures.value) in
+    let common_is : c.args.shared.now ≡ Common common = c.in-Own-Common.is-1 ∙ ap Common (sym c.get_mut-common.ensures.value) in
     let parts = c.requires.parts in
     let full : length (items_in own.part) ≡ own.part.k = is_full parts.0 _ c.args.self.now own own_is parts.2 parts.4 in
     let own_same = own_content c.args.self.now own own_is in
@@ -26,51 +26,51 @@ flush-requires g c =
 
 pub returns-clause-done : goal.returns-clause-done
 returns-clause-done g c =
-    let own = c.get_mut.result.now in
-    let common = c.get_mut-in-Own-Common.result.now in
-    let own_is : c.args.self.now ≡ Own own = c.in-Own-Common.is-0 ∙ ap Own (sym c.get_mut.ensures.value) in
-    let common_is : c.args.shared.now ≡ Common common = c.in-Own-Common.is-1 ∙ ap Common (sym c.get_mut-in-Own-Common.ensures.value) in
-    flushed g.row.LEVELS _ c.args.item c.args.self.now c.args.shared.now own common own_is common_is (length_sorted _)
-    c.flush.new.own c.flush.new.shared c.flush.result c.flush.ensures.event c.flush.ensures.full
+    let own = c.get_mut-home.result.now in
+    let common = c.get_mut-common.result.now in
+    let own_is : c.args.self.now ≡ Own own = c.in-Own-Common.is-0 ∙ ap Own (sym c.get_mut-home.ensures.value) in
+    let common_is : c.args.shared.now ≡ Common common = c.in-Own-Common.is-1 ∙ ap Common (sym c.get_mut-common.ensures.value) in
+    rw (c.exchange.ensures) (flushed g.row.LEVELS _ c.args.item c.args.self.now c.args.shared.now own common own_is common_is (length_sorted _)
+    c.flush-answer.new.own c.flush-answer.new.shared c.flush-answer.result c.flush-answer.ensures.event c.flush-answer.ensures.full)
 
 pub returns-clause-full : goal.returns-clause-full
 returns-clause-full g c =
-    let own = c.get_mut.result.now in
-    let common = c.get_mut-in-Own-Common.result.now in
-    let own_is : c.args.self.now ≡ Own own = c.in-Own-Common.is-0 ∙ ap Own (sym c.get_mut.ensures.value) in
-    let common_is : c.args.shared.now ≡ Common common = c.in-Own-Common.is-1 ∙ ap Common (sym c.get_mut-in-Own-Common.ensures.value) in
+    let own = c.get_mut-home.result.now in
+    let common = c.get_mut-common.result.now in
+    let own_is : c.args.self.now ≡ Own own = c.in-Own-Common.is-0 ∙ ap Own (sym c.get_mut-home.ensures.value) in
+    let common_is : c.args.shared.now ≡ Common common = c.in-Own-Common.is-1 ∙ ap Common (sym c.get_mut-common.ensures.value) in
     let parts = c.requires.parts in
     lacks_room g.row.LEVELS _ c.args.item c.args.self.now c.args.shared.now own common own_is common_is (length_sorted _)
-    (is_full parts.0 _ c.args.self.now own own_is parts.2 parts.4) c.flush.result c.flush.ensures.full
+    (is_full parts.0 _ c.args.self.now own own_is parts.2 parts.4) c.flush-answer.result c.flush-answer.ensures.full
 
 pub returns-clause-memory : goal.returns-clause-memory
 returns-clause-memory g c =
-    let own = c.get_mut.result.now in
-    let common = c.get_mut-in-Own-Common.result.now in
-    let own_is : c.args.self.now ≡ Own own = c.in-Own-Common.is-0 ∙ ap Own (sym c.get_mut.ensures.value) in
-    let common_is : c.args.shared.now ≡ Common common = c.in-Own-Common.is-1 ∙ ap Common (sym c.get_mut-in-Own-Common.ensures.value) in
+    let own = c.get_mut-home.result.now in
+    let common = c.get_mut-common.result.now in
+    let own_is : c.args.self.now ≡ Own own = c.in-Own-Common.is-0 ∙ ap Own (sym c.get_mut-home.ensures.value) in
+    let common_is : c.args.shared.now ≡ Common common = c.in-Own-Common.is-1 ∙ ap Common (sym c.get_mut-common.ensures.value) in
     has_room g.row.LEVELS _ c.args.item c.args.self.now c.args.shared.now own common own_is common_is (length_sorted _)
-    c.flush.ensures.moves c.flush.result c.flush.ensures.full
+    c.flush-answer.ensures.moves c.flush-answer.result c.flush-answer.ensures.full
 
 pub returns-clause-kind : goal.returns-clause-kind
 returns-clause-kind g c = λ k t.
-    let own = c.get_mut.result.now in
-    let own_is : c.args.self.now ≡ Own own = c.in-Own-Common.is-0 ∙ ap Own (sym c.get_mut.ensures.value) in
-    keeps_own c.args.self.now own c.flush.new.own own_is (own_keeps_k own.part c.flush.new.own c.get_mut-in-Own-Common.result.now c.flush.new.shared _ c.flush.result c.flush.ensures.own c.flush.ensures.unchanged) k _
+    let own = c.get_mut-home.result.now in
+    let own_is : c.args.self.now ≡ Own own = c.in-Own-Common.is-0 ∙ ap Own (sym c.get_mut-home.ensures.value) in
+    keeps_own c.args.self.now own c.flush-answer.new.own own_is (own_keeps_k own.part c.flush-answer.new.own c.get_mut-common.result.now c.flush-answer.new.shared _ c.flush-answer.result c.flush-answer.ensures.own c.flush-answer.ensures.unchanged) k _
 
 pub returns-clause-shared_kind : goal.returns-clause-shared_kind
 returns-clause-shared_kind g c = λ k.
-    let common = c.get_mut-in-Own-Common.result.now in
-    let common_is : c.args.shared.now ≡ Common common = c.in-Own-Common.is-1 ∙ ap Common (sym c.get_mut-in-Own-Common.ensures.value) in
-    keeps_shared c.args.shared.now common c.flush.new.shared common_is (common_keeps_k c.get_mut.result.now.part c.flush.new.own common c.flush.new.shared _ c.flush.result c.flush.ensures.shared c.flush.ensures.unchanged) k
+    let common = c.get_mut-common.result.now in
+    let common_is : c.args.shared.now ≡ Common common = c.in-Own-Common.is-1 ∙ ap Common (sym c.get_mut-common.ensures.value) in
+    keeps_shared c.args.shared.now common c.exchange.new.shared common_is (ap (λ (part : PartState). part.k) c.exchange.ensures ∙ common_keeps_k c.get_mut-home.result.now.part c.flush-answer.new.own common c.flush-answer.new.shared _ c.flush-answer.result c.flush-answer.ensures.shared c.flush-answer.ensures.unchanged) k
 
 pub returns-clause-unchanged : goal.returns-clause-unchanged
 returns-clause-unchanged g c =
-    let own = c.get_mut.result.now in
-    let common = c.get_mut-in-Own-Common.result.now in
-    let own_is : c.args.self.now ≡ Own own = c.in-Own-Common.is-0 ∙ ap Own (sym c.get_mut.ensures.value) in
-    let common_is : c.args.shared.now ≡ Common common = c.in-Own-Common.is-1 ∙ ap Common (sym c.get_mut-in-Own-Common.ensures.value) in
-    unchanged c.args.self.now c.args.shared.now own c.flush.new.own common c.flush.new.shared own_is common_is c.flush.result c.flush.ensures.unchanged
+    let own = c.get_mut-home.result.now in
+    let common = c.get_mut-common.result.now in
+    let own_is : c.args.self.now ≡ Own own = c.in-Own-Common.is-0 ∙ ap Own (sym c.get_mut-home.ensures.value) in
+    let common_is : c.args.shared.now ≡ Common common = c.in-Own-Common.is-1 ∙ ap Common (sym c.get_mut-common.ensures.value) in
+    rw (c.exchange.ensures) (unchanged c.args.self.now c.args.shared.now own c.flush-answer.new.own common c.flush-answer.new.shared own_is common_is c.flush-answer.result c.flush-answer.ensures.unchanged)
 
 pub unreachable-requires : goal.unreachable-requires
 unreachable-requires g c =

@@ -1,5 +1,5 @@
 use Rattle.std.proofs.Common.{◌≡◌, ◌∙◌, ap, false, true, refl, lit<}
-use Rattle.klsm_world.specs.OwnSteps.{inserted}
+use Rattle.klsm_schedules.specs.OwnSteps.{inserted}
 use Rattle.klsm_knapsack.proofs.CrewLemmas.{new_room, root_at_work}
 use Rattle.klsm_knapsack.proofs.search_state.Worker.begin.Goals as goal
 

@@ -1,6 +1,6 @@
 use Rattle.std.proofs.Common.{◌≡◌, ◌≤◌, ◌+◌, ◌∙◌, None, Some, inr, length, refl, lit<, ap, subst, sym, arith, rules}
 use Rattle.std.proofs.lemmas.List.{append-nil}
-use Rattle.klsm_world.specs.OwnSteps.{inserted}
+use Rattle.klsm_schedules.specs.OwnSteps.{inserted}
 use Rattle.klsm_board.specs.Boards.{own_steps}
 use Rattle.klsm_knapsack.specs.declared.search_state.Worker.{Worker}
 use Rattle.klsm_knapsack.specs.Courses.{CallsOfWorker}

@@ -1,6 +1,6 @@
 use Rattle.std.proofs.Common.{rules, ◌≡◌, ℕ, List, [], ◌∷◌, ◌++◌, Result, Ok, Err, IfErr, subst}
-use Rattle.klsm_world.specs.declared.step.Entry.{Entry}
-use Rattle.klsm_world.specs.declared.step.Entry.TheVariants.{Missed}
+use Rattle.klsm_schedules.specs.declared.step.Entry.{Entry}
+use Rattle.klsm_schedules.specs.declared.step.Entry.TheVariants.{Missed}
 use Rattle.klsm_board.specs.declared.errors.Busy.{Busy}
 use Rattle.klsm_board.specs.Inserting.{MissesOwn}
 use Rattle.klsm_board.specs.Resting.{MissesRest}

@@ -1,9 +1,11 @@
-use Rattle.std.proofs.Common.{◌<◌, length, drop, subst, sym, arith, rules, ◌≡◌, List, ap, refl}
+use Rattle.std.proofs.Common.{◌∷◌, [], ◌∙◌, ◌<◌, length, drop, subst, sym, arith, rules, ◌≡◌, List, ap, refl}
 use Rattle.std.specs.List.{Contains}
 use Rattle.klsm_run.specs.declared.item.Item.{Item}
 use Rattle.klsm_lsm.specs.Lsm.{content, IsLsm}
+use Rattle.klsm_lsm.specs.Adding.{add}
 use Rattle.klsm_parts.specs.Parts.{PartState}
 use Rattle.klsm_parts.proofs.OwnLemmas.{has_room, own_added, fewer_without_largest, absent_without_largest, some_if_block}
+use Rattle.klsm_parts.proofs.FoundLemmas.{searched}
 use Rattle.klsm_parts.proofs.FlushLemmas.{kept_none}
 use Rattle.klsm_parts.proofs.FitLemmas.{first_fits, run_fits}
 use Rattle.klsm_parts.proofs.local.Local.replace_largest.Goals as goal
@@ -29,7 +31,9 @@ invariant_of-self g c =
     let some = some_if_block c.self.inside.lsm lawful (omega (arith, c.blocks-2.ensures.blocks, c.if-blocks-eq0.false)) in
     let room : length (content (drop 1 c.self.inside.lsm)) < c.self.inside.k =
     omega (arith, fewer_without_largest c.self.inside.lsm lawful some, c.self.invariant.few) in
-    rw (c.in-Ok.ensures.added, c.discard_largest.ensures) (own_added g.row.CAP c.self.inside.k c.self.inside.lsm (drop 1 c.self.inside.lsm) c.args.item c.self.inside.found c.self.invariant room)
+    let after : c.insert.new.self ≡ add (drop 1 c.self.inside.lsm) (c.args.item ∷ []) = c.in-Ok.ensures.added ∙ ap (λ (bs : List (List Item)). add bs (c.args.item ∷ [])) c.discard_largest.ensures in
+    let next = searched (add (drop 1 c.self.inside.lsm) (c.args.item ∷ [])) c.least_block-self-inside.result (rw (← after) c.least_block-self-inside.ensures) in
+    rw after (own_added g.row.CAP c.self.inside.k c.self.inside.lsm (drop 1 c.self.inside.lsm) c.args.item c.self.inside.found c.least_block-self-inside.result c.self.invariant room next)
 
 pub returns : goal.returns
 returns g c = search rules
@@ -56,3 +60,9 @@ blocks-requires-room-R-Run g c κs = search run_fits
 
 pub discard_largest-requires-room-R-Run : goal.discard_largest-requires-room-R-Run
 discard_largest-requires-room-R-Run g c κs = search run_fits
+
+pub least_block-self-inside-requires : goal.least_block-self-inside-requires
+least_block-self-inside-requires g c = search first_fits
+
+pub least_block-self-inside-requires-room-R-Run : goal.least_block-self-inside-requires-room-R-Run
+least_block-self-inside-requires-room-R-Run g c κs = search run_fits

@@ -7,6 +7,7 @@ use Rattle.klsm_lsm.specs.Adding.{add}
 use Rattle.klsm_lsm.proofs.AddLemmas.{sorted_add}
 use Rattle.klsm_parts.specs.Parts.{PartState}
 use Rattle.klsm_parts.proofs.OwnLemmas.{own_absorbed, absorbed_is}
+use Rattle.klsm_parts.proofs.FoundLemmas.{searched}
 use Rattle.klsm_parts.proofs.FitLemmas.{first_fits, run_fits}
 use Rattle.klsm_parts.proofs.local.Local.take_in.Goals as goal
 
@@ -18,7 +19,7 @@ absorb_items-requires g c =
 pub invariant_of-self : goal.invariant_of-self
 invariant_of-self g c =
     let room = subst (λ (p : PartState). length (content p.blocks) + length c.args.items.now ≤ p.k) (sym c.self.view_is) c.requires.room in
-    own_absorbed g.row.CAP c.self.inside.k c.self.inside.lsm c.absorb_items.new.self c.args.items.now c.self.inside.found c.self.invariant (ap (λ bs. sorted (content bs)) c.in-Ok.ensures.added ∙ sorted_add c.self.inside.lsm c.args.items.now) room
+    own_absorbed g.row.CAP c.self.inside.k c.self.inside.lsm c.absorb_items.new.self c.args.items.now c.self.inside.found c.least_block-self-inside.result c.self.invariant (ap (λ bs. sorted (content bs)) c.in-Ok.ensures.added ∙ sorted_add c.self.inside.lsm c.args.items.now) room (searched c.absorb_items.new.self c.least_block-self-inside.result c.least_block-self-inside.ensures)
 
 pub returns-clause-k : goal.returns-clause-k
 returns-clause-k g c = ap (λ (p : PartState). p.k) c.self.view_is
@@ -37,3 +38,9 @@ unreachable-requires g c =
     let fits : length (content c.self.inside.lsm) + length c.args.items.now ≤ limit_of OWN_LEVELS g.row.CAP = omega (arith, room, c.self.invariant.k_in_range, c.self.invariant.capacity_in_range.at_most) in
     let bad = c.in_default.ensures.room.1 fits in
     cc
+
+pub least_block-self-inside-requires : goal.least_block-self-inside-requires
+least_block-self-inside-requires g c = search first_fits
+
+pub least_block-self-inside-requires-room-R-Run : goal.least_block-self-inside-requires-room-R-Run
+least_block-self-inside-requires-room-R-Run g c κs = search run_fits

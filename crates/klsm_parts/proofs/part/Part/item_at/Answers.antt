@@ -4,7 +4,7 @@ use Rattle.klsm_run.specs.declared.item.Item.{Item}
 use Rattle.klsm_lsm.specs.Lsm.{content}
 use Rattle.klsm_parts.specs.EitherPart.{state_of}
 use Rattle.klsm_parts.specs.declared.part.Part.{Part}
-use Rattle.klsm_parts.proofs.FitLemmas.{fixed_run_fits, own_lsm_fits, local_fits, shared_lsm_fits, shared_fits}
+use Rattle.klsm_parts.proofs.FitLemmas.{fixed_run_fits, own_lsm_fits, local_fits, shared_fits}
 use Rattle.klsm_parts.proofs.part.Part.item_at.Goals as goal
 
 pub lsm-requires : goal.lsm-requires
@@ -19,17 +19,14 @@ item_listed-requires g c = (
   rw c.lsm.ensures (subst (λ (part : Part g.row.CAP g.row.LEVELS). c.args.index < length (content (state_of part).blocks)) c.in-Own.is c.requires.index),
 )
 
-pub lsm-requires-in-Common : goal.lsm-requires-in-Common
-lsm-requires-in-Common g c = (shared_fits _ c.requires.levels, shared_lsm_fits _ c.requires.levels)
-
-pub item_listed-requires-in-Common : goal.item_listed-requires-in-Common
-item_listed-requires-in-Common g c = (
-  shared_lsm_fits _ c.requires.levels,
-  rw c.lsm-in-Common.ensures (subst (λ (part : Part g.row.CAP g.row.LEVELS). c.args.index < length (content (state_of part).blocks)) c.in-Common.is c.requires.index),
+pub item_at-requires : goal.item_at-requires
+item_at-requires g c = (
+  shared_fits _ c.requires.levels,
+  subst (λ (part : Part g.row.CAP g.row.LEVELS). c.args.index < length (content (state_of part).blocks)) c.in-Common.is c.requires.index,
 )
 
 pub returns-in-Own : goal.returns-in-Own
 returns-in-Own g c = rw c.in-Own.is (subst (λ (bs : List (List Item)). slice_get (content bs) c.args.index ≡ Some c.item_listed.result) c.lsm.ensures c.item_listed.ensures)
 
 pub returns-in-Common : goal.returns-in-Common
-returns-in-Common g c = rw c.in-Common.is (subst (λ (bs : List (List Item)). slice_get (content bs) c.args.index ≡ Some c.item_listed-in-Common.result) c.lsm-in-Common.ensures c.item_listed-in-Common.ensures)
+returns-in-Common g c = rw c.in-Common.is c.item_at.ensures

@@ -1,4 +1,4 @@
-use Rattle.std.proofs.Common.{◌≡◌, ◌∷◌, [], Some, IfSome, MatchOption, ap, subst}
+use Rattle.std.proofs.Common.{rules, ◌≡◌, ◌∷◌, [], Some, IfSome, MatchOption, ap, subst}
 use Rattle.std.specs.List.{slice_get}
 use Rattle.klsm_parts.specs.Parts.{candidates_of}
 use Rattle.klsm_parts.specs.Taking.{own_first, Leaves}

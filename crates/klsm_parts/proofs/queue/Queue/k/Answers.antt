@@ -1,4 +1,4 @@
-use Rattle.std.proofs.Common.{◌≡◌, ◌≤◌, ◌∙◌, ap, subst, sym}
+use Rattle.std.proofs.Common.{rules, ◌≡◌, ◌≤◌, ◌∙◌, ap, subst, sym}
 use Rattle.klsm_parts.specs.Queues.{QueueState}
 use Rattle.klsm_parts.proofs.FitLemmas.{own_fits}
 use Rattle.klsm_parts.proofs.queue.Queue.k.Goals as goal

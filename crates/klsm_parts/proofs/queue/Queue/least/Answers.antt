@@ -1,4 +1,4 @@
-use Rattle.std.proofs.Common.{◌≡◌, Some, subst, sym, ◌∙◌}
+use Rattle.std.proofs.Common.{rules, ◌≡◌, Some, subst, sym, ◌∙◌}
 use Rattle.klsm_parts.specs.Parts.{least_in}
 use Rattle.klsm_parts.specs.Queues.{QueueState, least_of}
 use Rattle.klsm_parts.proofs.TakeLemmas.{IsTested}

@@ -1,4 +1,4 @@
-use Rattle.std.proofs.Common.{◌≡◌, ◌+◌, length, subst, arith}
+use Rattle.std.proofs.Common.{rules, ◌≡◌, ◌+◌, length, subst, arith}
 use Rattle.std.specs.List.{All}
 use Rattle.klsm_run.specs.Content.{IsAscending}
 use Rattle.klsm_parts.specs.Queues.{QueueState, IsNumbered, items_of}

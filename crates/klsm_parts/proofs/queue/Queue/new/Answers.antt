@@ -1,4 +1,4 @@
-use Rattle.std.proofs.Common.{arith, refl}
+use Rattle.std.proofs.Common.{rules, arith, refl}
 use Rattle.klsm_parts.proofs.FitLemmas.{field_fits, local_fits}
 use Rattle.klsm_parts.proofs.QueueLemmas.{queue_of_none}
 use Rattle.klsm_parts.proofs.queue.Queue.new.Goals as goal

@@ -1,3 +1,4 @@
+use Rattle.std.proofs.Common.{rules}
 use Rattle.klsm_parts.proofs.FitLemmas.{field_fits, own_fits}
 use Rattle.klsm_parts.proofs.queue.QueueDebug.fmt.Goals as goal
 

@@ -1,55 +1,31 @@
-use Rattle.std.proofs.Common.{List, subst, sym, ◌∙◌, ap, arith}
+use Rattle.std.proofs.Common.{rules, ◌≡◌, ◌+◌, ◌<◌, ◌≤◌, length, sym, ap, subst, arith}
+use Rattle.std.specs.Prelude.{OnOk, IsErrAnd}
+use Rattle.klsm_lsm.specs.declared.errors.LsmError.TheVariants.{Full}
 use Rattle.klsm_run.specs.Content.{sorted, ShareNone}
-use Rattle.klsm_run.specs.declared.item.Item.{Item}
-use Rattle.klsm_lsm.specs.Lsm.{content}
+use Rattle.klsm_run.proofs.SortedLemmas.{length_sorted}
 use Rattle.klsm_lsm.specs.Adding.{add}
-use Rattle.klsm_parts.specs.Parts.{PartState, IsShared}
-use Rattle.klsm_parts.proofs.FitLemmas.{lsm_fits, pivots_fit}
+use Rattle.klsm_run.specs.Capacity.{heap_room}
+use Rattle.klsm_lsm.specs.Limit.{limit_of}
+use Rattle.klsm_lsm.specs.Lsm.{content}
+use Rattle.klsm_lsm.proofs.JoinLemmas.{sharing_none_sorted}
+use Rattle.klsm_parts.proofs.SharedLemmas.{put_in, apart_of}
 use Rattle.klsm_parts.proofs.shared.Shared.absorb_all.Goals as goal
 
-pub absorb_all-requires : goal.absorb_all-requires
-absorb_all-requires g c =
-    let apart = subst (λ (p : PartState). ShareNone (content p.blocks) (content c.args.others.now)) (sym c.self.view_is) c.requires.apart in
-    (search lsm_fits, (search, (c.requires.some, apart)))
-
-pub know_anew-requires : goal.know_anew-requires
-know_anew-requires g c = (search lsm_fits, (search pivots_fit, c.self.invariant.levels_in_range))
+pub absorb-requires : goal.absorb-requires
+absorb-requires g c =
+    let size : length (content c.self.inside.pile.blocks) + length c.in-Ok.copy.items ≤ limit_of g.row.LEVELS heap_room = omega (arith, c.if-len-limit.false, c.limit.ensures, c.len.ensures.len, c.len-2.ensures.len, c.len-2.ensures.limit, ap length c.in-Ok.ensures, length_sorted (content c.args.others.now)) in
+    (search rules, (omega (arith, c.requires.some, ap length c.in-Ok.ensures, length_sorted (content c.args.others.now)), ((sharing_none_sorted (content c.self.inside.pile.blocks) (content c.args.others.now) _ (apart_of c.self.inside.k c.self.inside.pile _ _ c.self.view_is c.requires.apart) c.in-Ok.ensures), size)))
 
 pub invariant_of-self : goal.invariant_of-self
-invariant_of-self g c =
-    let known = c.know_anew.ensures in
-    record {
-      lawful = known.lawful;
-      pivots_exact = known.pivots;
-      ranking_exact = known.ranked;
-      ranking_some = omega (arith, known.len);
-      ranking_few = omega (arith, known.len);
-      least_found = known.first;
-      k_in_range = c.self.invariant.k_in_range;
-      levels_in_range = c.self.invariant.levels_in_range;
-    }
-
-pub invariant_of-self-in-Err : goal.invariant_of-self-in-Err
-invariant_of-self-in-Err g c = subst (λ bs. IsShared g.row.LEVELS (record { k = c.self.inside.k; blocks = bs }) c.self.inside.pivots.items c.self.inside.least.ranking.blocks.items c.self.inside.least.ranking.owners.items c.self.inside.least.first) (sym c.in-Err.ensures.unchanged) c.self.invariant
+invariant_of-self g c = (put_in c.absorb.result g.row.LEVELS c.self.inside.k c.self.inside.pile c.absorb.new.pile c.args.self.now (sorted (content c.args.others.now)) c.self.invariant c.self.view_is (omega (arith, c.if-len-limit.false, c.limit.ensures, c.len.ensures.len, c.len-2.ensures.len, c.len-2.ensures.limit, length_sorted (content c.args.others.now))) (subst (λ xs. OnOk c.absorb.result (c.absorb.new.pile ≡ record { blocks = add c.self.inside.pile.blocks xs; reach = c.self.inside.pile.reach })) c.in-Ok.ensures c.absorb.ensures.added) c.absorb.ensures.memory c.absorb.ensures.unchanged).shared
 
 pub returns-in-Ok-clause-added : goal.returns-in-Ok-clause-added
-returns-in-Ok-clause-added g c =
-    let state : List (List Item) → PartState = λ bs. record { k = c.self.inside.k; blocks = bs } in
-    ap state c.in-Ok.ensures.added ∙ ap (λ (p : PartState). record { k = p.k; blocks = add p.blocks (sorted (content c.args.others.now)) }) c.self.view_is
+returns-in-Ok-clause-added g c = (put_in c.absorb.result g.row.LEVELS c.self.inside.k c.self.inside.pile c.absorb.new.pile c.args.self.now (sorted (content c.args.others.now)) c.self.invariant c.self.view_is (omega (arith, c.if-len-limit.false, c.limit.ensures, c.len.ensures.len, c.len-2.ensures.len, c.len-2.ensures.limit, length_sorted (content c.args.others.now))) (subst (λ xs. OnOk c.absorb.result (c.absorb.new.pile ≡ record { blocks = add c.self.inside.pile.blocks xs; reach = c.self.inside.pile.reach })) c.in-Ok.ensures c.absorb.ensures.added) c.absorb.ensures.memory c.absorb.ensures.unchanged).added
 
 pub returns-in-Ok-clause-full : goal.returns-in-Ok-clause-full
-returns-in-Ok-clause-full g c = rw (← c.self.view_is) c.in-Ok.ensures.full
+returns-in-Ok-clause-full g c =
+    subst (λ n. (IsErrAnd c.absorb.result (λ why. why ≡ Full) → limit_of g.row.LEVELS heap_room < length (content c.args.self.now.blocks) + n) × (limit_of g.row.LEVELS heap_room < length (content c.args.self.now.blocks) + n → IsErrAnd c.absorb.result (λ why. why ≡ Full))) (length_sorted (content c.args.others.now))
+    (put_in c.absorb.result g.row.LEVELS c.self.inside.k c.self.inside.pile c.absorb.new.pile c.args.self.now (sorted (content c.args.others.now)) c.self.invariant c.self.view_is (omega (arith, c.if-len-limit.false, c.limit.ensures, c.len.ensures.len, c.len-2.ensures.len, c.len-2.ensures.limit, length_sorted (content c.args.others.now))) (subst (λ xs. OnOk c.absorb.result (c.absorb.new.pile ≡ record { blocks = add c.self.inside.pile.blocks xs; reach = c.self.inside.pile.reach })) c.in-Ok.ensures c.absorb.ensures.added) c.absorb.ensures.memory c.absorb.ensures.unchanged).full
 
 pub returns-in-Ok-clause-unchanged : goal.returns-in-Ok-clause-unchanged
-returns-in-Ok-clause-unchanged g c = tt
-
-pub returns-in-Err-clause-added : goal.returns-in-Err-clause-added
-returns-in-Err-clause-added g c = tt
-
-pub returns-in-Err-clause-full : goal.returns-in-Err-clause-full
-returns-in-Err-clause-full g c = rw (← c.self.view_is) c.in-Err.ensures.full
-
-pub returns-in-Err-clause-unchanged : goal.returns-in-Err-clause-unchanged
-returns-in-Err-clause-unchanged g c =
-    let state : List (List Item) → PartState = λ bs. record { k = c.self.inside.k; blocks = bs } in
-    ap state c.in-Err.ensures.unchanged ∙ c.self.view_is
+returns-in-Ok-clause-unchanged g c = (put_in c.absorb.result g.row.LEVELS c.self.inside.k c.self.inside.pile c.absorb.new.pile c.args.self.now (sorted (content c.args.others.now)) c.self.invariant c.self.view_is (omega (arith, c.if-len-limit.false, c.limit.ensures, c.len.ensures.len, c.len-2.ensures.len, c.len-2.ensures.limit, length_sorted (content c.args.others.now))) (subst (λ xs. OnOk c.absorb.result (c.absorb.new.pile ≡ record { blocks = add c.self.inside.pile.blocks xs; reach = c.self.inside.pile.reach })) c.in-Ok.ensures c.absorb.ensures.added) c.absorb.ensures.memory c.absorb.ensures.unchanged).unchanged

@@ -1,7 +1,7 @@
 use Rattle.std.proofs.Common.{◌≡◌, ◌<◌, ⊎_elim, List, [], length, slice_index_or, inl, inr, sym, ap, ◌∙◌, subst, rules, arith}
 use Rattle.std.proofs.lemmas.List.{get_or_read, get_or-set_same}
-use Rattle.klsm_run.specs.declared.limits.TheConstants.{MOST_LEVELS}
-use Rattle.klsm_world.specs.declared.step.Entry.{Entry}
+use Rattle.klsm_run.specs.declared.limits.TheConstants.{PROGRAM_LEVELS}
+use Rattle.klsm_schedules.specs.declared.step.Entry.{Entry}
 use Rattle.klsm_board.specs.declared.sizes.Sizes.{Sizes}
 use Rattle.klsm_board.specs.Inserting.{GivesUp, IsBelowLimit}
 use Rattle.klsm_board.specs.Together.{all_lists, steps_for}
@@ -41,7 +41,7 @@ returns-in_err-item-in-Insert-clause-course c first on =
     let on' = subst (AreOnCourse m first lists) (sym told.pickers) on in
     ⊎_elim
     (λ (same : steps_for all' t ≡ steps_for all t). all_still m first lists lists' pickers t [] told.refused.1 (steps_of_all all' t inside' ∙ (same ∙ sym (steps_of_all all t inside))) on')
-    (λ (gives_up : GivesUp m.k t (steps_for all t) (steps_for all' t) (IsBelowLimit MOST_LEVELS)). all_after_insertion m first lists lists' pickers t [] told.refused.1
+    (λ (gives_up : GivesUp m.k t (steps_for all t) (steps_for all' t) (IsBelowLimit PROGRAM_LEVELS)). all_after_insertion m first lists lists' pickers t [] told.refused.1
     (moves_there (InsertsOrLacksMemory m t) (steps_for all t) (steps_for all' t) (steps_in lists t) (steps_in lists' t) (steps_of_all all t inside) (steps_of_all all' t inside') (inr gives_up)) on')
     told.lacks
 

@@ -1,7 +1,0 @@
-use Rattle.std.proofs.Common.{◌≡◌, take}
-use Rattle.std.specs.List.{flat_map}
-use Rattle.klsm_model.proofs.contents.joined.Given as goal
-
--- the contents so far are there
-abbrev pub invariant-loop-content : goal.invariant-loop-content
-invariant-loop-content g l = l.all.items ≡ flat_map (λ c. c) (take l.content-index l.contents)

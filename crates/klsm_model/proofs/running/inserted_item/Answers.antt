@@ -1,5 +1,0 @@
-use Rattle.std.proofs.Common.{rules}
-use Rattle.klsm_model.proofs.running.inserted_item.Goals as goal
-
-pub returns-in-Flush : goal.returns-in-Flush
-returns-in-Flush c = search rules

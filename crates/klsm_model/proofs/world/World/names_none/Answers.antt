@@ -1,5 +1,0 @@
-use Rattle.std.proofs.Common.{rules}
-use Rattle.klsm_model.proofs.world.World.names_none.Goals as goal
-
-pub returns-else-thread-self-2 : goal.returns-else-thread-self-2
-returns-else-thread-self-2 g c = search rules

@@ -1,6 +1,0 @@
-use Rattle.klsm_parts.specs.Pivots.{ArePivots}
-use Rattle.klsm_parts.proofs.ranks.pivots_of.Given as goal
-
--- the pivots of as many items as were counted
-abbrev pub invariant-loop : goal.invariant-loop
-invariant-loop g l = ArePivots l.counter l.lsm l.pivots.items

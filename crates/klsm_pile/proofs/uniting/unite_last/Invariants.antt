@@ -1,0 +1,16 @@
+use Rattle.std.proofs.Common.{ℕ, ◌≡◌, ◌≤◌, ◌<◌, length, vec_capacity}
+use Rattle.std.specs.List.{AllByRecursion}
+use Rattle.klsm_pile.specs.Piece.{PieceState}
+use Rattle.klsm_pile.specs.Pieces.{HaveSame}
+use Rattle.klsm_pile.proofs.uniting.unite_last.Given as goal
+
+abbrev pub invariant-loop-at : goal.invariant-loop-at
+invariant-loop-at g l = record {
+  same : HaveSame l.pieces.items l.fn.pieces.items;
+  below : (levels : ℕ) → AllByRecursion (λ (p : PieceState). p.level < levels) l.fn.pieces.items → AllByRecursion (λ (p : PieceState). p.level < levels) l.pieces.items;
+  fewer : length l.pieces.items ≤ length l.fn.pieces.items;
+  capacity : vec_capacity l.pieces ≡ vec_capacity l.fn.pieces;
+}
+
+abbrev pub decreases-loop-at : goal.decreases-loop-at
+decreases-loop-at g l = length l.pieces.items

@@ -1,0 +1,5 @@
+use Rattle.std.proofs.Common.{rules}
+use Rattle.klsm_surface_tests.proofs.klsm_parts++shared++Shared+Destruct.drop.Goals as goal
+
+pub drop-requires : goal.drop-requires
+drop-requires g c = search rules

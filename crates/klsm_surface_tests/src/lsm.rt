@@ -1,0 +1,3 @@
+//! LSMs over runs of either kind: the blocks after each call.
+
+mod blocks;

@@ -1,0 +1,2 @@
+mod ApartLemmas
+pub mod OwnerLemmas

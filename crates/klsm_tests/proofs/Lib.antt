@@ -1,2 +1,0 @@
-mod ApartLemmas
-mod OwnerLemmas

@@ -1,6 +1,0 @@
-use Rattle.klsm_tests.proofs.OwnerLemmas.{AreFirst}
-use Rattle.klsm_tests.proofs.owned.run_of.Given as goal
-
--- the items so far
-abbrev pub invariant-loop-index : goal.invariant-loop-index
-invariant-loop-index l = AreFirst l.owner l.index l.run

@@ -1,0 +1,4 @@
+pub mod ApartLemmas
+pub mod HeadLemmas
+pub mod UnionLemmas
+pub mod WorkLemmas

@@ -1,5 +1,0 @@
-use Rattle.klsm_world.proofs.lemmas.theorems.FoundContentLemmas.{found_is_content}
-use Rattle.klsm_world.proofs.laws.acquires_find_contents.Goals as goal
-
-pub returns : goal.returns
-returns c = found_is_content

@@ -1,5 +1,0 @@
-use Rattle.klsm_world.proofs.lemmas.theorems.LiveLemmas.{full_hands_have_live}
-use Rattle.klsm_world.proofs.laws.full_hands_have_live.Goals as goal
-
-pub returns : goal.returns
-returns c = full_hands_have_live

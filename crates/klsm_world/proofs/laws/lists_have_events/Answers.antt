@@ -1,5 +1,0 @@
-use Rattle.klsm_world.proofs.lemmas.theorems.OwnEventLemmas.{lists_have_events}
-use Rattle.klsm_world.proofs.laws.lists_have_events.Goals as goal
-
-pub returns : goal.returns
-returns c = lists_have_events

@@ -1,5 +1,0 @@
-use Rattle.klsm_world.proofs.lemmas.theorems.RunLemmas.{schedules_are_runs}
-use Rattle.klsm_world.proofs.laws.schedules_are_runs.Goals as goal
-
-pub returns : goal.returns
-returns c = schedules_are_runs

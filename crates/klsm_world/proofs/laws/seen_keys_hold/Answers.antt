@@ -1,5 +1,0 @@
-use Rattle.klsm_world.proofs.lemmas.theorems.SeenLemmas.{seen_keys_hold}
-use Rattle.klsm_world.proofs.laws.seen_keys_hold.Goals as goal
-
-pub returns : goal.returns
-returns c = seen_keys_hold
