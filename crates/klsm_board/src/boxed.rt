@@ -10,6 +10,9 @@ use std::marker::Model;
 #[derive(Drop)]
 pub struct Boxed<T> {
     spaced: Box<Spaced<T>>,
+    // The slots of a table lie side by side. With this each has a line of the cache, so who takes one out and puts it back
+    // takes no other one from its member.
+    line: [u64; 6],
 }
 
 // A value, and behind it two lines of the cache that nobody touches, since processors fetch lines in pairs.
@@ -42,6 +45,7 @@ impl<T: Drop> Boxed<T> {
                     room: [0; 16],
                 },
             )?,
+            line: [0; 6],
         })
     }
 }

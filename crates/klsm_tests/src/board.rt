@@ -13,5 +13,6 @@ mod shared;
 mod skips;
 mod threads;
 mod together;
+mod unions;
 mod worked;
 mod working;

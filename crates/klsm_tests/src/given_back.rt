@@ -29,7 +29,9 @@ fn a_queue_that_is_let_go_keeps_no_block(rt: HostRuntime) {
 fn goes_with_unions(arena: &Bump, count: u64) -> Option<()> {
     let mut queue: Queue<1024, 21, &Bump> = Queue::new(arena, 1024);
     for number in 0..count {
-        queue.insert(number * 7919 % 100_003, number).ok()?;
+        queue
+            .insert(number.wrapping_mul(7919) % 100_003, number)
+            .ok()?;
     }
     for _ in 0..500 {
         queue.delete_min()?;
