@@ -191,7 +191,7 @@ fn empty_home<const CAP: usize>(
     requires capacity { IsCapacity CAP }
     requires k { k ≤ CAP }
     ensures { IfOk result (λ home. (home.part ≡ record { k = k; blocks = [] })
-        × (vec_len home.places ≡ k) × (home.count ≡ 0)) }
+        × (vec_len home.places ≡ k) × (home.count ≡ 0) × (home.copy ≡ None)) }
 {
     let places = Vec::from_elem(alloc, Item::default(), k)?;
     let home = Home {
@@ -199,6 +199,7 @@ fn empty_home<const CAP: usize>(
         places,
         count: 0,
         unions: Unions::new(alloc),
+        copy: None,
     };
     Boxed::new(alloc, home)
 }

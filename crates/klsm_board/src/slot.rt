@@ -1,11 +1,12 @@
 //! The parts as the slots of a board have them.
-ghost use Rattle.std.specs.Prelude.{◌≡◌, ℕ, ◌<◌, ◌≤◌, ◌+◌, ◌↔◌, List, [], length, max, slice_get, ◌++◌, IsOk, IfErr, IfOk, OnOk, vec_len, vec_capacity, OnErr, IsErrAnd, MatchBool, MatchOption, IfSome};
+ghost use Rattle.std.specs.Prelude.{◌≡◌, false, None, ℕ, ◌<◌, ◌≤◌, ◌+◌, ◌↔◌, List, [], length, max, slice_get, ◌++◌, IsOk, IfErr, IfOk, OnOk, vec_len, vec_capacity, OnErr, IsErrAnd, MatchBool, MatchOption, IfSome};
 ghost use Rattle.std.specs.List.{Contains};
 ghost use Rattle.klsm_run.specs.declared.item.Item.{Item};
 ghost use Rattle.klsm_run.specs.Capacity.{IsCapacity, heap_room};
 ghost use Rattle.klsm_run.specs.Content.{ShareNone, sorted};
 ghost use Rattle.klsm_parts.specs.Limit.{IsLevelCount, limit_of};
 ghost use Rattle.klsm_parts.specs.Parts.{items_in};
+ghost use Rattle.klsm_parts.specs.Flushing.{IsLargest};
 ghost use Rattle.klsm_parts.specs.Least.{IsLeast};
 ghost use Rattle.klsm_parts.specs.Events.{MayPut, MayFlush, MayTake, MayFindNothing, MaySpy, MayRefill, own_after_put, own_after_flush, shared_after_flush, own_after_take, shared_after_take, own_after_early, own_after_spy, victim_after_spy, own_after_refill, shared_after_refill, front_of};
 ghost use Rattle.klsm_parts.specs.Refilling.{refill_of};
@@ -17,10 +18,11 @@ ghost use Rattle.klsm_board.specs.Choosing.{Chooses};
 use crate::boxed::Boxed;
 use crate::rule::Holding;
 use klsm_parts::{
-    Local, LsmError, Picker, Shared, Unions, fetch, flush, put, share, spy, steal, take, take_least,
+    Local, LsmError, Picker, Shared, SharedRun, Unions, fetch, flush_prepared, put, share, spy,
+    steal, take, take_least,
 };
 use klsm_run::Item;
-use std::alloc::AllocError;
+use std::alloc::{AllocError, Global};
 
 /// What the calls of a board do to the parts in its slots.
 ///
@@ -253,6 +255,8 @@ pub struct Home<L> {
     pub count: usize,
     // The union that the member carries out while it holds its own part.
     pub unions: Unions,
+    // A copy of the block that the next flush moves, if one was made since the part last changed.
+    pub copy: Option<SharedRun<Global>>,
 }
 
 /// A part on the heap, so that a call that acquires it moves a tag and a pointer.
@@ -343,6 +347,7 @@ impl<const CAP: usize, const LEVELS: usize> PartSlot for BoardSlot<CAP, LEVELS> 
                 let home = own.get_mut();
                 let is_put = put_where_room(&mut home.part, item);
                 keep_up(&mut home.unions, is_put);
+                renew(&mut home.copy, &home.unions, &home.part, is_put);
                 is_put
             }
             _ => unreachable!(),
@@ -355,7 +360,8 @@ impl<const CAP: usize, const LEVELS: usize> PartSlot for BoardSlot<CAP, LEVELS> 
             (Slot::Own(own), Slot::Common(shared)) => {
                 let home = own.get_mut();
                 let common = shared.get_mut();
-                let answer = flush(&mut home.part, common, item);
+                let copy = home.copy.take();
+                let answer = flush_prepared(&mut home.part, common, item, copy);
                 home.unions.exchange(common);
                 answer
             }
@@ -374,7 +380,11 @@ impl<const CAP: usize, const LEVELS: usize> PartSlot for BoardSlot<CAP, LEVELS> 
     #[inline]
     fn take_least(&mut self) -> Item {
         match self {
-            Slot::Own(own) => take_least(&mut own.get_mut().part),
+            Slot::Own(own) => {
+                let home = own.get_mut();
+                forget(&mut home.copy);
+                take_least(&mut home.part)
+            }
             _ => unreachable!(),
         }
     }
@@ -383,7 +393,9 @@ impl<const CAP: usize, const LEVELS: usize> PartSlot for BoardSlot<CAP, LEVELS> 
     fn take<P: Picker>(&mut self, owner: u32, shared: &mut Self, picker: &mut P) -> Option<Item> {
         match (self, shared) {
             (Slot::Own(own), Slot::Common(shared)) => {
-                take(owner, &mut own.get_mut().part, shared.get_mut(), picker)
+                let home = own.get_mut();
+                forget(&mut home.copy);
+                take(owner, &mut home.part, shared.get_mut(), picker)
             }
             _ => unreachable!(),
         }
@@ -393,7 +405,11 @@ impl<const CAP: usize, const LEVELS: usize> PartSlot for BoardSlot<CAP, LEVELS> 
     fn spy(&mut self, victim: &mut Self) -> bool {
         match (self, victim) {
             (Slot::Own(own), Slot::Own(victim)) => {
-                spy(&mut own.get_mut().part, &mut victim.get_mut().part) != 0
+                let home = own.get_mut();
+                forget(&mut home.copy);
+                let other = victim.get_mut();
+                forget(&mut other.copy);
+                spy(&mut home.part, &mut other.part) != 0
             }
             _ => unreachable!(),
         }
@@ -421,6 +437,7 @@ impl<const CAP: usize, const LEVELS: usize> PartSlot for BoardSlot<CAP, LEVELS> 
         match self {
             Slot::Own(own) => {
                 let home = own.get_mut();
+                forget(&mut home.copy);
                 home.part.take_in(&home.places.as_slice()[..home.count]);
             }
             _ => unreachable!(),
@@ -431,7 +448,11 @@ impl<const CAP: usize, const LEVELS: usize> PartSlot for BoardSlot<CAP, LEVELS> 
     fn steal(&mut self, victim: &mut Self, most: usize) -> bool {
         match (self, victim) {
             (Slot::Own(own), Slot::Own(victim)) => {
-                steal(&mut own.get_mut().part, &mut victim.get_mut().part, most) != 0
+                let home = own.get_mut();
+                forget(&mut home.copy);
+                let other = victim.get_mut();
+                forget(&mut other.copy);
+                steal(&mut home.part, &mut other.part, most) != 0
             }
             _ => unreachable!(),
         }
@@ -443,6 +464,7 @@ impl<const CAP: usize, const LEVELS: usize> PartSlot for BoardSlot<CAP, LEVELS> 
             (Slot::Own(own), Slot::Common(shared)) => {
                 let home = own.get_mut();
                 let common = shared.get_mut();
+                forget(&mut home.copy);
                 let answer = share(&mut home.part, common);
                 home.unions.exchange(common);
                 answer
@@ -477,5 +499,32 @@ fn keep_up(unions: &mut Unions, is_put: bool) {
         unions.carry_on();
     } else {
         unions.prepare();
+    }
+}
+
+// The copy of a part's largest block goes, as the part changes.
+#[inline]
+fn forget(copy: &mut Option<SharedRun<Global>>)
+    ensures { copy.new ≡ None }
+{
+    let _old = copy.take();
+}
+
+// After a try to put an item into a part the copy goes, if the part has changed. Else there is one, if there is memory.
+#[inline]
+fn renew<const CAP: usize>(
+    copy: &mut Option<SharedRun<Global>>,
+    unions: &Unions,
+    part: &Local<CAP>,
+    is_put: bool,
+)
+    requires capacity { IsCapacity CAP }
+    requires copy { is_put ≡ false → IfSome copy.old (λ run. IsLargest run part.now.blocks) }
+    ensures { IfSome copy.new (λ run. IsLargest run part.now.blocks) }
+{
+    if is_put {
+        *copy = None;
+    } else if copy.is_none() {
+        *copy = unions.copy_of(part);
     }
 }

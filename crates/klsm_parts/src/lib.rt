@@ -54,12 +54,12 @@
 //! - **A steal keeps own parts alike.** A member that has another's part in hand beside its own moves the least items
 //!   of that part to its own, into the room that it has, and at most half of them. Neither part has then more than k.
 //! - **A share lets others find a member's items.** A member that will be busy for long moves all items of its own part
-//!   to the shared one, at one growth, before anything changes. Its own part is empty then, so no bound changes.
+//!   to the shared one. Its own part is empty then, so no bound changes.
 //! - **A `Queue` holds what was inserted and not yet deleted**, each item once: clauses `items` of
 //!   `Queue::insert` and `Queue::delete_min`, and `ascending` of `Queue::len`. It asks nothing of
 //!   its callers.
-//! - **A deletion takes no memory** and is never refused. `flush` makes one growth, before anything
-//!   changes; refused, it has changed nothing: clauses `unchanged`.
+//! - **A deletion takes no memory** and is never refused. `flush` makes all growths before
+//!   anything changes; refused, it has changed nothing: clauses `unchanged`.
 //! - **The candidates lie side by side.** The shared part is a pile of `klsm_pile`, whose least k+1 items, or all, are
 //!   copied to one place in their order, each with the level of its block. A deletion that picks index i costs one access,
 //!   and an owner's item is looked for in one array. A flush merges what is below the last of them in there, and the rest
@@ -84,8 +84,9 @@ mod taking;
 mod unions;
 
 pub use choice::{Choice, Pick};
-pub use flushing::flush;
+pub use flushing::{copy_to_move, flush, flush_prepared};
 pub use klsm_lsm::LsmError;
+pub use klsm_union::SharedRun;
 pub use local::{Local, put, take_least};
 pub use part::Part;
 pub use picker::{First, Last, Picker, Random, random_of};

@@ -188,6 +188,22 @@ impl<const LEVELS: usize, A: Allocator + Copy> Shared<LEVELS, A> {
         (self.candidate(index), index)
     }
 
+    // Puts a run in.
+    pub(crate) fn absorb(&mut self, run: SharedRun<A>) -> Result<(), LsmError>
+        requires some { 0 < length run }
+        requires apart { ShareNone (content self.old.blocks) run }
+        ensures added { OnOk result (self.new
+            ≡ record { k = self.old.k; blocks = add self.old.blocks run }) }
+        ensures full { IsErrAnd result (λ why. why ≡ LsmError.Full)
+            ↔ (limit_of LEVELS heap_room < length (content self.old.blocks) + length run) }
+        ensures unchanged { OnErr result (self.new ≡ self.old) }
+    {
+        if run.len() > self.pile.limit() - self.pile.len() {
+            return Err(LsmError::Full);
+        }
+        absorb_run(&mut self.pile, run)
+    }
+
     // Puts a copy of a run in. What can be refused comes first, and Full before a growth.
     pub(crate) fn absorb_copy<R: Run>(&mut self, run: &R) -> Result<(), LsmError>
         requires some { 0 < length (R.items run.now) }
@@ -301,7 +317,23 @@ fn absorb<const LEVELS: usize, A: Allocator + Copy>(
     let Ok(shared) = SharedRun::new(alloc, run) else {
         return Err(LsmError::NoMemory);
     };
-    match pile.absorb(shared) {
+    absorb_run(pile, shared)
+}
+
+// The same of a run that is shared already.
+fn absorb_run<const LEVELS: usize, A: Allocator + Copy>(
+    pile: &mut Pile<LEVELS, A>,
+    run: SharedRun<A>,
+) -> Result<(), LsmError>
+    requires some { 0 < length run }
+    requires apart { ShareNone (content pile.old.blocks) run }
+    requires limit { length (content pile.old.blocks) + length run ≤ limit_of LEVELS heap_room }
+    ensures added { OnOk result (pile.new
+        ≡ record { blocks = add pile.old.blocks run; reach = pile.old.reach }) }
+    ensures memory { IfErr result (λ why. why ≡ LsmError.NoMemory) }
+    ensures unchanged { OnErr result (pile.new ≡ pile.old) }
+{
+    match pile.absorb(run) {
         Ok(()) => Ok(()),
         Err(AllocError) => Err(LsmError::NoMemory),
     }

@@ -14,9 +14,9 @@ use std::alloc::Allocator;
 
 /// Moves all items of the own part to the shared one. The answer is how many moved.
 ///
-/// They leave as one run: it costs one growth, a merge of the own blocks in that store, which copies an item twice on average
-/// at most, the merges of the shared part and, whatever k is, one comparison a block of that. A refusal comes before anything
-/// changes, and `Full` before the growth.
+/// They leave as one run: it costs a merge of the own blocks in the store of that, which copies an item twice on average at
+/// most, and a merge of the least of it into the least shared items. A refusal comes before anything changes, and `Full`
+/// before the growths.
 pub fn share<const CAP: usize, const LEVELS: usize, A: Allocator + Copy>(
     own: &mut Local<CAP>,
     shared: &mut Shared<LEVELS, A>,

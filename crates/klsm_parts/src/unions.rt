@@ -1,8 +1,10 @@
 //! What a member does for the unions of the shared part while it has no lock on that.
-ghost use Rattle.std.specs.Prelude.{◌≡◌};
+ghost use Rattle.std.specs.Prelude.{◌≡◌, IfSome};
+ghost use Rattle.klsm_run.specs.Capacity.{IsCapacity};
+ghost use Rattle.klsm_parts.specs.Flushing.{IsLargest};
 
-use crate::Shared;
-use klsm_union::{Spent, UnionBlank, Work};
+use crate::{Local, Shared, copy_to_move};
+use klsm_union::{SharedRun, Spent, UnionBlank, Work};
 use std::alloc::{Allocator, Global};
 use std::marker::Model;
 
@@ -47,6 +49,14 @@ impl<A: Allocator + Copy> Unions<A> {
         if self.blank.is_none() {
             self.blank = UnionBlank::new(self.alloc).ok();
         }
+    }
+
+    /// A copy of the block that the next flush of an own part moves, if there is one and memory for it.
+    pub fn copy_of<const CAP: usize>(&self, own: &Local<CAP>) -> Option<SharedRun<A>>
+        requires capacity { IsCapacity CAP }
+        ensures { IfSome result (λ run. IsLargest run own.now.blocks) }
+    {
+        copy_to_move(own, self.alloc)
     }
 
     /// Takes over a union that some member has handed in, and hands this one the next, if there are two pieces that are

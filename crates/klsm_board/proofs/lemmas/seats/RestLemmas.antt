@@ -1,14 +1,15 @@
 -- A member between two of its calls.
-use Rattle.std.proofs.Common.{◌≡◌, ℕ, ◌*◌, ◌≤◌, List, [], ◌∷◌, length, sym, ap, ◌∙◌, subst, arith}
-use Rattle.std.specs.Prelude.{Option, slice_get, unwrap_or}
+use Rattle.std.proofs.Common.{◌≡◌, ℕ, ◌*◌, ◌≤◌, List, [], ◌∷◌, length, refl, sym, ap, ◌∙◌, subst, arith}
+use Rattle.std.specs.Prelude.{Option, None, Some, IfSome, slice_get, unwrap_or}
 use mathlib.Core.HLevel.{⊥_prop}
-use Rattle.std.specs.Coded.{×_prop, Unit-prop, le_prop, Coded-set, coded_ℕ}
+use Rattle.std.specs.Coded.{×_prop, Unit-prop, le_prop, Coded, Coded-set, code_by, coded_ℕ, coded_list, coded_option, coded×}
 use Rattle.std.proofs.Math.Logic.{∥∥₁_elim}
 use Rattle.klsm_run.specs.declared.item.Item.{Item}
 use Rattle.std.proofs.Math.Nat.{mul-le-mul_left, mul-le-mul_right}
 use Rattle.atomic_table.specs.Table.{Me}
 use Rattle.klsm_run.specs.declared.limits.TheConstants.{MOST_THREADS}
 use Rattle.klsm_parts.specs.Parts.{PartState}
+use Rattle.klsm_parts.specs.Flushing.{IsLargest}
 use Rattle.klsm_schedules.specs.OwnSteps.{Hand, content_in, hand_of, inserted, deleted}
 use Rattle.klsm_schedules.proofs.lemmas.hands.HandLemmas.{found_first}
 use Rattle.klsm_schedules.proofs.lemmas.theorems.OwnListLemmas.{own_deletions_are_few}
@@ -28,9 +29,20 @@ use Rattle.klsm_board.proofs.lemmas.seats.CarryLemmas.{none_behind}
 pub content_held : (lock : ℕ) (found : List Item) (hand : Hand) → hand ≡ (lock, found) ∷ [] → content_in hand lock ≡ found
 content_held lock found hand is = ap (λ h. content_in h lock) is ∙ ap (λ o. unwrap_or o []) (found_first [] lock found)
 
+-- an item by its four numbers
+coded_item : Coded Item
+coded_item =
+    code_by (ℕ × (ℕ × (ℕ × ℕ))) (coded× coded_ℕ (coded× coded_ℕ (coded× coded_ℕ coded_ℕ))) (λ x. (x.key, (x.stamp.owner, (x.stamp.number, x.load))))
+    (λ t. record { key = t.0; stamp = record { owner = t.1.0; number = t.1.1.0 }; load = t.1.1.1 }) (λ x. refl)
+
+-- a copy is of the largest block in one way at most
+copies-prop : (copy : Option (List Item)) (blocks : List (List Item)) → IsProp (IfSome copy (λ run. IsLargest run blocks))
+copies-prop None blocks = Unit-prop
+copies-prop (Some run) blocks = hlevel (le_prop, Coded-set (coded_option (coded_list coded_item)))
+
 -- a slot suits in one way at most
 suits-prop : (k p : ℕ) (y : Slot PartState PartState) → IsProp (IsSlotOf k p y)
-suits-prop k p (Own home) = hlevel (le_prop, Coded-set coded_ℕ)
+suits-prop k p (Own home) = hlevel (le_prop, Coded-set coded_ℕ, copies-prop home.copy home.part.blocks)
 suits-prop k p (Common shared) = ×_prop (Coded-set coded_ℕ _ _) (Coded-set coded_ℕ _ _)
 suits-prop k p Vacant = ⊥_prop
 

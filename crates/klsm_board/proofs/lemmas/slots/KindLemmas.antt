@@ -1,10 +1,11 @@
 -- What is said of a slot, as the part in it has it.
-use Rattle.std.proofs.Common.{◌≡◌, ℕ, ◌≤◌, List, length, vec_len, Bool, true, false, MatchBool, sym, ap, ◌∙◌, subst, refl, arith}
+use Rattle.std.proofs.Common.{◌≡◌, Option, None, IfSome, ℕ, ◌≤◌, List, length, vec_len, Bool, true, false, true≢false, MatchBool, sym, ap, ◌∙◌, subst, refl, arith}
 use Rattle.std.specs.List.{Contains}
 use Rattle.klsm_run.specs.declared.item.Item.{Item}
 use Rattle.klsm_run.specs.Content.{sorted, ShareNone}
 use Rattle.klsm_run.proofs.ContainsLemmas.{contains_sorted}
 use Rattle.klsm_parts.specs.Parts.{PartState, items_in}
+use Rattle.klsm_parts.specs.Flushing.{IsLargest}
 use Rattle.klsm_parts.specs.Events.{MayPut, own_after_put}
 use Rattle.klsm_schedules.specs.OwnSteps.{own_part, shared_part}
 use Rattle.klsm_board.specs.declared.slot.Home.{Home}
@@ -40,9 +41,23 @@ shared_k k p slot shared is kind = let shared_kind = subst (IsSlotOf k p) is kin
 pub has_places : (k p : ℕ) (slot : AnySlot) (own : AnyHome) → slot ≡ Own own → IsSlotOf k p slot → (k ≤ vec_len own.places) × (own.count ≤ k)
 has_places k p slot own is kind = let own_kind = subst (IsSlotOf k p) is kind in (own_kind.2, own_kind.3)
 
--- a slot stays one of a member if its part keeps its k
-pub keeps_own : (slot : AnySlot) (own : AnyHome) (new : PartState) → slot ≡ Own own → new.k ≡ own.part.k → (k p : ℕ) → IsSlotOf k p slot → IsSlotOf k p (Own (record { part = new; places = own.places; count = own.count; unions = own.unions }))
-keeps_own slot own new is same k p kind = let own_kind = subst (IsSlotOf k p) is kind in (own_kind.0, same ∙ own_kind.1, own_kind.2, own_kind.3)
+-- a slot stays one of a member if its part keeps its k, and the copy, if any, is of its largest block
+pub keeps_own : (slot : AnySlot) (own : AnyHome) (new : PartState) (copy : Option (List Item)) → IfSome copy (λ run. IsLargest run new.blocks) → slot ≡ Own own → new.k ≡ own.part.k → (k p : ℕ) → IsSlotOf k p slot → IsSlotOf k p (Own (record { part = new; places = own.places; count = own.count; unions = own.unions; copy = copy }))
+keeps_own slot own new copy largest is same k p kind = let own_kind = subst (IsSlotOf k p) is kind in (own_kind.0, same ∙ own_kind.1, own_kind.2, own_kind.3, largest)
+
+-- no copy is there
+pub no_copy : (copy : Option (List Item)) (blocks : List (List Item)) → copy ≡ None → IfSome copy (λ run. IsLargest run blocks)
+no_copy copy blocks none = subst (λ (copy : Option (List Item)). IfSome copy (λ run. IsLargest run blocks)) (sym none) tt
+
+-- a copy that a slot has is of the largest block of its part
+pub has_copy : (k p : ℕ) (slot : AnySlot) (own : AnyHome) → slot ≡ Own own → IsSlotOf k p slot → IfSome own.copy (λ run. IsLargest run own.part.blocks)
+has_copy k p slot own is kind = let own_kind = subst (IsSlotOf k p) is kind in own_kind.4
+
+-- and still is, if an item found no room
+pub put_copy : (A B : Type 0) (slot : AnySlot) (own : AnyHome) (new : PartState) (done : Bool) → slot ≡ Own own → MatchBool done A (B × (new ≡ own.part)) → (k p : ℕ) → IsSlotOf k p slot → done ≡ false → IfSome own.copy (λ run. IsLargest run new.blocks)
+put_copy A B slot own new true is outcome k p kind none = absurd (true≢false none)
+put_copy A B slot own new false is outcome k p kind none =
+    subst (λ (part : PartState). IfSome own.copy (λ run. IsLargest run part.blocks)) (sym outcome.1) (has_copy k p slot own is kind)
 
 -- the same of the shared part's slot
 pub keeps_shared : (slot : AnySlot) (shared new : PartState) → slot ≡ Common shared → new.k ≡ shared.k → (k : ℕ) → IsSlotOf k 0 slot → IsSlotOf k 0 (Common new)

@@ -1,5 +1,5 @@
 -- A fetching, by its answer, and the merge behind it: what the calls of the parts ensure and ask, said of the slots.
-use Rattle.std.proofs.Common.{◌≡◌, ◌≢◌, ℕ, zero, suc, ◌+◌, ◌<◌, ◌≤◌, ◌==◌, not, ne_eqb, MatchBool, List, [], ◌∷◌, ◌++◌, length, take, vec_len, refl, sym, ap, ◌∙◌, subst, arith}
+use Rattle.std.proofs.Common.{◌≡◌, ◌≢◌, Option, IfSome, ℕ, zero, suc, ◌+◌, ◌<◌, ◌≤◌, ◌==◌, not, ne_eqb, MatchBool, List, [], ◌∷◌, ◌++◌, length, take, vec_len, refl, sym, ap, ◌∙◌, subst, arith}
 use Rattle.std.specs.List.{Contains}
 use Rattle.klsm_run.specs.declared.item.Item.{Item}
 use Rattle.klsm_run.specs.Content.{sorted, IsAscending, ShareNone}
@@ -7,6 +7,7 @@ use Rattle.klsm_run.proofs.ContainsLemmas.{contains_sorted}
 use Rattle.klsm_run.proofs.SortedLemmas.{length_sorted}
 use Rattle.klsm_parts.specs.Parts.{PartState, items_in}
 use Rattle.klsm_parts.specs.Events.{MayRefill, shared_after_refill}
+use Rattle.klsm_parts.specs.Flushing.{IsLargest}
 use Rattle.klsm_parts.specs.Refilling.{refill_count, refill_of}
 use Rattle.klsm_schedules.specs.OwnSteps.{own_part}
 use Rattle.klsm_board.specs.declared.slot.Slot.TheVariants.{Own, Common}
@@ -14,10 +15,10 @@ use Rattle.klsm_board.specs.Slots.{slot_content, slot_arriving, IsSlotOf}
 use Rattle.klsm_board.proofs.lemmas.slots.KindLemmas.{AnySlot, AnyHome, own_content, shared_content, own_k}
 
 -- a slot stays one of a member where items come to the places beside its part, for no more than k of which there is room
-pub keeps_fetching : (slot : AnySlot) (own after : AnyHome) → slot ≡ Own own → after.part ≡ own.part → vec_len after.places ≡ vec_len own.places → after.count ≤ own.part.k → (k p : ℕ) → IsSlotOf k p slot → IsSlotOf k p (Own after)
-keeps_fetching slot own after is part places few k p kind =
+pub keeps_fetching : (slot : AnySlot) (own after : AnyHome) → slot ≡ Own own → after.part ≡ own.part → vec_len after.places ≡ vec_len own.places → after.count ≤ own.part.k → after.copy ≡ own.copy → (k p : ℕ) → IsSlotOf k p slot → IsSlotOf k p (Own after)
+keeps_fetching slot own after is part places few copy k p kind =
     let own_kind = subst (IsSlotOf k p) is kind in
-    (own_kind.0, ap (λ (part : PartState). part.k) part ∙ own_kind.1, omega (arith, places, own_kind.2), omega (arith, few, own_kind.1))
+    (own_kind.0, ap (λ (part : PartState). part.k) part ∙ own_kind.1, omega (arith, places, own_kind.2), omega (arith, few, own_kind.1), subst (λ (part : PartState). IfSome after.copy (λ run. IsLargest run part.blocks)) (sym part) (subst (λ (copy : Option (List Item)). IfSome copy (λ run. IsLargest run own.part.blocks)) (sym copy) own_kind.4))
 
 -- the first of the places, where a list in front of the others has them
 pub first_fetched : (n len : ℕ) (new rest : List Item) → n ≤ length new → n ≤ len → take n (take len (new ++ rest)) ≡ take n new

@@ -1,5 +1,5 @@
 -- The slots and the members of a new board.
-use Rattle.std.proofs.Common.{◌≢◌, ◌≡◌, ℕ, zero, suc, replicate, ◌+◌, ◌<◌, vec_len, List, [], ◌∷◌, ◌++◌, length, get_or, slice_index_or, sym, refl, ap, ◌∙◌, subst, arith}
+use Rattle.std.proofs.Common.{◌≢◌, ◌≡◌, None, ℕ, zero, suc, replicate, ◌+◌, ◌<◌, vec_len, List, [], ◌∷◌, ◌++◌, length, get_or, slice_index_or, sym, refl, ap, ◌∙◌, subst, arith}
 use mathlib.Core.Option.{some, some-injective, some-ne-none}
 use mathlib.Core.Option.{Option as Maybe}
 use lib.ListN.{get_elem?}
@@ -18,15 +18,15 @@ use Rattle.klsm_board.specs.declared.slot.Slot.TheVariants.{Own, Common}
 use Rattle.klsm_board.specs.Rule.{own, fresh, view, world_limits, IsReached}
 use Rattle.klsm_board.specs.Slots.{slot_content, IsSlotOf}
 use Rattle.klsm_board.specs.Members.{IsResting}
-use Rattle.klsm_board.proofs.lemmas.slots.KindLemmas.{AnyHome}
+use Rattle.klsm_board.proofs.lemmas.slots.KindLemmas.{AnyHome, no_copy}
 
 -- a slot of a new board has its part, which is empty
 pub empty_common : (k : ℕ) (part : PartState) → part ≡ record { k = k; blocks = [] } → (slot_content (Common part) ≡ []) × IsSlotOf k 0 (Common part)
 empty_common k part is = (ap items_in is, (refl, ap (λ (p : PartState). p.k) is))
 
-pub empty_own : (k i : ℕ) (home : AnyHome) → 0 < i → home.part ≡ record { k = k; blocks = [] } → vec_len home.places ≡ k → home.count ≡ 0 → (slot_content (Own home) ≡ []) × IsSlotOf k i (Own home)
-empty_own k i home pos part places count =
-    (ap (λ (p : PartState). items_in p) part, (pos, ap (λ (p : PartState). p.k) part, omega (arith, places), omega (arith, count)))
+pub empty_own : (k i : ℕ) (home : AnyHome) → 0 < i → home.part ≡ record { k = k; blocks = [] } → vec_len home.places ≡ k → home.count ≡ 0 → home.copy ≡ None → (slot_content (Own home) ≡ []) × IsSlotOf k i (Own home)
+empty_own k i home pos part places count copy =
+    (ap (λ (p : PartState). items_in p) part, (pos, ap (λ (p : PartState). p.k) part, omega (arith, places), omega (arith, count), no_copy home.copy home.part.blocks copy))
 
 -- the first of n + 1 fresh lists, and the others
 pub one_more_fresh : (n from : ℕ) → fresh from (n + 1) ≡ own from [] ∷ fresh (from + 1) n

@@ -51,7 +51,7 @@ loop-preserved g c =
     record {
       many = ap (λ (z : List AnySlot). length z) items ∙ (length-append c.loop.all.items (Own home ∷ []) ∙ ap (λ z. z + 1) inv.many);
       empty = λ i slot at. at_new_end c.loop.all.items (Own home) (c.loop.counter + 1) inv.many (λ j z. (slot_content z ≡ []) × IsSlotOf c.args.k j z) inv.empty
-          (empty_own c.args.k (c.loop.counter + 1) home (omega arith) told.0 told.1 told.2) i slot (ap (λ (z : List AnySlot). get_elem? z i) (sym items) ∙ at);
+          (empty_own c.args.k (c.loop.counter + 1) home (omega arith) told.0 told.1 told.2 told.3) i slot (ap (λ (z : List AnySlot). get_elem? z i) (sym items) ∙ at);
     }
 
 pub returns : goal.returns

@@ -6,8 +6,8 @@ use Rattle.klsm_lsm.specs.Limit.{limit_of}
 use Rattle.klsm_lsm.specs.Lsm.{content}
 use Rattle.klsm_parts.proofs.shared.absorb.Goals as goal
 
-pub absorb-requires : goal.absorb-requires
-absorb-requires g c = (
+pub absorb_run-requires : goal.absorb_run-requires
+absorb_run-requires g c = (
   search rules,
   (
     subst (λ (xs : List Item). 0 < length xs) (sym c.in-Ok.ensures.items) c.requires.some,

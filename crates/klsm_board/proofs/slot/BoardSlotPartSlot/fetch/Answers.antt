@@ -40,7 +40,7 @@ pub returns-clause-kind : goal.returns-clause-kind
 returns-clause-kind g c k t kind =
     let own = c.get_mut-home.result.now in
     let own_is : c.args.self.now ≡ Own own = c.in-Own-Common.is-0 ∙ ap Own (sym c.get_mut-home.ensures.value) in
-    keeps_fetching c.args.self.now own (record own { count = c.fetch-home.result }) own_is refl refl c.fetch-home.ensures.within k _ kind
+    keeps_fetching c.args.self.now own (record own { count = c.fetch-home.result }) own_is refl refl c.fetch-home.ensures.within refl k _ kind
 
 pub returns-clause-shared_kind : goal.returns-clause-shared_kind
 returns-clause-shared_kind g c = λ k.

@@ -2,7 +2,7 @@ use Rattle.std.proofs.Common.{◌≡◌, sym, ap, ◌∙◌, subst}
 use Rattle.std.specs.List.{Contains}
 use Rattle.klsm_parts.proofs.FitLemmas.{local_fits}
 use Rattle.klsm_board.specs.declared.slot.Slot.TheVariants.{Own}
-use Rattle.klsm_board.proofs.lemmas.slots.KindLemmas.{own_content, keeps_own, put_done, holds_own}
+use Rattle.klsm_board.proofs.lemmas.slots.KindLemmas.{own_content, keeps_own, put_done, put_copy, holds_own}
 use Rattle.klsm_board.proofs.slot.BoardSlotPartSlot.put.Goals as goal
 
 pub put_where_room-is_put-requires : goal.put_where_room-is_put-requires
@@ -14,7 +14,7 @@ put_where_room-is_put-requires g c =
 pub returns-clause-kind : goal.returns-clause-kind
 returns-clause-kind g c = λ k t.
     let own = c.get_mut-home.result.now in
-    keeps_own c.args.self.now own c.put_where_room-is_put.new.own (c.in-Own.is ∙ ap Own (sym c.get_mut-home.ensures.value)) c.put_where_room-is_put.ensures.k k _
+    keeps_own c.args.self.now own c.put_where_room-is_put.new.own c.renew.new.copy c.renew.ensures (c.in-Own.is ∙ ap Own (sym c.get_mut-home.ensures.value)) c.put_where_room-is_put.ensures.k k _
 
 pub returns-clause-done : goal.returns-clause-done
 returns-clause-done g c = λ k t.
@@ -26,3 +26,8 @@ unreachable-requires g c = holds_own c.requires.own.0 c.requires.own.1 c.args.se
 
 pub unreachable-unreachable : goal.unreachable-unreachable
 unreachable-unreachable g c = c.unreachable.type_inv
+
+pub renew-requires : goal.renew-requires
+renew-requires g c =
+    let own = c.get_mut-home.result.now in
+    (local_fits _ c.requires.sized.0, (c.requires.sized.0, put_copy _ _ c.args.self.now own c.put_where_room-is_put.new.own c.put_where_room-is_put.result (c.in-Own.is ∙ ap Own (sym c.get_mut-home.ensures.value)) c.put_where_room-is_put.ensures.done c.requires.own.0 _ c.requires.own.2))

@@ -5,7 +5,7 @@ use Rattle.klsm_parts.specs.Limit.{limit_of}
 use Rattle.klsm_parts.specs.Parts.{PartState}
 use Rattle.klsm_parts.proofs.FitLemmas.{local_fits, shared_fits}
 use Rattle.klsm_board.specs.declared.slot.Slot.TheVariants.{Own, Common}
-use Rattle.klsm_board.proofs.lemmas.slots.KindLemmas.{own_content, shared_content, apart_unsorted, keeps_own, keeps_shared, holds_own, holds_shared}
+use Rattle.klsm_board.proofs.lemmas.slots.KindLemmas.{own_content, shared_content, apart_unsorted, keeps_own, keeps_shared, no_copy, holds_own, holds_shared}
 use Rattle.klsm_board.proofs.lemmas.slots.SharingLemmas.{own_keeps_k, unchanged, has_counted, has_shared, lacks_room}
 use Rattle.klsm_board.proofs.slot.BoardSlotPartSlot.share.Goals.{in_default-via-in-Own+in_default, in_default-via-in_default}
 use Rattle.klsm_board.proofs.slot.BoardSlotPartSlot.share.Goals as goal
@@ -48,7 +48,7 @@ pub returns-clause-kind : goal.returns-clause-kind
 returns-clause-kind g c = λ k t.
     let own = c.get_mut-home.result.now in
     let own_is : c.args.self.now ≡ Own own = c.in-Own-Common.is-0 ∙ ap Own (sym c.get_mut-home.ensures.value) in
-    keeps_own c.args.self.now own c.share-answer.new.own own_is (own_keeps_k own.part c.share-answer.new.own c.get_mut-common.result.now c.share-answer.new.shared c.share-answer.result c.share-answer.ensures.own c.share-answer.ensures.unchanged) k _
+    keeps_own c.args.self.now own c.share-answer.new.own c.forget.new.copy (no_copy _ _ c.forget.ensures) own_is (own_keeps_k own.part c.share-answer.new.own c.get_mut-common.result.now c.share-answer.new.shared c.share-answer.result c.share-answer.ensures.own c.share-answer.ensures.unchanged) k _
 
 pub returns-clause-shared_kind : goal.returns-clause-shared_kind
 returns-clause-shared_kind g c = λ k.

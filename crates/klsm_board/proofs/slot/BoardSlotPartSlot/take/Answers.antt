@@ -1,17 +1,17 @@
 use Rattle.std.proofs.Common.{◌≡◌, sym, ap, ◌∙◌}
 use Rattle.klsm_parts.proofs.FitLemmas.{local_fits, shared_fits}
 use Rattle.klsm_board.specs.declared.slot.Slot.TheVariants.{Own, Common}
-use Rattle.klsm_board.proofs.lemmas.slots.KindLemmas.{own_content, shared_content, own_k, shared_k, apart_unsorted, keeps_own, keeps_shared, holds_own, holds_shared}
+use Rattle.klsm_board.proofs.lemmas.slots.KindLemmas.{own_content, shared_content, own_k, shared_k, apart_unsorted, keeps_own, no_copy, keeps_shared, holds_own, holds_shared}
 use Rattle.klsm_board.proofs.lemmas.slots.TakeLemmas.{taken, own_keeps_k, common_keeps_k}
 use Rattle.klsm_board.proofs.slot.BoardSlotPartSlot.take.Goals.{in_default-via-in-Own+in_default, in_default-via-in_default}
 use Rattle.klsm_board.proofs.slot.BoardSlotPartSlot.take.Goals as goal
 
 pub take-requires : goal.take-requires
 take-requires g c =
-    let own = c.get_mut.result.now in
-    let common = c.get_mut-in-Own-Common.result.now in
-    let own_is : c.args.self.now ≡ Own own = c.in-Own-Common.is-0 ∙ ap Own (sym c.get_mut.ensures.value) in
-    let common_is : c.args.shared.now ≡ Common common = c.in-Own-Common.is-1 ∙ ap Common (sym c.get_mut-in-Own-Common.ensures.value) in
+    let own = c.get_mut-home.result.now in
+    let common = c.get_mut.result.now in
+    let own_is : c.args.self.now ≡ Own own = c.in-Own-Common.is-0 ∙ ap Own (sym c.get_mut-home.ensures.value) in
+    let common_is : c.args.shared.now ≡ Common common = c.in-Own-Common.is-1 ∙ ap Common (sym c.get_mut.ensures.value) in
     let parts = c.requires.parts in
     let same_k : own.part.k ≡ common.k = own_k parts.0 _ c.args.self.now own own_is parts.2 ∙ sym (shared_k parts.0 _ c.args.shared.now common common_is parts.3) in
     let apart = apart_unsorted _ _ _ _ (own_content c.args.self.now own own_is) (shared_content c.args.shared.now common common_is) c.requires.apart in
@@ -19,10 +19,10 @@ take-requires g c =
 
 pub returns-clause-done : goal.returns-clause-done
 returns-clause-done g c =
-    let own = c.get_mut.result.now in
-    let common = c.get_mut-in-Own-Common.result.now in
-    let own_is : c.args.self.now ≡ Own own = c.in-Own-Common.is-0 ∙ ap Own (sym c.get_mut.ensures.value) in
-    let common_is : c.args.shared.now ≡ Common common = c.in-Own-Common.is-1 ∙ ap Common (sym c.get_mut-in-Own-Common.ensures.value) in
+    let own = c.get_mut-home.result.now in
+    let common = c.get_mut.result.now in
+    let own_is : c.args.self.now ≡ Own own = c.in-Own-Common.is-0 ∙ ap Own (sym c.get_mut-home.ensures.value) in
+    let common_is : c.args.shared.now ≡ Common common = c.in-Own-Common.is-1 ∙ ap Common (sym c.get_mut.ensures.value) in
     let parts = c.requires.parts in
     let same_k : own.part.k ≡ common.k = own_k parts.0 _ c.args.self.now own own_is parts.2 ∙ sym (shared_k parts.0 _ c.args.shared.now common common_is parts.3) in
     let outcome = c.take.ensures in
@@ -31,15 +31,15 @@ returns-clause-done g c =
 
 pub returns-clause-kind : goal.returns-clause-kind
 returns-clause-kind g c = λ k t.
-    let own = c.get_mut.result.now in
-    let own_is : c.args.self.now ≡ Own own = c.in-Own-Common.is-0 ∙ ap Own (sym c.get_mut.ensures.value) in
-    keeps_own c.args.self.now own c.take.new.own own_is (own_keeps_k own.part c.take.new.own c.get_mut-in-Own-Common.result.now c.take.new.shared c.take.result c.take.ensures.left) k _
+    let own = c.get_mut-home.result.now in
+    let own_is : c.args.self.now ≡ Own own = c.in-Own-Common.is-0 ∙ ap Own (sym c.get_mut-home.ensures.value) in
+    keeps_own c.args.self.now own c.take.new.own c.forget.new.copy (no_copy _ _ c.forget.ensures) own_is (own_keeps_k own.part c.take.new.own c.get_mut.result.now c.take.new.shared c.take.result c.take.ensures.left) k _
 
 pub returns-clause-shared_kind : goal.returns-clause-shared_kind
 returns-clause-shared_kind g c = λ k.
-    let common = c.get_mut-in-Own-Common.result.now in
-    let common_is : c.args.shared.now ≡ Common common = c.in-Own-Common.is-1 ∙ ap Common (sym c.get_mut-in-Own-Common.ensures.value) in
-    keeps_shared c.args.shared.now common c.take.new.shared common_is (common_keeps_k c.get_mut.result.now.part c.take.new.own common c.take.new.shared c.take.result c.take.ensures.left) k
+    let common = c.get_mut.result.now in
+    let common_is : c.args.shared.now ≡ Common common = c.in-Own-Common.is-1 ∙ ap Common (sym c.get_mut.ensures.value) in
+    keeps_shared c.args.shared.now common c.take.new.shared common_is (common_keeps_k c.get_mut-home.result.now.part c.take.new.own common c.take.new.shared c.take.result c.take.ensures.left) k
 
 pub unreachable-requires : goal.unreachable-requires
 unreachable-requires g c =

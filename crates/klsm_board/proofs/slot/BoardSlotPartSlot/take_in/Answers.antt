@@ -4,7 +4,7 @@ use Rattle.klsm_parts.specs.Events.{own_after_refill}
 use Rattle.klsm_parts.proofs.FitLemmas.{local_fits}
 use Rattle.klsm_board.specs.Slots.{slot_arriving}
 use Rattle.klsm_board.specs.declared.slot.Slot.TheVariants.{Own}
-use Rattle.klsm_board.proofs.lemmas.slots.KindLemmas.{own_content, own_k, keeps_own, holds_own, has_places}
+use Rattle.klsm_board.proofs.lemmas.slots.KindLemmas.{own_content, own_k, keeps_own, no_copy, holds_own, has_places}
 use Rattle.klsm_board.proofs.lemmas.slots.RefillLemmas.{own_arriving, can_take_in}
 use Rattle.klsm_board.proofs.slot.BoardSlotPartSlot.take_in.Goals as goal
 
@@ -35,7 +35,7 @@ returns-clause-joined g c =
 pub returns-clause-kind : goal.returns-clause-kind
 returns-clause-kind g c = λ k t.
     let home = c.get_mut-home.result.now in
-    keeps_own c.args.self.now home c.take_in.new.self (c.in-Own.is ∙ ap Own (sym c.get_mut-home.ensures.value)) c.take_in.ensures.k k _
+    keeps_own c.args.self.now home c.take_in.new.self c.forget.new.copy (no_copy _ _ c.forget.ensures) (c.in-Own.is ∙ ap Own (sym c.get_mut-home.ensures.value)) c.take_in.ensures.k k _
 
 pub unreachable-requires : goal.unreachable-requires
 unreachable-requires g c = holds_own c.requires.own.0 c.requires.own.1 c.args.self.now c.requires.own.3 c.in_default.not-Own
