@@ -40,7 +40,7 @@ void __wrap_free(void *at) {
     __real_free(at);
 }
 
-enum { THREADS = 4, ITEMS = 3000, PREPARED = 6 };
+enum { THREADS = 4, ITEMS = 3000 };
 static klsm_queue queue, before;
 static klsm_item left[ITEMS + 1], untouched;
 
@@ -73,56 +73,63 @@ static long opening(size_t refill) {
 
 static uint64_t key_of(uint64_t i) { return i * 7919 % 1009; }
 
-/* Insertions, in each of which the allocations are refused from one on, each in turn. What a refused one has prepared stays
-   for the next. */
+/* What refused insertions may keep for the next ones, in blocks: for each member a ring by which a union is handed over,
+   and for the shared part its three lists. */
+enum { RING = 2, LISTS = 3 };
+
+/* Insertions, in each of which allocations are refused: for a third of them one alone, for the others all from one on. */
 static void insertions(void) {
-    int codes = 1, counts = 1, kept = 1;
-    long refused = 0;
+    int codes = 1, counts = 1;
+    long refused = 0, kept = 0;
     for (uint64_t i = 0; i < ITEMS; i++) {
         klsm_member *member = &queue.members[i % THREADS];
+        uint64_t number = i / THREADS;
+        int is_alone = number % 3 == 0;
         int32_t code = KLSM_NO_MEMORY;
-        for (long tries = 0; code == KLSM_NO_MEMORY && tries < 1000; tries++) {
+        for (long tries = is_alone ? number / 3 % 4 : 0; code == KLSM_NO_MEMORY && tries < 1000; tries++) {
             long had = blocks;
             allocations = 0;
-            fails_from = tries;
+            *(is_alone ? &fails_at : &fails_from) = tries;
             code = klsm_insert(member, key_of(i), i);
+            fails_at = -1;
             fails_from = LONG_MAX;
             if (code != KLSM_NO_MEMORY)
                 break;
             refused++;
-            counts = counts && klsm_inserted(member) == i / THREADS && klsm_left(&queue) == i;
-            kept = kept && blocks <= had + PREPARED;
+            counts = counts && klsm_inserted(member) == number && klsm_left(&queue) == i;
+            kept += blocks - had;
         }
         codes = codes && code == KLSM_OK;
     }
     check("some insertions are refused first", refused > 0);
     check("each is made once there is memory", codes);
     check("a refused insertion does not count", counts);
-    check("and keeps no block but those that the next one needs", kept);
+    check("all that are refused keep only a ring for each member and three lists", kept <= THREADS * RING + LISTS);
 }
 
-/* Sharings, in each of which each allocation is refused in turn: member 3 shares its own items, whichever they are. */
+/* Sharings, in each of which allocations are refused from one on, each in turn: member 3 shares its own items, whichever
+   they are. */
 static void sharings(void) {
     klsm_member *member = &queue.members[3];
     uint64_t moved = UINT64_MAX, front = klsm_front(member);
-    int codes = 1, kept = 1, unchanged = 1;
+    int codes = 1, unchanged = 1;
     int32_t code = KLSM_NO_MEMORY;
-    long tries = 0;
+    long tries = 0, kept = 0;
     for (; code == KLSM_NO_MEMORY && tries < 1000; tries++) {
         long had = blocks;
         allocations = 0;
-        fails_at = tries;
+        fails_from = tries;
         code = tries % 2 == 0 ? klsm_share(member, &moved) : klsm_try_share(member, &moved);
-        fails_at = -1;
+        fails_from = LONG_MAX;
         if (code != KLSM_NO_MEMORY)
             break;
-        kept = kept && blocks == had;
+        kept += blocks - had;
         unchanged = unchanged && moved == UINT64_MAX && klsm_front(member) == front && klsm_left(&queue) == ITEMS;
     }
     codes = code == KLSM_OK && moved > 0 && moved <= 16;
     check("a sharing takes memory, and is made once there is some", tries > 0 && codes);
-    check("a refused one keeps no block", kept);
-    check("and moves and writes nothing", unchanged);
+    check("those that are refused keep a ring at most", kept <= RING);
+    check("and move and write nothing", unchanged);
     allocations = 0;
     check_code("a second one", klsm_share(member, &moved), KLSM_OK);
     check("finds nothing and takes none", moved == 0 && allocations == 0);

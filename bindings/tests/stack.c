@@ -111,13 +111,13 @@ static void uses(const char *name, size_t count, void *(*run)(void *), int times
 
 int main(void) {
     size_t none = used_by(count);
-    uses("an opening of 16 members", none, open_all, 1, 3 * STACK / 4);
+    uses("an opening of 16 members", none, open_all, 1, STACK / 2);
     uses("insertions into an own part", none, insert_own, 1, STACK / 2);
     uses("one as a rule", none, insert_one, TRIES, 2048);
     uses("a deletion from it as a rule", none, delete_one, TRIES, 2048);
     uses("deletions from it", none, delete_own, 1, STACK / 2);
     uses("all other insertions and deletions", none, insert_and_delete_all, 1, STACK / 2);
     uses("sharings, and deletions alone", none, share_and_delete_all, 1, 4096);
-    uses("a closing", none, close_all, 1, 3 * STACK / 4);
+    uses("a closing", none, close_all, 1, STACK / 2);
     return check_status();
 }

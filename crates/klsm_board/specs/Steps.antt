@@ -93,15 +93,23 @@ module _ {S : Type 0} where
   abbrev pub is_reached : Sizes → ℕ → Me S View → Type 0
   is_reached m t me' = AreReached m t me'.0
 
-  -- the part was free, and came to the seat; or another thread held it, in a world of the lists that the seat knew
+  -- another thread held the part, in a world of the lists that the seat knew
+  abbrev pub missed : Sizes → ℕ → Step S → Me S View → ℕ → Me S View → Type 0
+  missed m t st me n me' = (me' ≡ (gain me.0 (Missed st.word (n - 1)), me.1)) × (n ≤ m.threads)
+      × HasHolder m t me.0 st.word (n - 1)
+
+  -- the part was free, and came to the seat; or another thread held it
   abbrev pub attempted : (S → List Item) → (ℕ → ℕ → S → Type 0) → Sizes → ℕ → Step S → Me S View → ℕ → Me S View → Type 0
   attempted content suits m t st me n me' =
       MatchBool (n == 0)
       ((y : S) × suits m.k st.word y
       × (me' ≡ (gain me.0 (Acquired st.word (content y)), (st.word, y) ∷ me.1)))
-      ((me' ≡ (gain me.0 (Missed st.word (n - 1)), me.1)) × (n ≤ m.threads)
-      × HasHolder m t me.0 st.word (n - 1))
+      (missed m t st me n me')
       × is_reached m t me'
+
+  -- the part was free, and nothing changed; or another thread held it
+  abbrev pub watched : Sizes → ℕ → Step S → Me S View → ℕ → Me S View → Type 0
+  watched m t st me n me' = MatchBool (n == 0) (me' ≡ me) (missed m t st me n me') × is_reached m t me'
 
   -- the part was released
   abbrev pub released : Sizes → ℕ → Step S → Me S View → ℕ → Me S View → Type 0

@@ -83,18 +83,18 @@
 //! - **A refusal changes no part**, and its cause holds: clauses `refused`, `busy` and `holder`.
 //! - **A call that may wait** promises the same, less the refusal for a lock that is held. Nothing is
 //!   promised of how long it waits.
-//! - **Deletions take no memory**, and are refused for want of none. An insertion takes some only where
-//!   items move to the shared part, and so does a sharing.
+//! - **Deletions take no memory**, and are refused for want of none. An insertion takes some only where items are to
+//!   move to the shared part, or for a union of large shared blocks, and so does a sharing.
 //!
 //! How the locks are acquired, what commits and why a stale look does no harm is said in
 //! docs/ARCHITECTURE.md, "How a locked call becomes steps of a schedule".
 //!
 //! The files, from the atomic steps up: `rule` and `plays` (what always holds, and what a step tells), `steps`
-//! (acquire, release, the two commits, the look at the front), `slot` (what is done to the parts), `lending`,
-//! `acquiring` (one try), `inserting`, `spying`, `early` (deletions by the front),
-//! `taking`, `deleting`, `stealing` (balances), `sharing`, `marking` (the key in work), `resting`, `bounding`, and the
-//! public calls in `making`, `member`, `held`, `together` and `finishing`. `tally` has the counts of members that are
-//! in one hand. `gate` is for programs that run members in threads.
+//! (acquire, release, the two commits, the looks at a lock and at the front), `slot` (what is done to the parts),
+//! `lending`, `acquiring` (one try), `inserting`, `spying`, `early` (deletions by the front), `taking`, `deleting`,
+//! `stealing` (balances), `sharing`, `marking` (the key in work), `resting`, `bounding`, and the public calls in
+//! `making`, `member`, `held`, `together` and `finishing`. `tally` has the counts of members that are in one hand.
+//! `gate` is for programs that run members in threads.
 #![tactic(auto)]
 
 mod acquiring;

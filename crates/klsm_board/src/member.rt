@@ -342,10 +342,11 @@ impl<const CAP: usize, const LEVELS: usize> Member<CAP, LEVELS> {
     /// Moves all items of the own part to the shared one, where others find them, and answers how many moved. It never
     /// blocks.
     ///
-    /// It acquires the own lock and, where the own part has an item, the shared one. It costs one growth, one merge of the
-    /// own items, and what a flush of them costs. Where it is refused no item has moved and no block has changed: `Busy`
-    /// for a lock, `Full` where the shared part has no room for all of them, and else `NoMemory`. No bound changes: own
-    /// parts have at most k items as before.
+    /// It acquires the own lock and, where the own part has an item, the shared one. It costs a merge of the own items
+    /// to a run on the heap, made before the shared lock is tried and dropped where that is held, and then what a flush
+    /// of them costs. Where it is refused no item has moved and no block has changed: `Busy` for a lock, `Full` where
+    /// the shared part has no room for all of them, and else `NoMemory`. No bound changes: own parts have at most k
+    /// items as before.
     pub fn try_share(&mut self, board: &Board<CAP, LEVELS>) -> Result<usize, TryShareError>
         requires { IsOf self.old board.now }
         ensures same { IsSame self.old self.new }
@@ -486,10 +487,11 @@ impl<const CAP: usize, const LEVELS: usize> Member<CAP, LEVELS> {
     /// front, and that item is smaller than the least own one: at most `most`, as half of what the victim has,
     /// rounded up, and as many as the own part has room for. True where some moved. It never blocks.
     ///
-    /// It acquires the own lock, looks at the front, and tries the victim's lock once. A member that calls it now
-    /// and then, each time for the next other member, takes a share of the small items of all. No bound changes:
-    /// own parts have at most k items as before. But the own order of a member speaks of the own part and the
-    /// shared one, and an item that it inserted lies in neither once another has stolen it.
+    /// It acquires the own lock, looks at the front, and tries the victim's lock once, without writing to it where a
+    /// load finds it held. A member that calls it now and then, each time for the next other member, takes a share of
+    /// the small items of all. No bound changes: own parts have at most k items as before. But the own order of a
+    /// member speaks of the own part and the shared one, and an item that it inserted lies in neither once another has
+    /// stolen it.
     pub fn try_balance(
         &mut self,
         board: &Board<CAP, LEVELS>,

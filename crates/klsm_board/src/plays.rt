@@ -53,6 +53,17 @@ impl<S: Holding, D: Intent> Play<S, View> for Acquire<D> {
     ghost then = { on_part (attempted S.content S.suits D.sizes D.thread) };
 }
 
+/// The lock of a part is looked at. A part that another thread holds is missed.
+pub(crate) struct Watch<D> {
+    of: PhantomData<D>,
+}
+
+impl<S: Holding, D: Intent> Play<S, View> for Watch<D> {
+    ghost use Rattle.klsm_board.specs.Steps.{watched, on_part};
+
+    ghost then = { on_part (watched D.sizes D.thread) };
+}
+
 /// The part that was acquired last is released.
 pub(crate) struct Release<D> {
     of: PhantomData<D>,

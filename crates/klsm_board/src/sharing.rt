@@ -1,5 +1,5 @@
 //! The sharing of all own items. It takes effect where the front is set.
-ghost use Rattle.std.specs.Prelude.{◌≡◌, ◌<◌, ◌++◌, List, [], ◌∷◌, length, IfErr, IfOk, OnOk, OnErr, IsErrAnd};
+ghost use Rattle.std.specs.Prelude.{◌≡◌, ◌<◌, ◌++◌, List, [], ◌∷◌, length, IfSome, IfErr, IfOk, OnOk, OnErr, IsErrAnd};
 ghost use Rattle.klsm_run.specs.declared.item.Item.{Item};
 ghost use Rattle.klsm_run.specs.Content.{ShareNone};
 ghost use Rattle.klsm_parts.specs.Events.{front_of};
@@ -20,7 +20,8 @@ use crate::lending::{lend_shared, return_shared};
 use crate::rule::{Locks, MemberSeat};
 use crate::slot::PartSlot;
 use crate::steps::{Sharing, commit_moving_by_front, release_both, release_part};
-use klsm_parts::LsmError;
+use klsm_parts::{LsmError, SharedRun};
+use std::alloc::Global;
 
 /// Shares all own items, if no lock that it needs is held. It answers how many moved.
 pub(crate) fn share_now<S: PartSlot>(
@@ -50,11 +51,12 @@ pub(crate) fn share_now<S: PartSlot>(
         release_part(table, seat, thread + 1, thread);
         return Ok(0);
     }
+    let copy = copy_own(table, seat, thread);
     if let Err(busy) = try_acquire(table, seat, 0, thread) {
         release_part(table, seat, thread + 1, thread);
         return Err(TryShareError::Busy(busy));
     }
-    match share_both(table, seat, thread, threads) {
+    match share_both(table, seat, thread, threads, copy) {
         Ok(()) => Ok(count),
         Err(LsmError::Full) => Err(TryShareError::Full),
         Err(LsmError::NoMemory) => Err(TryShareError::NoMemory),
@@ -77,19 +79,42 @@ fn count_own<S: PartSlot>(table: &Locks<S>, seat: &mut MemberSeat<S>, thread: us
     look(table, seat, thread + 1, thread).0
 }
 
+// A copy of all items of the own part in hand, if there is memory for it. It is made before the shared lock is tried,
+// so that no other member waits for the merge.
+fn copy_own<S: PartSlot>(
+    table: &Locks<S>,
+    seat: &mut MemberSeat<S>,
+    thread: usize,
+) -> Option<SharedRun<Global>>
+    requires sized { S.is_sized }
+    requires seat { IsSeatOf seat.old.table_id table.now.table_id table.now.key thread }
+    requires has { (own : List Item)
+        × Has S.content S.suits table.now.key thread (own_in_hand thread own) seat.old.me }
+    ensures same { seat.new.table_id ≡ seat.old.table_id }
+    ensures others { rest_of seat.new.me.0 ≡ rest_of seat.old.me.0 }
+    ensures copied { (own : List Item)
+        → Has S.content S.suits table.now.key thread (own_in_hand thread own) seat.old.me
+        → IfSome result (λ run. run ≡ own)
+        × Has S.content S.suits table.now.key thread (own_in_hand thread own) seat.new.me
+        × (mine seat.new.me.0 ≡ mine seat.old.me.0) }
+{
+    seat.slot_mut(table, thread + 1).prepare_sharing()
+}
+
 // Moves all own items, of which there are some, to the shared part, and releases both.
 fn share_both<S: PartSlot>(
     table: &Locks<S>,
     seat: &mut MemberSeat<S>,
     thread: usize,
     threads: usize,
+    copy: Option<SharedRun<Global>>,
 ) -> Result<(), LsmError>
     requires sized { S.is_sized }
     requires seat { IsSeatOf seat.old.table_id table.now.table_id table.now.key thread }
     requires threads { threads ≡ table.now.key.threads }
     requires has { (own : List Item) × (shared : List Item)
         × Has S.content S.suits table.now.key thread (both_in_hand thread own shared) seat.old.me
-        × (0 < length own) }
+        × (0 < length own) × IfSome copy (λ run. run ≡ own) }
     ensures same { seat.new.table_id ≡ seat.old.table_id }
     ensures others { rest_of seat.new.me.0 ≡ rest_of seat.old.me.0 }
     ensures has { Has S.content S.suits table.now.key thread [] seat.new.me }
@@ -108,7 +133,7 @@ fn share_both<S: PartSlot>(
         → Has S.content S.suits table.now.key thread (both_in_hand thread own shared) seat.old.me
         → HasRoomFor S.levels own shared) }
 {
-    match share_in(table, seat, thread) {
+    match share_in(table, seat, thread, copy) {
         Ok(front) => {
             commit_sharing(table, seat, threads, thread, front);
             release_both(table, seat, thread);
@@ -153,13 +178,14 @@ fn share_in<S: PartSlot>(
     table: &Locks<S>,
     seat: &mut MemberSeat<S>,
     thread: usize,
+    copy: Option<SharedRun<Global>>,
 ) -> Result<u64, LsmError>
     requires sized { S.is_sized }
     requires seat { IsSeatOf seat.old.table_id table.now.table_id table.now.key thread }
     requires carries { (own : List Item) × (shared : List Item)
         × Carries S.content S.suits table.now.key thread (both_in_hand thread own shared)
         seat.old.me
-        × ShareNone own shared × (0 < length own) }
+        × ShareNone own shared × (0 < length own) × IfSome copy (λ run. run ≡ own) }
     ensures same { (seat.new.table_id ≡ seat.old.table_id) × (seat.new.id ≡ seat.old.id)
         × (seat.new.me.0 ≡ seat.old.me.0) }
     ensures done { IfOk result (λ front. (own : List Item) → (shared : List Item)
@@ -187,7 +213,7 @@ fn share_in<S: PartSlot>(
         → HasRoomFor S.levels own shared) }
 {
     let mut shared = lend_shared(table, seat, thread);
-    let answer = seat.slot_mut(table, thread + 1).share(&mut shared);
+    let answer = seat.slot_mut(table, thread + 1).share(&mut shared, copy);
     let front = shared.front();
     return_shared(table, seat, thread, shared);
     match answer {

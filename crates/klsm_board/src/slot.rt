@@ -18,8 +18,8 @@ ghost use Rattle.klsm_board.specs.Choosing.{Chooses};
 use crate::boxed::Boxed;
 use crate::rule::Holding;
 use klsm_parts::{
-    Local, LsmError, Picker, Shared, SharedRun, Unions, fetch, flush_prepared, put, share, spy,
-    steal, take, take_least,
+    Local, LsmError, Picker, Shared, SharedRun, Unions, fetch, flush_prepared, put, share_prepared,
+    spy, steal, take, take_least,
 };
 use klsm_run::Item;
 use std::alloc::{AllocError, Global};
@@ -221,13 +221,29 @@ pub trait PartSlot: Holding + Drop {
             × (Self.content self.new ≡ Self.content self.old)
             × (Self.content victim.new ≡ Self.content victim.old)) };
 
-    /// Moves all items of an own part that has some to the shared part. It answers how many moved.
-    fn share(&mut self, shared: &mut Self) -> Result<usize, LsmError>
+    /// Prepares a sharing of an own part before the shared one is acquired: it carries the member's union on, and
+    /// answers a copy of all items, if there are some and memory for it.
+    fn prepare_sharing(&mut self) -> Option<SharedRun<Global>>
+        requires sized { is_sized }
+        requires own { (k : ℕ) × (t : ℕ) × Self.suits k (own_part t) self.old }
+        ensures kind { (k t : ℕ) → Self.suits k (own_part t) self.old
+            → Self.suits k (own_part t) self.new }
+        ensures same { Self.content self.new ≡ Self.content self.old }
+        ensures copy { IfSome result (λ run. run ≡ Self.content self.old) };
+
+    /// Moves all items of an own part that has some to the shared part: the copy of them, if there is one. It answers
+    /// how many moved.
+    fn share(
+        &mut self,
+        shared: &mut Self,
+        copy: Option<SharedRun<Global>>,
+    ) -> Result<usize, LsmError>
         requires sized { is_sized }
         requires parts { (k : ℕ) × (t : ℕ) × Self.suits k (own_part t) self.old
             × Self.suits k shared_part shared.old }
         requires apart { ShareNone (Self.content self.old) (Self.content shared.old) }
         requires some { 0 < length (Self.content self.old) }
+        requires copy { IfSome copy (λ run. run ≡ Self.content self.old) }
         ensures kind { (k t : ℕ) → Self.suits k (own_part t) self.old
             → Self.suits k (own_part t) self.new }
         ensures shared_kind { (k : ℕ) → Self.suits k shared_part shared.old
@@ -458,14 +474,29 @@ impl<const CAP: usize, const LEVELS: usize> PartSlot for BoardSlot<CAP, LEVELS> 
         }
     }
 
+    fn prepare_sharing(&mut self) -> Option<SharedRun<Global>> {
+        match self {
+            Slot::Own(own) => {
+                let home = own.get_mut();
+                home.unions.prepare();
+                home.unions.copy_of_all(&home.part)
+            }
+            _ => unreachable!(),
+        }
+    }
+
     #[inline]
-    fn share(&mut self, shared: &mut Self) -> Result<usize, LsmError> {
+    fn share(
+        &mut self,
+        shared: &mut Self,
+        copy: Option<SharedRun<Global>>,
+    ) -> Result<usize, LsmError> {
         match (self, shared) {
             (Slot::Own(own), Slot::Common(shared)) => {
                 let home = own.get_mut();
                 let common = shared.get_mut();
                 forget(&mut home.copy);
-                let answer = share(&mut home.part, common);
+                let answer = share_prepared(&mut home.part, common, copy);
                 home.unions.exchange(common);
                 answer
             }

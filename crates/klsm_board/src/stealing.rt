@@ -15,7 +15,7 @@ use crate::acquiring::try_acquire;
 use crate::errors::Busy;
 use crate::rule::{Locks, MemberSeat};
 use crate::slot::PartSlot;
-use crate::steps::{Stealing, acquire_part, commit_moving, release_part, see_front};
+use crate::steps::{Stealing, acquire_after_look, commit_moving, release_part, see_front};
 use klsm_run::Item;
 
 /// Tries one victim, if the own lock is not held: true where items moved from its part to the own one.
@@ -77,7 +77,7 @@ fn steal_from<S: PartSlot>(
         × (mine seat.new.me.0 ≡ mine seat.old.me.0 ++ added))) }
 {
     let lock = victim as usize + 1;
-    if acquire_part(table, seat, lock, thread) != 0 {
+    if acquire_after_look(table, seat, lock, thread) != 0 {
         return false;
     }
     if !steal_in(table, seat, thread, lock, front, most) {

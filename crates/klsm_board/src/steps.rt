@@ -11,11 +11,11 @@ ghost use Rattle.klsm_parts.specs.Least.{IsLeast};
 ghost use Rattle.klsm_board.specs.Rule.{place, view};
 ghost use Rattle.klsm_board.specs.Turning.{turned, HasList};
 ghost use Rattle.klsm_schedules.specs.LegalSteps.{MayCommit};
-ghost use Rattle.klsm_board.specs.Steps.{mine, rest_of, gain, IsMine, AreReached, HasFront, HasHolder, attempted, released, committed, looked, glanced, set_front, turned_to};
+ghost use Rattle.klsm_board.specs.Steps.{mine, rest_of, gain, IsMine, AreReached, HasFront, HasHolder, attempted, watched, released, committed, looked, glanced, set_front, turned_to};
 ghost use Rattle.klsm_board.specs.Seats.{Carries, Stands, Has, CarriedOut, IsMarked, QuotaAllows, LeavesShared, LeavesWork, SetsFront, IsSeatOf, own_in_hand, both_in_hand, last_arriving};
 ghost use Rattle.klsm_board.specs.Entries.{both_released};
 
-use crate::plays::{Acquire, Commit, Glance, Intent, Look, Release, SetFront, Turn};
+use crate::plays::{Acquire, Commit, Glance, Intent, Look, Release, SetFront, Turn, Watch};
 use crate::rule::{Holding, Locks, MemberSeat, STRIDE};
 use klsm_run::Item;
 use klsm_schedules::Event;
@@ -39,6 +39,27 @@ fn acquire<S: Holding, D: Intent>(
 {
     let free = 0;
     table.compare_exchange::<Acquire<D>>(seat, part * STRIDE, free, thread as u64 + 1)
+}
+
+// A look at the lock of a part. The word found is 0 where the part is free.
+fn load_lock<S: Holding, D: Intent>(
+    table: &Locks<S>,
+    seat: &mut MemberSeat<S>,
+    part: usize,
+    thread: usize,
+) -> u64
+    requires outcome { (D.sizes ≡ table.now.key) × (D.thread ≡ thread) }
+    requires seat { IsSeatOf seat.old.table_id table.now.table_id table.now.key thread }
+    requires part { part ≤ table.now.key.threads }
+    requires view { IsMine seat.old.me.0 thread }
+    requires away { found_in (hand_of thread (mine seat.old.me.0)) part ≡ None }
+    ensures same { (seat.new.table_id ≡ seat.old.table_id) × (seat.new.id ≡ seat.old.id) }
+    ensures outcome { watched table.now.key thread (step table.now.table_id.slots part 0 0 none)
+        seat.old.me result seat.new.me }
+{
+    // For the proof: the contract alone names the thread.
+    let _ = thread;
+    table.load::<Watch<D>>(seat, part * STRIDE)
 }
 
 // Releases the part that was acquired last, with the content that the seat's list says.
@@ -217,6 +238,38 @@ pub(crate) fn acquire_part<S: Holding>(
         → HasHolder table.now.key thread seat.old.me.0 part (result - 1) }
 {
     acquire::<S, Brand>(table, seat, part, thread)
+}
+
+/// A try to acquire a part, with the answer of `acquire_part`, that looks at the lock first. A compare-exchange takes
+/// the lock's cache line from the holder even in vain; a load only shares it.
+pub(crate) fn acquire_after_look<S: Holding>(
+    table: &Locks<S>,
+    seat: &mut MemberSeat<S>,
+    part: usize,
+    thread: usize,
+) -> u64
+    requires seat { IsSeatOf seat.old.table_id table.now.table_id table.now.key thread }
+    requires part { part ≤ table.now.key.threads }
+    requires has { (hand : Hand) × Stands S.content S.suits table.now.key thread hand seat.old.me
+        × (found_in hand part ≡ None) }
+    ensures same { (seat.new.table_id ≡ seat.old.table_id) × (seat.new.id ≡ seat.old.id) }
+    ensures others { rest_of seat.new.me.0 ≡ rest_of seat.old.me.0 }
+    ensures outcome { (hand : Hand) → Stands S.content S.suits table.now.key thread hand seat.old.me
+        → MatchBool (result == 0)
+        ((found : List Item)
+        × Has S.content S.suits table.now.key thread ((part, found) ∷ hand) seat.new.me
+        × (mine seat.new.me.0 ≡ mine seat.old.me.0 ++ Acquired part found ∷ []))
+        (Has S.content S.suits table.now.key thread hand seat.new.me
+        × (mine seat.new.me.0 ≡ mine seat.old.me.0 ++ Missed part (result - 1) ∷ [])
+        × (result ≤ table.now.key.threads)) }
+    ensures holder { result ≢ 0
+        → HasHolder table.now.key thread seat.old.me.0 part (result - 1) }
+{
+    let found = load_lock::<S, Brand>(table, seat, part, thread);
+    if found != 0 {
+        return found;
+    }
+    acquire_part(table, seat, part, thread)
 }
 
 /// Releases the part that was acquired last.

@@ -85,7 +85,7 @@ local_fits n capacity = part_fits _ (lsm_is_small _ (run_is_small n capacity)) w
 
 -- a pile of any number of levels: its front and the list of its pieces, the counts of its levels, and two numbers
 abbrev pile : ℕ → ℕ
-pile n = up 8 (up 8 (up 8 (64 + array_vec n 8) + 8) + 8)
+pile n = up 8 (up 8 (up 8 (104 + array_vec n 8) + 8) + 8)
 
 -- the shared part
 pub shared_fits : (n : ℕ) → IsLevelCount n → up 8 (up 1 (up 8 (0 + pile n) + 8) + 0) < 9223372036854775808

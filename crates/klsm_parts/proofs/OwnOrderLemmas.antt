@@ -170,3 +170,9 @@ early_skips_none own shared x may =
 pub early_keeps_order : (owner : ℕ) (own shared : List Item) (x : Item) → MayTakeEarly own x (front_of shared) → SkipsNoneOf owner (own ++ shared) x
 early_keeps_order owner own shared x may =
     all_append (λ y. y.stamp.owner ≡ owner → is_smaller y x ≡ false) own shared (order_if_none_below owner x own (none_below_least x own may.least)) (order_if_none_below owner x shared (below_front_skips_none x shared may.below))
+
+-- none of those before is the owner's
+pub own_first_none : (owner index i : ℕ) (cs : List Item) → index ≤ i → i ≤ index → own_first owner index cs ≡ i + own_first owner (index - i) (drop i cs) → index ≡ own_first owner index cs
+own_first_none owner index i cs over within so_far =
+    let none : index - i ≡ 0 = omega (arith, over) in
+    omega (arith, over, within, so_far, ap (λ n. own_first owner n (drop i cs)) none)

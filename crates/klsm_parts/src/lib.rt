@@ -54,7 +54,8 @@
 //! - **A steal keeps own parts alike.** A member that has another's part in hand beside its own moves the least items
 //!   of that part to its own, into the room that it has, and at most half of them. Neither part has then more than k.
 //! - **A share lets others find a member's items.** A member that will be busy for long moves all items of its own part
-//!   to the shared one. Its own part is empty then, so no bound changes.
+//!   to the shared one. Its own part is empty then, so no bound changes. It may make one run of them before it has the
+//!   shared part in hand (`copy_to_share`, `share_prepared`).
 //! - **A `Queue` holds what was inserted and not yet deleted**, each item once: clauses `items` of
 //!   `Queue::insert` and `Queue::delete_min`, and `ascending` of `Queue::len`. It asks nothing of
 //!   its callers.
@@ -93,7 +94,7 @@ pub use picker::{First, Last, Picker, Random, random_of};
 pub use queue::Queue;
 pub use refilling::fetch;
 pub use shared::Shared;
-pub use sharing::share;
+pub use sharing::{copy_to_share, share, share_prepared};
 pub use spying::spy;
 pub use stealing::steal;
 pub use taking::take;

@@ -19,7 +19,7 @@ use std::alloc::Allocator;
 /// What it takes skips at most k items of the two parts, and none that `owner` inserted. It takes no
 /// memory. It costs one comparison a block of the own part and, where a shared item goes, a look at each candidate before
 /// that one, and at each that is kept side by side with them, which moves up. Some hundreds of deletions find them so; then
-/// as many more are fetched, at a comparison a piece for each run of items of one piece.
+/// as many more are fetched, at a few comparisons for each run of items of one piece.
 pub fn take<const CAP: usize, const LEVELS: usize, A: Allocator + Copy, P: Picker>(
     owner: u32,
     own: &mut Local<CAP>,

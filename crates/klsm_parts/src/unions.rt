@@ -2,8 +2,9 @@
 ghost use Rattle.std.specs.Prelude.{◌≡◌, IfSome};
 ghost use Rattle.klsm_run.specs.Capacity.{IsCapacity};
 ghost use Rattle.klsm_parts.specs.Flushing.{IsLargest};
+ghost use Rattle.klsm_parts.specs.Parts.{items_in};
 
-use crate::{Local, Shared, copy_to_move};
+use crate::{Local, Shared, copy_to_move, copy_to_share};
 use klsm_union::{SharedRun, Spent, UnionBlank, Work};
 use std::alloc::{Allocator, Global};
 use std::marker::Model;
@@ -16,12 +17,24 @@ const STEP: usize = 256;
 ///
 /// Two large blocks of the shared part that become one stay two pieces there, until some member has united copies of
 /// them. So nothing large is written while the shared part is held.
-#[derive(Drop)]
 pub struct Unions<A: Allocator + Copy = Global> {
     alloc: A,
     work: Option<Work<A>>,
     blank: Option<UnionBlank<A>>,
     spent: Option<Spent<A>>,
+}
+
+// Not compiled into the drop of what it lies beside: there a whole part would be moved over the stack.
+impl<A: Allocator + Copy> Drop for Unions<A> {
+    #[inline(never)]
+    fn drop(self) {
+        let Unions {
+            alloc: _,
+            work: _work,
+            blank: _blank,
+            spent: _spent,
+        } = self;
+    }
 }
 
 // No clause asks what a union has come to.
@@ -57,6 +70,14 @@ impl<A: Allocator + Copy> Unions<A> {
         ensures { IfSome result (λ run. IsLargest run own.now.blocks) }
     {
         copy_to_move(own, self.alloc)
+    }
+
+    /// A copy of all items of an own part, which its next sharing moves, if there are some and memory for it.
+    pub fn copy_of_all<const CAP: usize>(&self, own: &Local<CAP>) -> Option<SharedRun<A>>
+        requires capacity { IsCapacity CAP }
+        ensures { IfSome result (λ run. run ≡ items_in own.now) }
+    {
+        copy_to_share(own, self.alloc)
     }
 
     /// Takes over a union that some member has handed in, and hands this one the next, if there are two pieces that are

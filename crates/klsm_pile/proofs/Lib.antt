@@ -11,6 +11,7 @@ pub mod FirstLemmas
 pub mod FrontLemmas
 pub mod HandingLemmas
 pub mod HeadLemmas
+pub mod LabelLemmas
 pub mod LawfulLemmas
 pub mod LeavingLemmas
 pub mod ListingLemmas
@@ -18,6 +19,7 @@ pub mod LowLemmas
 pub mod MergeLemmas
 pub mod NumberLemmas
 pub mod OneLemmas
+pub mod OrderedLemmas
 pub mod PairLemmas
 pub mod PileLemmas
 pub mod PivotLemmas
@@ -33,4 +35,5 @@ pub mod SettlingLemmas
 pub mod SortLemmas
 pub mod SpillLemmas
 pub mod StoreLemmas
+pub mod SwapLemmas
 pub mod UnitingLemmas

@@ -206,3 +206,9 @@ merging_theirs_at mine level other store left right x e some some_right up_mine 
 
 pub merging_room : (mine : List Fetched) (level : ℕ) (other : List Item) (store : List Fetched) (left right : ℕ) → 0 < right → IsMerging mine level other store left right → left + right - 1 < length store
 merging_room mine level other store left right some m = omega (arith, m.items.room, m.items.left_in, m.items.right_in, items_length store, some)
+
+-- as many as are left of both, of all that are in the store
+pub merging_sum : (mine store now : List Fetched) (level : ℕ) (other : List Item) (left right : ℕ) → store ≡ mine ++ fetched level other → IsMerging mine level other now left right → left + right ≤ length store
+merging_sum mine store now level other left right is m =
+    let first = merging_first mine store level other is in
+    omega (arith, m.items.left_in, m.items.right_in, first.items.room, items_length store)

@@ -1,8 +1,10 @@
 -- Piles at rest.
-use Rattle.std.proofs.Common.{◌≡◌, ◌⊎◌, ℕ, ◌+◌, ◌<◌, ◌≤◌, max, true, List, [], ◌∷◌, ◌++◌, length, get_or, take, drop, replicate, refl, sym, ap, ◌∙◌, subst, arith, zero, suc, inl, inr}
+use Rattle.std.proofs.Common.{◌≡◌, ◌⊎◌, ℕ, ◌+◌, ◌<◌, ◌≤◌, max, min, true, List, [], ◌∷◌, ◌++◌, length, get_or, take, drop, replicate, refl, sym, ap, ◌∙◌, subst, arith, zero, suc, inl, inr}
 use Rattle.std.specs.Prelude.{◌==◌, slice_get, Some, None}
 use Rattle.std.proofs.lemmas.List.{length-append, length-replicate, get_or-replicate, take-append-le, drop-append-le}
+use Rattle.std.proofs.lemmas.Grind.{common_steps}
 use Rattle.std.proofs.lemmas.Option.{slice_get_past}
+use Rattle.std.specs.Ordering.{ord_min, nat_cmp}
 use Rattle.klsm_run.proofs.SortedLemmas.{length_sorted}
 use Rattle.klsm_run.specs.declared.item.Item.{Item}
 use Rattle.klsm_run.specs.declared.limits.TheConstants.{MOST_K}
@@ -170,3 +172,7 @@ all_in_front levels reach len places n front pieces counts s pile is near there 
       | inl enough ↦ omega (arith, enough, near, same)
       | inr none ↦ omega (arith, there, size, pile.total, parts_length front pieces, ap length none)
     ]
+
+-- the lesser of two numbers
+pub lesser_is_min : (n m : ℕ) → ord_min nat_cmp n m ≡ min n m
+lesser_is_min n m = grind (arith, common_steps)

@@ -5,6 +5,7 @@ pub mod Pieces  -- which blocks numbered pieces are
 pub mod Renumbering  -- what becomes of the numbers where a run is put in
 pub mod Settling  -- and where items leave
 pub mod Front  -- the least items, side by side
+pub mod Labels  -- where they and their levels lie apart
 pub mod Fetching  -- how they come there
 pub mod Counting  -- how many items the levels have
 pub mod Merging  -- items that are merged into the front

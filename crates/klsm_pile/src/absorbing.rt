@@ -1,7 +1,6 @@
 //! How a run is put among the pieces.
 ghost use Rattle.std.specs.Prelude.{ℕ, ◌≡◌, ◌+◌, ◌-◌, ◌<◌, ◌≤◌, ◌^◌, length, take, drop, OnOk, OnErr, vec_capacity};
 ghost use Rattle.std.specs.List.{AllByRecursion};
-ghost use Rattle.std.specs.VecDeque.{deque_capacity};
 ghost use Rattle.klsm_run.specs.Block.{IsBlock};
 ghost use Rattle.klsm_run.specs.Capacity.{heap_room};
 ghost use Rattle.klsm_run.specs.Content.{ShareNone};
@@ -12,7 +11,7 @@ ghost use Rattle.klsm_pile.specs.Front.{parts};
 ghost use Rattle.klsm_pile.specs.Piles.{IsConsistent};
 
 use crate::counts::{add_to, landing};
-use crate::fetched::Fetched;
+use crate::front::Front;
 use crate::levels::regroup;
 use crate::making_room::make_room;
 use crate::merging::merge_in;
@@ -21,11 +20,10 @@ use crate::uniting::unite_last;
 use klsm_run::level_of;
 use klsm_union::SharedRun;
 use std::alloc::{AllocError, Allocator};
-use std::collections::VecDeque;
 
 /// Puts a run in: its first items, so many of them, go to the front, and the others are a piece.
 pub(crate) fn put<A: Allocator + Copy>(
-    front: &mut VecDeque<Fetched, A>,
+    front: &mut Front<A>,
     pieces: &mut Vec<Piece<A>, A>,
     counts: &mut [usize],
     mut run: SharedRun<A>,
@@ -40,7 +38,7 @@ pub(crate) fn put<A: Allocator + Copy>(
     requires few { length (every_item (parts front.old.items pieces.old.items)) + length run
         ≤ heap_room }
     requires low { AreLow low run front.old.items pieces.old.items }
-    requires places { length front.old.items + low ≤ deque_capacity front.old }
+    requires places { length front.old.items + low ≤ front.old.capacity }
     requires slots { length pieces.old.items < vec_capacity pieces.old }
     ensures held { IsConsistent (length counts.old) front.new.items pieces.new.items counts.new }
     ensures blocks { blocks_below (length counts.old) (parts front.new.items pieces.new.items)
@@ -48,7 +46,7 @@ pub(crate) fn put<A: Allocator + Copy>(
     ensures total { length (every_item (parts front.new.items pieces.new.items))
         ≡ length (every_item (parts front.old.items pieces.old.items)) + length run }
     ensures lengths { length front.new.items ≡ length front.old.items + low }
-    ensures capacity { deque_capacity front.new ≡ deque_capacity front.old }
+    ensures capacity { front.new.capacity ≡ front.old.capacity }
 {
     let from = level_for(&run);
     let to = landing(counts, from);
@@ -73,7 +71,7 @@ fn level_for<A: Allocator + Copy>(run: &SharedRun<A>) -> usize
 /// Puts a run in. A refusal, for want of memory, changes nothing. The front may have fewer items than it
 /// needs after that.
 pub(crate) fn absorb<A: Allocator + Copy>(
-    front: &mut VecDeque<Fetched, A>,
+    front: &mut Front<A>,
     pieces: &mut Vec<Piece<A>, A>,
     counts: &mut [usize],
     run: SharedRun<A>,
@@ -90,7 +88,7 @@ pub(crate) fn absorb<A: Allocator + Copy>(
         ≤ heap_room }
     requires reach { reach ≤ places }
     requires fits { length front.old.items ≤ places }
-    requires places { places ≤ deque_capacity front.old }
+    requires places { places ≤ front.old.capacity }
     requires slots { length pieces.old.items + length counts.old < vec_capacity pieces.old }
     ensures held { IsConsistent (length counts.old) front.new.items pieces.new.items counts.new }
     ensures blocks { OnOk result (blocks_below (length counts.old) (parts front.new.items pieces.new.items)
@@ -101,7 +99,7 @@ pub(crate) fn absorb<A: Allocator + Copy>(
         × (pieces.new.items ≡ pieces.old.items) × (counts.new ≡ counts.old)) }
     ensures few { length front.new.items ≤ places }
     ensures len { length counts.new ≡ length counts.old }
-    ensures capacity { deque_capacity front.new ≡ deque_capacity front.old }
+    ensures capacity { front.new.capacity ≡ front.old.capacity }
 {
     let low = make_room(front, pieces, counts.len(), run.as_slice(), reach, places)?;
     put(front, pieces, counts, run, low);

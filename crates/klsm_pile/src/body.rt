@@ -2,9 +2,9 @@
 ghost use Rattle.std.specs.Prelude.{◌≡◌, ◌+◌, ◌≤◌, ◌++◌, length, IfSome, IfNone, OnOk, IfErr, OnErr};
 ghost use Rattle.klsm_run.specs.Capacity.{heap_room};
 ghost use Rattle.klsm_run.specs.Content.{sorted, ShareNone};
-ghost use Rattle.klsm_pile.specs.Body.{body_items};
+ghost use Rattle.klsm_pile.specs.Body.{body_items, IsFirst};
 
-use klsm_run::HeapRun;
+use klsm_run::{HeapRun, Item};
 use klsm_union::{SharedRun, Spent, Union, UnionBlank, Work};
 use std::alloc::Allocator;
 
@@ -14,6 +14,18 @@ pub(crate) enum Body<A: Allocator + Copy> {
     One(SharedRun<A>),
     Two(Union<A>),
     Gone,
+}
+
+/// The least item of a body, if there is one.
+#[inline]
+pub(crate) fn first_item<A: Allocator + Copy>(body: &Body<A>) -> Option<Item>
+    ensures { IsFirst result (body_items body.now) }
+{
+    match body {
+        Body::One(run) => run.first(),
+        Body::Two(union) => union.first(),
+        Body::Gone => None,
+    }
 }
 
 /// The items of two runs as one run, if there is memory for it.

@@ -8,17 +8,16 @@ ghost use Rattle.klsm_pile.specs.Pieces.{at_level, every_item, blocks_below};
 ghost use Rattle.klsm_pile.specs.Counting.{AreCounts};
 ghost use Rattle.klsm_pile.specs.Front.{parts};
 
-use crate::fetched::Fetched;
+use crate::front::Front;
 use crate::piece::Piece;
 use crate::reading::append_block;
 use klsm_lsm::Lsm;
 use klsm_run::{FixedRun, HeapRun};
 use std::alloc::{AllocError, Allocator};
-use std::collections::VecDeque;
 
 /// All blocks, copied to an LSM in memory of `alloc`. No two of them become one there.
 pub(crate) fn copy_blocks<const LEVELS: usize, A: Allocator + Copy, B: Allocator + Copy>(
-    front: &VecDeque<Fetched, A>,
+    front: &Front<A>,
     pieces: &[Piece<A>],
     counts: &[usize],
     alloc: B,
@@ -49,7 +48,7 @@ pub(crate) fn copy_blocks<const LEVELS: usize, A: Allocator + Copy, B: Allocator
 
 // The items of a level, of which there are `count`, copied to a run.
 fn copy_block<A: Allocator + Copy, B: Allocator + Copy>(
-    front: &VecDeque<Fetched, A>,
+    front: &Front<A>,
     pieces: &[Piece<A>],
     level: usize,
     count: usize,

@@ -1,7 +1,6 @@
 //! How the least items leave.
 ghost use Rattle.std.specs.Prelude.{List, ◌≡◌, ◌≤◌, ◌<◌, length, take, drop, vec_capacity};
 ghost use Rattle.std.specs.List.{AllByRecursion};
-ghost use Rattle.std.specs.VecDeque.{deque_capacity};
 ghost use Rattle.klsm_run.specs.Capacity.{heap_room};
 ghost use Rattle.klsm_pile.specs.Piece.{PieceState};
 ghost use Rattle.klsm_pile.specs.Pieces.{every_item, blocks_below};
@@ -12,16 +11,16 @@ ghost use Rattle.klsm_pile.specs.Piles.{IsConsistent};
 
 use crate::counts::take_from;
 use crate::fetched::Fetched;
+use crate::front::Front;
 use crate::levels::settle;
 use crate::piece::Piece;
 use klsm_run::Item;
 use std::alloc::Allocator;
-use std::collections::VecDeque;
 
 /// Takes the first items of the front out, as many as there are places, and puts them there in their order. The front
 /// may have fewer items than it needs after that.
 pub(crate) fn take_first<A: Allocator + Copy>(
-    front: &mut VecDeque<Fetched, A>,
+    front: &mut Front<A>,
     pieces: &mut Vec<Piece<A>, A>,
     counts: &mut [usize],
     places: &mut [Item],
@@ -38,7 +37,7 @@ pub(crate) fn take_first<A: Allocator + Copy>(
         ≡ cut_least (length places.old)
         (blocks_below (length counts.old) (parts front.old.items pieces.old.items)) }
     ensures len { length counts.new ≡ length counts.old }
-    ensures capacity { (deque_capacity front.new ≡ deque_capacity front.old)
+    ensures capacity { (front.new.capacity ≡ front.old.capacity)
         × (vec_capacity pieces.new ≡ vec_capacity pieces.old) }
 {
     move_first(front, counts, places);
@@ -48,11 +47,7 @@ pub(crate) fn take_first<A: Allocator + Copy>(
 }
 
 // Moves the first items of the front to places, and takes each from the count of its level.
-fn move_first<A: Allocator + Copy>(
-    front: &mut VecDeque<Fetched, A>,
-    counts: &mut [usize],
-    places: &mut [Item],
-)
+fn move_first<A: Allocator + Copy>(front: &mut Front<A>, counts: &mut [usize], places: &mut [Item])
     requires counted { (ps : List PieceState) × AreCounts counts.old (parts front.old.items ps) }
     requires below { AllByRecursion (λ (p : PieceState). p.level < length counts.old)
         (singles front.old.items) }
@@ -62,12 +57,10 @@ fn move_first<A: Allocator + Copy>(
     ensures counted { (ps : List PieceState) → AreCounts counts.old (parts front.old.items ps)
         → AreCounts counts.new (parts front.new.items ps) }
     ensures len { length counts.new ≡ length counts.old }
-    ensures capacity { deque_capacity front.new ≡ deque_capacity front.old }
+    ensures capacity { front.new.capacity ≡ front.old.capacity }
 {
     for place in places.iter_mut() {
-        let Some(Fetched { item, level }) = front.pop_front() else {
-            unreachable!();
-        };
+        let Fetched { item, level } = front.remove_first();
         take_from(counts, level, 1);
         *place = item;
     }

@@ -1,7 +1,6 @@
 //! What a call does to the front, the pieces and the counts of a pile, whose invariant does not hold between two of these
 //! steps.
 ghost use Rattle.std.specs.Prelude.{List, ◌≡◌, ◌<◌, ◌≤◌, ◌^◌, ◌+◌, length, slice_get, slice_index_or, Some, vec_capacity};
-ghost use Rattle.std.specs.VecDeque.{deque_capacity};
 ghost use Rattle.klsm_run.specs.Capacity.{heap_room};
 ghost use Rattle.klsm_run.specs.Block.{HasLevel};
 ghost use Rattle.klsm_pile.specs.Piece.{PieceState};
@@ -14,14 +13,14 @@ ghost use Rattle.klsm_pile.specs.Settling.{regrouped_level, regrouped, relabelle
 
 use crate::counts::{gather, next_below, take_from};
 use crate::fetched::Fetched;
+use crate::front::{Front, level_within};
 use crate::piece::Piece;
 use klsm_run::{Item, level_of};
 use std::alloc::Allocator;
-use std::collections::VecDeque;
 
 /// The blocks of the levels from one to another are one block from now on, of one of these levels.
 pub(crate) fn regroup<A: Allocator + Copy>(
-    front: &mut VecDeque<Fetched, A>,
+    front: &mut Front<A>,
     pieces: &mut Vec<Piece<A>, A>,
     counts: &mut [usize],
     low: usize,
@@ -38,17 +37,17 @@ pub(crate) fn regroup<A: Allocator + Copy>(
     ensures counted { AreCounts counts.new (parts front.new.items pieces.new.items) }
     ensures same { IsRenumbered (length counts.old) front.old.items pieces.old.items front.new.items pieces.new.items }
     ensures len { length counts.new ≡ length counts.old }
-    ensures capacity { (deque_capacity front.new ≡ deque_capacity front.old)
+    ensures capacity { (front.new.capacity ≡ front.old.capacity)
         × (vec_capacity pieces.new ≡ vec_capacity pieces.old) }
 {
-    regroup_front(front, low, high, to);
+    front.relabel(low, high, to);
     regroup_pieces(pieces, low, high, to);
     gather(counts, low, high, to);
 }
 
 /// Takes the item of a rank out. The front may have less items than it needs after that.
 pub(crate) fn remove_at<A: Allocator + Copy>(
-    front: &mut VecDeque<Fetched, A>,
+    front: &mut Front<A>,
     pieces: &mut Vec<Piece<A>, A>,
     counts: &mut [usize],
     rank: usize,
@@ -63,12 +62,10 @@ pub(crate) fn remove_at<A: Allocator + Copy>(
     ensures one_less { (length front.new.items + 1 ≡ length front.old.items)
         × (every_item pieces.new.items ≡ every_item pieces.old.items) }
     ensures len { length counts.new ≡ length counts.old }
-    ensures capacity { (deque_capacity front.new ≡ deque_capacity front.old)
+    ensures capacity { (front.new.capacity ≡ front.old.capacity)
         × (vec_capacity pieces.new ≡ vec_capacity pieces.old) }
 {
-    let Some(Fetched { item, level }) = front.remove(rank) else {
-        unreachable!();
-    };
+    let Fetched { item, level } = front.remove(rank);
     take_from(counts, level, 1);
     settle(front, pieces, counts, level);
     item
@@ -77,7 +74,7 @@ pub(crate) fn remove_at<A: Allocator + Copy>(
 /// Settles the number of a block of which items have left: with the next block it becomes one if it has fallen to the
 /// level of that.
 pub(crate) fn settle<A: Allocator + Copy>(
-    front: &mut VecDeque<Fetched, A>,
+    front: &mut Front<A>,
     pieces: &mut Vec<Piece<A>, A>,
     counts: &mut [usize],
     level: usize,
@@ -92,7 +89,7 @@ pub(crate) fn settle<A: Allocator + Copy>(
     ensures counted { AreCounts counts.new (parts front.new.items pieces.new.items) }
     ensures same { IsRenumbered (length counts.old) front.old.items pieces.old.items front.new.items pieces.new.items }
     ensures len { length counts.new ≡ length counts.old }
-    ensures capacity { (deque_capacity front.new ≡ deque_capacity front.old)
+    ensures capacity { (front.new.capacity ≡ front.old.capacity)
         × (vec_capacity pieces.new ≡ vec_capacity pieces.old) }
 {
     let left = counts[level];
@@ -130,17 +127,6 @@ fn group_of(counts: &[usize], level: usize, left: usize, own: usize) -> (usize, 
     (next, level_of(left + counts[next]))
 }
 
-// What the items of the front become.
-fn regroup_front<A: Allocator>(front: &mut VecDeque<Fetched, A>, low: usize, high: usize, to: usize)
-    ensures items { front.new.items ≡ relabelled low high to front.old.items }
-    ensures capacity { deque_capacity front.new ≡ deque_capacity front.old }
-{
-    for index in 0..front.len() {
-        let level = level_within(front[index].level, low, high, to);
-        front[index].level = level;
-    }
-}
-
 // What the pieces become.
 fn regroup_pieces<A: Allocator + Copy>(
     pieces: &mut Vec<Piece<A>, A>,
@@ -154,17 +140,5 @@ fn regroup_pieces<A: Allocator + Copy>(
     for index in 0..pieces.len() {
         let level = level_within(pieces[index].level(), low, high, to);
         pieces[index].set_level(level);
-    }
-}
-
-// What becomes of a level.
-#[inline]
-fn level_within(level: usize, low: usize, high: usize, to: usize) -> usize
-    ensures { result ≡ regrouped_level low high to level }
-{
-    if level < low || high < level {
-        level
-    } else {
-        to
     }
 }

@@ -7,6 +7,7 @@ mod copying;
 mod counts;
 mod fetched;
 mod fetching;
+mod front;
 mod handing;
 mod leaving;
 mod levels;
@@ -25,5 +26,6 @@ mod spilling;
 mod uniting;
 
 pub use fetched::Fetched;
+pub use front::Front;
 pub use piece::Piece;
 pub use pile::Pile;

@@ -6,17 +6,16 @@ ghost use Rattle.klsm_pile.specs.Pieces.{every_item, blocks_below};
 ghost use Rattle.klsm_pile.specs.Counting.{AreCounts};
 ghost use Rattle.klsm_pile.specs.Front.{parts};
 
-use crate::fetched::Fetched;
+use crate::front::Front;
 use crate::piece::Piece;
 use crate::seeking::item_of_level;
 use klsm_run::Item;
 use std::alloc::Allocator;
-use std::collections::VecDeque;
 
 /// Item `index`, counted block after block, the greatest level first. It is searched for by one pass for each item of
 /// its block up to it.
 pub(crate) fn item_listed<A: Allocator + Copy>(
-    front: &VecDeque<Fetched, A>,
+    front: &Front<A>,
     pieces: &[Piece<A>],
     counts: &[usize],
     index: usize,

@@ -1,6 +1,5 @@
 //! How the front gets room for the first items of a run.
 ghost use Rattle.std.specs.Prelude.{ℕ, List, ◌≡◌, ◌+◌, ◌≤◌, length, IfOk, OnErr, vec_capacity};
-ghost use Rattle.std.specs.VecDeque.{deque_capacity};
 ghost use Rattle.klsm_run.specs.Capacity.{heap_room};
 ghost use Rattle.klsm_run.specs.Content.{IsAscending, ShareNone};
 ghost use Rattle.klsm_pile.specs.Piece.{PieceState};
@@ -9,18 +8,17 @@ ghost use Rattle.klsm_pile.specs.Absorbing.{AreLow};
 ghost use Rattle.klsm_pile.specs.Front.{parts, front_items, IsFront};
 ghost use Rattle.klsm_pile.specs.Piles.{IsConsistent};
 
-use crate::fetched::Fetched;
 use crate::fetching::count_under;
+use crate::front::Front;
 use crate::piece::Piece;
 use crate::spilling::spill;
 use klsm_run::Item;
 use std::alloc::{AllocError, Allocator};
-use std::collections::VecDeque;
 
 /// The front gets room for the items of a run that go there, within `places`. It answers how many these are. If memory
 /// is refused, nothing has changed.
 pub(crate) fn make_room<A: Allocator + Copy>(
-    front: &mut VecDeque<Fetched, A>,
+    front: &mut Front<A>,
     pieces: &mut Vec<Piece<A>, A>,
     levels: usize,
     items: &[Item],
@@ -42,7 +40,7 @@ pub(crate) fn make_room<A: Allocator + Copy>(
         × (pieces.new.items ≡ pieces.old.items)) }
     ensures fewer { length front.new.items ≤ length front.old.items }
     ensures slots { length pieces.new.items ≤ length pieces.old.items + levels }
-    ensures capacity { (deque_capacity front.new ≡ deque_capacity front.old)
+    ensures capacity { (front.new.capacity ≡ front.old.capacity)
         × (vec_capacity pieces.new ≡ vec_capacity pieces.old) }
     ensures low { IfOk result (λ low. AreLow low items.now front.new.items pieces.new.items
         × (length front.new.items + low ≤ places)) }
@@ -62,15 +60,16 @@ pub(crate) fn make_room<A: Allocator + Copy>(
 }
 
 /// How many of the first items of a run go to the front: those below its last item.
-pub(crate) fn count_low<A: Allocator + Copy>(front: &VecDeque<Fetched, A>, items: &[Item]) -> usize
+pub(crate) fn count_low<A: Allocator + Copy>(front: &Front<A>, items: &[Item]) -> usize
     requires ascending { IsAscending items.now }
     requires apart { ShareNone (front_items front.now.items) items.now }
     ensures low { (ps : List PieceState) → IsFront front.now.items ps
         → AreLow result items.now front.now.items ps }
     ensures none { length front.now.items ≡ 0 → result ≡ 0 }
 {
-    match front.back() {
-        Some(last) => count_under(items, Some(last.item), items.len()),
-        None => 0,
+    let len = front.len();
+    if len == 0 {
+        return 0;
     }
+    count_under(items, Some(front.at(len - 1).item), items.len())
 }

@@ -4,7 +4,7 @@ ghost use Rattle.klsm_run.specs.Capacity.{heap_room};
 ghost use Rattle.klsm_run.specs.Content.{sorted, IsAscending, ShareNone};
 ghost use Rattle.klsm_union.specs.Heads.{IsHead};
 
-use crate::body::{Body, collected, halved, merged, united};
+use crate::body::{Body, collected, first_item, halved, merged, united};
 use klsm_run::Item;
 use klsm_union::{SharedRun, Spent, UnionBlank, Work};
 use std::alloc::Allocator;
@@ -16,15 +16,19 @@ use std::mem;
 pub struct Piece<A: Allocator + Copy> {
     body: Body<A>,
     level: usize,
+    // The least item lies here as well, so that to compare two pieces reads no run.
+    first: Option<Item>,
 }
 
 impl<A: Allocator + Copy> Model for Piece<A> {
-    ghost use Rattle.klsm_pile.specs.Body.{body_items};
+    ghost use Rattle.klsm_pile.specs.Body.{body_items, IsFirst};
     ghost use Rattle.klsm_pile.specs.Piece.{PieceState};
 
     ghost Value = { PieceState };
 
     ghost view = { λ piece. record { items = body_items piece.body; level = piece.level } };
+
+    ghost invariant = { λ piece. IsFirst piece.first (body_items piece.body) };
 }
 
 impl<A: Allocator + Copy> Piece<A> {
@@ -33,10 +37,9 @@ impl<A: Allocator + Copy> Piece<A> {
     pub(crate) fn new(run: SharedRun<A>, level: usize) -> Self
         ensures { result ≡ record { items = run; level = level } }
     {
-        Piece {
-            body: Body::One(run),
-            level,
-        }
+        let body = Body::One(run);
+        let first = first_item(&body);
+        Piece { body, level, first }
     }
 
     /// The level of its block.
@@ -79,11 +82,7 @@ impl<A: Allocator + Copy> Piece<A> {
         ensures first { result ≡ slice_get self.now.items 0 }
         ensures ascending { IsAscending self.now.items }
     {
-        match &self.body {
-            Body::One(run) => run.first(),
-            Body::Two(union) => union.first(),
-            Body::Gone => None,
-        }
+        self.first
     }
 
     /// The run that begins with the least item, and the first item of the other one, if there are two. As far as the
@@ -123,6 +122,7 @@ impl<A: Allocator + Copy> Piece<A> {
             Body::Two(union) => union.remove_first(count),
             Body::Gone => {}
         }
+        self.first = first_item(&self.body);
     }
 
     /// The items of two pieces of one run each as one run and one piece of this one's level, if there is memory for it.
@@ -153,12 +153,13 @@ impl<A: Allocator + Copy> Piece<A> {
         ensures same { OnErr result (self.new ≡ self.old) }
         ensures back { IfErr result (λ back. back ≡ other) }
     {
-        let Piece { body, level } = other;
+        let Piece { body, level, first } = other;
         let (both, work) = united(mem::replace(&mut self.body, Body::Gone), body, blank);
         self.body = both;
+        self.first = first_item(&self.body);
         match work {
             Ok(work) => Ok(work),
-            Err(body) => Err(Piece { body, level }),
+            Err(body) => Err(Piece { body, level, first }),
         }
     }
 
@@ -191,6 +192,7 @@ impl<A: Allocator + Copy> Piece<A> {
     {
         let (body, run) = halved(mem::replace(&mut self.body, Body::Gone));
         self.body = body;
+        self.first = first_item(&self.body);
         Some(Piece::new(run?, self.level))
     }
 }

@@ -1,6 +1,5 @@
 //! Piles.
 ghost use Rattle.std.specs.Prelude.{◌≡◌, ◌+◌, ◌<◌, ◌≤◌, ◌++◌, [], length, take, drop, slice_get, slice_index_or, Some, IsOk, IfOk, OnOk, OnErr, vec_len, vec_capacity};
-ghost use Rattle.std.specs.VecDeque.{deque_capacity};
 ghost use Rattle.klsm_run.specs.Capacity.{heap_room};
 ghost use Rattle.klsm_run.specs.declared.limits.TheConstants.{MOST_K};
 ghost use Rattle.klsm_run.specs.Content.{sorted, ShareNone};
@@ -14,7 +13,7 @@ ghost use Rattle.klsm_pile.specs.Piles.{PileState, IsPile, IsItemCut, batch_of, 
 
 use crate::absorbing::absorb;
 use crate::copying::copy_blocks;
-use crate::fetched::Fetched;
+use crate::front::Front;
 use crate::handing::{collect, hand_out};
 use crate::leaving::take_first;
 use crate::levels::remove_at;
@@ -30,7 +29,6 @@ use klsm_lsm::Lsm;
 use klsm_run::{HeapRun, Item, MOST_SHARED};
 use klsm_union::{SharedRun, Spent, UnionBlank, Work};
 use std::alloc::{AllocError, Allocator};
-use std::collections::VecDeque;
 use std::fmt;
 use std::marker::Model;
 
@@ -44,7 +42,7 @@ const BATCH: usize = 64;
 #[derive(Drop)]
 pub struct Pile<const LEVELS: usize, A: Allocator + Copy> {
     // The least items in their order: `reach` at least, or all.
-    front: VecDeque<Fetched, A>,
+    front: Front<A>,
     pieces: Vec<Piece<A>, A>,
     // How many items each level has.
     counts: ArrayVec<usize, LEVELS>,
@@ -61,7 +59,7 @@ impl<const LEVELS: usize, A: Allocator + Copy> Model for Pile<LEVELS, A> {
     } };
 
     ghost invariant = { λ pile. IsPile LEVELS pile.reach pile.len pile.front.items pile.pieces.items
-        pile.counts.items (deque_capacity pile.front) };
+        pile.counts.items (pile.front.capacity) };
 }
 
 impl<const LEVELS: usize, A: Allocator + Copy> Pile<LEVELS, A> {
@@ -73,7 +71,7 @@ impl<const LEVELS: usize, A: Allocator + Copy> Pile<LEVELS, A> {
         ensures { result ≡ record { blocks = []; reach = reach } }
     {
         Pile {
-            front: VecDeque::new(alloc),
+            front: Front::new(alloc),
             pieces: Vec::new(alloc),
             counts: ArrayVec::from_array_in((), [0; LEVELS]),
             len: 0,
@@ -116,7 +114,7 @@ impl<const LEVELS: usize, A: Allocator + Copy> Pile<LEVELS, A> {
         requires there { rank < length (content self.now.blocks) }
         ensures { slice_get (sorted (content self.now.blocks)) rank ≡ Some result }
     {
-        self.front[rank].item
+        self.front.at(rank).item
     }
 
     /// The least item, if there is one.
@@ -127,7 +125,7 @@ impl<const LEVELS: usize, A: Allocator + Copy> Pile<LEVELS, A> {
         if self.front.len() == 0 {
             return None;
         }
-        Some(self.front[0].item)
+        Some(self.front.at(0).item)
     }
 
     /// Appends the items to a list, block after block. It takes no memory if the list has room.

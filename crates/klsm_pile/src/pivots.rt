@@ -6,9 +6,8 @@ ghost use Rattle.klsm_pile.specs.Pieces.{at_level, blocks_below};
 ghost use Rattle.klsm_pile.specs.Counting.{AreCounts};
 ghost use Rattle.klsm_pile.specs.Front.{singles};
 
-use crate::fetched::Fetched;
+use crate::front::Front;
 use std::alloc::Allocator;
-use std::collections::VecDeque;
 
 /// The number of blocks: how many levels have items.
 pub(crate) fn count_blocks(counts: &[usize]) -> usize
@@ -47,16 +46,12 @@ pub(crate) fn level_of_block(counts: &[usize], index: usize) -> usize
 }
 
 /// How many of the first items of the front are of a level.
-pub(crate) fn count_first<A: Allocator + Copy>(
-    front: &VecDeque<Fetched, A>,
-    level: usize,
-    most: usize,
-) -> usize
+pub(crate) fn count_first<A: Allocator + Copy>(front: &Front<A>, level: usize, most: usize) -> usize
     ensures { result ≡ length (at_level level (singles (take most front.now.items))) }
 {
     let mut count = 0;
     for index in 0..most.min(front.len()) {
-        if front[index].level == level {
+        if front.at(index).level == level {
             count += 1;
         }
     }

@@ -1,16 +1,15 @@
 //! How the blocks of a pile are printed.
 
-use crate::fetched::Fetched;
+use crate::front::Front;
 use crate::piece::Piece;
 use crate::seeking::next_of_level;
 use std::alloc::Allocator;
-use std::collections::VecDeque;
 use std::fmt;
 
 /// Prints the list of the blocks, the greatest level first, each as the list of its items. It takes no memory: each
 /// item is searched for, by one pass.
 pub(crate) fn print_blocks<A: Allocator + Copy, W: fmt::Write>(
-    front: &VecDeque<Fetched, A>,
+    front: &Front<A>,
     pieces: &[Piece<A>],
     counts: &[usize],
     f: &mut fmt::Formatter<W>,
@@ -33,7 +32,7 @@ pub(crate) fn print_blocks<A: Allocator + Copy, W: fmt::Write>(
 // The items of a level, lent to be printed.
 #[derive(Drop)]
 struct Block<'a, A: Allocator + Copy> {
-    front: &'a VecDeque<Fetched, A>,
+    front: &'a Front<A>,
     pieces: &'a [Piece<A>],
     level: usize,
 }

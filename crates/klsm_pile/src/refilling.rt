@@ -1,22 +1,20 @@
 //! How the front comes to have as many items as it needs.
 ghost use Rattle.std.specs.Prelude.{ℕ, Bool, List, ◌≡◌, ◌⊎◌, ◌<◌, ◌≤◌, [], length, max, vec_capacity};
 ghost use Rattle.std.specs.List.{AllByRecursion, remove};
-ghost use Rattle.std.specs.VecDeque.{deque_capacity};
 ghost use Rattle.klsm_pile.specs.Piece.{PieceState};
 ghost use Rattle.klsm_pile.specs.Pieces.{items_where, every_item, blocks_below, HaveSame};
 ghost use Rattle.klsm_pile.specs.Front.{parts};
 ghost use Rattle.klsm_pile.specs.Piles.{IsConsistent};
 
-use crate::fetched::Fetched;
 use crate::fetching::fill;
+use crate::front::Front;
 use crate::piece::Piece;
 use std::alloc::Allocator;
-use std::collections::VecDeque;
 
 /// If the front has fewer items than it needs, it gets `most`, or all. No piece is empty then.
 #[inline]
 pub(crate) fn refill<A: Allocator + Copy>(
-    front: &mut VecDeque<Fetched, A>,
+    front: &mut Front<A>,
     pieces: &mut Vec<Piece<A>, A>,
     needed: usize,
     most: usize,
@@ -24,7 +22,7 @@ pub(crate) fn refill<A: Allocator + Copy>(
     requires held { (levels : ℕ) × (counts : List ℕ)
         × IsConsistent levels front.old.items pieces.old.items counts }
     requires order { needed ≤ most }
-    requires room { most ≤ deque_capacity front.old }
+    requires room { most ≤ front.old.capacity }
     ensures held { (levels : ℕ) (counts : List ℕ)
         → IsConsistent levels front.old.items pieces.old.items counts
         → IsConsistent levels front.new.items pieces.new.items counts }
@@ -32,7 +30,7 @@ pub(crate) fn refill<A: Allocator + Copy>(
         (parts front.old.items pieces.old.items) }
     ensures enough { (needed ≤ length front.new.items) ⊎ (every_item pieces.new.items ≡ []) }
     ensures few { length front.new.items ≤ max most (length front.old.items) }
-    ensures capacity { deque_capacity front.new ≡ deque_capacity front.old }
+    ensures capacity { front.new.capacity ≡ front.old.capacity }
 {
     if front.len() < needed {
         fill(front, pieces, most);

@@ -1,27 +1,25 @@
 //! The places that a pile needs before a run is put in.
 ghost use Rattle.std.specs.Prelude.{◌≡◌, ◌+◌, ◌<◌, ◌≤◌, ℕ, length, OnOk, vec_capacity};
 ghost use Rattle.std.specs.List.{AllByRecursion};
-ghost use Rattle.std.specs.VecDeque.{deque_capacity};
 ghost use Rattle.klsm_run.specs.Capacity.{heap_room};
 ghost use Rattle.klsm_run.specs.Content.{sorted, IsAscending};
 ghost use Rattle.klsm_run.specs.declared.limits.TheConstants.{MOST_LEVELS};
 ghost use Rattle.klsm_pile.specs.Piece.{PieceState};
 ghost use Rattle.klsm_pile.specs.Pieces.{every_item, HaveSame};
 
-use crate::fetched::Fetched;
+use crate::front::Front;
 use crate::piece::Piece;
 use crate::uniting::unite_any;
 use std::alloc::{AllocError, Allocator};
-use std::collections::VecDeque;
 
-// With as many pieces two of a block become one before a run is put in. Each piece costs a comparison where items are
-// fetched to the front.
+// With as many pieces two of a block become one before a run is put in. The more there are, the further one sinks that has
+// lost items to the front.
 const PIECES: usize = 64;
 
 /// Sees to so many places in the front, and in the list of the pieces to one for a run and one for each level, into which
 /// the front may have to spill. A refusal, for want of memory, leaves the blocks as they were.
 pub(crate) fn reserve<A: Allocator + Copy>(
-    front: &mut VecDeque<Fetched, A>,
+    front: &mut Front<A>,
     pieces: &mut Vec<Piece<A>, A>,
     levels: usize,
     places: usize,
@@ -31,14 +29,14 @@ pub(crate) fn reserve<A: Allocator + Copy>(
     requires levels { levels ≤ MOST_LEVELS }
     requires places { length front.old.items ≤ places }
     ensures front { front.new.items ≡ front.old.items }
-    ensures room { OnOk result (places ≤ deque_capacity front.new) }
-    ensures capacity { deque_capacity front.old ≤ deque_capacity front.new }
+    ensures room { OnOk result (places ≤ front.new.capacity) }
+    ensures capacity { front.old.capacity ≤ front.new.capacity }
     ensures slots { OnOk result (length pieces.new.items + levels < vec_capacity pieces.new) }
     ensures same { HaveSame pieces.new.items pieces.old.items }
     ensures below { (n : ℕ) → AllByRecursion (λ (p : PieceState). p.level < n) pieces.old.items
         → AllByRecursion (λ (p : PieceState). p.level < n) pieces.new.items }
 {
-    front.reserve_exact(places - front.len())?;
+    front.reserve(places)?;
     reserve_slots(pieces, levels)
 }
 

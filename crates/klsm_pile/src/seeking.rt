@@ -5,16 +5,15 @@ ghost use Rattle.klsm_pile.specs.Pieces.{at_level, every_item};
 ghost use Rattle.klsm_pile.specs.Front.{singles, parts};
 ghost use Rattle.klsm_pile.specs.Seeking.{is_over, least_over};
 
-use crate::fetched::Fetched;
 use crate::fetching::lesser;
+use crate::front::Front;
 use crate::piece::Piece;
 use klsm_run::Item;
 use std::alloc::Allocator;
-use std::collections::VecDeque;
 
 /// Item `rank` of a level, counted from its least. It is searched for by one pass for each rank up to that one.
 pub(crate) fn item_of_level<A: Allocator + Copy>(
-    front: &VecDeque<Fetched, A>,
+    front: &Front<A>,
     pieces: &[Piece<A>],
     level: usize,
     rank: usize,
@@ -37,7 +36,7 @@ pub(crate) fn item_of_level<A: Allocator + Copy>(
 
 /// The least item of a level that is larger than another one, if there is one.
 pub(crate) fn next_of_level<A: Allocator + Copy>(
-    front: &VecDeque<Fetched, A>,
+    front: &Front<A>,
     pieces: &[Piece<A>],
     level: usize,
     bound: Option<Item>,
@@ -52,8 +51,8 @@ pub(crate) fn next_of_level<A: Allocator + Copy>(
 }
 
 // The least of those that lie in the front.
-fn next_of_front<A: Allocator>(
-    front: &VecDeque<Fetched, A>,
+fn next_of_front<A: Allocator + Copy>(
+    front: &Front<A>,
     level: usize,
     bound: Option<Item>,
 ) -> Option<Item>
@@ -61,7 +60,7 @@ fn next_of_front<A: Allocator>(
 {
     let mut found = None;
     for at in 0..front.len() {
-        let fetched = front[at];
+        let fetched = front.at(at);
         if fetched.level == level && is_above(&fetched.item, bound) {
             found = Some(lesser(found, fetched.item));
         }

@@ -1,6 +1,5 @@
 //! How the last items of the front become pieces.
 ghost use Rattle.std.specs.Prelude.{ℕ, List, ◌≡◌, ◌+◌, ◌<◌, ◌≤◌, ◌++◌, length, take, drop, is_ok, if◌then◌else◌, IfOk, OnOk, OnErr, vec_capacity};
-ghost use Rattle.std.specs.VecDeque.{deque_capacity};
 ghost use Rattle.klsm_run.specs.Capacity.{heap_room};
 ghost use Rattle.klsm_run.specs.Content.{IsAscending};
 ghost use Rattle.klsm_pile.specs.Pieces.{at_level, every_item, HaveSame};
@@ -8,17 +7,16 @@ ghost use Rattle.klsm_pile.specs.Front.{singles, parts, front_items};
 ghost use Rattle.klsm_pile.specs.Piles.{IsConsistent};
 ghost use Rattle.klsm_pile.specs.Spilling.{piece_of};
 
-use crate::fetched::Fetched;
+use crate::front::Front;
 use crate::piece::Piece;
 use klsm_run::{FixedRun, HeapRun};
 use klsm_union::SharedRun;
 use std::alloc::{AllocError, Allocator};
-use std::collections::VecDeque;
 
 /// The items of the front behind the first `keep` become pieces, one for each level. If memory is refused, nothing has
 /// changed.
 pub(crate) fn spill<A: Allocator + Copy>(
-    front: &mut VecDeque<Fetched, A>,
+    front: &mut Front<A>,
     pieces: &mut Vec<Piece<A>, A>,
     levels: usize,
     keep: usize,
@@ -36,7 +34,7 @@ pub(crate) fn spill<A: Allocator + Copy>(
         × (pieces.new.items ≡ pieces.old.items)) }
     ensures fewer { length front.new.items ≤ length front.old.items }
     ensures slots { length pieces.new.items ≤ length pieces.old.items + levels }
-    ensures capacity { (deque_capacity front.new ≡ deque_capacity front.old)
+    ensures capacity { (front.new.capacity ≡ front.old.capacity)
         × (vec_capacity pieces.new ≡ vec_capacity pieces.old) }
 {
     let before = pieces.len();
@@ -52,7 +50,7 @@ pub(crate) fn spill<A: Allocator + Copy>(
 
 // The items of one level behind the first `keep` of the front become a piece. If there are none, no piece comes.
 fn copy_level<A: Allocator + Copy>(
-    front: &VecDeque<Fetched, A>,
+    front: &Front<A>,
     pieces: &mut Vec<Piece<A>, A>,
     level: usize,
     keep: usize,
@@ -79,13 +77,13 @@ fn copy_level<A: Allocator + Copy>(
 }
 
 // How many items of one level are behind the first `keep` of the front.
-fn count_level<A: Allocator>(front: &VecDeque<Fetched, A>, level: usize, keep: usize) -> usize
+fn count_level<A: Allocator + Copy>(front: &Front<A>, level: usize, keep: usize) -> usize
     requires { length front.now.items ≤ heap_room }
     ensures { result ≡ length (at_level level (singles (drop keep front.now.items))) }
 {
     let mut count = 0;
     for index in keep..front.len() {
-        if front[index].level == level {
+        if front.at(index).level == level {
             count += 1;
         }
     }
@@ -95,7 +93,7 @@ fn count_level<A: Allocator>(front: &VecDeque<Fetched, A>, level: usize, keep: u
 // These items, of which there are `count`, as a run.
 fn run_of_level<A: Allocator + Copy>(
     alloc: A,
-    front: &VecDeque<Fetched, A>,
+    front: &Front<A>,
     level: usize,
     keep: usize,
     count: usize,
@@ -111,7 +109,7 @@ fn run_of_level<A: Allocator + Copy>(
         return Err(AllocError);
     };
     for index in keep..front.len() {
-        let fetched = front[index];
+        let fetched = front.at(index);
         if fetched.level == level {
             run.unite_items(&[fetched.item]);
         }

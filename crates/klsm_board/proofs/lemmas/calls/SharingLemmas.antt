@@ -1,5 +1,5 @@
 -- A sharing of all own items, from what its two acquires found.
-use Rattle.std.proofs.Common.{◌≡◌, ℕ, ◌<◌, ◌≤◌, ◌↔◌, List, [], ◌∷◌, ◌++◌, length, sym, ap, ◌∙◌, subst, arith, refl, inl, inr, Result, Ok, Err, IfOk, IfErr}
+use Rattle.std.proofs.Common.{◌≡◌, ℕ, ◌<◌, ◌≤◌, ◌↔◌, List, [], ◌∷◌, ◌++◌, length, sym, ap, ◌∙◌, subst, arith, refl, inl, inr, Option, IfSome, Result, Ok, Err, IfOk, IfErr}
 use Rattle.atomic_table.specs.Table.{Me}
 use Rattle.klsm_run.specs.declared.item.Item.{Item}
 use Rattle.klsm_parts.specs.declared.LsmError.{LsmError}
@@ -56,38 +56,42 @@ none_shared t own es counted_es es' count none counted acquired_is steps = recor
 }
 
 module _ {S : Type 0} (content : S → List Item) (suits : ℕ → ℕ → S → Type 0) (m : Sizes) (t : ℕ) where
-  -- the seat has both parts, of which the own one has so many items
-  pub record Both (count : ℕ) (es : List Entry) (me : Me S View) : Type 0 where
+  -- the seat has both parts, of which the own one has so many items, and a copy, if any, is of these
+  pub record Both (count : ℕ) (copy : Option (List Item)) (es : List Entry) (me : Me S View) : Type 0 where
     pub own : List Item
     pub shared : List Item
     pub has : Has content suits m t (both_in_hand t own shared) me
     pub some : 0 < count
     pub counted : count ≡ length own
+    pub copied : IfSome copy (λ run. run ≡ own)
     pub list : mine me.0 ≡ both_acquired t own shared es
 
-  -- by one try each: what came of the first, how many items the own part has, what came of the second
-  pub both_now : (count : ℕ) (me own_acquired_me kept both : Me S View) → (count ≡ 0 → ⊥) → Stands content suits m t [] me
+  -- by one try each: what came of the first, how many items the own part has, the copy of them, what came of the second
+  pub both_now : (count : ℕ) (copy : Option (List Item)) (me own_acquired_me kept prepared both : Me S View) → (count ≡ 0 → ⊥) → Stands content suits m t [] me
       → ((hand : Hand) → Stands content suits m t hand me → (found : List Item) × Has content suits m t ((own_part t, found) ∷ hand) own_acquired_me × (mine own_acquired_me.0 ≡ mine me.0 ++ Acquired (own_part t) found ∷ []))
       → ((own : List Item) → Has content suits m t (own_in_hand t own) own_acquired_me → (count ≡ length own) × Has content suits m t (own_in_hand t own) kept × (mine kept.0 ≡ mine own_acquired_me.0))
-      → ((hand : Hand) → Stands content suits m t hand kept → (found : List Item) × Has content suits m t ((shared_part, found) ∷ hand) both × (mine both.0 ≡ mine kept.0 ++ Acquired shared_part found ∷ []))
-      → Both count (mine me.0) both
-  both_now count me own_acquired_me kept both some at_rest first counted second =
+      → ((own : List Item) → Has content suits m t (own_in_hand t own) kept → IfSome copy (λ run. run ≡ own) × Has content suits m t (own_in_hand t own) prepared × (mine prepared.0 ≡ mine kept.0))
+      → ((hand : Hand) → Stands content suits m t hand prepared → (found : List Item) × Has content suits m t ((shared_part, found) ∷ hand) both × (mine both.0 ≡ mine prepared.0 ++ Acquired shared_part found ∷ []))
+      → Both count copy (mine me.0) both
+  both_now count copy me own_acquired_me kept prepared both some at_rest first counted copied second =
       let own = first [] at_rest in
       let found = counted own.0 own.1 in
-      let shared = second (own_in_hand t own.0) (stands found.1) in
+      let still = copied own.0 found.1 in
+      let shared = second (own_in_hand t own.0) (stands still.1) in
       record {
         own = own.0;
         shared = shared.0;
         has = shared.1;
         some = omega (arith, some);
         counted = found.0;
-        list = shared.2 ∙ ap (λ z. z ++ Acquired shared_part shared.0 ∷ []) (found.2 ∙ own.2);
+        copied = still.0;
+        list = shared.2 ∙ ap (λ z. z ++ Acquired shared_part shared.0 ∷ []) (still.2 ∙ (found.2 ∙ own.2));
       }
 
-  module _ (count : ℕ) (es es' : List Entry) (me : Me S View) (k : Both count es me) where
+  module _ (count : ℕ) (copy : Option (List Item)) (es es' : List Entry) (me : Me S View) (k : Both count copy es me) where
     -- what is to be shared
-    pub has_some : (own : List Item) × (shared : List Item) × Has content suits m t (both_in_hand t own shared) me × (0 < length own)
-    has_some = (k.own, k.shared, k.has, omega (arith, k.some, k.counted))
+    pub has_some : (own : List Item) × (shared : List Item) × Has content suits m t (both_in_hand t own shared) me × (0 < length own) × IfSome copy (λ run. run ≡ own)
+    has_some = (k.own, k.shared, k.has, omega (arith, k.some, k.counted), k.copied)
 
     -- then all items moved
     pub all_shared : (levels : ℕ) → MayShare k.own k.own × HasRoomFor levels k.own k.shared × (es' ≡ mine me.0 ++ Committed (Share k.own) ∷ both_released t)

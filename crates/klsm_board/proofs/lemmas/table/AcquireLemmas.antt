@@ -1,13 +1,15 @@
--- A try to acquire a part keeps the rule.
+-- A try to acquire a part keeps the rule, and so does a look at its lock.
 use Rattle.std.proofs.Common.{◌≡◌, ◌≢◌, ℕ, ◌+◌, ◌-◌, ◌<◌, ◌≤◌, ◌==◌, List, [], ◌∷◌, ◌++◌, map, get_or, set, sym, refl, ap, ◌∙◌, subst, ⊎_elim, eq-eqb, ne_eqb, arith}
 use Rattle.std.specs.Prelude.{MatchBool, Some, None}
 use mathlib.Core.Option.{none, some, some-ne-none}
+use mathlib.Core.Logic.{dite}
+use native.Mathlib.Decide.{ℕ_discrete}
 use lib.ListN.{get_elem?}
 use lib.Seq.{set-get_or, map-set}
 use prog.Atomic.{either}
 use Rattle.std.proofs.lemmas.Option.{none-some}
 use Rattle.atomic_table.specs.Table.{State, Me, step, keeps, takes, Allows}
-use Rattle.atomic_table.proofs.Lists.{at_set, set_here, set_else, exchanged}
+use Rattle.atomic_table.proofs.Lists.{at_set, set_here, set_else, set_again, exchanged}
 use Rattle.klsm_run.specs.declared.item.Item.{Item}
 use Rattle.klsm_schedules.specs.declared.step.Entry.{Entry}
 use Rattle.klsm_schedules.specs.declared.step.Entry.TheVariants.{Acquired, Missed}
@@ -21,7 +23,7 @@ use Rattle.klsm_board.specs.declared.sizes.Sizes.{Sizes}
 use Rattle.klsm_board.specs.declared.rule.Own.{Own}
 use Rattle.klsm_board.specs.declared.rule.View.{View}
 use Rattle.klsm_board.specs.Rule.{place, lock_words, front_word, world_limits, content_at, board_world, Ruled}
-use Rattle.klsm_board.specs.Steps.{AreReached, HasHolder, on_part, gain, attempted}
+use Rattle.klsm_board.specs.Steps.{AreReached, HasHolder, on_part, gain, is_reached, missed, attempted, watched}
 use Rattle.klsm_board.proofs.lemmas.table.PlaceLemmas.{at_place, front_stays}
 use Rattle.klsm_board.proofs.lemmas.hands.WorkLemmas.{away_before_acquire, away_before_note, mark_more, marked_on}
 use Rattle.klsm_board.proofs.lemmas.table.KeepLemmas.{Goes, world, acting, home_back, keeps_rule, keeps_reached, reached_now, agrees, same_steps, inside, few_more, word_is, word_set, stays, marks_stay, marked_now}
@@ -37,6 +39,13 @@ module _ {S : Type 0} (content : S → List Item) (suits : ℕ → ℕ → S →
 
     abbrev Outcome : ℕ → Me S View → Type 0
     Outcome = on_part (attempted content suits m t) (step slots (place p) 0 (t + 1) none) me0
+
+    abbrev Seen : ℕ → Me S View → Type 0
+    Seen = on_part (watched m t) (step slots (place p) 0 0 none) me0
+
+    -- what a step tells by which a part is missed: where the word is 0, this holds of the part
+    abbrev Missing : (ℕ → Me S View → Type 0) → ℕ → Me S View → Type 0
+    Missing free n me' = (q : ℕ) → place q ≡ place p → MatchBool (n == 0) (free q me') (missed m t (step slots q 0 0 none) me0 n me') × is_reached m t me'
 
     -- the part is free, and comes to the seat
     wins : get_or s.words (place p) 0 ≡ 0 → Goes content suits m s id p cs Outcome (t + 1)
@@ -82,9 +91,23 @@ module _ {S : Type 0} (content : S → List Item) (suits : ℕ → ℕ → S →
           ),
         )
 
-    -- another thread holds it
-    loses : get_or s.words (place p) 0 ≢ 0 → Goes content suits m s id p cs Outcome (get_or s.words (place p) 0)
-    loses ne =
+    -- the part is free, and nothing changes
+    sees_free : get_or s.words (place p) 0 ≡ 0 → Goes content suits m s id p cs Seen (get_or s.words (place p) 0)
+    sees_free e =
+        let n : ℕ = get_or s.words (place p) 0 in (
+          me0.0,
+          keeps,
+          tt,
+          subst (λ (z : List ℕ × List View). Ruled content suits m (record { words = z.0; homes = s.homes; views = z.1 })) (λ i. (sym (set-get_or s.words (place p) 0) i, sym (set_again s.views id me0.0 at) i)) r,
+          at_place (λ q. watched m t (step slots q 0 0 none) me0 n me0) p (
+            subst (λ b'. MatchBool b' (me0 ≡ me0) (missed m t (step slots p 0 0 none) me0 n me0)) (sym (eq-eqb n 0 e)) refl,
+            (reached_now content suits m s r id t xs behind at lt).0,
+          ),
+        )
+
+    -- another thread holds it, whatever is told where it is free
+    loses : (free : ℕ → Me S View → Type 0) → get_or s.words (place p) 0 ≢ 0 → Goes content suits m s id p cs (Missing free) (get_or s.words (place p) 0)
+    loses free ne =
         let a = agrees content suits m s r id t xs behind at lt in
         let same = same_steps content suits m s r id t xs behind at lt in
         let n : ℕ = get_or s.words (place p) 0 in
@@ -118,18 +141,15 @@ module _ {S : Type 0} (content : S → List Item) (suits : ℕ → ℕ → S →
         let else : (u : ℕ) → u ≢ t → get_elem? ls u ≡ get_elem? r.lists u = (λ u d. set_else r.lists t u es d) in
         let few = few_more content suits m s r id t xs behind at lt (Missed p (n - 1)) refl in
         let reached : AreReached m t (acting content suits m t es behind) = keeps_reached content suits m s r id t xs es behind at lt ws s.homes ls ms led stands else few in
-        let now : Me S View = (acting content suits m t es behind, cs) in
-        let lost : Me S View = (gain me0.0 (Missed p (n - 1)), cs) in
-        let won : S → Me S View = (λ z. (gain me0.0 (Acquired p (content z)), (p, z) ∷ cs)) in (
+        let now : Me S View = (acting content suits m t es behind, cs) in (
           acting content suits m t es behind,
           keeps,
           tt,
           keeps_rule content suits m s r id t xs es behind at lt ws s.homes ls ms (stays content suits m s r id t xs behind at lt p n) led stands else r.suited few
               (marks_stay content suits m s r id t xs behind at lt p n es ls stands else (mark_more xs (Missed p (n - 1))))
               (λ gone. marked_on xs (Missed p (n - 1)) (λ _. refl) (λ _. refl) (marked_now content suits m s r id t xs behind at lt (away_before_note t (Missed p (n - 1)) xs (λ _. refl) gone))),
-          at_place (λ q. attempted content suits m t (step slots q 0 (t + 1) none) me0 n now) p (
-            subst (λ b'. MatchBool b' ((z : S) × suits m.k p z × (now ≡ won z)) ((now ≡ lost) × (n ≤ m.threads) × HasHolder m t me0.0 p (n - 1)))
-                (sym (ne_eqb n 0 ne)) (refl, small, holder),
+          at_place (λ q. MatchBool (n == 0) (free q now) (missed m t (step slots q 0 0 none) me0 n now) × is_reached m t now) p (
+            subst (λ b'. MatchBool b' (free p now) (missed m t (step slots p 0 0 none) me0 n now)) (sym (ne_eqb n 0 ne)) (refl, small, holder),
             reached,
           ),
         )
@@ -137,4 +157,11 @@ module _ {S : Type 0} (content : S → List Item) (suits : ℕ → ℕ → S →
   -- a try to acquire a part that is not in the thread's hand
   pub acquire_allows : (slots id p t : ℕ) (xs : List Entry) (behind : List Own) (cs : List (ℕ × S)) → t < m.threads → p ≤ m.threads → found_in (hand_of t xs) p ≡ None
       → Allows (Ruled content suits m) slots id (acting content suits m t xs behind, cs) (place p) (λ n. either (n == 0) (t + 1) n) (on_part (attempted content suits m t) (step slots (place p) 0 (t + 1) none) (acting content suits m t xs behind, cs))
-  acquire_allows slots id p t xs behind cs lt le away s r deep at small = exchanged (get_or s.words (place p) 0) 0 (t + 1) (Goes content suits m s id p cs (on_part (attempted content suits m t) (step slots (place p) 0 (t + 1) none) (acting content suits m t xs behind, cs))) (wins s r id t xs behind at lt slots p cs le away) (loses s r id t xs behind at lt slots p cs le away)
+  acquire_allows slots id p t xs behind cs lt le away s r deep at small = exchanged (get_or s.words (place p) 0) 0 (t + 1) (Goes content suits m s id p cs (on_part (attempted content suits m t) (step slots (place p) 0 (t + 1) none) (acting content suits m t xs behind, cs))) (wins s r id t xs behind at lt slots p cs le away)
+      (loses s r id t xs behind at lt slots p cs le away (λ q me'. (y : S) × suits m.k q y × (me' ≡ (gain (acting content suits m t xs behind) (Acquired q (content y)), (q, y) ∷ cs))))
+
+  -- a look at the lock of such a part
+  pub watch_allows : (slots id p t : ℕ) (xs : List Entry) (behind : List Own) (cs : List (ℕ × S)) → t < m.threads → p ≤ m.threads → found_in (hand_of t xs) p ≡ None
+      → Allows (Ruled content suits m) slots id (acting content suits m t xs behind, cs) (place p) (λ n. n) (on_part (watched m t) (step slots (place p) 0 0 none) (acting content suits m t xs behind, cs))
+  watch_allows slots id p t xs behind cs lt le away s r deep at small = dite (ℕ_discrete (get_or s.words (place p) 0) 0) (sees_free s r id t xs behind at lt slots p cs le away)
+      (loses s r id t xs behind at lt slots p cs le away (λ q me'. me' ≡ (acting content suits m t xs behind, cs)))

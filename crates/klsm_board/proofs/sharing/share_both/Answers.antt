@@ -18,7 +18,7 @@ share_in-requires g c =
     record {
       sized = c.requires.sized;
       seat = c.requires.seat;
-      carries = (k.0, k.1, k.2.carries, apart_in_hand content suits m t (both_in_hand t k.0 k.1) c.args.seat.now.me (t + 1) 0 k.0 k.1 k.2 (not_shared t) (own_in_both t k.0 k.1) (shared_in_both t k.0 k.1), k.3);
+      carries = (k.0, k.1, k.2.carries, apart_in_hand content suits m t (both_in_hand t k.0 k.1) c.args.seat.now.me (t + 1) 0 k.0 k.1 k.2 (not_shared t) (own_in_both t k.0 k.1) (shared_in_both t k.0 k.1), k.3, k.4);
     }
 
 pub commit_sharing-requires-clause-out : goal.commit_sharing-requires-clause-out

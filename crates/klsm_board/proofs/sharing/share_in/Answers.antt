@@ -1,4 +1,4 @@
-use Rattle.std.proofs.Common.{◌<◌, ◌∙◌, List, length, ap, refl, subst, sym}
+use Rattle.std.proofs.Common.{◌≡◌, ◌<◌, ◌∙◌, IfSome, List, length, ap, refl, subst, sym}
 use Rattle.klsm_run.specs.declared.item.Item.{Item}
 use Rattle.klsm_run.specs.Content.{ShareNone}
 use Rattle.klsm_parts.specs.Events.{front_of}
@@ -27,6 +27,7 @@ share-answer-requires g c =
       parts = (m.k, t, own.1, lent.2);
       apart = subst (λ (z : List Item × List Item). ShareNone z.0 z.1) (λ i. (sym own.0 i, sym lent.1 i)) k.3;
       some = subst (λ (z : List Item). 0 < length z) (sym own.0) k.4;
+      copy = subst (λ (z : List Item). IfSome c.args.copy (λ run. run ≡ z)) (sym own.0) k.5;
     }
 
 -- what is lent changes, and the part in hand with it

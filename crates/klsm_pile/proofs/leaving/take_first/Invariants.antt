@@ -1,5 +1,4 @@
 use Rattle.std.proofs.Common.{◌≡◌, length, vec_capacity}
-use Rattle.std.specs.VecDeque.{deque_capacity}
 use Rattle.klsm_pile.specs.Counting.{AreCounts}
 use Rattle.klsm_pile.specs.Front.{parts}
 use Rattle.klsm_pile.proofs.LeavingLemmas.{IsGoing}
@@ -9,5 +8,5 @@ abbrev pub invariant-loop-level : goal.invariant-loop-level
 invariant-loop-level g l = record {
   going : IsGoing (length l.fn.counts) (length l.fn.places) l.level l.fn.front.items l.front.items l.fn.pieces.items l.pieces.items;
   counted : AreCounts l.counts (parts l.front.items l.pieces.items);
-  capacity : (deque_capacity l.front ≡ deque_capacity l.fn.front) × (vec_capacity l.pieces ≡ vec_capacity l.fn.pieces);
+  capacity : (l.front.capacity ≡ l.fn.front.capacity) × (vec_capacity l.pieces ≡ vec_capacity l.fn.pieces);
 }

@@ -1,8 +1,11 @@
-use Rattle.std.proofs.Common.{arith, refl}
-use Rattle.klsm_pile.proofs.LowLemmas.{low_under}
+use Rattle.std.proofs.Common.{arith}
+use Rattle.klsm_pile.proofs.LowLemmas.{low_under, low_none}
 use Rattle.klsm_pile.proofs.making_room.count_low.Goals as goal
 
-pub returns-in-Some-clause-low : goal.returns-in-Some-clause-low
-returns-in-Some-clause-low g c ps ordered =
-    low_under c.args.front.now.items c.in-Some.last.now c.args.items.now c.count_under.result _ ps c.args.front.now.ok.0 (c.in-Some.ensures.variant.0 refl) c.in-Some.ensures.lookup c.requires.ascending c.requires.apart
+pub returns-then-len-eq0-clause-low : goal.returns-then-len-eq0-clause-low
+returns-then-len-eq0-clause-low g c ps ordered = low_none c.args.front.now.items c.args.items.now ps (omega (arith, c.len-len.ensures, c.if-len-eq0.true))
+
+pub returns-clause-low : goal.returns-clause-low
+returns-clause-low g c ps ordered =
+    low_under c.args.front.now.items c.at.result c.args.items.now c.count_under.result _ ps c.len-len.ensures (omega (arith, c.if-len-eq0.false)) c.at.ensures c.requires.ascending c.requires.apart
     (omega (arith, c.count_under.ensures.within)) c.count_under.ensures.under c.count_under.ensures.stops ordered

@@ -11,7 +11,7 @@ count_low-low-requires-clause-apart g c = front_apart c.args.front.now.items c.a
 pub returns-then-low-places-clause-low : goal.returns-then-low-places-clause-low
 returns-then-low-places-clause-low g c = (
   c.count_low-low.ensures.low _ c.requires.held.1.ordered,
-  omega (arith, c.if-low-places.true, c.len.ensures, c.args.front.now.ok.0, c.requires.fits),
+  omega (arith, c.if-low-places.true, c.len.ensures, c.requires.fits),
 )
 
 pub count_low-requires-clause-apart : goal.count_low-requires-clause-apart

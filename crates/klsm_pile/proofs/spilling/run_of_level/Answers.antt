@@ -14,7 +14,7 @@ loop-index-init g c = record {
 
 pub unite_items-requires-clause-apart : goal.unite_items-requires-clause-apart
 unite_items-requires-clause-apart g c =
-    united_apart c.args.level c.loop-index.index c.args.front.now.items c.index-fetched.result.now c.loop-index.run.items _ (omega (arith, c.loop-index-test.true, c.len-index-end.ensures, c.args.front.now.ok.0)) c.index-fetched.ensures c.if-fetched-level.true
+    united_apart c.args.level c.loop-index.index c.args.front.now.items c.at-fetched.result c.loop-index.run.items _ (omega (arith, c.loop-index-test.true, c.len-index-end.ensures)) c.at-fetched.ensures c.if-fetched-level.true
     (level_ascending c.args.level c.args.keep c.args.front.now.items c.requires.ascending) c.loop-index.invariant.items
 
 pub unite_items-requires-clause-room : goal.unite_items-requires-clause-room
@@ -23,24 +23,24 @@ unite_items-requires-clause-room g c =
       arith,
       c.requires.count,
       c.loop-index.invariant.room,
-      united_room c.args.level c.loop-index.index c.args.front.now.items c.index-fetched.result.now c.loop-index.run.items _ (omega (arith, c.loop-index-test.true, c.len-index-end.ensures, c.args.front.now.ok.0)) c.index-fetched.ensures c.if-fetched-level.true
+      united_room c.args.level c.loop-index.index c.args.front.now.items c.at-fetched.result c.loop-index.run.items _ (omega (arith, c.loop-index-test.true, c.len-index-end.ensures)) c.at-fetched.ensures c.if-fetched-level.true
           c.loop-index.invariant.items,
     )
 
 pub loop-index-preserved : goal.loop-index-preserved
 loop-index-preserved g c = elim c.if-fetched-level.branch [
   | then-fetched-level w ↦ record {
-    items = united_here c.args.level c.loop-index.index c.args.front.now.items c.index-fetched.result.now c.loop-index.run.items _ _ (omega (arith, c.loop-index-test.true, c.len-index-end.ensures, c.args.front.now.ok.0)) c.index-fetched.ensures
+    items = united_here c.args.level c.loop-index.index c.args.front.now.items c.at-fetched.result c.loop-index.run.items _ _ (omega (arith, c.loop-index-test.true, c.len-index-end.ensures)) c.at-fetched.ensures
         w.if-fetched-level.true (level_ascending c.args.level c.args.keep c.args.front.now.items c.requires.ascending) c.loop-index.invariant.items (ap (λ run. run.items) w.run-is ∙ w.unite_items.ensures.union);
     room = subst (λ run. c.args.count ≤ run.capacity) (sym w.run-is) (subst (λ n. c.args.count ≤ n) (sym w.unite_items.ensures.capacity) c.loop-index.invariant.room);
   }
   | else-fetched-level w ↦ record {
     items = ap (λ run. run.items ++ level_behind c.args.level (c.loop-index.index + 1) c.args.front.now.items) w.run-is
-        ∙ united_other c.args.level c.loop-index.index c.args.front.now.items c.index-fetched.result.now c.loop-index.run.items _ (omega (arith, c.loop-index-test.true, c.len-index-end.ensures, c.args.front.now.ok.0)) c.index-fetched.ensures
+        ∙ united_other c.args.level c.loop-index.index c.args.front.now.items c.at-fetched.result c.loop-index.run.items _ (omega (arith, c.loop-index-test.true, c.len-index-end.ensures)) c.at-fetched.ensures
         w.if-fetched-level.false c.loop-index.invariant.items;
     room = subst (λ run. c.args.count ≤ run.capacity) (sym w.run-is) c.loop-index.invariant.room;
   }
 ]
 
 pub returns : goal.returns
-returns g c = united_all c.args.level c.loop-index.index c.args.front.now.items c.loop-index.run.items _ (omega (arith, c.loop-index-test.false, c.len-index-end.ensures, c.args.front.now.ok.0)) c.loop-index.invariant.items
+returns g c = united_all c.args.level c.loop-index.index c.args.front.now.items c.loop-index.run.items _ (omega (arith, c.loop-index-test.false, c.len-index-end.ensures)) c.loop-index.invariant.items

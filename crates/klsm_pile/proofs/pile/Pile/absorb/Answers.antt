@@ -1,6 +1,5 @@
 use Rattle.std.proofs.Common.{◌≡◌, ◌+◌, List, length, sym, ap, ◌∙◌, subst, arith, inr}
 use Rattle.std.specs.List.{refill}
-use Rattle.std.specs.VecDeque.{deque_capacity}
 use Rattle.klsm_run.specs.declared.item.Item.{Item}
 use Rattle.klsm_lsm.specs.Adding.{add}
 use Rattle.klsm_lsm.proofs.SlotLemmas.{refill_same}
@@ -57,7 +56,7 @@ invariant_of-self-in_err-absorb g c =
     let reserved = reserved_pile g.row.LEVELS c.self.inside.reach c.self.inside.len _ _ _ _ _ _ c.self.inside.counts.items c.self.invariant c.reserve.ensures.front c.reserve.ensures.same c.reserve.ensures.below c.reserve.ensures.capacity in
     let same = c.in_err-absorb.ensures.unchanged in
     subst (IsPile g.row.LEVELS c.self.inside.reach c.self.inside.len c.absorb.new.front.items c.absorb.new.pieces.items (refill (length c.self.inside.counts.items) c.self.inside.counts.items c.absorb.new.counts)) (sym c.absorb.ensures.capacity)
-    (pile_again g.row.LEVELS c.self.inside.reach c.self.inside.len (deque_capacity c.reserve.new.front) _ _ _ _ c.self.inside.counts.items _ reserved same.0 same.1
+    (pile_again g.row.LEVELS c.self.inside.reach c.self.inside.len c.reserve.new.front.capacity _ _ _ _ c.self.inside.counts.items _ reserved same.0 same.1
     (refill_same c.self.inside.counts.items c.absorb.new.counts (c.absorb.ensures.len ∙ ap length c.as_mut_slice.ensures.value) ∙ (same.2 ∙ c.as_mut_slice.ensures.value)))
 
 pub returns-in_err-absorb-clause-unchanged : goal.returns-in_err-absorb-clause-unchanged
